@@ -6,8 +6,8 @@
 //! - `SEAT get`, and its end `SEAT got PUT CONTENT` or `SEAT empty`.
 //!
 //! A PUT says which put the value came from: `SEAT.NUMBER`, a seat's puts being counted from 1, or
-//! `open.NUMBER`, the tokens being counted from 0. So a queue that is to be judged carries this name
-//! beside each value: equal contents would not tell one put from another.
+//! `open.NUMBER`, the tokens being counted from 0. So a queue that is to be judged carries this
+//! name beside each value: equal contents would not tell one put from another.
 
 ghost use Rattle.std.specs.Prelude.{◌≡◌, IfOk};
 ghost use Rattle.std.specs.List.{All};

@@ -1,6 +1,9 @@
-//! Two passes on one thread, of which one takes behind a mark of the other (`marks`). And two threads on one queue of two buffers, twice.
-//! First they hand each other notes, so that each call stands behind the one before it (`rounds`). Then one sends the numbers from 1 to 100, and sums itself those for which no buffer is free; the other takes numbers and
-//! sums them; what is left when both are done is taken then. Who sums a number differs from run to run, and the sum doesn't.
+//! Two passes on one thread, of which one takes behind a mark of the other (`marks`). And two
+//! threads on one queue of two buffers, twice. First they hand each other notes, so that each call
+//! stands behind the one before it (`rounds`). Then one sends the numbers from 1 to 100, and sums
+//! itself those for which no buffer is free; the other takes numbers and sums them; what is left
+//! when both are done is taken then. Who sums a number differs from run to run, and the sum
+//! doesn't.
 #![tactic(auto)]
 
 mod marks;
@@ -31,14 +34,16 @@ const BUFFERS: u32 = 2;
 /// How often the taking thread looks for a number.
 const LOOKS: u32 = 10_000;
 
-/// A pass after its work, with the sum of the numbers that its thread summed. Where tickets have run out it may still hold a value.
+/// A pass after its work, with the sum of the numbers that its thread summed. Where tickets have
+/// run out it may still hold a value.
 struct Worked {
     pass: Pass<HeapBuffer>,
     sum: u64,
     held: Option<Held<HeapBuffer>>,
 }
 
-/// Sends a number: whether a buffer was free for it. Where tickets have run out the buffer comes back.
+/// Sends a number: whether a buffer was free for it. Where tickets have run out the buffer comes
+/// back.
 fn sent(
     queue: &Queue<HeapBuffer>,
     pass: &mut Pass<HeapBuffer>,
@@ -60,7 +65,8 @@ fn sent(
     }
 }
 
-/// Takes a number, if there is one, and gives its buffer back. Where tickets have run out the buffer comes back.
+/// Takes a number, if there is one, and gives its buffer back. Where tickets have run out the
+/// buffer comes back.
 fn taken(
     queue: &Queue<HeapBuffer>,
     pass: &mut Pass<HeapBuffer>,
@@ -237,7 +243,8 @@ fn give_in(
     requires values { vec_len values.old < vec_capacity values.old }
     ensures passes { passes.new.items ≡ passes.old.items ++ pass ∷ [] }
     ensures values { values.new.items ≡ values.old.items ++ option_to_list held }
-    ensures room { (vec_capacity passes.new ≡ vec_capacity passes.old) × (vec_capacity values.new ≡ vec_capacity values.old) }
+    ensures room { (vec_capacity passes.new ≡ vec_capacity passes.old)
+        × (vec_capacity values.new ≡ vec_capacity values.old) }
 {
     passes.push_reserved(pass);
     if let Some(held) = held {

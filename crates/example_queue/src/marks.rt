@@ -1,5 +1,5 @@
-//! Two passes on one thread, and what each can say of the other. The first sends a number; the second
-//! heeds a mark of the first before it takes; then the two meet.
+//! Two passes on one thread, and what each can say of the other. The first sends a number; the
+//! second heeds a mark of the first before it takes; then the two meet.
 ghost use Rattle.std.specs.Prelude.{◌≡◌, ◌≤◌, [], ◌∷◌, None, IfOk, IfErr, vec_capacity};
 ghost use Rattle.std.specs.Option.{option_to_list};
 ghost use Rattle.scq_band.specs.Buffers.{opening_of};
@@ -26,8 +26,8 @@ fn number_sent(queue: &Queue<HeapBuffer>, pass: &mut Pass<HeapBuffer>) -> Option
     }
 }
 
-/// Takes behind a mark: all that the two passes had seen lies in the run before this take. So where it
-/// finds nothing, each send that had ended there was taken, or was claimed by a take under way.
+/// Takes behind a mark: all that the two passes had seen lies in the run before this take. So where
+/// it finds nothing, each send that had ended there was taken, or was claimed by a take under way.
 fn taken_behind<B: Buffer>(
     queue: &Queue<B>,
     pass: &mut Pass<B>,
@@ -40,7 +40,8 @@ fn taken_behind<B: Buffer>(
     ensures refused { IfErr result (λ _. HoldsJust queue.now pass.new []) }
     ensures behind { pass.old.spent ≡ None
         → IsCallInRun queue.now.setup (opening_of B.contents queue.now.given)
-        (caller_of (having_seen (both_seen pass.old.seen mark.seen) pass.old)) (caller_of pass.new) }
+        (caller_of (having_seen (both_seen pass.old.seen mark.seen) pass.old))
+        (caller_of pass.new) }
 {
     queue.heed(pass, mark);
     queue.take(pass, 0)
@@ -63,8 +64,8 @@ fn number_behind(
     }
 }
 
-/// The first pass sends, the second takes behind its mark, and they meet: from now on, of any two runs
-/// that they had seen, one is a prefix of the other. The number that was taken.
+/// The first pass sends, the second takes behind its mark, and they meet: from now on, of any two
+/// runs that they had seen, one is a prefix of the other. The number that was taken.
 pub fn tell_by_a_mark(
     queue: Queue<HeapBuffer>,
     mut passes: Vec<Pass<HeapBuffer>>,

@@ -1,6 +1,8 @@
-//! Notes that go between two threads through channels of the kit. One thread sends a number, and then a note of what its pass knows; the
-//! other learns the note before it takes, so it finds what it was told of, and sends a note back, which the first learns before it
-//! sends again. So each call was learned of before the next began, and the notes alone tell the one order that `close` promises.
+//! Notes that go between two threads through channels of the kit. One thread sends a number, and
+//! then a note of what its pass knows; the other learns the note before it takes, so it finds what
+//! it was told of, and sends a note back, which the first learns before it sends again. So each
+//! call was learned of before the next began, and the notes alone tell the one order that `close`
+//! promises.
 ghost use Rattle.std.specs.Prelude.{◌≡◌, ◌≤◌, [], ◌∷◌, Some, vec_capacity};
 ghost use Rattle.std.specs.Option.{option_to_list};
 ghost use Rattle.scq_queue.specs.Passes.{first_passes};
@@ -39,7 +41,8 @@ struct Told<H: Home> {
     ghost own: { H.table ≡ Some note.table },
 }
 
-/// A pass after its rounds, with the numbers of its calls, 0 where there was none. Where tickets have run out it may still hold a value.
+/// A pass after its rounds, with the numbers of its calls, 0 where there was none. Where tickets
+/// have run out it may still hold a value.
 struct Half {
     pass: Pass<HeapBuffer>,
     numbers: [u8; NUMBERS],
@@ -178,18 +181,20 @@ fn work<H: Home + Send, R: Threads + Wait + Sync>(
     join(
         rt,
         || -> Half
-            requires { (H.table ≡ Some queue.now.table) × (queue.now.setup.rings ≡ 2) × HoldsJust queue.now first [] }
+            requires { (H.table ≡ Some queue.now.table) × (queue.now.setup.rings ≡ 2)
+                × HoldsJust queue.now first [] }
             ensures { HoldsJust queue.entry.now result.pass (option_to_list result.held) }
         { send_rounds(rt, queue, first, to, back) },
         || -> Half
-            requires { (H.table ≡ Some queue.now.table) × (queue.now.setup.rings ≡ 2) × HoldsJust queue.now second [] }
+            requires { (H.table ≡ Some queue.now.table) × (queue.now.setup.rings ≡ 2)
+                × HoldsJust queue.now second [] }
             ensures { HoldsJust queue.entry.now result.pass (option_to_list result.held) }
         { take_rounds(rt, queue, second, from, reply) },
     )
 }
 
-/// Makes the rounds and closes the queue: the numbers that were sent, and those that were taken. None where there is no memory for the
-/// channels.
+/// Makes the rounds and closes the queue: the numbers that were sent, and those that were taken.
+/// None where there is no memory for the channels.
 pub fn make_rounds<H: Home + Send, R: Threads + Wait + Sync>(
     rt: &R,
     alloc: Global,

@@ -1,5 +1,5 @@
-//! Replays a schedule of the queue's machine, and prints the words of ring 1 after each step. Each line
-//! replays all steps so far, as one would to ask what became of a run that was cut there.
+//! Replays a schedule of the queue's machine, and prints the words of ring 1 after each step. Each
+//! line replays all steps so far, as one would to ask what became of a run that was cut there.
 #![tactic(auto)]
 
 ghost use Rattle.std.specs.Prelude.{◌≡◌, ℕ, ◌<◌, IfOk, vec_len};

@@ -1,5 +1,6 @@
-//! The steps of a schedule as text: `E1 RING INDEX CONTENT` and `D1 RING` begin a call, `E1` draws the
-//! next ticket of an enqueue, and the other steps, `E2` to `E6` and `D2` to `D10`, are their names alone.
+//! The steps of a schedule as text: `E1 RING INDEX CONTENT` and `D1 RING` begin a call, `E1` draws
+//! the next ticket of an enqueue, and the other steps, `E2` to `E6` and `D2` to `D10`, are their
+//! names alone.
 
 use anyhow::{Context, Result, anyhow};
 use scq_core::Step;

@@ -14,7 +14,8 @@ fn reply_of(alloc: Global, text: &str) -> Result<ReplyBytes> {
     Ok(ReplyBytes::copy_of(alloc, &bytes_of(alloc, text)?)?)
 }
 
-/// An answer to a part: `FILE LINE TOPIC PART PARTS BYTES WAY NUMBER TEXT`, where the way is `taken` or `direct`.
+/// An answer to a part: `FILE LINE TOPIC PART PARTS BYTES WAY NUMBER TEXT`, where the way is
+/// `taken` or `direct`.
 fn answered_of(alloc: Global, text: &str) -> Result<Answered> {
     let place = long(text, 7)?;
     Ok(Answered {
@@ -66,7 +67,8 @@ fn push_list(topics: &Topics, lists: &mut Vec<Vec<Answered>>, list: Vec<Answered
     Ok(())
 }
 
-/// `TABLE LISTS`, lists with `/` between them: the answers to the messages whose parts stand in them.
+/// `TABLE LISTS`, lists with `/` between them: the answers to the messages whose parts stand in
+/// them.
 pub fn merged(alloc: Global, given: &str) -> Result<String> {
     let (table, given) = given.split_once(' ').context("a table and lists")?;
     let topics = topics_of(table)?;

@@ -1,4 +1,5 @@
-//! Buffers written through the loan that their trait gives, the frames of a block, and bytes that are copied.
+//! Buffers written through the loan that their trait gives, the frames of a block, and bytes that
+//! are copied.
 ghost use Rattle.std.specs.Prelude.{◌≡◌, length, refl};
 ghost use Rattle.std.proofs.Common.{sym, ◌∙◌};
 ghost use Rattle.std.specs.Vec.{with_items};

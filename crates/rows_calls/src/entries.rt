@@ -25,8 +25,8 @@ fn index_of(shape: Shape, text: &str) -> Result<Option<u32>>
     Ok(Some(index))
 }
 
-/// `ORDER CYCLE SAFE INDEX`, where `-` is no index: the entry's word, its rank, the word as it is marked, and whether the word is read as
-/// the entry again.
+/// `ORDER CYCLE SAFE INDEX`, where `-` is no index: the entry's word, its rank, the word as it is
+/// marked, and whether the word is read as the entry again.
 pub fn entry(alloc: Global, given: &str) -> Result<String> {
     let shape = shape_of(given)?;
     let cycle = long(given, 1)?;

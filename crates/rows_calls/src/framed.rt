@@ -52,8 +52,8 @@ struct Limits {
     ghost small: { most ≤ 2 ^ 30 },
 }
 
-/// `TOPICS SIZE MOST PIECE READS TEXT`, where 0 reads are as many as there are and `-` is no topic: each message with its file, its
-/// line, its topic and its payload, and then how the framer ended.
+/// `TOPICS SIZE MOST PIECE READS TEXT`, where 0 reads are as many as there are and `-` is no topic:
+/// each message with its file, its line, its topic and its payload, and then how the framer ended.
 pub fn framed(alloc: Global, given: &str) -> Result<String> {
     let topics = topics_of(field(given, 0))?;
     let limits = Limits {

@@ -1,5 +1,6 @@
-//! Histories as text, of queues whose contents are words: `opening X`, `start S put Q X`, `start S get Q`, `end S done`,
-//! `end S got o J X`, `end S got S2 N X`, `end S nothing`, `end S spent`, with a semicolon between them.
+//! Histories as text, of queues whose contents are words: `opening X`, `start S put Q X`, `start S
+//! get Q`, `end S done`, `end S got o J X`, `end S got S2 N X`, `end S nothing`, `end S spent`,
+//! with a semicolon between them.
 
 use anyhow::{Context, Result};
 use scq_check::first_unlawful;
@@ -83,7 +84,8 @@ fn name_of(seat: &str, number: &str) -> Result<PutName> {
     })
 }
 
-/// `EVENTS`: which of the aspects a history breaks; of one that isn't lawful the others are not judged.
+/// `EVENTS`: which of the aspects a history breaks; of one that isn't lawful the others are not
+/// judged.
 pub fn broken(alloc: Global, given: &str) -> Result<String> {
     let History { opening, events } = History::read(alloc, given)?;
     let mut text = String::new(alloc);

@@ -1,5 +1,6 @@
-//! Runs calls of the libraries over rows that stand in files, prints each row whose answer is another, and how many rows of
-//! each file ran; and then reads files of the system and writes to its streams. `calls.rt` has the calls, and `rows_text` the form of a row.
+//! Runs calls of the libraries over rows that stand in files, prints each row whose answer is
+//! another, and how many rows of each file ran; and then reads files of the system and writes to
+//! its streams. `calls.rt` has the calls, and `rows_text` the form of a row.
 #![tactic(auto)]
 
 mod answers;

@@ -46,7 +46,8 @@ pub fn plain(alloc: Global, given: &str) -> Result<String> {
     read_of(alloc, &mut PlainSource::new(text), most, 9)
 }
 
-/// `MOST TEXT`: the reads of a source that gives at most 2, 9, 1 and 4 bytes at first, and whose reads 2 and 5 fail.
+/// `MOST TEXT`: the reads of a source that gives at most 2, 9, 1 and 4 bytes at first, and whose
+/// reads 2 and 5 fail.
 pub fn told(alloc: Global, given: &str) -> Result<String> {
     let most = number(given, 0)? as usize;
     let text = bytes_of(alloc, field(given, 1))?;
@@ -66,7 +67,8 @@ fn put<S: Sink>(into: &mut String, sink: &mut S, piece: &str) -> Result<()> {
     Ok(())
 }
 
-/// `ROOM PIECE ..`: how many bytes of each piece a sink takes whose first write takes at most 2 and whose second fails; and what it has.
+/// `ROOM PIECE ..`: how many bytes of each piece a sink takes whose first write takes at most 2 and
+/// whose second fails; and what it has.
 pub fn taken(alloc: Global, given: &str) -> Result<String> {
     let room = number(given, 0)?;
     let pieces = vec![in alloc; 2]?;
@@ -98,7 +100,8 @@ fn open<F: Files>(alloc: Global, into: &mut String, files: &mut F, name: &str) -
     Ok(())
 }
 
-/// `NAME ..`: what comes of each name, of files in memory that are named `f` and `g` and have their names.
+/// `NAME ..`: what comes of each name, of files in memory that are named `f` and `g` and have their
+/// names.
 pub fn opened(alloc: Global, given: &str) -> Result<String> {
     let mut files = MemFiles::new(alloc);
     files.add("f", source_of(alloc, "f")?)?;
@@ -204,7 +207,8 @@ pub fn on_stream<R: rt::Files<File = File> + AllocGlobal>(
     Ok(format!(in alloc; "{taken}, {written} bytes")?)
 }
 
-/// What a file of the system of this name gives that has `a b` and an LF, and what comes of its name when it is gone.
+/// What a file of the system of this name gives that has `a b` and an LF, and what comes of its
+/// name when it is gone.
 pub fn on_disk<R: rt::Files<File = File>>(
     system: &R,
     stdin: Stdin,

@@ -17,7 +17,8 @@ pub fn left(alloc: Global, given: &str) -> Result<String> {
     Ok(String::from_utf8_lossy(alloc, bytes.as_slice())?)
 }
 
-/// `BYTES`: all of them once the payload of the part that comes first was redacted where it lies, and whether there is one.
+/// `BYTES`: all of them once the payload of the part that comes first was redacted where it lies,
+/// and whether there is one.
 pub fn lent(alloc: Global, given: &str) -> Result<String> {
     let mut bytes = bytes_of(alloc, given)?;
     let is_there = match payload_mut(bytes.as_mut_slice()) {
@@ -40,7 +41,8 @@ pub fn job(alloc: Global, given: &str) -> Result<String> {
     })
 }
 
-/// A member of a list: `FILE LINE WAY NUMBER PAYLOAD`, where the way is `second`, `first` or `direct`.
+/// A member of a list: `FILE LINE WAY NUMBER PAYLOAD`, where the way is `second`, `first` or
+/// `direct`.
 fn finished_of(alloc: Global, text: &str) -> Result<Finished> {
     let place = long(text, 3)?;
     Ok(Finished {

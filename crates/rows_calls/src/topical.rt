@@ -33,7 +33,8 @@ fn copied<T: Clone>(value: &T) -> Result<T, AllocError> {
     value.clone()
 }
 
-/// `TABLE`: the names and kinds of the topics, and the length of the longest name, or why they are refused.
+/// `TABLE`: the names and kinds of the topics, and the length of the longest name, or why they are
+/// refused.
 pub fn topics(alloc: Global, given: &str) -> Result<String> {
     let table = word_of(alloc, given)?;
     match Topics::read(&table) {

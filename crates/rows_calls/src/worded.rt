@@ -40,7 +40,8 @@ fn request_text(alloc: Global, request: &Request) -> Result<String> {
     Ok(text)
 }
 
-/// The workers, the order, the size, the number of topics, whether a report is asked for, and the files.
+/// The workers, the order, the size, the number of topics, whether a report is asked for, and the
+/// files.
 fn write_run(text: &mut String, run: &RunRequest) -> Result<()> {
     let (workers, order, size) = (run.workers, run.order, run.size);
     let topics = run.topics.len();
@@ -65,7 +66,8 @@ fn write_files(text: &mut String, files: &[String]) -> Result<()> {
     Ok(())
 }
 
-/// `FAILS MOST TEXT`: what comes of reading a source whole that gives two bytes at a time, and whose read of this number fails.
+/// `FAILS MOST TEXT`: what comes of reading a source whole that gives two bytes at a time, and
+/// whose read of this number fails.
 pub fn read_whole(alloc: Global, given: &str) -> Result<String> {
     let mut fails = Vec::new(alloc);
     fails.push(number(given, 0)?)?;

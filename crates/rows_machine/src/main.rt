@@ -1,6 +1,7 @@
-//! Runs the machine over rows that stand in files: steps made one by one, schedules replayed, and orders of their calls. It prints each
-//! row whose answer is another, and how many rows of each file ran. `rows_text` has the form of a row. Of a file `*.schedule`, which is
-//! a schedule as `scq replay` reads it, it prints how long no call ends.
+//! Runs the machine over rows that stand in files: steps made one by one, schedules replayed, and
+//! orders of their calls. It prints each row whose answer is another, and how many rows of each
+//! file ran. `rows_text` has the form of a row. Of a file `*.schedule`, which is a schedule as `scq
+//! replay` reads it, it prints how long no call ends.
 #![tactic(auto)]
 
 mod orders;

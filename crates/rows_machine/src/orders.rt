@@ -29,7 +29,8 @@ fn steps_of(alloc: Global, text: &str) -> Result<Vec<(u32, Step)>>
     Ok(steps)
 }
 
-/// The order of a ring, from the start of a setup with two indices, rings and seats, where 16 is the limit of tickets.
+/// The order of a ring, from the start of a setup with two indices, rings and seats, where 16 is
+/// the limit of tickets.
 fn order_of(alloc: Global, steps: &[(u32, Step)], queue: u32) -> Result<Vec<Ordered>, OrderFault>
     requires seats { All (λ (x : ℕ × StepOf). x.0 < 2) steps.now }
     requires queue { queue < 2 }
@@ -67,8 +68,8 @@ fn shown(alloc: Global, text: &str, queue: u32) -> Result<String>
     Ok(shown)
 }
 
-/// `RING; SEAT STEPS; ..`: the order of the ring's calls, or why there is none. `t0` is the first opening put, and `1.2` the second
-/// call of seat 1. The limit of tickets is 16.
+/// `RING; SEAT STEPS; ..`: the order of the ring's calls, or why there is none. `t0` is the first
+/// opening put, and `1.2` the second call of seat 1. The limit of tickets is 16.
 pub fn ordered(alloc: Global, given: &str) -> Result<String> {
     let (ring, pieces) = given.split_once("; ").context("a ring and pieces")?;
     shown(alloc, pieces, one_of_two(ring)?)

@@ -13,7 +13,8 @@ use scq_law::{ReplayFault, Replayed, replay};
 use scq_word::{Bytes, Setup};
 use std::alloc::Global;
 
-/// From the start of a setup with two indices, rings and seats, and the opening contents `a` and `b`.
+/// From the start of a setup with two indices, rings and seats, and the opening contents `a` and
+/// `b`.
 fn replayed(alloc: Global, limit: u64, steps: &[(u32, Step)]) -> Result<Replayed, ReplayFault>
     requires seats { All (λ (x : ℕ × StepOf). x.0 < 2) steps.now }
     requires limit { (16 ≤ limit) × (limit ≤ 2 ^ 60) }
@@ -115,7 +116,8 @@ fn events_text(alloc: Global, events: &[Event]) -> Result<String> {
     Ok(text)
 }
 
-/// Whether a history passes the five tests. Of steps that can't all be made there is none: what stops is told where it stands.
+/// Whether a history passes the five tests. Of steps that can't all be made there is none: what
+/// stops is told where it stands.
 fn passes(alloc: Global, limit: u64, steps: &[(u32, Step)]) -> Result<bool>
     requires seats { All (λ (x : ℕ × StepOf). x.0 < 2) steps.now }
     requires limit { (16 ≤ limit) × (limit ≤ 2 ^ 60) }
@@ -161,7 +163,8 @@ fn replayed_text(alloc: Global, line: &Part, seen: usize, replayed: &Replayed) -
     Ok(format!(in alloc; "{words} {counts} {call}:{events}")?)
 }
 
-/// What a line has to say of the steps up to it, and how many events there are then. A line that stops is the last.
+/// What a line has to say of the steps up to it, and how many events there are then. A line that
+/// stops is the last.
 fn line_text(
     alloc: Global,
     limit: u64,
@@ -185,10 +188,12 @@ fn line_text(
     }
 }
 
-/// `LIMIT; SEAT STEPS @RING; ..`: after each line the ring with its Head, Tail, Threshold and entries, its resets and fails, what the
-/// seat's newest call was, or `-` where it is in the middle of one, and behind `:` the events that the line adds. Where the line's last
-/// step is not enabled, the ring and the position of that step stand there. The put `1.2` is the second of seat 1, and `token 0` the
-/// first opening put. Behind all lines stands whether the history of each cut passes the tests of histories.
+/// `LIMIT; SEAT STEPS @RING; ..`: after each line the ring with its Head, Tail, Threshold and
+/// entries, its resets and fails, what the seat's newest call was, or `-` where it is in the middle
+/// of one, and behind `:` the events that the line adds. Where the line's last step is not enabled,
+/// the ring and the position of that step stand there. The put `1.2` is the second of seat 1, and
+/// `token 0` the first opening put. Behind all lines stands whether the history of each cut passes
+/// the tests of histories.
 pub fn replayed_lines(alloc: Global, given: &str) -> Result<String> {
     let (limit, lines) = given.split_once("; ").context("a limit and lines")?;
     let limit = limit.parse::<u64>()?;

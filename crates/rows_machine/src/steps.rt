@@ -45,8 +45,8 @@ fn bare_step(name: &str) -> Option<Step> {
     })
 }
 
-/// The state after a step, made by a copy of the step on a copy of the state: so a state is copied at each phase and after each
-/// kind of call. A step behind `!` has to be refused.
+/// The state after a step, made by a copy of the step on a copy of the state: so a state is copied
+/// at each phase and after each kind of call. A step behind `!` has to be refused.
 fn stepped(alloc: Global, state: &State, seat: u32, word: &str) -> Result<State> {
     let mut copy = state.copy()?;
     if seat >= copy.setup().seats() {
@@ -195,9 +195,10 @@ fn part_shown(alloc: Global, state: &State, part: &Part) -> Result<String> {
     Ok(format!(in alloc; "; {stands} | {does}")?)
 }
 
-/// `ORDER LIMIT; SEAT STEPS @RING; ..`: after each part the ring's Head, Tail, Threshold and entries, and behind `|` the indices in the
-/// seat's hand, or `-`, and its newest call, or the step that it makes next. `E1/1/0/x` is E1 on ring 1 of index 0 with content x, `D1/1`
-/// is D1 on ring 1, and a step behind `!` must not be enabled.
+/// `ORDER LIMIT; SEAT STEPS @RING; ..`: after each part the ring's Head, Tail, Threshold and
+/// entries, and behind `|` the indices in the seat's hand, or `-`, and its newest call, or the step
+/// that it makes next. `E1/1/0/x` is E1 on ring 1 of index 0 with content x, `D1/1` is D1 on ring
+/// 1, and a step behind `!` must not be enabled.
 pub fn stepped_through(alloc: Global, given: &str) -> Result<String> {
     let (setup, parts) = given.split_once("; ").context("a setup and parts")?;
     let (order, limit) = setup.split_once(' ').context("an order and a limit")?;

@@ -9,8 +9,8 @@ fn ends_a_call(line: &str) -> bool {
     line.split(' ').any(|word| matches!(word, "done" | "got" | "nothing" | "spent"))
 }
 
-/// How many steps a schedule makes, how many of them at most follow one another of which none ends a call, and the line of the
-/// last step.
+/// How many steps a schedule makes, how many of them at most follow one another of which none ends
+/// a call, and the line of the last step.
 pub fn longest_window(alloc: Global, schedule: &str) -> Result<String> {
     let printed = schedule_text(alloc, schedule.as_bytes())?;
     let text = std::str::from_utf8(printed.bytes())?;

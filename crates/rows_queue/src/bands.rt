@@ -15,7 +15,8 @@ fn filled(alloc: Global, byte: u8) -> Result<HeapBuffer> {
     Ok(buffer)
 }
 
-/// A band of this setup with buffers of one byte each, a, b and so on; and its seats, none of which has lifted a buffer.
+/// A band of this setup with buffers of one byte each, a, b and so on; and its seats, none of which
+/// has lifted a buffer.
 pub fn made(alloc: Global, setup: Setup) -> Result<(Band<HeapBuffer>, Vec<Seat<HeapBuffer>>)>
     ensures setup { IfOk result (λ made. made.0.setup ≡ setup) }
     ensures own { IfOk result (λ made. All (λ s. s.band ≡ made.0) made.1.items) }
@@ -50,8 +51,9 @@ pub fn closed(
     band.close(seats, none)
 }
 
-/// The seat carries an index from ring 0 to ring 1, with its buffer lifted and laid on the way, and lifted and put: the place and the
-/// index got, the buffer's byte, and the place at which it was put.
+/// The seat carries an index from ring 0 to ring 1, with its buffer lifted and laid on the way, and
+/// lifted and put: the place and the index got, the buffer's byte, and the place at which it was
+/// put.
 fn carried(
     band: &Band<HeapBuffer>,
     seat: &mut Seat<HeapBuffer>,

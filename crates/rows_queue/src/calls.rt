@@ -1,4 +1,5 @@
-//! Calls of one pass of a queue. A value that was got goes on top of those that are held, and the one on top is sent or given back.
+//! Calls of one pass of a queue. A value that was got goes on top of those that are held, and the
+//! one on top is sent or given back.
 ghost use Rattle.std.specs.Prelude.{◌≡◌, ◌+◌, ◌<◌, ◌≤◌, [], IfOk, vec_len, vec_capacity};
 ghost use Rattle.scq_queue.specs.Passes.{first_passes};
 ghost use Rattle.scq_queue.specs.HoldsJust.{HoldsJust};
@@ -220,8 +221,8 @@ pub fn made(
     }
 }
 
-/// `PASSES LIMIT; CALL; ..`, of the last pass on two rings over two buffers of two bytes: the reply to each call, the bytes on top for
-/// `read`; and what the queue closed with.
+/// `PASSES LIMIT; CALL; ..`, of the last pass on two rings over two buffers of two bytes: the reply
+/// to each call, the bytes on top for `read`; and what the queue closed with.
 pub fn called(alloc: Global, given: &str) -> Result<String> {
     let (setup, calls) = given.split_once("; ").context("a setup and calls")?;
     let seats = field(setup, 0).parse::<u32>()?;

@@ -1,4 +1,5 @@
-//! Crews of two workers: what their calls do on one thread, and that two threads that rest in turn wake each other.
+//! Crews of two workers: what their calls do on one thread, and that two threads that rest in turn
+//! wake each other.
 ghost use Rattle.std.specs.Prelude.{◌≡◌, ◌<◌, ◌≤◌, [], length, vec_capacity};
 ghost use Rattle.scq_park.specs.Crews.{first_post, first_posts};
 

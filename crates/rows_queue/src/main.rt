@@ -1,6 +1,8 @@
-//! Runs calls of the band, of the queue and of its ports over rows that stand in files, prints each row whose answer is another, and how many rows of
-//! each file ran; and then lets two threads pass indices round, and two workers of a crew rest and wake each other. `calls.rt` and `pair.rt` have
-//! the calls of the queue, `ports.rt` those of its ports, `moves.rt` those of the band, and `rows_text` has the form of a row.
+//! Runs calls of the band, of the queue and of its ports over rows that stand in files, prints each
+//! row whose answer is another, and how many rows of each file ran; and then lets two threads pass
+//! indices round, and two workers of a crew rest and wake each other. `calls.rt` and `pair.rt` have
+//! the calls of the queue, `ports.rt` those of its ports, `moves.rt` those of the band, and
+//! `rows_text` has the form of a row.
 #![tactic(auto)]
 
 mod bands;

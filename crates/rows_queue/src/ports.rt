@@ -70,8 +70,8 @@ fn number(call: &str, at: usize) -> Result<u32> {
     }
 }
 
-/// `LIMIT HOLD; PORT CALL ..; ..`, of two ports with one topic over two buffers, each of which may hold so many: what each call is
-/// answered. `drop` and `close` are of the last port.
+/// `LIMIT HOLD; PORT CALL ..; ..`, of two ports with one topic over two buffers, each of which may
+/// hold so many: what each call is answered. `drop` and `close` are of the last port.
 pub fn ported(alloc: Global, given: &str) -> Result<String> {
     let (setup, calls) = given.split_once("; ").context("a setup and calls")?;
     let limit = field(setup, 0).parse::<u64>()?;

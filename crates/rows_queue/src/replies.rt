@@ -3,8 +3,9 @@ use anyhow::Result;
 use scq_queue::{Closed, HeapBuffer, LendRefusal, Spent, TakeRefusal};
 use scq_word::Buffer;
 
-/// What a call is answered: the index that was lent, the place of a send or a take, the head of a Full or an Empty, the ticket of a Spent.
-/// `Odd` is the reply to a row that says no call, or one that can't be made.
+/// What a call is answered: the index that was lent, the place of a send or a take, the head of a
+/// Full or an Empty, the ticket of a Spent. `Odd` is the reply to a row that says no call, or one
+/// that can't be made.
 #[derive(Drop)]
 pub enum Reply {
     Index(u32),

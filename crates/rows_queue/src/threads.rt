@@ -1,4 +1,5 @@
-//! Two threads at one time on one band: whatever their steps were, each index is accounted for when the band closes.
+//! Two threads at one time on one band: whatever their steps were, each index is accounted for when
+//! the band closes.
 ghost use Rattle.std.specs.Prelude.{◌≡◌, ◌<◌, ◌≤◌, [], All, IfOk, vec_len};
 ghost use Rattle.scq_band.specs.Closing.{lifted_of};
 
@@ -12,7 +13,8 @@ use std::alloc::{AllocError, Global};
 use std::thread;
 use std::thread::Threads;
 
-/// What a move came to: an index got at a place and put at another, or kept since its put drew this ticket; or none got.
+/// What a move came to: an index got at a place and put at another, or kept since its put drew this
+/// ticket; or none got.
 #[derive(Drop)]
 pub enum Outcome {
     Put { place: u64, index: u32, at: u64 },
@@ -76,13 +78,15 @@ fn circulate_all<R: Threads + Sync>(
     ensures len { IfOk result (λ back. vec_len back ≡ vec_len seats) }
 {
     let run = |seat: Seat<HeapBuffer>| -> Seat<HeapBuffer>
-        requires { (seat.band ≡ band.now) × (lifted_of seat.hand ≡ []) × (2 ≤ band.now.setup.rings) }
+        requires { (seat.band ≡ band.now) × (lifted_of seat.hand ≡ [])
+            × (2 ≤ band.now.setup.rings) }
         ensures { (result.band ≡ band.entry.now) × (lifted_of result.hand ≡ []) }
     { circulate(band, seat, rounds) };
     thread::map_vec(rt, seats, &run)
 }
 
-/// Two threads move two indices so many rounds: how many the two rings have left, and the bytes of both buffers.
+/// Two threads move two indices so many rounds: how many the two rings have left, and the bytes of
+/// both buffers.
 pub fn two_threads<R: Threads + Sync>(rt: &R, alloc: Global, rounds: u32) -> Result<String> {
     let setup = Setup::new(1, 2, 2, 1 << 60)?;
     let (band, seats) = made(alloc, setup)?;

@@ -1,6 +1,7 @@
-//! The texts of rows of data. `\` and a letter stand for a byte: `\n` LF, `\r` CR, `\t` a tab, `\s` a space, `\b` the
-//! backslash, `\xHH` any byte. `\*65536;TEXT;` is a text 65,536 times over, in which `/` is an LF. `\e` stands for nothing,
-//! and `\c` at the end of a line says that no LF follows. The programs that run rows stand on it.
+//! The texts of rows of data. `\` and a letter stand for a byte: `\n` LF, `\r` CR, `\t` a tab, `\s`
+//! a space, `\b` the backslash, `\xHH` any byte. `\*65536;TEXT;` is a text 65,536 times over, in
+//! which `/` is an LF. `\e` stands for nothing, and `\c` at the end of a line says that no LF
+//! follows. The programs that run rows stand on it.
 #![tactic(auto)]
 
 mod rows;

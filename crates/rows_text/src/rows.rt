@@ -1,5 +1,5 @@
-//! Rows of calls. A row is a line `CALL GIVEN`, a `+` and more of what is given for each further line, and after a `=` the wanted
-//! answer; before it a `>` and a part of the answer may stand.
+//! Rows of calls. A row is a line `CALL GIVEN`, a `+` and more of what is given for each further
+//! line, and after a `=` the wanted answer; before it a `>` and a part of the answer may stand.
 
 use crate::word_of;
 use anyhow::Result;

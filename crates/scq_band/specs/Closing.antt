@@ -1,6 +1,9 @@
--- What the records of all seats say together once a band is closed, when no seat is in the middle of a call. The records stand in
--- the order in which the seats were given. A call is told by its seat's number in that order and by its own in the record, from 0.
-use Rattle.std.specs.Prelude.{◌≡◌, ◌⊎◌, ℕ, ◌+◌, ◌<◌, ◌≤◌, Bool, if◌then◌else◌, is_none, List, [], ◌∷◌, ◌++◌, map, length, Option, Some, slice_get, slice_index, slice_index_or, sum, sum_by, All, None}
+-- What the records of all seats say together once a band is closed, when no seat is in the middle
+-- of a call. The records stand in the order in which the seats were given. A call is told by its
+-- seat's number in that order and by its own in the record, from 0.
+use Rattle.std.specs.Prelude.{◌≡◌, ◌⊎◌, ℕ, ◌+◌, ◌<◌, ◌≤◌, Bool, if◌then◌else◌, is_none, List, []}
+use Rattle.std.specs.Prelude.{◌∷◌, ◌++◌, map, length, Option, Some, slice_get, slice_index}
+use Rattle.std.specs.Prelude.{slice_index_or, sum, sum_by, All, None}
 use Rattle.std.specs.List.{Contains}
 use Rattle.scq_word.specs.declared.setup.Setup.{Setup}
 use Rattle.scq_word.specs.Sizes.{n_of}
@@ -28,7 +31,9 @@ use Rattle.scq_band.specs.Standing.{Identity, Standing, IsAsGiven, caller_of}
 
 -- this call ended so
 abbrev pub IsCall : List (List Ended) → ℕ → ℕ → Ended → Type 0
-IsCall records seat number ended = (calls : List Ended) × (slice_get records seat ≡ Some calls) × (slice_get calls number ≡ Some ended)
+IsCall records seat number ended =
+    (calls : List Ended) × (slice_get records seat ≡ Some calls)
+    × (slice_get calls number ≡ Some ended)
 
 -- some call ended so
 pub record HasEnded (records : List (List Ended)) (ended : Ended) : Type 0 where
@@ -36,7 +41,8 @@ pub record HasEnded (records : List (List Ended)) (ended : Ended) : Type 0 where
   pub number : ℕ
   pub is : IsCall records seat number ended
 
--- the opening put of an index: at the place 2n + index of ring 0, with the bytes that its buffer was given with
+-- the opening put of an index: at the place 2n + index of ring 0, with the bytes that its buffer
+-- was given with
 pub record IsOpeningPut (c : Setup) (opening : List (List ℕ)) (r p : ℕ) (w : List ℕ) : Type 0 where
   pub index : ℕ
   pub ring : r ≡ 0
@@ -56,24 +62,32 @@ pub record IsKnownPassed (known : List (List Numbers)) (r p : ℕ) : Type 0 wher
 
 -- each place that was got is the place of a put with the same bytes
 abbrev pub EachGetHasItsPut : Setup → List (List ℕ) → List (List Ended) → Type 0
-EachGetHasItsPut c opening records = (r p : ℕ) (w : List ℕ) → HasEnded records (Got r p w) → WasPut c opening records r p w
+EachGetHasItsPut c opening records =
+    (r p : ℕ) (w : List ℕ) → HasEnded records (Got r p w) → WasPut c opening records r p w
 
 -- no place was put at twice, neither by two calls nor by a call where an opening put is
-pub record NoneIsPutTwice (c : Setup) (opening : List (List ℕ)) (records : List (List Ended)) : Type 0 where
-  pub once : (r p : ℕ) (v w : List ℕ) (a x b y : ℕ) → IsCall records a x (Done r p v) → IsCall records b y (Done r p w) → (a ≡ b) × (x ≡ y)
-  pub apart : (r p : ℕ) (v w : List ℕ) → IsOpeningPut c opening r p v → HasEnded records (Done r p w) → ⊥
+pub record NoneIsPutTwice (c : Setup) (opening : List (List ℕ))
+    (records : List (List Ended)) : Type 0 where
+  pub once : (r p : ℕ) (v w : List ℕ) (a x b y : ℕ) → IsCall records a x (Done r p v)
+      → IsCall records b y (Done r p w) → (a ≡ b) × (x ≡ y)
+  pub apart : (r p : ℕ) (v w : List ℕ) → IsOpeningPut c opening r p v
+      → HasEnded records (Done r p w) → ⊥
 
 -- no place was got twice
 abbrev pub NoneIsGotTwice : List (List Ended) → Type 0
 NoneIsGotTwice records =
-    (r p : ℕ) (v w : List ℕ) (a x b y : ℕ) → IsCall records a x (Got r p v) → IsCall records b y (Got r p w) → (a ≡ b) × (x ≡ y)
+    (r p : ℕ) (v w : List ℕ) (a x b y : ℕ) → IsCall records a x (Got r p v)
+    → IsCall records b y (Got r p w) → (a ≡ b) × (x ≡ y)
 
 -- each put whose place some seat knows to be below Head was got
-abbrev pub EachPutPassedIsGot : Setup → List (List ℕ) → List (List Ended) → List (List Numbers) → Type 0
+abbrev pub EachPutPassedIsGot : Setup → List (List ℕ) → List (List Ended) → List (List Numbers)
+    → Type 0
 EachPutPassedIsGot c opening records known =
-    (r p : ℕ) (w : List ℕ) → WasPut c opening records r p w → IsKnownPassed known r p → HasEnded records (Got r p w)
+    (r p : ℕ) (w : List ℕ) → WasPut c opening records r p w → IsKnownPassed known r p
+    → HasEnded records (Got r p w)
 
--- how many puts of a ring placed an index, the opening puts among them, how many gets took one, and how many puts were begun
+-- how many puts of a ring placed an index, the opening puts among them, how many gets took one, and
+-- how many puts were begun
 abbrev pub puts_on : Setup → List (List Ended) → ℕ → ℕ
 puts_on c records r = sum_by (tally (was_done r)) records + openings c r
 
@@ -92,7 +106,8 @@ pub record IsBalance (c : Setup) (records : List (List Ended)) (left : List ℕ)
 abbrev pub IsAllThere : Setup → List (List ℕ) → List ℕ → Type 0
 IsAllThere c hands left = sum left + sum_by length hands ≡ n_of c.order
 
--- the call of a seat that ended with Spent and this ticket, on a ring whose ticket bound for the puts begun there is past the limit
+-- the call of a seat that ended with Spent and this ticket, on a ring whose ticket bound for the
+-- puts begun there is past the limit
 pub record IsPastTheBound (c : Setup) (records : List (List Ended)) (seat ticket : ℕ) : Type 0 where
   pub ring : ℕ
   pub low : ring < c.rings
@@ -104,13 +119,15 @@ pub record IsPastTheBound (c : Setup) (records : List (List Ended)) (seat ticket
 -- where a seat keeps a spent ticket, the bound of the ticket's ring is past the limit
 abbrev pub EachSpentIsPastTheBound : Setup → List (List Ended) → List (Option ℕ) → Type 0
 EachSpentIsPastTheBound c records kept =
-    (seat ticket : ℕ) → slice_get kept seat ≡ Some (Some ticket) → IsPastTheBound c records seat ticket
+    (seat ticket : ℕ) → slice_get kept seat ≡ Some (Some ticket)
+    → IsPastTheBound c records seat ticket
 
--- where the limit is enough for so many puts, and on no ring more were begun by all calls together, those that met Spent among
--- them, no seat keeps a spent ticket
+-- where the limit is enough for so many puts, and on no ring more were begun by all calls together,
+-- those that met Spent among them, no seat keeps a spent ticket
 abbrev pub NoneIsSpentWithinTheLimit : Setup → List (List Ended) → List (Option ℕ) → Type 0
 NoneIsSpentWithinTheLimit c records kept =
-    (puts : ℕ) → limit_for c.order c.seats puts ≤ c.limit → ((r : ℕ) → r < c.rings → sum_by (tally (was_put r)) records ≤ puts)
+    (puts : ℕ) → limit_for c.order c.seats puts ≤ c.limit
+    → ((r : ℕ) → r < c.rings → sum_by (tally (was_put r)) records ≤ puts)
     → All (λ spent. spent ≡ None) kept
 
 -- the indices of a hand, or of buffers that are out; and those of a hand that are lifted
@@ -121,7 +138,8 @@ abbrev pub lifted_of : {B : Type 0} → List (ℕ × Option B) → List ℕ
 lifted_of [] = []
 lifted_of (x ∷ xs) = if is_none x.1 then x.0 ∷ lifted_of xs else lifted_of xs
 
--- the buffers that are laid in a hand, each with its index; and those that seats hold: laid in their hands, or out
+-- the buffers that are laid in a hand, each with its index; and those that seats hold: laid in
+-- their hands, or out
 abbrev pub with_laid : {B : Type 0} → ℕ → Option B → List (ℕ × B) → List (ℕ × B)
 with_laid i None others = others
 with_laid i (Some b) others = (i, b) ∷ others
@@ -136,14 +154,16 @@ held_buffers (s ∷ ss) out = laid_of s.hand ++ held_buffers ss out
 
 -- a buffer that was held: the one that comes back for its index has the bytes that it had
 abbrev pub ComesBackAsItWas : {B : Type 0} → (B → List ℕ) → List B → ℕ × B → Type 0
-ComesBackAsItWas contents buffers held = slice_get (map contents buffers) held.0 ≡ Some (contents held.1)
+ComesBackAsItWas contents buffers held =
+    slice_get (map contents buffers) held.0 ≡ Some (contents held.1)
 
 -- an index that is in no hand
 abbrev pub IsLeft : List (List ℕ) → ℕ → Type 0
 IsLeft hands i = sum_by (times i) hands ≡ 0
 
 -- a put that was not got: its ring and its place
-pub record LeftPut (c : Setup) (opening : List (List ℕ)) (records : List (List Ended)) (w : List ℕ) : Type 0 where
+pub record LeftPut (c : Setup) (opening : List (List ℕ)) (records : List (List Ended))
+    (w : List ℕ) : Type 0 where
   pub ring : ℕ
   pub place : ℕ
   pub put : WasPut c opening records ring place w
@@ -154,28 +174,35 @@ pub record EachIsInOneHand (c : Setup) (hands : List (List ℕ)) : Type 0 where
   pub low : (i : ℕ) → 0 < sum_by (times i) hands → i < n_of c.order
   pub once : (i : ℕ) → sum_by (times i) hands ≤ 1
 
--- each index that is in no hand stands for a put that was not got, whose bytes are in its buffer, and each for another
-pub record EachLeftIsItsPut (c : Setup) (opening : List (List ℕ)) (records : List (List Ended)) (hands bytes : List (List ℕ)) : Type 0 where
-  pub put : (i : ℕ) → i < n_of c.order → IsLeft hands i → LeftPut c opening records (slice_index_or bytes i [])
-  pub apart : (i j : ℕ) (a : i < n_of c.order) (b : j < n_of c.order) (x : IsLeft hands i) (y : IsLeft hands j)
+-- each index that is in no hand stands for a put that was not got, whose bytes are in its buffer,
+-- and each for another
+pub record EachLeftIsItsPut (c : Setup) (opening : List (List ℕ)) (records : List (List Ended))
+    (hands bytes : List (List ℕ)) : Type 0 where
+  pub put : (i : ℕ) → i < n_of c.order → IsLeft hands i
+      → LeftPut c opening records (slice_index_or bytes i [])
+  pub apart : (i j : ℕ) (a : i < n_of c.order) (b : j
+      < n_of c.order) (x : IsLeft hands i) (y : IsLeft hands j)
       → (put i a x).ring ≡ (put j b y).ring → (put i a x).place ≡ (put j b y).place → i ≡ j
 
 -- the buffers, in order of index, are the same as the ones given
 abbrev pub AreTheSame : {B : Type 0} → (B → B → Type 0) → List B → List B → Type 0
 AreTheSame {B} IsSame given buffers =
     (length buffers ≡ length given)
-    × ((i : ℕ) (first last : B) → slice_get given i ≡ Some first → slice_get buffers i ≡ Some last → IsSame first last)
+    × ((i : ℕ) (first last : B) → slice_get given i ≡ Some first → slice_get buffers i ≡ Some last
+    → IsSame first last)
 
 -- where some seat read 0 at the gate, each seat has retired
 abbrev pub AllRetiredWhereClosed : {B : Type 0} → List (Standing B) → Type 0
 AllRetiredWhereClosed {B} seats =
-    (a b : ℕ) (reader other : Standing B) → slice_get seats a ≡ Some reader → reader.gate ≡ Some 0 → slice_get seats b ≡ Some other
+    (a b : ℕ) (reader other : Standing B) → slice_get seats a ≡ Some reader → reader.gate ≡ Some 0
+    → slice_get seats b ≡ Some other
     → (calls : ℕ) × (other.retired ≡ Some calls)
 
 -- each seat that some seat had seen retired has retired, with so many calls made before
 abbrev pub EachSeenRetiredHas : {B : Type 0} → List (Standing B) → Type 0
 EachSeenRetiredHas {B} seats =
-    (a b calls : ℕ) (one other : Standing B) → slice_get seats a ≡ Some one → slice_get seats b ≡ Some other
+    (a b calls : ℕ) (one other : Standing B) → slice_get seats a ≡ Some one
+    → slice_get seats b ≡ Some other
     → Contains one.seen.retirees (other.number, calls) → other.retired ≡ Some calls
 
 -- the records of all seats, their hands, what they know, and the spent tickets that they keep
@@ -195,9 +222,12 @@ all_spent seats = map (λ s. s.spent) seats
 abbrev pub callers_of : {B : Type 0} → List (Standing B) → List Caller
 callers_of seats = map caller_of seats
 
--- the buffers that are out are just those that are lifted, each the same as the one given for its index
-pub record AreTheLifted {B : Type 0} (IsSame : B → B → Type 0) (band : Identity B) (seats : List (Standing B)) (out : List (ℕ × B)) : Type 0 where
-  pub lifted : (i : ℕ) → times i (indices_of out) ≡ sum_by (λ (s : Standing B). times i (lifted_of s.hand)) seats
+-- the buffers that are out are just those that are lifted, each the same as the one given for its
+-- index
+pub record AreTheLifted {B : Type 0} (IsSame : B → B
+    → Type 0) (band : Identity B) (seats : List (Standing B)) (out : List (ℕ × B)) : Type 0 where
+  pub lifted : (i : ℕ)
+      → times i (indices_of out) ≡ sum_by (λ (s : Standing B). times i (lifted_of s.hand)) seats
   pub same : (o : ℕ × B) → Contains out o → IsAsGiven IsSame band.given o.0 o.1
 
 -- one run behind all calls. Its calls have all ended, each seat is one of these callers, and each
@@ -210,29 +240,36 @@ pub record AreTheLifted {B : Type 0} (IsSame : B → B → Type 0) (band : Ident
 pub record IsOneRun (c : Setup) (opening : List (List ℕ)) (callers : List Caller) : Type 0 where
   pub steps : List (ℕ × Step)
   pub finished : IsFinishedRun (run_of c opening steps)
-  pub all : (k : ℕ) → k < c.seats → (a : ℕ) × (x : Caller) × (slice_get callers a ≡ Some x) × (x.seat ≡ k)
-  pub apart : (a b : ℕ) (x y : Caller) → slice_get callers a ≡ Some x → slice_get callers b ≡ Some y → x.seat ≡ y.seat → a ≡ b
+  pub all : (k : ℕ) → k < c.seats
+      → (a : ℕ) × (x : Caller) × (slice_get callers a ≡ Some x) × (x.seat ≡ k)
+  pub apart : (a b : ℕ) (x y : Caller) → slice_get callers a ≡ Some x → slice_get callers b ≡ Some y
+      → x.seat ≡ y.seat → a ≡ b
   pub low : (a : ℕ) (x : Caller) → slice_get callers a ≡ Some x → x.seat < c.seats
-  pub records : (a : ℕ) (x : Caller) → slice_get callers a ≡ Some x → (finished.recorded.state.part x.seat).calls ≡ x.calls
+  pub records : (a : ℕ) (x : Caller) → slice_get callers a ≡ Some x
+      → (finished.recorded.state.part x.seat).calls ≡ x.calls
   pub had_seen : (a : ℕ) (x : Caller) → slice_get callers a ≡ Some x → AllPrefixes x.seen.runs steps
   pub aspects : HistoryHasAspects opening finished.recorded
   pub progress : HasProgress c opening steps
   pub delayed : DelayedByEnds c opening steps
   pub alone : EndsAlone c opening steps
   pub history : HistoryShowsRecords finished.recorded
-  pub orders : (r : ℕ) → (order : List Ordered) × IsLinearization (run_of c opening steps) r order × IsOneOrder (run_of c opening steps) r order
+  pub orders : (r : ℕ) → (order : List Ordered) × IsLinearization (run_of c opening steps) r order
+      × IsOneOrder (run_of c opening steps) r order
 
 -- in this state an index stands in the entry of a place, which a put placed there with these bytes
-pub record StandsAtItsPut (c : Setup) (opening : List (List ℕ)) (records : List (List Ended)) (m : Machine) (i : ℕ) (w : List ℕ) : Type 0 where
+pub record StandsAtItsPut (c : Setup) (opening : List (List ℕ)) (records : List (List Ended))
+    (m : Machine) (i : ℕ) (w : List ℕ) : Type 0 where
   pub ring : ℕ
   pub place : ℕ
   pub index : index_in (ring_slots c) (m.cells.entries.word ring (slot c place)) ≡ i
   pub cycle_is : cycle_in (ring_slots c) (m.cells.entries.word ring (slot c place)) ≡ cycle c place
   pub put : WasPut c opening records ring place w
 
--- one run behind all calls, at whose end each index that is in no hand stands at the place of the put that placed it, and its buffer has
--- that put's bytes
-pub record IsOneRunToTheEnd (c : Setup) (opening : List (List ℕ)) (callers : List Caller) (records : List (List Ended)) (hands bytes : List
+-- one run behind all calls, at whose end each index that is in no hand stands at the place of the
+-- put that placed it, and its buffer has that put's bytes
+pub record IsOneRunToTheEnd (c : Setup) (opening : List (List ℕ)) (callers : List Caller)
+    (records : List (List Ended)) (hands bytes : List
     (List ℕ)) : Type 0 where
   pub one : IsOneRun c opening callers
-  pub left : (i : ℕ) → i < n_of c.order → IsLeft hands i → StandsAtItsPut c opening records one.finished.recorded.state i (slice_index_or bytes i [])
+  pub left : (i : ℕ) → i < n_of c.order → IsLeft hands i
+      → StandsAtItsPut c opening records one.finished.recorded.state i (slice_index_or bytes i [])

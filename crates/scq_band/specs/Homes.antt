@@ -1,5 +1,6 @@
 -- For private calls: the slots of a seat go home, before the table closes.
-use Rattle.std.specs.Prelude.{◌≡◌, ◌⊎◌, ℕ, ◌+◌, ◌<◌, ◌≤◌, if◌then◌else◌, is_none, List, [], ◌∷◌, ◌++◌, length, Option, Some, None, slice_get}
+use Rattle.std.specs.Prelude.{◌≡◌, ◌⊎◌, ℕ, ◌+◌, ◌<◌, ◌≤◌, if◌then◌else◌, is_none, List, [], ◌∷◌}
+use Rattle.std.specs.Prelude.{◌++◌, length, Option, Some, None, slice_get}
 use Rattle.std.specs.List.{Contains}
 use Rattle.std.specs.List.Sorted.{IsPermutation}
 use Rattle.atomic_table.specs.Table.{Me}
@@ -27,8 +28,8 @@ pub record IsBrought (xs : List Member) (b : ℕ × List ℕ) : Type 0 where
   pub brought : Contains member.brought b
 
 module _ {S : Type 0} (Lies : ℕ → S → List ℕ → Type 0) where
-  -- one seat stands in the view, it has the index of the slot that stands first, which it hasn't brought home yet, and the buffer of
-  -- that index is in it, with these bytes
+  -- one seat stands in the view, it has the index of the slot that stands first, which it hasn't
+  -- brought home yet, and the buffer of that index is in it, with these bytes
   pub record MayBring (content : List ℕ) (me : Me S Known) : Type 0 where
     pub seats : me.0.seats ≡ my me.0 ∷ []
     pub held : 0 < times (front_index me.1) (my me.0).part.hand
@@ -43,40 +44,53 @@ module _ {B : Type 0} where
   -- how often a slot of this index is lifted
   abbrev pub times_lifted : ℕ → List (ℕ × Slot B) → ℕ
   times_lifted i [] = 0
-  times_lifted i (x ∷ xs) = (if is_none x.1.buffer then times i (x.0 ∷ []) else 0) + times_lifted i xs
+  times_lifted i (x ∷ xs) =
+      (if is_none x.1.buffer then times i (x.0 ∷ []) else 0) + times_lifted i xs
 
-  -- the first slot, of this index, has its buffer, which was in it or has come from those that are out
-  pub record IsLaidBack (i : ℕ) (slots : List (ℕ × Slot B)) (out : List (ℕ × B)) (later : List (ℕ × Slot B)) (left : List (ℕ × B)) : Type 0 where
+  -- the first slot, of this index, has its buffer, which was in it or has come from those that are
+  -- out
+  pub record IsLaidBack (i : ℕ) (slots : List (ℕ × Slot B)) (out : List (ℕ × B))
+      (later : List (ℕ × Slot B)) (left : List (ℕ × B)) : Type 0 where
     pub buffer : B
     pub others : List (ℕ × Slot B)
     pub laid : later ≡ (i, record { buffer = Some buffer }) ∷ others
     pub was : ((slots ≡ (i, record { buffer = Some buffer }) ∷ others) × (left ≡ out))
-        ⊎ ((slots ≡ (i, record { buffer = None }) ∷ others) × IsPermutation out ((i, buffer) ∷ left))
+        ⊎ ((slots ≡ (i, record { buffer = None }) ∷ others)
+        × IsPermutation out ((i, buffer) ∷ left))
 
-  -- these slots have gone home, each with the bytes that its buffer had in it or where it was out; of the slots, and of the buffers
-  -- that were out, the others are left
-  pub record AreHome (contents : B → List ℕ) (gone : List (ℕ × List ℕ)) (slots later : List (ℕ × Slot B)) (out left : List (ℕ × B)) : Type 0 where
+  -- these slots have gone home, each with the bytes that its buffer had in it or where it was out;
+  -- of the slots, and of the buffers that were out, the others are left
+  pub record AreHome (contents : B
+      → List ℕ) (gone : List (ℕ × List ℕ)) (slots later : List (ℕ × Slot B))
+      (out left : List (ℕ × B)) : Type 0 where
     pub indices : indices_of gone ++ indices_of later ≡ indices_of slots
-    pub laid : (i : ℕ) (b : B) → Contains slots (i, full_slot b) → Contains later (i, full_slot b) ⊎ Contains gone (i, contents b)
+    pub laid : (i : ℕ) (b : B) → Contains slots (i, full_slot b)
+        → Contains later (i, full_slot b) ⊎ Contains gone (i, contents b)
     pub lifted : (o : ℕ × B) → Contains out o → Contains left o ⊎ Contains gone (o.0, contents o.1)
 
   -- a seat of whose slots some have gone home
-  pub record WentHome (contents : B → List ℕ) (me : Me (Slot B) Known) (out : List (ℕ × B)) (later : Me (Slot B) Known) (left : List (ℕ × B)) : Type 0 where
+  pub record WentHome (contents : B
+      → List ℕ) (me : Me (Slot B) Known) (out : List (ℕ × B)) (later : Me (Slot B) Known)
+      (left : List (ℕ × B)) : Type 0 where
     pub gone : List (ℕ × List ℕ)
     pub view : later.0 ≡ at_home gone me.0
     pub are : AreHome contents gone me.1 later.1 out left
 
   -- each buffer that was out is out still, or its slot is at home with its bytes
   abbrev pub OutOrHome : (B → List ℕ) → List (ℕ × B) → List (ℕ × B) → List Member → Type 0
-  OutOrHome contents out left xs = (o : ℕ × B) → Contains out o → Contains left o ⊎ IsBrought xs (o.0, contents o.1)
+  OutOrHome contents out left xs =
+      (o : ℕ × B) → Contains out o → Contains left o ⊎ IsBrought xs (o.0, contents o.1)
 
   -- each buffer that is out is the one that was given for its index
   abbrev pub AllOutGiven : (B → B → Type 0) → List B → List (ℕ × B) → Type 0
   AllOutGiven IsSame buffers out = (o : ℕ × B) → Contains out o → IsAsGiven IsSame buffers o.0 o.1
 
-  -- a seat stands alone, with the indices of its slots, which are of its hand and not of those that it has brought home, each once;
-  -- their buffers are the ones that were given, and those that are lifted are out
-  pub record MayLeave (IsSame : B → B → Type 0) (buffers : List B) (me : Me (Slot B) Known) (indices : List ℕ) (out : List (ℕ × B)) : Type 0 where
+  -- a seat stands alone, with the indices of its slots, which are of its hand and not of those that
+  -- it has brought home, each once; their buffers are the ones that were given, and those that are
+  -- lifted are out
+  pub record MayLeave (IsSame : B → B
+      → Type 0) (buffers : List B) (me : Me (Slot B) Known) (indices : List ℕ)
+      (out : List (ℕ × B)) : Type 0 where
     pub seats : me.0.seats ≡ my me.0 ∷ []
     pub order : indices ≡ in_order me.1
     pub held : (i : ℕ) → times i indices ≤ times i (my me.0).part.hand
@@ -86,8 +100,8 @@ module _ {B : Type 0} where
     pub lifted : (i : ℕ) → times_lifted i me.1 ≤ times i (indices_of out)
 
 module _ {B : Type 0} where
-  -- the member of a closed view that a seat became: what contracts see of it stays, and all its slots are at home, with the bytes of
-  -- the buffers that were laid in its hand
+  -- the member of a closed view that a seat became: what contracts see of it stays, and all its
+  -- slots are at home, with the bytes of the buffers that were laid in its hand
   pub record IsMemberOf (contents : B → List ℕ) (s : Standing B) (x : Member) : Type 0 where
     pub number : x.number ≡ s.number
     pub calls : x.part.calls ≡ s.calls
@@ -109,16 +123,19 @@ module _ {B : Type 0} where
   abbrev pub HeadsKnown : List (Standing B) → List Numbers → Type 0
   HeadsKnown [] numbers = Unit {0}
   HeadsKnown (s ∷ ss) numbers =
-      ((r : ℕ) (x : Numbers) → slice_get s.numbers r ≡ Some x → (y : Numbers) × (slice_get numbers r ≡ Some y) × (x.head ≤ y.head))
+      ((r : ℕ) (x : Numbers) → slice_get s.numbers r ≡ Some x
+      → (y : Numbers) × (slice_get numbers r ≡ Some y) × (x.head ≤ y.head))
       × HeadsKnown ss numbers
 
   -- what each of these seats read last at the gate, this reading is no higher
   abbrev pub GatesKnown : List (Standing B) → Option ℕ → Type 0
   GatesKnown [] gate = Unit {0}
-  GatesKnown (s ∷ ss) gate = ((n : ℕ) → s.gate ≡ Some n → (k : ℕ) × (gate ≡ Some k) × (k ≤ n)) × GatesKnown ss gate
+  GatesKnown (s ∷ ss) gate =
+      ((n : ℕ) → s.gate ≡ Some n → (k : ℕ) × (gate ≡ Some k) × (k ≤ n)) × GatesKnown ss gate
 
   -- the view in which these seats stand, with their slots at home
-  pub record HasAll (contents : B → List ℕ) (rings : ℕ) (seats : List (Standing B)) (v : Known) : Type 0 where
+  pub record HasAll (contents : B
+      → List ℕ) (rings : ℕ) (seats : List (Standing B)) (v : Known) : Type 0 where
     pub members : AreMembersOf contents seats v.seats
     pub heads : HeadsKnown seats v.numbers
     pub rings_known : length v.numbers ≡ rings
@@ -130,7 +147,8 @@ module _ {B : Type 0} where
   all_seen (s ∷ ss) = both_seen (all_seen ss) s.seen
 
   -- of all these seats some are left, and the others stand in one view with their slots at home
-  pub record AreGathered (contents : B → List ℕ) (rings : ℕ) (all left : List (Standing B)) (v : Known) (told : Seen) : Type 0 where
+  pub record AreGathered (contents : B
+      → List ℕ) (rings : ℕ) (all left : List (Standing B)) (v : Known) (told : Seen) : Type 0 where
     pub done : List (Standing B)
     pub split : all ≡ left ++ done
     pub has : HasAll contents rings done v

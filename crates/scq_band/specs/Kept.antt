@@ -1,5 +1,7 @@
--- For private calls: what contracts see of a band and of a seat, out of the table, and what a seat keeps beside its token.
-use Rattle.std.specs.Prelude.{◌≡◌, ℕ, ◌<◌, ◌≤◌, ◌^◌, ◌==◌, if◌then◌else◌, List, [], ◌∷◌, ◌++◌, map, length, take, Option, Some, None}
+-- For private calls: what contracts see of a band and of a seat, out of the table, and what a seat
+-- keeps beside its token.
+use Rattle.std.specs.Prelude.{◌≡◌, ℕ, ◌<◌, ◌≤◌, ◌^◌, ◌==◌, if◌then◌else◌, List, [], ◌∷◌, ◌++◌, map}
+use Rattle.std.specs.Prelude.{length, take, Option, Some, None}
 use Rattle.atomic_table.specs.Seated.{TableId}
 use Rattle.atomic_table.specs.Table.{Me}
 use Rattle.scq_word.specs.declared.setup.Setup.{Setup}
@@ -59,7 +61,8 @@ module _ {B : Type 0} where
   -- each buffer that is laid in one of the slots is the same as the one given for its index
   abbrev pub AllGiven : (B → B → Type 0) → List B → List (ℕ × Slot B) → Type 0
   AllGiven IsSame given [] = Unit {0}
-  AllGiven IsSame given (x ∷ xs) = ((b : B) → x.1.buffer ≡ Some b → IsAsGiven IsSame given x.0 b) × AllGiven IsSame given xs
+  AllGiven IsSame given (x ∷ xs) =
+      ((b : B) → x.1.buffer ≡ Some b → IsAsGiven IsSame given x.0 b) × AllGiven IsSame given xs
 
 -- which numbers a seat can count on from: a known finished place is below the largest limit, and
 -- not above the seen one
@@ -69,8 +72,11 @@ IsSmall x = (x.finished < 2 ^ 60) × (x.finished ≤ x.seen)
 abbrev pub AreSmall : List Numbers → Type 0
 AreSmall numbers = (r : ℕ) → IsSmall (known_of numbers r)
 
--- what a seat keeps: its indices in the order of its slots, with room for all; its numbers; its spent ticket
-pub record IsKept {B : Type 0} (IsSame : B → B → Type 0) (key : Key B) (me : Me (Slot B) Known) (indices : List ℕ) (room : ℕ) (known : List Numbers)
+-- what a seat keeps: its indices in the order of its slots, with room for all; its numbers; its
+-- spent ticket
+pub record IsKept {B : Type 0} (IsSame : B → B
+    → Type 0) (key : Key B) (me : Me (Slot B) Known) (indices : List ℕ) (room : ℕ)
+    (known : List Numbers)
     (kept : Option ℕ) : Type 0 where
   pub alone : IsAlone me.0
   pub idle : (my me.0).part.phase ≡ Idle
@@ -87,8 +93,10 @@ pub record IsKept {B : Type 0} (IsSame : B → B → Type 0) (key : Key B) (me :
   pub spent : kept ≡ (my me.0).part.spent
   pub given : AllGiven IsSame key.given.value.items me.1
 
--- what a band keeps: the words and slots of its setup, and empty lists with room for what it hands out when it closes
-pub record IsBand {B : Type 0} (table : TableId) (key : Key B) (setup : Setup) (rings : List Ring) (buffers : List B) (room : ℕ) (left : List ℕ) (places : ℕ) : Type 0 where
+-- what a band keeps: the words and slots of its setup, and empty lists with room for what it hands
+-- out when it closes
+pub record IsBand {B : Type 0} (table : TableId) (key : Key B) (setup : Setup) (rings : List Ring)
+    (buffers : List B) (room : ℕ) (left : List ℕ) (places : ℕ) : Type 0 where
   pub same : setup ≡ key.setup
   pub words : table.words ≡ word_count key.setup
   pub slots : table.slots ≡ n_of key.setup.order
@@ -118,7 +126,8 @@ abbrev pub seen_in : List Sight → Seen
 seen_in [] = nothing_seen
 seen_in (v ∷ vs) = v.seen
 
--- what a note keeps: the one view that its badge has, and in its first cells the numbers of each ring
+-- what a note keeps: the one view that its badge has, and in its first cells the numbers of each
+-- ring
 pub record IsNote (views : List Sight) (cells : List Numbers) (rings : ℕ) : Type 0 where
   pub is : views ≡ note_sight_with (seen_in views) (take rings cells) ∷ []
   pub small : AreSmall (take rings cells)

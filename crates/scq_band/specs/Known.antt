@@ -1,13 +1,15 @@
--- For the rule of the table and the law of views (`each_view_knows_the_truth`) alone; no public call's contract cites it. What a seat
--- of the table knows, its view: the seats of the machine that stand in it with their parts, a lower bound of each ring's counters, and
--- what it read at the gate. A note is a view in which no seat stands.
+-- For the rule of the table and the law of views (`each_view_knows_the_truth`) alone; no public
+-- call's contract cites it. What a seat of the table knows, its view: the seats of the machine that
+-- stand in it with their parts, a lower bound of each ring's counters, and what it read at the
+-- gate. A note is a view in which no seat stands.
 use Rattle.std.specs.Prelude.{ℕ, List, [], ◌∷◌, ◌++◌, Option, Some, None, min}
 use Rattle.scq_core.specs.Machine.{Part}
 use Rattle.scq_band.specs.declared.numbers.Numbers.{Numbers}
 use Rattle.scq_band.specs.Numbers.{joined}
 
--- a seat: its number, its part, how many calls stood in its record when it retired, and the indices in its hand whose slots
--- were brought home before the table closes, each with the bytes of its buffer
+-- a seat: its number, its part, how many calls stood in its record when it retired, and the indices
+-- in its hand whose slots were brought home before the table closes, each with the bytes of its
+-- buffer
 pub record Member : Type 0 where
   pub number : ℕ
   pub part : Part
@@ -51,7 +53,13 @@ lower_gate x None = x
 lower_gate None (Some b) = Some b
 lower_gate (Some a) (Some b) = Some (min a b)
 
--- a view that has taken in another: the other's seats stand first, each number is the larger, and the gate's reading the lower
+-- a view that has taken in another: the other's seats stand first, each number is the larger, and
+-- the gate's reading the lower
 abbrev pub both_of : Known → Known → Known
 both_of v w =
-    record v { seats = w.seats ++ v.seats; numbers = joined v.numbers w.numbers; gate = lower_gate v.gate w.gate }
+    record v {
+      seats = w.seats ++ v.seats;
+      numbers = joined v.numbers w.numbers;
+      gate =
+          lower_gate v.gate w.gate;
+    }

@@ -1,9 +1,10 @@
--- For the rule of the table, the law of views (`each_view_knows_the_truth`) and the law of the layout (`hot_words_are_apart`); no
--- public call's contract cites it. Where the words of the rings stand in the table. Word 0, the gate, counts the seats that have not
--- retired; then comes ring after ring, each with Tail, Head, Threshold and its entries by slot. The gate, Tail, Head and Threshold are
--- hot: all seats write to them. Each stands `d` words at least from every other word that is used, where d is 1 or more; 1 packs the
--- words. Nothing else knows the number of a word: the code asks `layout.rt`, and proofs cite the facts of `Layouts`, which are proved
--- for each d.
+-- For the rule of the table, the law of views (`each_view_knows_the_truth`) and the law of the
+-- layout (`hot_words_are_apart`); no public call's contract cites it. Where the words of the rings
+-- stand in the table. Word 0, the gate, counts the seats that have not retired; then comes ring
+-- after ring, each with Tail, Head, Threshold and its entries by slot. The gate, Tail, Head and
+-- Threshold are hot: all seats write to them. Each stands `d` words at least from every other word
+-- that is used, where d is 1 or more; 1 packs the words. Nothing else knows the number of a word:
+-- the code asks `layout.rt`, and proofs cite the facts of `Layouts`, which are proved for each d.
 use Rattle.std.specs.Prelude.{◌≢◌, ◌⊎◌, ℕ, ◌+◌, ◌-◌, ◌*◌, ◌/◌, ◌<◌, ◌≤◌}
 use Rattle.scq_word.specs.declared.setup.Setup.{Setup}
 use Rattle.scq_core.specs.Machine.{Location, tail_of, head_of, threshold_of, entry_of}
@@ -83,4 +84,5 @@ AreApart d i j = (i + d ≤ j) ⊎ (j + d ≤ i)
 abbrev pub HotWordsAreApart : Type 0
 HotWordsAreApart =
     (c : Setup) (l : Location) → IsLocation c l
-    → AreApart distance gate_word (at c l) × (IsHot l → (k : Location) → IsLocation c k → l ≢ k → AreApart distance (at c l) (at c k))
+    → AreApart distance gate_word (at c l)
+    × (IsHot l → (k : Location) → IsLocation c k → l ≢ k → AreApart distance (at c l) (at c k))

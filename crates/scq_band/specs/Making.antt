@@ -1,5 +1,6 @@
 -- For private calls: what a band is made of.
-use Rattle.std.specs.Prelude.{◌≡◌, ◌⊎◌, ℕ, ◌<◌, ◌≤◌, List, [], ◌∷◌, length, All, slice_index, Option, Some, None, vec_capacity}
+use Rattle.std.specs.Prelude.{◌≡◌, ◌⊎◌, ℕ, ◌<◌, ◌≤◌, List, [], ◌∷◌, length, All, slice_index}
+use Rattle.std.specs.Prelude.{Option, Some, None, vec_capacity}
 use Rattle.scq_word.specs.declared.setup.Setup.{Setup}
 use Rattle.scq_word.specs.Sizes.{n_of}
 use Rattle.scq_core.specs.Machine.{Location, read}
@@ -39,7 +40,8 @@ pub record IsRoom (c : Setup) (room : Room) : Type 0 where
   pub holds_all : n_of c.order ≤ vec_capacity room.hand
   pub known : room.numbers.items ≡ first_numbers c c.rings
 
--- a location of a ring before r, or in r one of the first o of Tail, Head, Threshold and the entries by slot
+-- a location of a ring before r, or in r one of the first o of Tail, Head, Threshold and the
+-- entries by slot
 abbrev pub IsBefore : ℕ → ℕ → Location → Type 0
 IsBefore r o l = (ring_at l < r) ⊎ ((ring_at l ≡ r) × (offset_of 1 l < o))
 
@@ -47,7 +49,8 @@ IsBefore r o l = (ring_at l < r) ⊎ ((ring_at l ≡ r) × (offset_of 1 l < o))
 pub record AreOpened (c : Setup) (words : List ℕ) (r o : ℕ) : Type 0 where
   pub count : length words ≡ word_count c
   pub gate : slice_index words gate_word ≡ c.seats
-  pub shows : (l : Location) → IsLocation c l → IsBefore r o l → slice_index words (at c l) ≡ read (start_cells c []) l
+  pub shows : (l : Location) → IsLocation c l → IsBefore r o l
+      → slice_index words (at c l) ≡ read (start_cells c []) l
 
 -- the memory of a band
 pub record IsMemory (c : Setup) (memory : Memory) : Type 0 where

@@ -1,6 +1,7 @@
--- The three numbers that a view knows of each ring: a finished place, what Tail is above, and what Head has reached. Each is
--- true for good once it is true, and only rises.
-use Rattle.std.specs.Prelude.{◌≡◌, ℕ, zero, suc, ◌+◌, ◌-◌, ◌<◌, ◌≤◌, ◌⊎◌, ◌==◌, if◌then◌else◌, max, Option, Some, None, List, [], ◌∷◌, ◌++◌, slice_index_or, slice_set}
+-- The three numbers that a view knows of each ring: a finished place, what Tail is above, and what
+-- Head has reached. Each is true for good once it is true, and only rises.
+use Rattle.std.specs.Prelude.{◌≡◌, ℕ, zero, suc, ◌+◌, ◌-◌, ◌<◌, ◌≤◌, ◌⊎◌, ◌==◌, if◌then◌else◌, max}
+use Rattle.std.specs.Prelude.{Option, Some, None, List, [], ◌∷◌, ◌++◌, slice_index_or, slice_set}
 use Rattle.scq_word.specs.declared.setup.Setup.{Setup}
 use Rattle.scq_word.specs.Sizes.{n_of}
 use Rattle.scq_core.specs.Machine.{Machine}
@@ -8,12 +9,14 @@ use Rattle.scq_core.specs.Table.{ring_slots}
 use Rattle.scq_law.specs.Bounds.{IsFinished}
 use Rattle.scq_band.specs.declared.numbers.Numbers.{Numbers}
 
--- the number before the first place at which a call can place on a ring; on ring 0 the opening puts come first
+-- the number before the first place at which a call can place on a ring; on ring 0 the opening puts
+-- come first
 abbrev pub before_places : Setup → ℕ → ℕ
 before_places c r = (if r == 0 then ring_slots c + n_of c.order else ring_slots c) - 1
 
 abbrev pub first_numbers_of : Setup → ℕ → Numbers
-first_numbers_of c r = record { finished = before_places c r; seen = before_places c r; head = ring_slots c }
+first_numbers_of c r =
+    record { finished = before_places c r; seen = before_places c r; head = ring_slots c }
 
 -- those of the rings below a number, in order
 abbrev pub first_numbers : Setup → ℕ → List Numbers
@@ -24,8 +27,8 @@ first_numbers c (suc r) = first_numbers c r ++ first_numbers_of c r ∷ []
 abbrev pub known_of : List Numbers → ℕ → Numbers
 known_of numbers r = slice_index_or numbers r (record { finished = 0; seen = 0; head = 0 })
 
--- `finished` is the place of a put that has ended, or what was known at the start; Tail is above `seen`, Head is at or
--- past `head`
+-- `finished` is the place of a put that has ended, or what was known at the start; Tail is above
+-- `seen`, Head is at or past `head`
 pub record IsTrue (c : Setup) (m : Machine) (r : ℕ) (x : Numbers) : Type 0 where
   pub finished : (x.finished ≡ before_places c r) ⊎ IsFinished c m r x.finished
   pub order : x.finished ≤ x.seen
@@ -34,7 +37,8 @@ pub record IsTrue (c : Setup) (m : Machine) (r : ℕ) (x : Numbers) : Type 0 whe
 
 -- a put of one's own has ended at a place
 abbrev pub finishes : ℕ → Numbers → Numbers
-finishes place x = record { finished = max x.finished place; seen = max x.seen place; head = x.head }
+finishes place x =
+    record { finished = max x.finished place; seen = max x.seen place; head = x.head }
 
 -- an index was got at a place
 abbrev pub sees : ℕ → Numbers → Numbers
@@ -61,7 +65,12 @@ pub record RisesInHead (x y : Numbers) : Type 0 where
 
 -- the larger of each
 abbrev pub larger : Numbers → Numbers → Numbers
-larger x y = record { finished = max x.finished y.finished; seen = max x.seen y.seen; head = max x.head y.head }
+larger x y = record {
+  finished = max x.finished y.finished;
+  seen = max x.seen y.seen;
+  head =
+      max x.head y.head;
+}
 
 -- the numbers of one ring changed
 abbrev pub changed : (Numbers → Numbers) → ℕ → List Numbers → List Numbers

@@ -1,6 +1,8 @@
--- What a seat, a pass or a note has seen of the run of all seats, and where in that run a call was made. The run is one list of steps,
--- in the order in which they were made; what was seen of it is a list of its prefixes.
-use Rattle.std.specs.Prelude.{◌≡◌, ◌⊎◌, ℕ, ◌-◌, ◌<◌, ◌≤◌, min, List, [], ◌∷◌, ◌++◌, length, Option, Some, None}
+-- What a seat, a pass or a note has seen of the run of all seats, and where in that run a call was
+-- made. The run is one list of steps, in the order in which they were made; what was seen of it is
+-- a list of its prefixes.
+use Rattle.std.specs.Prelude.{◌≡◌, ◌⊎◌, ℕ, ◌-◌, ◌<◌, ◌≤◌, min, List, [], ◌∷◌, ◌++◌, length, Option}
+use Rattle.std.specs.Prelude.{Some, None}
 use Rattle.std.specs.List.{Contains}
 use Rattle.scq_word.specs.declared.setup.Setup.{Setup}
 use Rattle.scq_word.specs.Sizes.{n_of}
@@ -17,13 +19,14 @@ pub record EndsWith (step : ℕ × Step) (steps : List (ℕ × Step)) : Type 0 w
   pub others : List (ℕ × Step)
   pub is : steps ≡ others ++ step ∷ []
 
--- what a seat, a pass or a note has seen: prefixes of the run of all seats, and seats that had retired, each with how many calls it had
--- made before
+-- what a seat, a pass or a note has seen: prefixes of the run of all seats, and seats that had
+-- retired, each with how many calls it had made before
 pub record Seen : Type 0 where
   pub runs : List (List (ℕ × Step))
   pub retirees : List (ℕ × ℕ)
 
--- what is seen at first: nothing; after a call, or at the gate: this run; by one who learns what another has seen: both
+-- what is seen at first: nothing; after a call, or at the gate: this run; by one who learns what
+-- another has seen: both
 abbrev pub nothing_seen : Seen
 nothing_seen = record { runs = []; retirees = [] }
 
@@ -31,7 +34,8 @@ abbrev pub with_run : List (ℕ × Step) → Seen → Seen
 with_run steps seen = record seen { runs = steps ∷ [] }
 
 abbrev pub both_seen : Seen → Seen → Seen
-both_seen one other = record { runs = one.runs ++ other.runs; retirees = one.retirees ++ other.retirees }
+both_seen one other =
+    record { runs = one.runs ++ other.runs; retirees = one.retirees ++ other.retirees }
 
 -- and by one who retires: that it has, with so many calls made before
 abbrev pub with_retiree : ℕ × ℕ → Seen → Seen
@@ -43,8 +47,9 @@ pub record Caller : Type 0 where
   pub calls : List Ended
   pub seen : Seen
 
--- a call in the run. All that the caller had seen lies in the run `before` it. The call's first step is the next after `before`, its
--- last step is the last of `after`, and `after` is what the caller has seen from then on
+-- a call in the run. All that the caller had seen lies in the run `before` it. The call's first
+-- step is the next after `before`, its last step is the last of `after`, and `after` is what the
+-- caller has seen from then on
 pub record IsCallInRun (c : Setup) (opening : List (List ℕ)) (old new : Caller) : Type 0 where
   pub before : List (ℕ × Step)
   pub after : List (ℕ × Step)
@@ -61,39 +66,47 @@ pub record IsCallInRun (c : Setup) (opening : List (List ℕ)) (old new : Caller
   pub delayed : (ended : Ended) → new.calls ≡ old.calls ++ ended ∷ []
       → WholeCallIsDelayedByEnds c before after was.recorded.state now.recorded.state old.seat ended
 
--- a get of ring r that found nothing, in the run: after the call's last step Head of the ring was at or past this number, and at some
--- moment inside the call each finished put of the ring was claimed: a get that had begun got it, or gets of the ring that are still under
--- way at the end of `after` are at least as many as those that none has got
-pub record WasEmptyInRun (c : Setup) (opening : List (List ℕ)) (r head : ℕ) (old new : Caller) : Type 0 where
+-- a get of ring r that found nothing, in the run: after the call's last step Head of the ring was
+-- at or past this number, and at some moment inside the call each finished put of the ring was
+-- claimed: a get that had begun got it, or gets of the ring that are still under way at the end of
+-- `after` are at least as many as those that none has got
+pub record WasEmptyInRun (c : Setup) (opening : List (List ℕ)) (r head : ℕ)
+    (old new : Caller) : Type 0 where
   pub call : IsCallInRun c opening old new
   pub past : head ≤ call.now.recorded.state.cells.head r
   pub moment : IsEmptyAtCall opening call.was.recorded.events call.now.recorded.events old.seat r
 
 -- so many first calls of this seat had ended in a run that was seen
-pub record HasSeenCalls (c : Setup) (opening : List (List ℕ)) (seen : Seen) (seat calls : ℕ) : Type 0 where
+pub record HasSeenCalls (c : Setup) (opening : List (List ℕ)) (seen : Seen)
+    (seat calls : ℕ) : Type 0 where
   pub steps : List (ℕ × Step)
   pub among : Contains seen.runs steps
   pub recorded : Recorded
   pub is_run : IsRun c opening steps recorded
   pub made : calls ≤ length (recorded.state.part seat).calls
 
--- a reading of the gate in the run, by a seat that had retired itself where `own` is how many calls it had made then. The reader has now
--- seen the run `after`, of which all that it had seen are prefixes, and seats that had retired, those among them that it had seen retired
--- before. The number read is 0 exactly where these are all seats
-pub record IsReadingInRun (c : Setup) (opening : List (List ℕ)) (own : Option ℕ) (old new : Caller) (found : ℕ) : Type 0 where
+-- a reading of the gate in the run, by a seat that had retired itself where `own` is how many calls
+-- it had made then. The reader has now seen the run `after`, of which all that it had seen are
+-- prefixes, and seats that had retired, those among them that it had seen retired before. The
+-- number read is 0 exactly where these are all seats
+pub record IsReadingInRun (c : Setup) (opening : List (List ℕ)) (own : Option ℕ) (old new : Caller)
+    (found : ℕ) : Type 0 where
   pub after : List (ℕ × Step)
   pub had_seen : AllPrefixes old.seen.runs after
   pub has_seen : new.seen.runs ≡ after ∷ []
   pub now : IsRecordAfter c opening after old.seat new.calls
   pub still : (gone : ℕ × ℕ) → Contains old.seen.retirees gone → Contains new.seen.retirees gone
-  pub made : (gone : ℕ × ℕ) → Contains new.seen.retirees gone → HasSeenCalls c opening new.seen gone.0 gone.1
+  pub made : (gone : ℕ × ℕ) → Contains new.seen.retirees gone
+      → HasSeenCalls c opening new.seen gone.0 gone.1
   pub itself : (calls : ℕ) → own ≡ Some calls → Contains new.seen.retirees (old.seat, calls)
   pub not_itself : own ≡ None → (calls : ℕ) → Contains new.seen.retirees (old.seat, calls) → ⊥
-  pub none_left : found ≡ 0 → (seat : ℕ) → seat < c.seats → (calls : ℕ) × Contains new.seen.retirees (seat, calls)
-  pub some_left : 0 < found → (seat : ℕ) × (seat < c.seats) × ((calls : ℕ) → Contains new.seen.retirees (seat, calls) → ⊥)
+  pub none_left : found ≡ 0 → (seat : ℕ) → seat < c.seats
+      → (calls : ℕ) × Contains new.seen.retirees (seat, calls)
+  pub some_left : 0 < found → (seat : ℕ) × (seat < c.seats) × ((calls : ℕ)
+      → Contains new.seen.retirees (seat, calls) → ⊥)
 
--- a moment between two calls of a seat, at which these were the steps of the run: all that it had seen
--- are prefixes of them, its record is the run's, and they are what it has seen from then on
+-- a moment between two calls of a seat, at which these were the steps of the run: all that it had
+-- seen are prefixes of them, its record is the run's, and they are what it has seen from then on
 pub record IsMomentInRun (c : Setup) (opening : List (List ℕ)) (old new : Caller) : Type 0 where
   pub steps : List (ℕ × Step)
   pub had_seen : AllPrefixes old.seen.runs steps
@@ -106,8 +119,8 @@ pub record WasFoundInRun (c : Setup) (opening : List (List ℕ)) (l : Location) 
   pub moment : IsMomentInRun c opening old new
   pub found : n ≡ read moment.now.recorded.state.cells l
 
--- a count of what stands in ring r: Tail less Head, where Head was found at one moment of the run and
--- Tail at the next; and no more than there are buffers
+-- a count of what stands in ring r: Tail less Head, where Head was found at one moment of the run
+-- and Tail at the next; and no more than there are buffers
 pub record WasCountedInRun (c : Setup) (opening : List (List ℕ)) (r count : ℕ) (old new : Caller)
     : Type 0 where
   pub head : ℕ
@@ -137,8 +150,8 @@ abbrev pub HaveSeenOneRun : Seen → Seen → Type 0
 HaveSeenOneRun one other =
     (p q : List (ℕ × Step)) → Contains one.runs p → Contains other.runs q → AreComparable p q
 
--- one run behind all that two have seen when they meet: each had seen prefixes of these steps, and both
--- have seen them from then on. They are a run, in which the first's record stands
+-- one run behind all that two have seen when they meet: each had seen prefixes of these steps, and
+-- both have seen them from then on. They are a run, in which the first's record stands
 pub record HaveMet (c : Setup) (opening : List (List ℕ)) (one other one_now other_now : Caller)
     : Type 0 where
   pub steps : List (ℕ × Step)

@@ -1,7 +1,8 @@
 -- For private calls: the view of one seat that stands alone, and what becomes of it.
 use Rattle.std.specs.Prelude.{◌≡◌, ◌⊎◌, ◌+◌, ℕ, Bool, false, List, [], ◌∷◌, ◌++◌, length, Some}
 use Rattle.scq_core.specs.declared.phase.Phase.{Phase}
-use Rattle.scq_core.specs.declared.phase.Phase.TheVariants.{Idle, AtE1, AtE2, AtE3, AtE4, AtE5, AtE6, AtD2, AtD3, AtD7}
+use Rattle.scq_core.specs.declared.phase.Phase.TheVariants.{Idle, AtE1, AtE2, AtE3, AtE4, AtE5}
+use Rattle.scq_core.specs.declared.phase.Phase.TheVariants.{AtE6, AtD2, AtD3, AtD7}
 use Rattle.scq_core.specs.Machine.{Part}
 use Rattle.scq_core.specs.Table.{hand_without, ends, spends}
 use Rattle.scq_core.specs.declared.ended.Ended.TheVariants.{Done, Got, Nothing}
@@ -35,29 +36,39 @@ goes_to t v = seated (at_phase t (my v)) v.numbers v
 -- the view of a seat that has placed an index: it has left the hand
 abbrev pub placed_to : ℕ → ℕ → List ℕ → ℕ → Known → Known
 placed_to r i w t v =
-    seated (with_part (record (my v).part { phase = AtE5 r i w t; hand = hand_without i (my v).part.hand }) (my v)) v.numbers v
+    seated (with_part (record (my v).part {
+      phase = AtE5 r i w t;
+      hand =
+          hand_without i (my v).part.hand;
+    }) (my v)) v.numbers v
 
 -- the view of a seat whose put has ended at a place
 abbrev pub done_at : ℕ → ℕ → List ℕ → Known → Known
-done_at r p w v = seated (with_part (ends (Done r p w) (my v).part) (my v)) (changed (finishes p) r v.numbers) v
+done_at r p w v =
+    seated (with_part (ends (Done r p w) (my v).part) (my v)) (changed (finishes p) r v.numbers) v
 
 -- the view of a seat that has put an index: it has left the hand, and the put stands in the record
 abbrev pub put_at : ℕ → ℕ → ℕ → List ℕ → Known → Known
 put_at r i p w v =
-    seated (with_part (ends (Done r p w) (record (my v).part { hand = hand_without i (my v).part.hand })) (my v)) (changed (finishes p) r v.numbers) v
+    seated (with_part
+    (ends (Done r p w) (record (my v).part { hand = hand_without i (my v).part.hand })) (my v))
+    (changed (finishes p) r v.numbers) v
 
 -- the view of a seat that has got an index at a place
 abbrev pub got_at : ℕ → ℕ → ℕ → List ℕ → Known → Known
 got_at r h i w v =
-    seated (with_part (ends (Got r h w) (record (my v).part { hand = (my v).part.hand ++ i ∷ [] })) (my v)) (changed (sees h) r v.numbers) v
+    seated (with_part (ends (Got r h w) (record (my v).part { hand = (my v).part.hand ++ i ∷ [] }))
+    (my v)) (changed (sees h) r v.numbers) v
 
 -- the view of a seat whose get has found nothing
 abbrev pub nothing_at : ℕ → Known → Known
-nothing_at r v = seated (with_part (ends (Nothing r) (my v).part) (my v)) (changed empties r v.numbers) v
+nothing_at r v =
+    seated (with_part (ends (Nothing r) (my v).part) (my v)) (changed empties r v.numbers) v
 
 -- the view of a seat whose call drew a ticket at or past the limit
 abbrev pub spent_at : ℕ → ℕ → Bool → Known → Known
-spent_at r ticket is_put v = seated (with_part (spends r ticket is_put (my v).part) (my v)) v.numbers v
+spent_at r ticket is_put v =
+    seated (with_part (spends r ticket is_put (my v).part) (my v)) v.numbers v
 
 -- the index of a put under way
 abbrev pub index_of : Phase → ℕ
@@ -103,7 +114,8 @@ abbrev pub IsSeeking : ℕ → ℕ → Phase → Type 0
 IsSeeking r h phase = phase ≡ AtD3 r h (least_of phase)
 
 -- a seat has got the index i at the place h, and its slot
-pub record HasGot {S : Type 0} (Lies : ℕ → S → List ℕ → Type 0) (r h i : ℕ) (me later : Me S Known) : Type 0 where
+pub record HasGot {S : Type 0} (Lies : ℕ → S → List ℕ
+    → Type 0) (r h i : ℕ) (me later : Me S Known) : Type 0 where
   pub content : List ℕ
   pub view : later.0 ≡ got_at r h i content me.0
   pub slots : Takes Lies i content me.1 later.1
@@ -117,7 +129,8 @@ abbrev pub drew_head : ℕ → ℕ → Known → Known
 drew_head r h v = seated (my v) (changed (passes (h + 1)) r v.numbers) v
 
 -- a seat has got an index with the last ticket that it drew
-abbrev pub HasGotAfter : {S : Type 0} → (ℕ → S → List ℕ → Type 0) → ℕ → ℕ → ℕ → Me S Known → Me S Known → Type 0
+abbrev pub HasGotAfter : {S : Type 0} → (ℕ → S → List ℕ → Type 0) → ℕ → ℕ → ℕ → Me S Known
+    → Me S Known → Type 0
 HasGotAfter Lies r h i me later = HasGot Lies r h i (drew_head r h me.0, me.1) later
 
 -- the view of a seat whose get drew a ticket at or past the limit

@@ -1,5 +1,7 @@
--- For the rule of the table and private calls: what a seat of the table has seen of the run of all seats, beside what it knows.
-use Rattle.std.specs.Prelude.{◌≡◌, ◌⊎◌, ℕ, List, [], ◌∷◌, ◌++◌, ◌<◌, zero, suc, if◌then◌else◌, is_none, unwrap_or, map, Option, Some, slice_get}
+-- For the rule of the table and private calls: what a seat of the table has seen of the run of all
+-- seats, beside what it knows.
+use Rattle.std.specs.Prelude.{◌≡◌, ◌⊎◌, ℕ, List, [], ◌∷◌, ◌++◌, ◌<◌, zero, suc, if◌then◌else◌}
+use Rattle.std.specs.Prelude.{is_none, unwrap_or, map, Option, Some, slice_get}
 use Rattle.std.specs.List.{Contains}
 use mathlib.Core.Option.{some}
 use lib.ListN.{get_elem?}
@@ -33,13 +35,15 @@ abbrev pub known_state : {S : Type 0} → State S Sight → State S Known
 known_state s = record { words = s.words; homes = s.homes; views = map known_in s.views }
 
 -- these steps are a run, after which the seat's part is this
-pub record StandsAfter (c : Setup) (opening : List (List ℕ)) (steps : List (ℕ × Step)) (x : Member) : Type 0 where
+pub record StandsAfter (c : Setup) (opening : List (List ℕ)) (steps : List (ℕ × Step))
+    (x : Member) : Type 0 where
   pub recorded : Recorded
   pub is_run : IsRun c opening steps recorded
   pub part : recorded.state.part x.number ≡ x.part
 
--- one or more steps of the one seat that stands in a view. All that the view had seen lies in the run `before` them; the first is the
--- next after `before`, the last is the last of `after`, after which the view's numbers are true
+-- one or more steps of the one seat that stands in a view. All that the view had seen lies in the
+-- run `before` them; the first is the next after `before`, the last is the last of `after`, after
+-- which the view's numbers are true
 pub record Went (c : Setup) (opening : List (List ℕ)) (old new : Sight) : Type 0 where
   pub before : List (ℕ × Step)
   pub after : List (ℕ × Step)
@@ -51,7 +55,8 @@ pub record Went (c : Setup) (opening : List (List ℕ)) (old new : Sight) : Type
   pub has_seen : new.seen ≡ with_run after old.seen
   pub was : StandsAfter c opening before (my old.known)
   pub now : StandsAfter c opening after (my new.known)
-  pub numbers : (r : ℕ) (x : Numbers) → slice_get new.known.numbers r ≡ Some x → IsTrue c now.recorded.state r x
+  pub numbers : (r : ℕ) (x : Numbers) → slice_get new.known.numbers r ≡ Some x
+      → IsTrue c now.recorded.state r x
 
 -- some steps, or none
 abbrev pub GoesOn : Setup → List (List ℕ) → Sight → Sight → Type 0
@@ -60,16 +65,19 @@ GoesOn c opening old new = (new ≡ old) ⊎ Went c opening old new
 -- of the seats below a number those that have retired, each with how many calls it had made before
 abbrev pub retired_ones : (ℕ → Option ℕ) → ℕ → List (ℕ × ℕ)
 retired_ones gone zero = []
-retired_ones gone (suc k) = retired_ones gone k ++ (if is_none (gone k) then [] else (k, unwrap_or (gone k) 0) ∷ [])
+retired_ones gone (suc k) =
+    retired_ones gone k ++ (if is_none (gone k) then [] else (k, unwrap_or (gone k) 0) ∷ [])
 
--- a reading of the gate by the one seat that stands in a view: it has now seen the rule's run, `after`, and all that have retired
+-- a reading of the gate by the one seat that stands in a view: it has now seen the rule's run,
+-- `after`, and all that have retired
 pub record Looked (c : Setup) (opening : List (List ℕ)) (old new : Sight) (found : ℕ) : Type 0 where
   pub after : List (ℕ × Step)
   pub had_seen : AllPrefixes old.seen.runs after
   pub gone : ℕ → Option ℕ
   pub has_seen : new.seen ≡ record { runs = after ∷ []; retirees = retired_ones gone c.seats }
   pub stands : old.known.seats ≡ my old.known ∷ [] → StandsAfter c opening after (my old.known)
-  pub own : old.known.seats ≡ my old.known ∷ [] → ((my old.known).number < c.seats) × (gone (my old.known).number ≡ (my old.known).retired)
+  pub own : old.known.seats ≡ my old.known ∷ []
+      → ((my old.known).number < c.seats) × (gone (my old.known).number ≡ (my old.known).retired)
   pub still : (p : ℕ × ℕ) → Contains old.seen.retirees p → (p.0 < c.seats) × (gone p.0 ≡ Some p.1)
   pub made : (k n : ℕ) → gone k ≡ Some n → HasSeenCalls c opening new.seen k n
   pub awake_seats : found ≡ awake gone c.seats
@@ -83,7 +91,8 @@ pub record WasShownRun (c : Setup) (opening : List (List ℕ)) (old new : Sight)
       → StandsAfter c opening steps (my old.known)
 
 -- likewise, and it found this number at a word: what stood there at the end of the run
-pub record HasFound (c : Setup) (opening : List (List ℕ)) (word n : ℕ) (old new : Sight) : Type 0 where
+pub record HasFound (c : Setup) (opening : List (List ℕ)) (word n : ℕ)
+    (old new : Sight) : Type 0 where
   pub shown : WasShownRun c opening old new
   pub found : (alone : old.known.seats ≡ my old.known ∷ []) (l : Location) → IsLocation c l
       → word ≡ at c l → n ≡ read (shown.stands alone).recorded.state.cells l
@@ -117,12 +126,13 @@ abbrev pub first_sight : Setup → Sight
 first_sight c = record { known = first_view c; seen = nothing_seen }
 
 module _ {S : Type 0} (Lies : ℕ → S → List ℕ → Type 0) where
-  -- there is a run whose end words and views show. What each view has seen of it are its prefixes, and the seats that it has seen retired
-  -- have, with so many calls made before
+  -- there is a run whose end words and views show. What each view has seen of it are its prefixes,
+  -- and the seats that it has seen retired have, with so many calls made before
   pub record ShowsRun (opening : List (List ℕ)) (c : Setup) (s : State S Sight) : Type 0 where
     pub run : List (ℕ × Step)
     pub gone : ℕ → Option ℕ
     pub shown : Shown Lies opening c gone run (known_state s)
     pub seen : (id : ℕ) (v : Sight) → get_elem? s.views id ≡ some v → AllPrefixes v.seen.runs run
-    pub retirees : (id : ℕ) (v : Sight) → get_elem? s.views id ≡ some v → (p : ℕ × ℕ) → Contains v.seen.retirees p
+    pub retirees : (id : ℕ) (v : Sight) → get_elem? s.views id ≡ some v → (p : ℕ × ℕ)
+        → Contains v.seen.retirees p
         → (p.0 < c.seats) × (gone p.0 ≡ Some p.1)

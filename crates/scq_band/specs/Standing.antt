@@ -1,14 +1,17 @@
 -- What contracts see of a band and of its seats, and what each call makes of a seat.
-use Rattle.std.specs.Prelude.{◌≡◌, ℕ, ◌+◌, ◌<◌, ◌≤◌, true, false, not, ◌==◌, if◌then◌else◌, List, [], ◌∷◌, ◌++◌, map, filter, Option, Some, None, zero, suc, slice_get}
+use Rattle.std.specs.Prelude.{◌≡◌, ℕ, ◌+◌, ◌<◌, ◌≤◌, true, false, not, ◌==◌, if◌then◌else◌, List}
+use Rattle.std.specs.Prelude.{[], ◌∷◌, ◌++◌, map, filter, Option, Some, None, zero, suc, slice_get}
 use Rattle.atomic_table.specs.Seated.{TableId}
 use Rattle.scq_word.specs.declared.setup.Setup.{Setup}
 use Rattle.scq_core.specs.declared.ended.Ended.{Ended}
 use Rattle.scq_core.specs.declared.ended.Ended.TheVariants.{Done, Got, Nothing, Spent}
 use Rattle.scq_band.specs.declared.numbers.Numbers.{Numbers}
 use Rattle.scq_band.specs.RunSeen.{Seen, nothing_seen, Caller}
-use Rattle.scq_band.specs.Numbers.{known_of, first_numbers, changed, finishes, sees, passes, drew, empties}
+use Rattle.scq_band.specs.Numbers.{known_of, first_numbers, changed, finishes, sees, passes, drew}
+use Rattle.scq_band.specs.Numbers.{empties}
 
--- which band: its table, the setup that it was made for, and the buffers that it was given, that of index i at i
+-- which band: its table, the setup that it was made for, and the buffers that it was given, that of
+-- index i at i
 pub record Identity (B : Type 0) : Type 0 where
   pub table : TableId
   pub setup : Setup
@@ -20,13 +23,15 @@ pub record Standing (B : Type 0) : Type 0 where
   pub number : ℕ
   -- its record
   pub calls : List Ended
-  -- the indices in its hand, in the order in which they came, each with its buffer unless that is lifted
+  -- the indices in its hand, in the order in which they came, each with its buffer unless that is
+  -- lifted
   pub hand : List (ℕ × Option B)
   -- what it knows of each ring
   pub numbers : List Numbers
   -- the spent ticket that it keeps
   pub spent : Option ℕ
-  -- how often it read the gate, and what the last reading found; before the first, the number of seats
+  -- how often it read the gate, and what the last reading found; before the first, the number of
+  -- seats
   pub gates : ℕ
   pub gate : Option ℕ
   -- how many calls stood in its record when it retired
@@ -34,8 +39,8 @@ pub record Standing (B : Type 0) : Type 0 where
   -- what it has seen of the run of all seats, and of those that retired
   pub seen : Seen
 
--- a number read at the gate by a seat, of so many seats, which last read `gate` there: the number never rises, and a seat that has
--- retired isn't counted in it
+-- a number read at the gate by a seat, of so many seats, which last read `gate` there: the number
+-- never rises, and a seat that has retired isn't counted in it
 pub record IsReading (seats : ℕ) (gate retired : Option ℕ) (found : ℕ) : Type 0 where
   pub fell : (last : ℕ) → gate ≡ Some last → found ≤ last
   pub own : (calls : ℕ) → retired ≡ Some calls → found < seats
@@ -117,11 +122,16 @@ module _ {B : Type 0} where
   -- a seat whose get has found nothing, with the last ticket that it drew, if any
   abbrev pub after_nothing : ℕ → Option ℕ → Standing B → Standing B
   after_nothing ring drawn s =
-      record s { calls = s.calls ++ Nothing ring ∷ []; numbers = changed (λ x. empties (drew drawn x)) ring s.numbers }
+      record s {
+        calls = s.calls ++ Nothing ring ∷ [];
+        numbers =
+            changed (λ x. empties (drew drawn x)) ring s.numbers;
+      }
 
   -- a seat whose put, or get, drew a ticket at or past the limit
   abbrev pub after_spent_put : ℕ → ℕ → Standing B → Standing B
-  after_spent_put ring ticket s = record s { calls = s.calls ++ Spent ring ticket true ∷ []; spent = Some ticket }
+  after_spent_put ring ticket s =
+      record s { calls = s.calls ++ Spent ring ticket true ∷ []; spent = Some ticket }
 
   abbrev pub after_spent_get : ℕ → ℕ → Standing B → Standing B
   after_spent_get ring ticket s =
@@ -136,21 +146,23 @@ module _ {B : Type 0} where
   after_look found s = record s { gates = s.gates + 1; gate = Some found }
 
   -- a buffer is the same as the one given for an index
-  pub record IsAsGiven (IsSame : B → B → Type 0) (given : List B) (index : ℕ) (buffer : B) : Type 0 where
+  pub record IsAsGiven (IsSame : B → B
+      → Type 0) (given : List B) (index : ℕ) (buffer : B) : Type 0 where
     pub first : B
     pub was : slice_get given index ≡ Some first
     pub same : IsSame first buffer
 
   -- a seat that has got an index at a place: its buffer is the same as the one given for the index
-  pub record HasTaken (contents : B → List ℕ) (IsSame : B → B → Type 0) (ring place index : ℕ) (old new : Standing B) : Type 0 where
+  pub record HasTaken (contents : B → List ℕ) (IsSame : B → B
+      → Type 0) (ring place index : ℕ) (old new : Standing B) : Type 0 where
     pub buffer : B
     pub given : IsAsGiven IsSame old.band.given index buffer
     pub seat : new ≡ having_seen new.seen (after_get ring place index buffer (contents buffer) old)
     -- it was not in the hand before
     pub came : in_hand old.hand index ≡ None
 
-  -- a seat that has found a ring empty: the head number answered is the larger of the known head, past the tickets that it drew,
-  -- and of one more than the known finished place
+  -- a seat that has found a ring empty: the head number answered is the larger of the known head,
+  -- past the tickets that it drew, and of one more than the known finished place
   pub record FoundEmpty (ring head : ℕ) (old new : Standing B) : Type 0 where
     pub drawn : Option ℕ
     pub seat : new ≡ having_seen new.seen (after_nothing ring drawn old)

@@ -1,9 +1,12 @@
--- For private calls: which turn each operation of the table makes. The turn is the seat's phase, or where the seat is idle the
--- first step of a call, on the ring of the word, with the slot that stands first.
+-- For private calls: which turn each operation of the table makes. The turn is the seat's phase, or
+-- where the seat is idle the first step of a call, on the ring of the word, with the slot that
+-- stands first.
 use Rattle.std.specs.Prelude.{◌≡◌, ℕ, List, [], ◌∷◌, Option, Some, None}
 use Rattle.scq_word.specs.declared.setup.Setup.{Setup}
 use Rattle.scq_core.specs.declared.phase.Phase.{Phase}
-use Rattle.scq_core.specs.declared.phase.Phase.TheVariants.{Idle, AtE1, AtE2, AtE3, AtE4, AtE5, AtE6, AtD1, AtD2, AtD3, AtD4, AtD5, AtD6, AtD7, AtD8, AtD9, AtD10}
+use Rattle.scq_core.specs.declared.phase.Phase.TheVariants.{Idle, AtE1, AtE2, AtE3, AtE4, AtE5}
+use Rattle.scq_core.specs.declared.phase.Phase.TheVariants.{AtE6, AtD1, AtD2, AtD3, AtD4, AtD5}
+use Rattle.scq_core.specs.declared.phase.Phase.TheVariants.{AtD6, AtD7, AtD8, AtD9, AtD10}
 use Rattle.scq_core.specs.Table.{ring_slots, cycle, passed}
 use Rattle.scq_core.specs.Start.{idle_part}
 use Rattle.scq_word.specs.Words.{packed}
@@ -53,7 +56,8 @@ load_turn c word v = loading (ring_of_word c word) (my_phase v)
 
 -- the turn of a draw from this word
 abbrev pub draw_turn : {B : Type 0} → (B → List ℕ) → Setup → ℕ → Me (Slot B) Known → Phase
-draw_turn contents c word me = drawing (ring_of_word c word) (front_index me.1) (front_bytes contents me.1) (my_phase me.0)
+draw_turn contents c word me =
+    drawing (ring_of_word c word) (front_index me.1) (front_bytes contents me.1) (my_phase me.0)
 
 -- the turns that only read
 abbrev pub IsLoad : Phase → Type 0

@@ -1,11 +1,13 @@
 -- For private calls: what one atomic step of a seat asks, and what it tells.
-use Rattle.std.specs.Prelude.{◌≡◌, ℕ, ◌+◌, ◌<◌, ◌≤◌, false, ◌==◌, if◌then◌else◌, nat_lt, nat_le, List, [], ◌∷◌, length, map, Some, slice_get}
+use Rattle.std.specs.Prelude.{◌≡◌, ℕ, ◌+◌, ◌<◌, ◌≤◌, false, ◌==◌, if◌then◌else◌, nat_lt, nat_le}
+use Rattle.std.specs.Prelude.{List, [], ◌∷◌, length, map, Some, slice_get}
 use Rattle.atomic_table.specs.Table.{Me, rest}
 use Rattle.scq_word.specs.declared.setup.Setup.{Setup}
 use Rattle.scq_word.specs.Sizes.{n_of}
 use Rattle.scq_word.specs.Words.{index_in, is_none_in}
 use Rattle.scq_core.specs.declared.phase.Phase.{Phase}
-use Rattle.scq_core.specs.declared.phase.Phase.TheVariants.{AtE1, AtE4, AtE5, AtE6, AtD1, AtD2, AtD4, AtD6, AtD10}
+use Rattle.scq_core.specs.declared.phase.Phase.TheVariants.{AtE1, AtE4, AtE5, AtE6, AtD1, AtD2}
+use Rattle.scq_core.specs.declared.phase.Phase.TheVariants.{AtD4, AtD6, AtD10}
 use Rattle.scq_core.specs.declared.step.Step.{Step}
 use Rattle.scq_core.specs.Table.{ring_slots, zero_level, reset_level, turn_of, after}
 use Rattle.scq_core.specs.Turn.{IsReady}
@@ -18,13 +20,15 @@ use Rattle.scq_band.specs.Numbers.{changed, finishes, sees, passes, empties}
 
 -- what a turn that found the word x tells of its ring
 abbrev pub learned : Setup → Phase → ℕ → List Numbers → List Numbers
-learned c (AtE5 r i w t) x numbers = if x == reset_level c then changed (finishes t) r numbers else numbers
+learned c (AtE5 r i w t) x numbers =
+    if x == reset_level c then changed (finishes t) r numbers else numbers
 learned c (AtE6 r i w t) x numbers = changed (finishes t) r numbers
 learned c (AtD1 r) x numbers = if nat_lt x zero_level then changed empties r numbers else numbers
 learned c (AtD2 r l) x numbers = changed (passes (x + 1)) r numbers
 learned c (AtD4 r h) x numbers = changed (sees h) r numbers
 learned c (AtD6 r h) x numbers = if nat_le x (h + 1) then changed empties r numbers else numbers
-learned c (AtD10 r h false) x numbers = if nat_le x zero_level then changed empties r numbers else numbers
+learned c (AtD10 r h false) x numbers =
+    if nat_le x zero_level then changed empties r numbers else numbers
 learned c turn x numbers = numbers
 
 -- the seat and the view after its turn, which found the word x and beside it the content y
@@ -32,7 +36,8 @@ abbrev pub turned_member : Setup → Phase → ℕ → List ℕ → Member → M
 turned_member c t x y member = record member { part = after c t x y member.part }
 
 abbrev pub made : Setup → Phase → ℕ → List ℕ → Known → Known
-made c t x y v = record v { seats = map (turned_member c t x y) v.seats; numbers = learned c t x v.numbers }
+made c t x y v =
+    record v { seats = map (turned_member c t x y) v.seats; numbers = learned c t x v.numbers }
 
 -- a get that takes finds an index in the entry
 abbrev pub FindsIndex : Setup → Phase → ℕ → Type 0
@@ -41,7 +46,8 @@ FindsIndex c turn x = Unit {0}
 
 -- a ticket is above what was known of its counter
 abbrev pub Draws : Phase → ℕ → List Numbers → Type 0
-Draws (AtE1 r i w l) x numbers = (known : Numbers) → slice_get numbers r ≡ Some known → known.seen < x
+Draws (AtE1 r i w l) x numbers =
+    (known : Numbers) → slice_get numbers r ≡ Some known → known.seen < x
 Draws (AtD2 r l) x numbers = (known : Numbers) → slice_get numbers r ≡ Some known → known.head ≤ x
 Draws turn x numbers = Unit {0}
 
@@ -76,7 +82,8 @@ module _ {S : Type 0} (Lies : ℕ → S → List ℕ → Type 0) where
   SlotsAfter c turn x y slots later = later ≡ slots
 
   -- what a turn tells of the seat before and after it
-  pub record Turned (c : Setup) (t : Phase) (me : Me S Known) (x : ℕ) (later : Me S Known) : Type 0 where
+  pub record Turned (c : Setup) (t : Phase) (me : Me S Known) (x : ℕ)
+      (later : Me S Known) : Type 0 where
     pub beside : List ℕ
     pub view : later.0 ≡ made c t x beside me.0
     pub slots : SlotsAfter c t x beside me.1 later.1

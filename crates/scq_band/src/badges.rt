@@ -1,4 +1,5 @@
-//! How what one seat knows gets to another: a copy of its view lies in a badge, and is joined to the other's view. No seat stands in the copy.
+//! How what one seat knows gets to another: a copy of its view lies in a badge, and is joined to
+//! the other's view. No seat stands in the copy.
 ghost use Rattle.std.specs.Prelude.{◌≡◌, ◌<◌, [], ◌∷◌};
 ghost use Rattle.scq_band.specs.Sights.{Sight, note_sight, both_sight};
 ghost use Rattle.scq_band.specs.Seats.{IsAlone};
@@ -32,20 +33,24 @@ impl Join<View> for Gathers {
 pub fn note<B: Buffer>(words: &Words<B>, token: &mut Token<B>) -> Badge<View>
     requires own { token.old.table_id ≡ words.now.table_id }
     requires room { 0 < words.now.table_id.words }
-    ensures own { (token.new.table_id ≡ token.old.table_id) × (token.new.id ≡ token.old.id) × (token.new.me ≡ token.old.me) }
-    ensures note { (result.table_id ≡ token.old.table_id) × (result.views ≡ note_sight token.old.me.0 ∷ []) }
+    ensures own { (token.new.table_id ≡ token.old.table_id) × (token.new.id ≡ token.old.id)
+        × (token.new.me ≡ token.old.me) }
+    ensures note { (result.table_id ≡ token.old.table_id)
+        × (result.views ≡ note_sight token.old.me.0 ∷ []) }
 {
     words.split_seat::<Copies>(token).into_badge()
 }
 
 /// From then on the seat knows the larger of each number.
 pub fn learn<B: Buffer>(words: &Words<B>, token: &mut Token<B>, note: Badge<View>)
-    requires own { (token.old.table_id ≡ words.now.table_id) × (note.table_id ≡ words.now.table_id) }
+    requires own { (token.old.table_id ≡ words.now.table_id)
+        × (note.table_id ≡ words.now.table_id) }
     requires room { 0 < words.now.table_id.words }
     requires alone { IsAlone token.old.me.0.known }
     requires note { (v : Sight) × (note.views ≡ v ∷ []) }
     ensures own { (token.new.table_id ≡ token.old.table_id) × (token.new.id ≡ token.old.id) }
-    ensures learned { (v : Sight) → note.views ≡ v ∷ [] → token.new.me ≡ (both_sight token.old.me.0 v, token.old.me.1) }
+    ensures learned { (v : Sight) → note.views ≡ v ∷ []
+        → token.new.me ≡ (both_sight token.old.me.0 v, token.old.me.1) }
 {
     words.join_seat::<Gathers>(token, note.into_seat());
 }

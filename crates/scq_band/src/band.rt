@@ -1,5 +1,6 @@
 //! A band: the running rings, with their seats.
-ghost use Rattle.std.specs.Prelude.{◌≡◌, ℕ, ◌<◌, ◌≤◌, ◌==◌, true, length, Some, None, All, IfOk, IfErr, vec_len};
+ghost use Rattle.std.specs.Prelude.{◌≡◌, ℕ, ◌<◌, ◌≤◌, ◌==◌, true, length, Some, None, All, IfOk};
+ghost use Rattle.std.specs.Prelude.{IfErr, vec_len};
 ghost use Rattle.scq_word.specs.Sizes.{n_of};
 ghost use Rattle.scq_band.specs.Rings.{IsRing};
 ghost use Rattle.scq_band.specs.Buffers.{opening_of};
@@ -22,8 +23,8 @@ use std::snapshot::Snapshot;
 
 /// The running rings. Threads share it and make calls on it, each with a seat of its own.
 ///
-/// `rings` has what a call needs to know of each ring, worked out once. `buffers` and `left` are empty lists, with room for what
-/// `close` hands out.
+/// `rings` has what a call needs to know of each ring, worked out once. `buffers` and `left` are
+/// empty lists, with room for what `close` hands out.
 #[derive(Drop)]
 pub struct Band<B: Buffer> {
     pub(crate) table: Table<Slot<B>, View, Key<B>, Rule, Global>,
@@ -44,19 +45,21 @@ impl<B: Buffer> Model for Band<B> {
     ghost view = { λ b. identity_of b.table.shared.table_id b.table.shared.key };
 
     ghost invariant = { λ b.
-        IsBand b.table.shared.table_id b.table.shared.key b.setup b.rings.items b.buffers.items (vec_capacity b.buffers) b.left.items (vec_capacity b.left) };
+        IsBand b.table.shared.table_id b.table.shared.key b.setup b.rings.items b.buffers.items
+        (vec_capacity b.buffers) b.left.items (vec_capacity b.left) };
 }
 
 impl<B: Buffer> Band<B> {
-    /// A band with its seats, in the order of their numbers. Buffer i stands for index i; ring 0 has all indices, in order.
-    /// Without memory all buffers come back, in order.
+    /// A band with its seats, in the order of their numbers. Buffer i stands for index i; ring 0
+    /// has all indices, in order. Without memory all buffers come back, in order.
     pub fn make(
         alloc: Global,
         setup: Setup,
         mut buffers: Vec<B>,
     ) -> Result<(Band<B>, Vec<Seat<B>>), (Vec<B>, NoMemory)>
         requires { vec_len buffers ≡ n_of setup.order }
-        ensures band { IfOk result (λ made. (made.0.setup ≡ setup) × (made.0.given ≡ buffers.items)) }
+        ensures band { IfOk result (λ made.
+            (made.0.setup ≡ setup) × (made.0.given ≡ buffers.items)) }
         ensures seats { IfOk result (λ made. made.1.items ≡ first_standings made.0 setup.seats) }
         ensures own { IfOk result (λ made. All (λ s. s.band ≡ made.0) made.1.items) }
         ensures refused { IfErr result (λ refused. refused.0.items ≡ buffers.items) }
@@ -112,7 +115,8 @@ impl<B: Buffer> Band<B> {
         &self.rings[number as usize]
     }
 
-    /// The seat retires, and has seen that it has: so marks and notes of it carry that. Wait-free: one step.
+    /// The seat retires, and has seen that it has: so marks and notes of it carry that. Wait-free:
+    /// one step.
     pub fn retire(&self, seat: &mut Seat<B>)
         requires seat { seat.old.band ≡ self.now }
         requires stays { seat.old.retired ≡ None }
@@ -124,17 +128,23 @@ impl<B: Buffer> Band<B> {
         retire(&self.table.shared, &mut seat.token);
     }
 
-    /// Whether every seat had retired when the gate was read. The number that is read there, of the seats that haven't retired,
-    /// never rises. The seat has then seen a run with all calls that the retired seats made before they retired. Where it had seen each
-    /// seat retired, by marks, notes or readings, the answer is true (the clause `told`). Wait-free: one step.
+    /// Whether every seat had retired when the gate was read. The number that is read there, of the
+    /// seats that haven't retired, never rises. The seat has then seen a run with all calls that
+    /// the retired seats made before they retired. Where it had seen each seat retired, by marks,
+    /// notes or readings, the answer is true (the clause `told`). Wait-free: one step.
     pub fn gate_closed(&self, seat: &mut Seat<B>) -> bool
         requires seat { seat.old.band ≡ self.now }
-        ensures looked { (found : ℕ) × (seat.new ≡ having_seen seat.new.seen (after_look found seat.old)) × (result ≡ (found == 0)) }
+        ensures looked { (found : ℕ)
+            × (seat.new ≡ having_seen seat.new.seen (after_look found seat.old))
+            × (result ≡ (found == 0)) }
         ensures in_run { (found : ℕ) → seat.new.gate ≡ Some found
-            → IsReadingInRun self.now.setup (opening_of B.contents self.now.given) seat.old.retired (caller_of seat.old) (caller_of seat.new) found }
+            → IsReadingInRun self.now.setup (opening_of B.contents self.now.given) seat.old.retired
+            (caller_of seat.old) (caller_of seat.new) found }
         ensures told { AllWereSeenRetired self.now.setup seat.old.seen → result ≡ true }
-        ensures fell { (last found : ℕ) → seat.old.gate ≡ Some last → seat.new.gate ≡ Some found → found ≤ last }
-        ensures own { (calls found : ℕ) → seat.old.retired ≡ Some calls → seat.new.gate ≡ Some found → found < self.now.setup.seats }
+        ensures fell { (last found : ℕ) → seat.old.gate ≡ Some last → seat.new.gate ≡ Some found
+            → found ≤ last }
+        ensures own { (calls found : ℕ) → seat.old.retired ≡ Some calls → seat.new.gate ≡ Some found
+            → found < self.now.setup.seats }
     {
         read_gate(&self.table.shared, &mut seat.token) == 0
     }

@@ -31,7 +31,12 @@ impl Model for BandNote {
 
     ghost use Rattle.scq_band.specs.Kept.{IsNote, seen_in};
 
-    ghost view = { λ n. record { table = n.badge.table_id; numbers = take n.rings n.numbers; seen = seen_in n.badge.views } };
+    ghost view = { λ n. record {
+      table = n.badge.table_id;
+      numbers = take n.rings n.numbers;
+      seen =
+          seen_in n.badge.views;
+    } };
 
     ghost invariant = { λ n. IsNote n.badge.views n.numbers n.rings };
 }
@@ -73,7 +78,8 @@ impl<B: Buffer> Band<B> {
     pub fn note(&self, seat: &mut Seat<B>) -> BandNote
         requires seat { seat.old.band ≡ self.now }
         ensures same { seat.new ≡ seat.old }
-        ensures note { (result.table ≡ self.now.table) × (result.numbers ≡ seat.old.numbers) × (result.seen ≡ seat.old.seen) }
+        ensures note { (result.table ≡ self.now.table) × (result.numbers ≡ seat.old.numbers)
+            × (result.seen ≡ seat.old.seen) }
     {
         let rings = seat.numbers.len();
         let numbers = copied(&seat.numbers);
@@ -85,11 +91,15 @@ impl<B: Buffer> Band<B> {
         }
     }
 
-    /// From then on the seat knows the larger of each number, its own or the note's. Wait-free: one step.
+    /// From then on the seat knows the larger of each number, its own or the note's. Wait-free: one
+    /// step.
     pub fn learn(&self, seat: &mut Seat<B>, note: BandNote)
         requires seat { seat.old.band ≡ self.now }
         requires note { note.table ≡ self.now.table }
-        ensures { seat.new ≡ record seat.old { numbers = joined seat.old.numbers note.numbers; seen = both_seen seat.old.seen note.seen } }
+        ensures { seat.new ≡ record seat.old {
+          numbers = joined seat.old.numbers note.numbers;
+          seen = both_seen seat.old.seen note.seen;
+        } }
     {
         let BandNote {
             badge,

@@ -6,12 +6,15 @@
 //! bound is astronomical. The linearization points are those of `scq_law`'s `specs/Points`: of an
 //! enqueue mostly the step that drew its place, of a dequeue the one that drew its own or the
 //! enqueue's point, whichever is later, and of an Empty the step that decided it.
-ghost use Rattle.std.specs.Prelude.{◌≡◌, ℕ, ◌<◌, ◌≤◌, List, [], ◌∷◌, ◌++◌, Some, None, Err, IfOk, IfErr, length, vec_capacity, slice_set};
+ghost use Rattle.std.specs.Prelude.{◌≡◌, ℕ, ◌<◌, ◌≤◌, List, [], ◌∷◌, ◌++◌, Some, None, Err, IfOk};
+ghost use Rattle.std.specs.Prelude.{IfErr, length, vec_capacity, slice_set};
 ghost use Rattle.scq_word.specs.Sizes.{n_of};
 ghost use Rattle.scq_band.specs.Buffers.{opening_of};
 ghost use Rattle.scq_band.specs.Numbers.{known_of, changed, finishes, RisesInHead};
 ghost use Rattle.scq_band.specs.RunSeen.{IsCallInRun, WasEmptyInRun};
-ghost use Rattle.scq_band.specs.Standing.{caller_of, in_hand, bytes_in_hand, having_seen, after_put, after_spent_put, after_spent_get, IsAsGiven, HasTaken, FoundEmpty};
+ghost use Rattle.scq_band.specs.Standing.{caller_of, in_hand, bytes_in_hand, having_seen};
+ghost use Rattle.scq_band.specs.Standing.{after_put, after_spent_put, after_spent_get, IsAsGiven};
+ghost use Rattle.scq_band.specs.Standing.{HasTaken, FoundEmpty};
 
 use crate::band::Band;
 use crate::dequeue::{Without, dequeue};
@@ -28,15 +31,16 @@ pub struct Spent {
     pub ticket: u64,
 }
 
-/// Why a dequeue answers no index: the ring was empty, its Head being at or past this number, or the seat keeps a ticket at
-/// or past the limit.
+/// Why a dequeue answers no index: the ring was empty, its Head being at or past this number, or
+/// the seat keeps a ticket at or past the limit.
 #[derive(Clone, Copy, Debug, PartialEq, Eq)]
 pub enum DeqRefusal {
     Empty { head: u64 },
     Spent { ticket: u64 },
 }
 
-// The index at the end of a hand was enqueued at a place: it leaves the hand, and the place is known to be finished.
+// The index at the end of a hand was enqueued at a place: it leaves the hand, and the place is
+// known to be finished.
 #[inline(always)]
 fn let_go(hand: &mut Vec<u32>, numbers: &mut Vec<Numbers>, ring: u32, place: u64)
     requires some { 0 < length hand.old.items }
@@ -44,7 +48,8 @@ fn let_go(hand: &mut Vec<u32>, numbers: &mut Vec<Numbers>, ring: u32, place: u64
     requires above { (known_of numbers.old.items ring).seen < place }
     requires order { (known_of numbers.old.items ring).finished
         ≤ (known_of numbers.old.items ring).seen }
-    ensures hand { (others : List ℕ) (index : ℕ) → hand.old.items ≡ others ++ index ∷ [] → hand.new.items ≡ others }
+    ensures hand { (others : List ℕ) (index : ℕ) → hand.old.items ≡ others ++ index ∷ []
+        → hand.new.items ≡ others }
     ensures room { vec_capacity hand.new ≡ vec_capacity hand.old }
     ensures numbers { numbers.new.items ≡ changed (finishes place) ring numbers.old.items }
 {
@@ -68,23 +73,29 @@ fn note_head(numbers: &mut Vec<Numbers>, ring: u32, known: Numbers, later: Numbe
 }
 
 impl<B: Buffer> Band<B> {
-    /// Enqueues an index that the seat has in its hand, with its buffer: answers its place, which is below the limit.
-    /// The call is one of the run of all seats, behind all that the seat had seen of it. Spent where the ticket that was drawn
-    /// is at or past the limit; the seat keeps it, and answers it from then on, with no step made.
+    /// Enqueues an index that the seat has in its hand, with its buffer: answers its place, which
+    /// is below the limit. The call is one of the run of all seats, behind all that the seat had
+    /// seen of it. Spent where the ticket that was drawn is at or past the limit; the seat keeps
+    /// it, and answers it from then on, with no step made.
     #[inline(always)]
     pub fn enq(&self, seat: &mut Seat<B>, ring: u32, index: u32) -> Result<u64, Spent>
         requires seat { seat.old.band ≡ self.now }
         requires ring { ring < self.now.setup.rings }
         requires held { (buffer : B) × (in_hand seat.old.hand index ≡ Some (Some buffer)) }
         ensures band { seat.new.band ≡ seat.old.band }
-        ensures put { IfOk result (λ place. seat.new ≡ having_seen seat.new.seen (after_put ring index place
+        ensures put { IfOk result (λ place.
+            seat.new ≡ having_seen seat.new.seen (after_put ring index place
             (bytes_in_hand B.contents seat.old.hand index) seat.old)) }
-        ensures place { IfOk result (λ place. (place < self.now.setup.limit) × ((known_of seat.old.numbers ring).seen < place)) }
+        ensures place { IfOk result (λ place.
+            (place < self.now.setup.limit) × ((known_of seat.old.numbers ring).seen < place)) }
         ensures spent { IfErr result (λ spent. seat.old.spent ≡ None
-            → (seat.new ≡ having_seen seat.new.seen (after_spent_put ring spent.ticket seat.old)) × (self.now.setup.limit ≤ spent.ticket)) }
+            → (seat.new ≡ having_seen seat.new.seen (after_spent_put ring spent.ticket seat.old))
+            × (self.now.setup.limit ≤ spent.ticket)) }
         ensures run { seat.old.spent ≡ None
-            → IsCallInRun self.now.setup (opening_of B.contents self.now.given) (caller_of seat.old) (caller_of seat.new) }
-        ensures kept { (ticket : ℕ) → seat.old.spent ≡ Some ticket → (result ≡ Err (record { ticket = ticket })) × (seat.new ≡ seat.old) }
+            → IsCallInRun self.now.setup (opening_of B.contents self.now.given) (caller_of seat.old)
+            (caller_of seat.new) }
+        ensures kept { (ticket : ℕ) → seat.old.spent ≡ Some ticket
+            → (result ≡ Err (record { ticket = ticket })) × (seat.new ≡ seat.old) }
     {
         if let Some(ticket) = seat.spent {
             return Err(Spent { ticket });
@@ -102,8 +113,9 @@ impl<B: Buffer> Band<B> {
         }
     }
 
-    /// Lays a buffer back that was lifted, and enqueues its index: what `lay` and `enq` do one after the other. Where the enqueue is
-    /// refused, the buffer comes back, and is lifted as it was.
+    /// Lays a buffer back that was lifted, and enqueues its index: what `lay` and `enq` do one
+    /// after the other. Where the enqueue is refused, the buffer comes back, and is lifted as it
+    /// was.
     #[inline(always)]
     pub fn put(
         &self,
@@ -117,14 +129,21 @@ impl<B: Buffer> Band<B> {
         requires lifted { in_hand seat.old.hand index ≡ Some None }
         requires given { IsAsGiven B.IsSameBuffer self.now.given index buffer }
         ensures band { (seat.new.band ≡ seat.old.band) × (seat.new.number ≡ seat.old.number) }
-        ensures put { IfOk result (λ place. seat.new ≡ having_seen seat.new.seen (after_put ring index place (B.contents buffer) seat.old)) }
-        ensures place { IfOk result (λ place. (place < self.now.setup.limit) × ((known_of seat.old.numbers ring).seen < place)) }
+        ensures put { IfOk result (λ place.
+            seat.new ≡ having_seen seat.new.seen
+            (after_put ring index place (B.contents buffer) seat.old)) }
+        ensures place { IfOk result (λ place.
+            (place < self.now.setup.limit) × ((known_of seat.old.numbers ring).seen < place)) }
         ensures back { IfErr result (λ refused. refused.0 ≡ buffer) }
         ensures spent { IfErr result (λ refused. seat.old.spent ≡ None
-            → (seat.new ≡ having_seen seat.new.seen (after_spent_put ring refused.1.ticket seat.old)) × (self.now.setup.limit ≤ refused.1.ticket)) }
+            → (seat.new ≡ having_seen seat.new.seen
+            (after_spent_put ring refused.1.ticket seat.old))
+            × (self.now.setup.limit ≤ refused.1.ticket)) }
         ensures run { seat.old.spent ≡ None
-            → IsCallInRun self.now.setup (opening_of B.contents self.now.given) (caller_of seat.old) (caller_of seat.new) }
-        ensures kept { (ticket : ℕ) → seat.old.spent ≡ Some ticket → (result ≡ Err (buffer, record { ticket = ticket })) × (seat.new ≡ seat.old) }
+            → IsCallInRun self.now.setup (opening_of B.contents self.now.given) (caller_of seat.old)
+            (caller_of seat.new) }
+        ensures kept { (ticket : ℕ) → seat.old.spent ≡ Some ticket
+            → (result ≡ Err (buffer, record { ticket = ticket })) × (seat.new ≡ seat.old) }
     {
         if let Some(ticket) = seat.spent {
             return Err((buffer, Spent { ticket }));
@@ -144,28 +163,38 @@ impl<B: Buffer> Band<B> {
         }
     }
 
-    /// Dequeues an index, with its buffer: answers its place, which is below the limit, and the index.
-    /// Empty where the ring was found empty: its Head is at or past the number answered, so whatever the seat knew to be
-    /// finished there had been claimed. The number is what the seat's view knows of Head now, which is true of the words at
-    /// every moment (`laws::each_view_knows_the_truth`). In the run of all seats Head was at or past it after the call's last
-    /// step, and at a moment inside the call each enqueue of the ring that had ended was claimed: by the dequeue that got its index, or
-    /// by one that was under way (the clause `empty_in_run`). Spent as with `enq`.
+    /// Dequeues an index, with its buffer: answers its place, which is below the limit, and the
+    /// index. Empty where the ring was found empty: its Head is at or past the number answered, so
+    /// whatever the seat knew to be finished there had been claimed. The number is what the seat's
+    /// view knows of Head now, which is true of the words at every moment
+    /// (`laws::each_view_knows_the_truth`). In the run of all seats Head was at or past it after
+    /// the call's last step, and at a moment inside the call each enqueue of the ring that had
+    /// ended was claimed: by the dequeue that got its index, or by one that was under way (the
+    /// clause `empty_in_run`). Spent as with `enq`.
     #[inline(always)]
     pub fn deq(&self, seat: &mut Seat<B>, ring: u32) -> Result<(u64, u32), DeqRefusal>
         requires seat { seat.old.band ≡ self.now }
         requires ring { ring < self.now.setup.rings }
         ensures band { seat.new.band ≡ seat.old.band }
-        ensures got { IfOk result (λ r. HasTaken B.contents B.IsSameBuffer ring r.0 r.1 seat.old seat.new) }
-        ensures place { IfOk result (λ r. (r.0 < self.now.setup.limit) × ((known_of seat.old.numbers ring).head ≤ r.0)) }
+        ensures got { IfOk result (λ r.
+            HasTaken B.contents B.IsSameBuffer ring r.0 r.1 seat.old seat.new) }
+        ensures place { IfOk result (λ r.
+            (r.0 < self.now.setup.limit) × ((known_of seat.old.numbers ring).head ≤ r.0)) }
         ensures index { IfOk result (λ r. r.1 < n_of self.now.setup.order) }
-        ensures empty { (head : ℕ) → result ≡ Err (DeqRefusal.Empty head) → FoundEmpty ring head seat.old seat.new }
+        ensures empty { (head : ℕ) → result ≡ Err (DeqRefusal.Empty head)
+            → FoundEmpty ring head seat.old seat.new }
         ensures empty_in_run { (head : ℕ) → result ≡ Err (DeqRefusal.Empty head)
-            → WasEmptyInRun self.now.setup (opening_of B.contents self.now.given) ring head (caller_of seat.old) (caller_of seat.new) }
-        ensures spent { (ticket : ℕ) → result ≡ Err (DeqRefusal.Spent ticket) → seat.old.spent ≡ None
-            → (seat.new ≡ having_seen seat.new.seen (after_spent_get ring ticket seat.old)) × (self.now.setup.limit ≤ ticket) }
+            → WasEmptyInRun self.now.setup (opening_of B.contents self.now.given) ring head
+            (caller_of seat.old) (caller_of seat.new) }
+        ensures spent { (ticket : ℕ) → result ≡ Err (DeqRefusal.Spent ticket)
+            → seat.old.spent ≡ None
+            → (seat.new ≡ having_seen seat.new.seen (after_spent_get ring ticket seat.old))
+            × (self.now.setup.limit ≤ ticket) }
         ensures run { seat.old.spent ≡ None
-            → IsCallInRun self.now.setup (opening_of B.contents self.now.given) (caller_of seat.old) (caller_of seat.new) }
-        ensures kept { (ticket : ℕ) → seat.old.spent ≡ Some ticket → (result ≡ Err (DeqRefusal.Spent ticket)) × (seat.new ≡ seat.old) }
+            → IsCallInRun self.now.setup (opening_of B.contents self.now.given) (caller_of seat.old)
+            (caller_of seat.new) }
+        ensures kept { (ticket : ℕ) → seat.old.spent ≡ Some ticket
+            → (result ≡ Err (DeqRefusal.Spent ticket)) × (seat.new ≡ seat.old) }
     {
         if let Some(ticket) = seat.spent {
             return Err(DeqRefusal::Spent { ticket });

@@ -1,5 +1,7 @@
-//! The end of a band: each slot that a seat holds goes home to the table, the seats' views are joined into one, and the table is closed.
-ghost use Rattle.std.specs.Prelude.{◌≡◌, ℕ, ◌+◌, ◌<◌, ◌≤◌, is_none, IsTrue, [], ◌∷◌, map, length, vec_len, sum_by, All};
+//! The end of a band: each slot that a seat holds goes home to the table, the seats' views are
+//! joined into one, and the table is closed.
+ghost use Rattle.std.specs.Prelude.{◌≡◌, ℕ, ◌+◌, ◌<◌, ◌≤◌, is_none, IsTrue, [], ◌∷◌, map, length};
+ghost use Rattle.std.specs.Prelude.{vec_len, sum_by, All};
 ghost use Rattle.std.specs.List.Sorted.{IsPermutation};
 ghost use Rattle.atomic_table.specs.Table.{rest};
 ghost use Rattle.scq_law.specs.Hands.{times};
@@ -7,8 +9,17 @@ ghost use Rattle.scq_band.specs.declared.slot.Slot.{Slot};
 ghost use Rattle.scq_band.specs.Buffers.{LiesIn, opening_of};
 ghost use Rattle.scq_band.specs.Steps.{my, front_index, front_bytes};
 ghost use Rattle.scq_band.specs.Kept.{identity_of};
-ghost use Rattle.scq_band.specs.Closing.{indices_of, lifted_of, IsOneRunToTheEnd, EachGetHasItsPut, NoneIsPutTwice, NoneIsGotTwice, EachPutPassedIsGot, IsBalance, IsAllThere, EachIsInOneHand, EachSpentIsPastTheBound, NoneIsSpentWithinTheLimit, EachLeftIsItsPut, AreTheSame, AreTheLifted, ComesBackAsItWas, held_buffers, AllRetiredWhereClosed, EachSeenRetiredHas, all_calls, all_hands, all_known, all_spent, callers_of};
-ghost use Rattle.scq_band.specs.Homes.{at_home, MayBring, IsLaidBack, times_lifted, WentHome, OutOrHome, AllOutGiven, MayLeave, IsMemberOf, HasAll, all_seen};
+ghost use Rattle.scq_band.specs.Closing.{indices_of, lifted_of, IsOneRunToTheEnd, EachGetHasItsPut};
+ghost use Rattle.scq_band.specs.Closing.{NoneIsPutTwice, NoneIsGotTwice, EachPutPassedIsGot};
+ghost use Rattle.scq_band.specs.Closing.{IsBalance, IsAllThere, EachIsInOneHand};
+ghost use Rattle.scq_band.specs.Closing.{EachSpentIsPastTheBound, NoneIsSpentWithinTheLimit};
+ghost use Rattle.scq_band.specs.Closing.{EachLeftIsItsPut, AreTheSame, AreTheLifted};
+ghost use Rattle.scq_band.specs.Closing.{ComesBackAsItWas, held_buffers, AllRetiredWhereClosed};
+ghost use Rattle.scq_band.specs.Closing.{EachSeenRetiredHas, all_calls, all_hands, all_known};
+ghost use Rattle.scq_band.specs.Closing.{all_spent, callers_of};
+ghost use Rattle.scq_band.specs.Homes.{at_home, MayBring, IsLaidBack, times_lifted, WentHome};
+ghost use Rattle.scq_band.specs.Homes.{OutOrHome, AllOutGiven, MayLeave, IsMemberOf, HasAll};
+ghost use Rattle.scq_band.specs.Homes.{all_seen};
 ghost use Rattle.scq_band.specs.Sights.{known_me};
 
 use crate::badges::Gathers;
@@ -23,16 +34,22 @@ use crate::slot::Slot;
 use scq_word::Buffer;
 use std::marker::Brand;
 
-/// The slot that stands first goes home. Only the view changes: it does so at a step of the table, and a load is one that leaves the words
-/// as they are. So the gate is loaded, and its number isn't used.
+/// The slot that stands first goes home. Only the view changes: it does so at a step of the table,
+/// and a load is one that leaves the words as they are. So the gate is loaded, and its number isn't
+/// used.
 fn bring_home<B: Buffer>(words: &Words<B>, token: &mut Token<B>)
     requires own { token.old.table_id ≡ words.now.table_id }
     requires room { 0 < words.now.table_id.words }
-    requires may { MayBring (LiesIn B.contents B.IsSameBuffer words.now.key.given.value.items) (front_bytes B.contents token.old.me.1)
+    requires may { MayBring (LiesIn B.contents B.IsSameBuffer words.now.key.given.value.items)
+        (front_bytes B.contents token.old.me.1)
         (known_me token.old.me) }
     ensures own { (token.new.table_id ≡ token.old.table_id) × (token.new.id ≡ token.old.id) }
     ensures home { known_me token.new.me
-        ≡ (at_home ((front_index token.old.me.1, front_bytes B.contents token.old.me.1) ∷ []) token.old.me.0.known, rest token.old.me.1) }
+        ≡ (
+          at_home ((front_index token.old.me.1, front_bytes B.contents token.old.me.1)
+              ∷ []) token.old.me.0.known,
+          rest token.old.me.1,
+        ) }
     ensures seen { token.new.me.0.seen ≡ token.old.me.0.seen }
 {
     words.load::<Brand>(token, GATE);
@@ -41,7 +58,8 @@ fn bring_home<B: Buffer>(words: &Words<B>, token: &mut Token<B>)
 /// Takes the buffer of an index out of those that were lifted.
 fn take_out<B, T: Lifted<B>>(out: &mut Vec<T>, index: u32) -> B
     requires { 0 < times index (indices_of (map T.pair out.old.items)) }
-    ensures { IsPermutation (map T.pair out.old.items) ((index, result) ∷ map T.pair out.new.items) }
+    ensures { IsPermutation (map T.pair out.old.items) ((index, result)
+        ∷ map T.pair out.new.items) }
 {
     let mut at = 0;
     while at < out.len() {
@@ -65,7 +83,8 @@ fn lay_back<B: Buffer, T: Lifted<B>>(
         × (IsTrue (is_none slot.buffer) → 0 < times index (indices_of (map T.pair out.old.items))) }
     ensures own { (token.new.table_id ≡ token.old.table_id) × (token.new.id ≡ token.old.id) }
     ensures view { token.new.me.0 ≡ token.old.me.0 }
-    ensures laid { IsLaidBack index token.old.me.1 (map T.pair out.old.items) token.new.me.1 (map T.pair out.new.items) }
+    ensures laid { IsLaidBack index token.old.me.1 (map T.pair out.old.items) token.new.me.1
+        (map T.pair out.new.items) }
 {
     let Slot { buffer } = words.exchange(token, index as usize, Slot { buffer: None });
     let buffer = match buffer {
@@ -84,13 +103,17 @@ fn bring_all<B: Buffer, T: Lifted<B>>(
 )
     requires own { token.old.table_id ≡ words.now.table_id }
     requires room { 0 < words.now.table_id.words }
-    requires may { MayLeave B.IsSameBuffer words.now.key.given.value.items (known_me token.old.me) hand.items (map T.pair out.old.items) }
+    requires may { MayLeave B.IsSameBuffer words.now.key.given.value.items
+        (known_me token.old.me) hand.items (map T.pair out.old.items) }
     ensures own { (token.new.table_id ≡ token.old.table_id) × (token.new.id ≡ token.old.id) }
-    ensures home { WentHome B.contents (known_me token.old.me) (map T.pair out.old.items) (known_me token.new.me) (map T.pair out.new.items) }
+    ensures home { WentHome B.contents (known_me token.old.me) (map T.pair out.old.items)
+        (known_me token.new.me) (map T.pair out.new.items) }
     ensures none { token.new.me.1 ≡ [] }
     ensures seen { token.new.me.0.seen ≡ token.old.me.0.seen }
-    ensures less { (i : ℕ) → times i (indices_of (map T.pair out.new.items)) + times_lifted i token.old.me.1 ≡ times i (indices_of (map T.pair out.old.items)) }
-    ensures given { AllOutGiven B.IsSameBuffer words.now.key.given.value.items (map T.pair out.new.items) }
+    ensures less { (i : ℕ) → times i (indices_of (map T.pair out.new.items))
+        + times_lifted i token.old.me.1 ≡ times i (indices_of (map T.pair out.old.items)) }
+    ensures given { AllOutGiven B.IsSameBuffer words.now.key.given.value.items
+        (map T.pair out.new.items) }
 {
     while let Some(index) = hand.pop() {
         lay_back(words, token, index, out);
@@ -106,18 +129,24 @@ fn bring_seat_home<B: Buffer, T: Lifted<B>>(
 ) -> Token<B>
     requires band { seat.band ≡ identity_of words.now.table_id words.now.key }
     requires room { 0 < words.now.table_id.words }
-    requires lifted { (i : ℕ) → times i (lifted_of seat.hand) ≤ times i (indices_of (map T.pair out.old.items)) }
-    requires given { AllOutGiven B.IsSameBuffer words.now.key.given.value.items (map T.pair out.old.items) }
+    requires lifted { (i : ℕ)
+        → times i (lifted_of seat.hand) ≤ times i (indices_of (map T.pair out.old.items)) }
+    requires given { AllOutGiven B.IsSameBuffer words.now.key.given.value.items
+        (map T.pair out.old.items) }
     ensures own { result.table_id ≡ words.now.table_id }
     ensures alone { result.me.0.known.seats ≡ my result.me.0.known ∷ [] }
     ensures member { IsMemberOf B.contents seat (my result.me.0.known) }
-    ensures home { OutOrHome B.contents (map T.pair out.old.items) (map T.pair out.new.items) (my result.me.0.known ∷ []) }
-    ensures numbers { (result.me.0.known.numbers ≡ seat.numbers) × (length seat.numbers ≡ words.now.key.setup.rings) }
+    ensures home { OutOrHome B.contents (map T.pair out.old.items) (map T.pair out.new.items)
+        (my result.me.0.known ∷ []) }
+    ensures numbers { (result.me.0.known.numbers ≡ seat.numbers)
+        × (length seat.numbers ≡ words.now.key.setup.rings) }
     ensures gate { result.me.0.known.gate ≡ seat.gate }
     ensures seen { result.me.0.seen ≡ seat.seen }
     ensures none { result.me.1 ≡ [] }
-    ensures less { (i : ℕ) → times i (indices_of (map T.pair out.new.items)) + times i (lifted_of seat.hand) ≡ times i (indices_of (map T.pair out.old.items)) }
-    ensures given { AllOutGiven B.IsSameBuffer words.now.key.given.value.items (map T.pair out.new.items) }
+    ensures less { (i : ℕ) → times i (indices_of (map T.pair out.new.items))
+        + times i (lifted_of seat.hand) ≡ times i (indices_of (map T.pair out.old.items)) }
+    ensures given { AllOutGiven B.IsSameBuffer words.now.key.given.value.items
+        (map T.pair out.new.items) }
 {
     let Seat {
         mut token,
@@ -130,7 +159,8 @@ fn bring_seat_home<B: Buffer, T: Lifted<B>>(
     token
 }
 
-/// Joins the tokens of all seats into one, in whose view each of them stands. What was lifted is laid back.
+/// Joins the tokens of all seats into one, in whose view each of them stands. What was lifted is
+/// laid back.
 pub fn gather<B: Buffer, T: Lifted<B>>(
     words: &Words<B>,
     mut seats: Vec<Seat<B>>,
@@ -139,8 +169,10 @@ pub fn gather<B: Buffer, T: Lifted<B>>(
     requires bands { All (λ s. s.band ≡ identity_of words.now.table_id words.now.key) seats.items }
     requires some { 0 < vec_len seats }
     requires room { 0 < words.now.table_id.words }
-    requires lifted { (i : ℕ) → times i (indices_of (map T.pair out.items)) ≡ sum_by (λ s. times i (lifted_of s.hand)) seats.items }
-    requires given { AllOutGiven B.IsSameBuffer words.now.key.given.value.items (map T.pair out.items) }
+    requires lifted { (i : ℕ) → times i (indices_of (map T.pair out.items))
+        ≡ sum_by (λ s. times i (lifted_of s.hand)) seats.items }
+    requires given { AllOutGiven B.IsSameBuffer words.now.key.given.value.items
+        (map T.pair out.items) }
     ensures own { result.table_id ≡ words.now.table_id }
     ensures all { HasAll B.contents words.now.key.setup.rings seats.items result.me.0.known }
     ensures home { OutOrHome B.contents (map T.pair out.items) [] result.me.0.known.seats }
@@ -159,7 +191,8 @@ pub fn gather<B: Buffer, T: Lifted<B>>(
     first
 }
 
-/// What is left of a band: its buffers in order of index, and for each ring how many indices were left in it.
+/// What is left of a band: its buffers in order of index, and for each ring how many indices were
+/// left in it.
 #[derive(Drop)]
 pub struct BandClosed<B> {
     pub buffers: Vec<B>,
@@ -167,33 +200,43 @@ pub struct BandClosed<B> {
 }
 
 impl<B: Buffer> Band<B> {
-    /// Closes a band whose seats all come back. The buffers that are lifted come in `out`, each with its index, as pairs or in a
-    /// type that has more beside them; they are laid back, and all buffers are handed out. Takes no memory.
+    /// Closes a band whose seats all come back. The buffers that are lifted come in `out`, each
+    /// with its index, as pairs or in a type that has more beside them; they are laid back, and all
+    /// buffers are handed out. Takes no memory.
     ///
-    /// The clauses read the seats' records, hands and numbers together, in the order in which the seats are given. One run stands behind
-    /// all their calls: what each seat had seen are prefixes of it, its history has the four aspects, and the calls of each ring stand in
-    /// one order in which every reply is a plain queue's.
+    /// The clauses read the seats' records, hands and numbers together, in the order in which the
+    /// seats are given. One run stands behind all their calls: what each seat had seen are prefixes
+    /// of it, its history has the four aspects, and the calls of each ring stand in one order in
+    /// which every reply is a plain queue's.
     pub fn close<T: Lifted<B>>(self, seats: Vec<Seat<B>>, out: Vec<T>) -> BandClosed<B>
         requires seats { All (λ s. s.band ≡ self) seats.items }
         requires all { vec_len seats ≡ self.setup.seats }
         requires out { AreTheLifted B.IsSameBuffer self seats.items (map T.pair out.items) }
-        ensures run { IsOneRunToTheEnd self.setup (opening_of B.contents self.given) (callers_of seats.items) (all_calls seats.items) (all_hands seats.items)
+        ensures run { IsOneRunToTheEnd self.setup (opening_of B.contents self.given)
+            (callers_of seats.items) (all_calls seats.items) (all_hands seats.items)
             (map B.contents result.buffers.items) }
         ensures buffers { AreTheSame B.IsSameBuffer self.given result.buffers.items }
-        ensures gets { EachGetHasItsPut self.setup (opening_of B.contents self.given) (all_calls seats.items) }
-        ensures put_once { NoneIsPutTwice self.setup (opening_of B.contents self.given) (all_calls seats.items) }
+        ensures gets { EachGetHasItsPut self.setup (opening_of B.contents self.given)
+            (all_calls seats.items) }
+        ensures put_once { NoneIsPutTwice self.setup (opening_of B.contents self.given)
+            (all_calls seats.items) }
         ensures once { NoneIsGotTwice (all_calls seats.items) }
-        ensures passed { EachPutPassedIsGot self.setup (opening_of B.contents self.given) (all_calls seats.items) (all_known seats.items) }
+        ensures passed { EachPutPassedIsGot self.setup (opening_of B.contents self.given)
+            (all_calls seats.items) (all_known seats.items) }
         ensures balance { IsBalance self.setup (all_calls seats.items) result.left.items }
         ensures all_there { IsAllThere self.setup (all_hands seats.items) result.left.items }
         ensures hands { EachIsInOneHand self.setup (all_hands seats.items) }
-        ensures held { All (ComesBackAsItWas B.contents result.buffers.items) (held_buffers seats.items (map T.pair out.items)) }
-        ensures left { EachLeftIsItsPut self.setup (opening_of B.contents self.given) (all_calls seats.items) (all_hands seats.items)
+        ensures held { All (ComesBackAsItWas B.contents result.buffers.items)
+            (held_buffers seats.items (map T.pair out.items)) }
+        ensures left { EachLeftIsItsPut self.setup (opening_of B.contents self.given)
+            (all_calls seats.items) (all_hands seats.items)
             (map B.contents result.buffers.items) }
         ensures gate { AllRetiredWhereClosed seats.items }
         ensures retirees { EachSeenRetiredHas seats.items }
-        ensures spent { EachSpentIsPastTheBound self.setup (all_calls seats.items) (all_spent seats.items) }
-        ensures limits { NoneIsSpentWithinTheLimit self.setup (all_calls seats.items) (all_spent seats.items) }
+        ensures spent { EachSpentIsPastTheBound self.setup (all_calls seats.items)
+            (all_spent seats.items) }
+        ensures limits { NoneIsSpentWithinTheLimit self.setup (all_calls seats.items)
+            (all_spent seats.items) }
     {
         let Band {
             table,

@@ -34,11 +34,11 @@ impl<B: Buffer> Band<B> {
         find(&self.table.shared, &mut seat.token, word)
     }
 
-    /// About how many indices stand in a ring: a hint, as others put and get meanwhile. It is Tail less
-    /// Head, each as it stood at a moment of its own, Head's before Tail's; and no more than there are
-    /// buffers. Tickets that found nothing or were not used count too, so it may be too high, and
-    /// where gets have drawn tickets past Tail, too low. The seat has seen the run at both moments, as by
-    /// two looks. Wait-free: two steps.
+    /// About how many indices stand in a ring: a hint, as others put and get meanwhile. It is Tail
+    /// less Head, each as it stood at a moment of its own, Head's before Tail's; and no more than
+    /// there are buffers. Tickets that found nothing or were not used count too, so it may be too
+    /// high, and where gets have drawn tickets past Tail, too low. The seat has seen the run at
+    /// both moments, as by two looks. Wait-free: two steps.
     pub fn count(&self, seat: &mut Seat<B>, ring: u32) -> u32
         requires seat { seat.old.band ≡ self.now }
         requires ring { ring < self.now.setup.rings }

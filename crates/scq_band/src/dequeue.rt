@@ -1,5 +1,6 @@
 //! A dequeue, step by step.
-ghost use Rattle.std.specs.Prelude.{◌≡◌, ℕ, ◌+◌, ◌^◌, ◌<◌, ◌≤◌, IfSome, IfNone, IfOk, IfErr, IsTrue, IsFalse, Some, None, Err, slice_get, length, true};
+ghost use Rattle.std.specs.Prelude.{◌≡◌, ℕ, ◌+◌, ◌^◌, ◌<◌, ◌≤◌, IfSome, IfNone, IfOk, IfErr};
+ghost use Rattle.std.specs.Prelude.{IsTrue, IsFalse, Some, None, Err, slice_get, length, true};
 ghost use Rattle.scq_word.specs.Sizes.{n_of};
 ghost use Rattle.scq_law.specs.Hands.{times};
 ghost use Rattle.scq_core.specs.declared.phase.Phase.TheVariants.{Idle, AtD2, AtD6, AtD7, AtD10};
@@ -9,7 +10,8 @@ ghost use Rattle.scq_band.specs.Rings.{IsRing};
 ghost use Rattle.scq_band.specs.Buffers.{LiesIn, opening_of};
 ghost use Rattle.scq_band.specs.Sights.{known_me, Went};
 ghost use Rattle.scq_band.specs.Steps.{my, my_phase};
-ghost use Rattle.scq_band.specs.Seats.{IsAlone, IsSeeking, IsBehind, HasGot, HasGotAfter, drew_head, drawn_spent, goes_to, nothing_at};
+ghost use Rattle.scq_band.specs.Seats.{IsAlone, IsSeeking, IsBehind, HasGot, HasGotAfter};
+ghost use Rattle.scq_band.specs.Seats.{drew_head, drawn_spent, goes_to, nothing_at};
 
 use crate::ring::Ring;
 use crate::rule::{Token, Words};
@@ -17,7 +19,8 @@ use crate::steps::{consume, count_down, draw, exchange, load};
 use scq_core::{ZERO_LEVEL, passed};
 use scq_word::{Buffer, cycle_of, unpack};
 
-/// D3 to D5, again where the exchange fails: takes the index that stands at the ticket. With None none stands there, nor ever will.
+/// D3 to D5, again where the exchange fails: takes the index that stands at the ticket. With None
+/// none stands there, nor ever will.
 #[inline(always)]
 fn try_take<B: Buffer>(
     words: &Words<B>,
@@ -25,19 +28,26 @@ fn try_take<B: Buffer>(
     ring: &Ring,
     ticket: u64,
 ) -> Option<u32>
-    requires own { (token.old.table_id ≡ words.now.table_id) × (words.now.table_id.words ≡ word_count words.now.key.setup) }
+    requires own { (token.old.table_id ≡ words.now.table_id)
+        × (words.now.table_id.words ≡ word_count words.now.key.setup) }
     requires ring { IsRing words.now.key.setup ring.now }
     requires alone { IsAlone token.old.me.0.known }
     requires limit { ticket < ring.now.limit }
     requires seeks { IsSeeking ring.now.number ticket (my_phase token.old.me.0.known) }
     ensures own { (token.new.table_id ≡ token.old.table_id) × (token.new.id ≡ token.old.id) }
-    ensures went { Went words.now.key.setup (opening_of B.contents words.now.key.given.value.items) token.old.me.0 token.new.me.0 }
-    ensures got { IfSome result (λ index. HasGot (LiesIn B.contents B.IsSameBuffer words.now.key.given.value.items) ring.now.number ticket index
+    ensures went { Went words.now.key.setup
+        (opening_of B.contents words.now.key.given.value.items) token.old.me.0 token.new.me.0 }
+    ensures got { IfSome result (λ index.
+        HasGot (LiesIn B.contents B.IsSameBuffer words.now.key.given.value.items) ring.now.number
+        ticket index
         (known_me token.old.me) (known_me token.new.me)) }
     ensures small { IfSome result (λ index. index < n_of words.now.key.setup.order) }
-    ensures fits { IfSome result (λ index. length (my token.new.me.0.known).part.hand ≤ n_of words.now.key.setup.order) }
-    ensures once { IfSome result (λ index. (i : ℕ) → times i (my token.new.me.0.known).part.hand ≤ 1) }
-    ensures given_up { IfNone result (token.new.me.0.known ≡ goes_to (AtD6 ring.now.number ticket) token.old.me.0.known) }
+    ensures fits { IfSome result (λ index.
+        length (my token.new.me.0.known).part.hand ≤ n_of words.now.key.setup.order) }
+    ensures once { IfSome result (λ index. (i : ℕ)
+        → times i (my token.new.me.0.known).part.hand ≤ 1) }
+    ensures given_up { IfNone result (token.new.me.0.known
+        ≡ goes_to (AtD6 ring.now.number ticket) token.old.me.0.known) }
     ensures slots { IfNone result (token.new.me.1 ≡ token.old.me.1) }
 {
     let word = ring.entry(ticket);
@@ -58,15 +68,19 @@ fn try_take<B: Buffer>(
 
 /// D7 to D9 until Tail is caught up.
 fn catch_up<B: Buffer>(words: &Words<B>, token: &mut Token<B>, ring: &Ring, ticket: u64, tail: u64)
-    requires own { (token.old.table_id ≡ words.now.table_id) × (words.now.table_id.words ≡ word_count words.now.key.setup) }
+    requires own { (token.old.table_id ≡ words.now.table_id)
+        × (words.now.table_id.words ≡ word_count words.now.key.setup) }
     requires ring { IsRing words.now.key.setup ring.now }
     requires alone { IsAlone token.old.me.0.known }
-    requires behind { IsBehind ring.now.number ticket tail (ticket + 1) (my_phase token.old.me.0.known) }
+    requires behind { IsBehind ring.now.number ticket tail (ticket
+        + 1) (my_phase token.old.me.0.known) }
     requires room { ticket < 2 ^ 60 }
     ensures own { (token.new.table_id ≡ token.old.table_id) × (token.new.id ≡ token.old.id) }
-    ensures went { Went words.now.key.setup (opening_of B.contents words.now.key.given.value.items) token.old.me.0 token.new.me.0 }
+    ensures went { Went words.now.key.setup
+        (opening_of B.contents words.now.key.given.value.items) token.old.me.0 token.new.me.0 }
     ensures slots { token.new.me.1 ≡ token.old.me.1 }
-    ensures caught_up { token.new.me.0.known ≡ goes_to (AtD10 ring.now.number ticket true) token.old.me.0.known }
+    ensures caught_up { token.new.me.0.known
+        ≡ goes_to (AtD10 ring.now.number ticket true) token.old.me.0.known }
 {
     let mut from = tail;
     let mut to = ticket + 1;
@@ -82,20 +96,24 @@ fn catch_up<B: Buffer>(words: &Words<B>, token: &mut Token<B>, ring: &Ring, tick
     }
 }
 
-/// D6 to D10, for a ticket at which no index was taken: lifts Tail where it is behind, and takes one off Threshold. Whether the call
-/// ends with Nothing.
+/// D6 to D10, for a ticket at which no index was taken: lifts Tail where it is behind, and takes
+/// one off Threshold. Whether the call ends with Nothing.
 #[inline(always)]
 fn give_up<B: Buffer>(words: &Words<B>, token: &mut Token<B>, ring: &Ring, ticket: u64) -> bool
-    requires own { (token.old.table_id ≡ words.now.table_id) × (words.now.table_id.words ≡ word_count words.now.key.setup) }
+    requires own { (token.old.table_id ≡ words.now.table_id)
+        × (words.now.table_id.words ≡ word_count words.now.key.setup) }
     requires ring { IsRing words.now.key.setup ring.now }
     requires alone { IsAlone token.old.me.0.known }
     requires given_up { my_phase token.old.me.0.known ≡ AtD6 ring.now.number ticket }
     requires limit { ticket < ring.now.limit }
     ensures own { (token.new.table_id ≡ token.old.table_id) × (token.new.id ≡ token.old.id) }
-    ensures went { Went words.now.key.setup (opening_of B.contents words.now.key.given.value.items) token.old.me.0 token.new.me.0 }
+    ensures went { Went words.now.key.setup
+        (opening_of B.contents words.now.key.given.value.items) token.old.me.0 token.new.me.0 }
     ensures slots { token.new.me.1 ≡ token.old.me.1 }
-    ensures over { IsTrue result → token.new.me.0.known ≡ nothing_at ring.now.number token.old.me.0.known }
-    ensures on { IsFalse result → token.new.me.0.known ≡ goes_to (AtD2 ring.now.number (ticket + 1)) token.old.me.0.known }
+    ensures over { IsTrue result
+        → token.new.me.0.known ≡ nothing_at ring.now.number token.old.me.0.known }
+    ensures on { IsFalse result
+        → token.new.me.0.known ≡ goes_to (AtD2 ring.now.number (ticket + 1)) token.old.me.0.known }
 {
     let tail = load(words, token, ring.tail);
     if tail <= ticket + 1 {
@@ -106,8 +124,8 @@ fn give_up<B: Buffer>(words: &Words<B>, token: &mut Token<B>, ring: &Ring, ticke
     count_down(words, token, ring.threshold()) <= ZERO_LEVEL
 }
 
-/// How a dequeue ends without an index: with nothing, after the last ticket that it drew, if any; or with the ticket that it
-/// drew at or past the limit.
+/// How a dequeue ends without an index: with nothing, after the last ticket that it drew, if any;
+/// or with the ticket that it drew at or past the limit.
 pub enum Without {
     Nothing(Option<u64>),
     Spent(u64),
@@ -120,25 +138,37 @@ pub fn dequeue<B: Buffer>(
     token: &mut Token<B>,
     ring: &Ring,
 ) -> Result<(u64, u32), Without>
-    requires own { (token.old.table_id ≡ words.now.table_id) × (words.now.table_id.words ≡ word_count words.now.key.setup) }
+    requires own { (token.old.table_id ≡ words.now.table_id)
+        × (words.now.table_id.words ≡ word_count words.now.key.setup) }
     requires ring { IsRing words.now.key.setup ring.now }
     requires alone { IsAlone token.old.me.0.known }
-    requires idle { (my_phase token.old.me.0.known ≡ Idle) × ((my token.old.me.0.known).part.spent ≡ None) }
+    requires idle { (my_phase token.old.me.0.known ≡ Idle)
+        × ((my token.old.me.0.known).part.spent ≡ None) }
     ensures own { (token.new.table_id ≡ token.old.table_id) × (token.new.id ≡ token.old.id) }
-    ensures went { Went words.now.key.setup (opening_of B.contents words.now.key.given.value.items) token.old.me.0 token.new.me.0 }
-    ensures got { IfOk result (λ r. HasGotAfter (LiesIn B.contents B.IsSameBuffer words.now.key.given.value.items) ring.now.number r.0 r.1
+    ensures went { Went words.now.key.setup
+        (opening_of B.contents words.now.key.given.value.items) token.old.me.0 token.new.me.0 }
+    ensures got { IfOk result (λ r.
+        HasGotAfter (LiesIn B.contents B.IsSameBuffer words.now.key.given.value.items)
+        ring.now.number r.0 r.1
         (known_me token.old.me) (known_me token.new.me)) }
-    ensures small { IfOk result (λ r. (r.0 < words.now.key.setup.limit) × (r.1 < n_of words.now.key.setup.order)) }
-    ensures fits { IfOk result (λ r. length (my token.new.me.0.known).part.hand ≤ n_of words.now.key.setup.order) }
+    ensures small { IfOk result (λ r.
+        (r.0 < words.now.key.setup.limit) × (r.1 < n_of words.now.key.setup.order)) }
+    ensures fits { IfOk result (λ r.
+        length (my token.new.me.0.known).part.hand ≤ n_of words.now.key.setup.order) }
     ensures once { IfOk result (λ r. (i : ℕ) → times i (my token.new.me.0.known).part.hand ≤ 1) }
-    ensures above { IfOk result (λ r. (known : Numbers) → slice_get token.old.me.0.known.numbers ring.now.number ≡ Some known → known.head ≤ r.0) }
-    ensures nothing { result ≡ Err (Without.Nothing None) → token.new.me.0.known ≡ nothing_at ring.now.number token.old.me.0.known }
+    ensures above { IfOk result (λ r. (known : Numbers)
+        → slice_get token.old.me.0.known.numbers ring.now.number ≡ Some known → known.head ≤ r.0) }
+    ensures nothing { result ≡ Err (Without.Nothing None)
+        → token.new.me.0.known ≡ nothing_at ring.now.number token.old.me.0.known }
     ensures nothing_left { (ticket : ℕ) → result ≡ Err (Without.Nothing (Some ticket))
-        → (token.new.me.0.known ≡ nothing_at ring.now.number (drew_head ring.now.number ticket token.old.me.0.known))
+        → (token.new.me.0.known
+        ≡ nothing_at ring.now.number (drew_head ring.now.number ticket token.old.me.0.known))
         × (ticket < words.now.key.setup.limit)
-        × ((known : Numbers) → slice_get token.old.me.0.known.numbers ring.now.number ≡ Some known → known.head ≤ ticket) }
+        × ((known : Numbers) → slice_get token.old.me.0.known.numbers ring.now.number ≡ Some known
+        → known.head ≤ ticket) }
     ensures spent { (ticket : ℕ) → result ≡ Err (Without.Spent ticket)
-        → (token.new.me.0.known ≡ drawn_spent ring.now.number ticket token.old.me.0.known) × (words.now.key.setup.limit ≤ ticket) }
+        → (token.new.me.0.known ≡ drawn_spent ring.now.number ticket token.old.me.0.known)
+        × (words.now.key.setup.limit ≤ ticket) }
     ensures short { (ticket : ℕ) → result ≡ Err (Without.Spent ticket) → ticket + 1 < 2 ^ 64 }
     ensures kept { IfErr result (λ e. token.new.me.1 ≡ token.old.me.1) }
 {

@@ -1,5 +1,6 @@
 //! An enqueue of the slot that stands first, step by step.
-ghost use Rattle.std.specs.Prelude.{◌≡◌, ◌+◌, ◌<◌, ◌≤◌, if◌then◌else◌, IfSome, IfNone, IfOk, IfErr, IsTrue, IsFalse, Some, None, true, slice_get};
+ghost use Rattle.std.specs.Prelude.{◌≡◌, ◌+◌, ◌<◌, ◌≤◌, if◌then◌else◌, IfSome, IfNone, IfOk, IfErr};
+ghost use Rattle.std.specs.Prelude.{IsTrue, IsFalse, Some, None, true, slice_get};
 ghost use Rattle.atomic_table.specs.Table.{rest};
 ghost use Rattle.scq_band.specs.Buffers.{LiesIn, opening_of};
 ghost use Rattle.scq_band.specs.Turns.{Fronts};
@@ -12,7 +13,8 @@ ghost use Rattle.scq_band.specs.declared.numbers.Numbers.{Numbers};
 ghost use Rattle.scq_band.specs.Rings.{IsRing, IsFilled};
 ghost use Rattle.scq_band.specs.Sights.{known_me, Went};
 ghost use Rattle.scq_band.specs.Steps.{my, my_phase, front_index, front_bytes};
-ghost use Rattle.scq_band.specs.Seats.{IsAlone, IsLooking, IsEnding, goes_to, placed_to, done_at, put_at, spent_at, index_of, content_of, least_of};
+ghost use Rattle.scq_band.specs.Seats.{IsAlone, IsLooking, IsEnding, goes_to, placed_to, done_at};
+ghost use Rattle.scq_band.specs.Seats.{put_at, spent_at, index_of, content_of, least_of};
 
 use crate::ring::Ring;
 use crate::rule::{Token, Words};
@@ -30,21 +32,28 @@ fn load_vacant<B: Buffer>(
     word: usize,
     new: u64,
 ) -> Option<u64>
-    requires own { (token.old.table_id ≡ words.now.table_id) × (words.now.table_id.words ≡ word_count words.now.key.setup) }
+    requires own { (token.old.table_id ≡ words.now.table_id)
+        × (words.now.table_id.words ≡ word_count words.now.key.setup) }
     requires ring { IsRing words.now.key.setup ring.now }
     requires alone { IsAlone token.old.me.0.known }
     requires looks { IsLooking ring.now.number ticket (my_phase token.old.me.0.known) }
-    requires word { word ≡ at words.now.key.setup (entry_at words.now.key.setup ring.now.number ticket) }
+    requires word { word
+        ≡ at words.now.key.setup (entry_at words.now.key.setup ring.now.number ticket) }
     requires new { IsFilled words.now.key.setup ticket new }
     ensures own { (token.new.table_id ≡ token.old.table_id) × (token.new.id ≡ token.old.id) }
-    ensures went { Went words.now.key.setup (opening_of B.contents words.now.key.given.value.items) token.old.me.0 token.new.me.0 }
+    ensures went { Went words.now.key.setup
+        (opening_of B.contents words.now.key.given.value.items) token.old.me.0 token.new.me.0 }
     ensures slots { token.new.me.1 ≡ token.old.me.1 }
     ensures room { IfSome result (λ found. token.new.me.0.known
-        ≡ goes_to (AtE4 ring.now.number (index_of (my_phase token.old.me.0.known)) (content_of (my_phase token.old.me.0.known)) ticket found)
+        ≡ goes_to (AtE4 ring.now.number (index_of (my_phase token.old.me.0.known))
+        (content_of (my_phase token.old.me.0.known)) ticket found)
         token.old.me.0.known) }
-    ensures least { IfSome result (λ found. least_of (my_phase token.old.me.0.known) ≤ rank_in (ring_slots words.now.key.setup) found) }
+    ensures least { IfSome result (λ found.
+        least_of (my_phase token.old.me.0.known) ≤ rank_in (ring_slots words.now.key.setup) found) }
     ensures no_room { IfNone result
-        (token.new.me.0.known ≡ goes_to (AtE1 ring.now.number (index_of (my_phase token.old.me.0.known)) (content_of (my_phase token.old.me.0.known))
+        (token.new.me.0.known
+        ≡ goes_to (AtE1 ring.now.number (index_of (my_phase token.old.me.0.known))
+        (content_of (my_phase token.old.me.0.known))
         (ticket + 1)) token.old.me.0.known) }
 {
     let found = load(words, token, word);
@@ -61,7 +70,8 @@ fn load_vacant<B: Buffer>(
     Some(found)
 }
 
-/// E2 to E4, again where the exchange fails: places the index at the ticket, unless `load_vacant` finds no room there; whether it is placed.
+/// E2 to E4, again where the exchange fails: places the index at the ticket, unless `load_vacant`
+/// finds no room there; whether it is placed.
 #[inline(always)]
 fn try_place<B: Buffer>(
     words: &Words<B>,
@@ -70,21 +80,26 @@ fn try_place<B: Buffer>(
     ticket: u64,
     index: u32,
 ) -> bool
-    requires own { (token.old.table_id ≡ words.now.table_id) × (words.now.table_id.words ≡ word_count words.now.key.setup) }
+    requires own { (token.old.table_id ≡ words.now.table_id)
+        × (words.now.table_id.words ≡ word_count words.now.key.setup) }
     requires ring { IsRing words.now.key.setup ring.now }
     requires alone { IsAlone token.old.me.0.known }
     requires looks { IsLooking ring.now.number ticket (my_phase token.old.me.0.known) }
     requires limit { ticket < ring.now.limit }
-    requires index { (index ≡ index_of (my_phase token.old.me.0.known)) × (index < n_of words.now.key.setup.order) }
+    requires index { (index ≡ index_of (my_phase token.old.me.0.known))
+        × (index < n_of words.now.key.setup.order) }
     requires front { Fronts (LiesIn B.contents B.IsSameBuffer words.now.key.given.value.items) index
         (content_of (my_phase token.old.me.0.known)) token.old.me.1 }
     ensures own { (token.new.table_id ≡ token.old.table_id) × (token.new.id ≡ token.old.id) }
-    ensures went { Went words.now.key.setup (opening_of B.contents words.now.key.given.value.items) token.old.me.0 token.new.me.0 }
+    ensures went { Went words.now.key.setup
+        (opening_of B.contents words.now.key.given.value.items) token.old.me.0 token.new.me.0 }
     ensures slots { token.new.me.1 ≡ (if result then rest token.old.me.1 else token.old.me.1) }
     ensures placed { IsTrue result → token.new.me.0.known
-        ≡ placed_to ring.now.number index (content_of (my_phase token.old.me.0.known)) ticket token.old.me.0.known }
+        ≡ placed_to ring.now.number index
+        (content_of (my_phase token.old.me.0.known)) ticket token.old.me.0.known }
     ensures passed { IsFalse result → token.new.me.0.known
-        ≡ goes_to (AtE1 ring.now.number index (content_of (my_phase token.old.me.0.known)) (ticket + 1)) token.old.me.0.known }
+        ≡ goes_to (AtE1 ring.now.number index (content_of (my_phase token.old.me.0.known)) (ticket
+        + 1)) token.old.me.0.known }
 {
     let new = ring.filled(ticket, index);
     let word = ring.entry(ticket);
@@ -101,21 +116,26 @@ fn try_place<B: Buffer>(
 /// E5, and E6 where Threshold isn't at the reset value.
 #[inline(always)]
 fn reset_threshold<B: Buffer>(words: &Words<B>, token: &mut Token<B>, ring: &Ring, ticket: u64)
-    requires own { (token.old.table_id ≡ words.now.table_id) × (words.now.table_id.words ≡ word_count words.now.key.setup) }
+    requires own { (token.old.table_id ≡ words.now.table_id)
+        × (words.now.table_id.words ≡ word_count words.now.key.setup) }
     requires ring { IsRing words.now.key.setup ring.now }
     requires alone { IsAlone token.old.me.0.known }
     requires placed { IsEnding ring.now.number ticket (my_phase token.old.me.0.known) }
     ensures own { (token.new.table_id ≡ token.old.table_id) × (token.new.id ≡ token.old.id) }
-    ensures went { Went words.now.key.setup (opening_of B.contents words.now.key.given.value.items) token.old.me.0 token.new.me.0 }
+    ensures went { Went words.now.key.setup
+        (opening_of B.contents words.now.key.given.value.items) token.old.me.0 token.new.me.0 }
     ensures slots { token.new.me.1 ≡ token.old.me.1 }
-    ensures done { token.new.me.0.known ≡ done_at ring.now.number ticket (content_of (my_phase token.old.me.0.known)) token.old.me.0.known }
+    ensures done { token.new.me.0.known
+        ≡ done_at ring.now.number ticket
+        (content_of (my_phase token.old.me.0.known)) token.old.me.0.known }
 {
     if load(words, token, ring.threshold()) != ring.level {
         reset(words, token, ring.threshold(), ring.level);
     }
 }
 
-/// An enqueue of the index whose slot stands first: the place, or the ticket that was drawn at or past the limit.
+/// An enqueue of the index whose slot stands first: the place, or the ticket that was drawn at or
+/// past the limit.
 #[inline(always)]
 pub fn enqueue<B: Buffer>(
     words: &Words<B>,
@@ -123,21 +143,32 @@ pub fn enqueue<B: Buffer>(
     ring: &Ring,
     index: u32,
 ) -> Result<u64, u64>
-    requires own { (token.old.table_id ≡ words.now.table_id) × (words.now.table_id.words ≡ word_count words.now.key.setup) }
+    requires own { (token.old.table_id ≡ words.now.table_id)
+        × (words.now.table_id.words ≡ word_count words.now.key.setup) }
     requires ring { IsRing words.now.key.setup ring.now }
     requires alone { IsAlone token.old.me.0.known }
-    requires idle { (my_phase token.old.me.0.known ≡ Idle) × ((my token.old.me.0.known).part.spent ≡ None) }
-    requires held { (holds_index (my token.old.me.0.known).part.hand index ≡ true) × (index < n_of words.now.key.setup.order) }
+    requires idle { (my_phase token.old.me.0.known ≡ Idle)
+        × ((my token.old.me.0.known).part.spent ≡ None) }
+    requires held { (holds_index (my token.old.me.0.known).part.hand index ≡ true)
+        × (index < n_of words.now.key.setup.order) }
     requires first { front_index token.old.me.1 ≡ index }
-    requires front { Fronts (LiesIn B.contents B.IsSameBuffer words.now.key.given.value.items) index (front_bytes B.contents token.old.me.1) token.old.me.1 }
+    requires front { Fronts (LiesIn B.contents B.IsSameBuffer words.now.key.given.value.items) index
+        (front_bytes B.contents token.old.me.1) token.old.me.1 }
     ensures own { (token.new.table_id ≡ token.old.table_id) × (token.new.id ≡ token.old.id) }
-    ensures went { Went words.now.key.setup (opening_of B.contents words.now.key.given.value.items) token.old.me.0 token.new.me.0 }
-    ensures placed { IfOk result (λ place. token.new.me.0.known ≡ put_at ring.now.number index place (front_bytes B.contents token.old.me.1) token.old.me.0.known) }
+    ensures went { Went words.now.key.setup
+        (opening_of B.contents words.now.key.given.value.items) token.old.me.0 token.new.me.0 }
+    ensures placed { IfOk result (λ place.
+        token.new.me.0.known
+        ≡ put_at ring.now.number index place
+        (front_bytes B.contents token.old.me.1) token.old.me.0.known) }
     ensures given { IfOk result (λ place. token.new.me.1 ≡ rest token.old.me.1) }
     ensures above { IfOk result (λ place. (place < words.now.key.setup.limit)
-        × ((known : Numbers) → slice_get token.old.me.0.known.numbers ring.now.number ≡ Some known → known.seen < place)) }
-    ensures spent { IfErr result (λ ticket. token.new.me.0.known ≡ spent_at ring.now.number ticket true token.old.me.0.known) }
-    ensures kept { IfErr result (λ ticket. (token.new.me.1 ≡ token.old.me.1) × (words.now.key.setup.limit ≤ ticket)) }
+        × ((known : Numbers) → slice_get token.old.me.0.known.numbers ring.now.number ≡ Some known
+        → known.seen < place)) }
+    ensures spent { IfErr result (λ ticket.
+        token.new.me.0.known ≡ spent_at ring.now.number ticket true token.old.me.0.known) }
+    ensures kept { IfErr result (λ ticket.
+        (token.new.me.1 ≡ token.old.me.1) × (words.now.key.setup.limit ≤ ticket)) }
 {
     'draws: loop {
         let ticket = draw(words, token, ring.tail);

@@ -19,9 +19,11 @@ pub fn read_gate<B: Buffer>(words: &Words<B>, token: &mut Token<B>) -> u64
     requires room { 0 < words.now.table_id.words }
     ensures own { (token.new.table_id ≡ token.old.table_id) × (token.new.id ≡ token.old.id) }
     ensures looked { token.new.me.0.known ≡ looked result token.old.me.0.known }
-    ensures in_run { Looked words.now.key.setup (opening_of B.contents words.now.key.given.value.items) token.old.me.0 token.new.me.0 result }
+    ensures in_run { Looked words.now.key.setup
+        (opening_of B.contents words.now.key.given.value.items) token.old.me.0 token.new.me.0 result }
     ensures slots { token.new.me.1 ≡ token.old.me.1 }
-    ensures reading { IsReading words.now.key.setup.seats token.old.me.0.known.gate (my token.old.me.0.known).retired result }
+    ensures reading { IsReading words.now.key.setup.seats token.old.me.0.known.gate
+        (my token.old.me.0.known).retired result }
 {
     words.load::<Brand>(token, GATE)
 }
@@ -34,7 +36,10 @@ pub fn retire<B: Buffer>(words: &Words<B>, token: &mut Token<B>)
     requires stays { (my token.old.me.0.known).retired ≡ None }
     ensures own { (token.new.table_id ≡ token.old.table_id) × (token.new.id ≡ token.old.id) }
     ensures seen { token.new.me.0.seen
-        ≡ with_retiree ((my token.old.me.0.known).number, length (my token.old.me.0.known).part.calls) token.old.me.0.seen }
+        ≡ with_retiree (
+          (my token.old.me.0.known).number,
+          length (my token.old.me.0.known).part.calls,
+        ) token.old.me.0.seen }
     ensures retired { token.new.me.0.known ≡ retired_at token.old.me.0.known }
     ensures slots { token.new.me.1 ≡ token.old.me.1 }
 {

@@ -9,8 +9,9 @@ use scq_word::Setup;
 /// The word that counts the seats that have not retired.
 pub const GATE: usize = 0;
 
-/// How many words the hot ones, which all seats write to, stand apart: 128 bytes, two lines of 64, which processors fetch as a pair. So
-/// whatever a table's address is, no two of them lie in one line or pair.
+/// How many words the hot ones, which all seats write to, stand apart: 128 bytes, two lines of 64,
+/// which processors fetch as a pair. So whatever a table's address is, no two of them lie in one
+/// line or pair.
 const DISTANCE: usize = 16;
 
 // How many words a ring takes: behind its last entry as many stay unused as between hot words.

@@ -15,9 +15,11 @@ use scq_word::Buffer;
 #[inline(always)]
 pub fn lay_first<B: Buffer>(words: &Words<B>, token: &mut Token<B>, index: u32, buffer: B)
     requires own { token.old.table_id ≡ words.now.table_id }
-    requires first { (slot : Slot B) × (token.old.me.1 ≡ (index, slot) ∷ rest token.old.me.1) × (slot.buffer ≡ None) }
+    requires first { (slot : Slot B) × (token.old.me.1 ≡ (index, slot) ∷ rest token.old.me.1)
+        × (slot.buffer ≡ None) }
     ensures own { (token.new.table_id ≡ token.old.table_id) × (token.new.id ≡ token.old.id) }
-    ensures laid { token.new.me ≡ (token.old.me.0, (index, record { buffer = Some buffer }) ∷ rest token.old.me.1) }
+    ensures laid { token.new.me
+        ≡ (token.old.me.0, (index, record { buffer = Some buffer }) ∷ rest token.old.me.1) }
 {
     let laid = Slot {
         buffer: Some(buffer),
@@ -30,10 +32,13 @@ pub fn lay_first<B: Buffer>(words: &Words<B>, token: &mut Token<B>, index: u32, 
 #[inline(always)]
 pub fn lift_first<B: Buffer>(words: &Words<B>, token: &mut Token<B>, index: u32) -> B
     requires own { token.old.table_id ≡ words.now.table_id }
-    requires first { (buffer : B) × (token.old.me.1 ≡ (index, record { buffer = Some buffer }) ∷ rest token.old.me.1) }
+    requires first { (buffer : B)
+        × (token.old.me.1 ≡ (index, record { buffer = Some buffer }) ∷ rest token.old.me.1) }
     ensures own { (token.new.table_id ≡ token.old.table_id) × (token.new.id ≡ token.old.id) }
-    ensures buffer { token.old.me.1 ≡ (index, record { buffer = Some result }) ∷ rest token.old.me.1 }
-    ensures lifted { token.new.me ≡ (token.old.me.0, (index, record { buffer = None }) ∷ rest token.old.me.1) }
+    ensures buffer { token.old.me.1
+        ≡ (index, record { buffer = Some result }) ∷ rest token.old.me.1 }
+    ensures lifted { token.new.me
+        ≡ (token.old.me.0, (index, record { buffer = None }) ∷ rest token.old.me.1) }
 {
     let Slot { buffer } = words.exchange(token, index as usize, Slot { buffer: None });
     let Some(buffer) = buffer else { unreachable!() };
@@ -41,14 +46,16 @@ pub fn lift_first<B: Buffer>(words: &Words<B>, token: &mut Token<B>, index: u32)
 }
 
 impl<B: Buffer> Band<B> {
-    /// Lifts the buffer of an index in the seat's hand: the seat has the index still, and its caller the buffer.
+    /// Lifts the buffer of an index in the seat's hand: the seat has the index still, and its
+    /// caller the buffer.
     #[inline(always)]
     pub fn lift(&self, seat: &mut Seat<B>, index: u32) -> B
         requires seat { seat.old.band ≡ self.now }
         requires laid { (buffer : B) × (in_hand seat.old.hand index ≡ Some (Some buffer)) }
         ensures buffer { in_hand seat.old.hand index ≡ Some (Some result) }
         ensures given { IsAsGiven B.IsSameBuffer self.now.given index result }
-        ensures lifted { seat.new ≡ record seat.old { hand = with_buffer index None seat.old.hand } }
+        ensures lifted { seat.new
+            ≡ record seat.old { hand = with_buffer index None seat.old.hand } }
     {
         bring_to_front(&mut seat.token, &mut seat.hand, index);
         lift_first(&self.table.shared, &mut seat.token, index)
@@ -60,7 +67,8 @@ impl<B: Buffer> Band<B> {
         requires seat { seat.old.band ≡ self.now }
         requires lifted { in_hand seat.old.hand index ≡ Some None }
         requires given { IsAsGiven B.IsSameBuffer self.now.given index buffer }
-        ensures laid { seat.new ≡ record seat.old { hand = with_buffer index (Some buffer) seat.old.hand } }
+        ensures laid { seat.new
+            ≡ record seat.old { hand = with_buffer index (Some buffer) seat.old.hand } }
     {
         bring_to_front(&mut seat.token, &mut seat.hand, index);
         lay_first(&self.table.shared, &mut seat.token, index, buffer);

@@ -16,8 +16,8 @@ use scq_core::{State, ZERO_LEVEL, reset_level};
 use scq_word::{Bytes, NoMemory, Setup};
 use std::alloc::Global;
 
-// How many cells of 32 bytes or less stay free behind what one seat writes, or all read: two lines of 64 bytes, so that no seat writes in a
-// line that another uses.
+// How many cells of 32 bytes or less stay free behind what one seat writes, or all read: two lines
+// of 64 bytes, so that no seat writes in a line that another uses.
 const APART: usize = 8;
 
 /// The room of one seat: an empty list for its indices, and what it knows at the start.
@@ -137,7 +137,8 @@ fn first_words(alloc: Global, setup: Setup) -> Result<Vec<u64>, NoMemory>
     Ok(words)
 }
 
-/// All that is needed beside the table: its first words, a place for what is left in each ring, and a room for each seat.
+/// All that is needed beside the table: its first words, a place for what is left in each ring, and
+/// a room for each seat.
 pub fn reserved(alloc: Global, setup: Setup) -> Result<Memory, NoMemory>
     ensures { IfOk result (IsMemory setup) }
 {
@@ -149,7 +150,8 @@ pub fn reserved(alloc: Global, setup: Setup) -> Result<Memory, NoMemory>
     })
 }
 
-/// The slots of these buffers, in their order. The list of the buffers is left empty, with its room.
+/// The slots of these buffers, in their order. The list of the buffers is left empty, with its
+/// room.
 pub fn lay_all<B>(buffers: &mut Vec<B>, slots: &mut Vec<Slot<B>>)
     requires empty { slots.old.items ≡ [] }
     requires room { vec_len buffers.old ≤ vec_capacity slots.old }

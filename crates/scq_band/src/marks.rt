@@ -1,5 +1,5 @@
-//! Marks: what one seat has seen of the run of all seats, carried to another. A mark has no bytes when
-//! the program runs.
+//! Marks: what one seat has seen of the run of all seats, carried to another. A mark has no bytes
+//! when the program runs.
 ghost use Rattle.std.specs.Prelude.{◌≡◌, ◌<◌, [], ◌∷◌};
 ghost use Rattle.scq_band.specs.Sights.{mark_sight, HasFound};
 ghost use Rattle.scq_band.specs.Buffers.{opening_of};
@@ -37,8 +37,8 @@ fn copy_seen<B: Buffer>(words: &Words<B>, token: &mut Token<B>) -> Badge<View>
     words.split_seat::<Marks>(token).into_badge()
 }
 
-/// The seat is shown the rule's run, and finds what stands at a word there. Only the view changes, which
-/// it does at a step of the table: the load of the word.
+/// The seat is shown the rule's run, and finds what stands at a word there. Only the view changes,
+/// which it does at a step of the table: the load of the word.
 #[inline(always)]
 pub(crate) fn find<B: Buffer>(words: &Words<B>, token: &mut Token<B>, word: usize) -> u64
     requires own { token.old.table_id ≡ words.now.table_id }
@@ -72,9 +72,9 @@ impl Model for Mark {
 }
 
 impl<B: Buffer> Band<B> {
-    /// Shows the seat the run of all seats as it is now. All that the seat had seen are prefixes of it,
-    /// and it stands between two calls of the seat. It has the calls of other seats too, of those that
-    /// told this one nothing among them: this no clause says. Wait-free: one step.
+    /// Shows the seat the run of all seats as it is now. All that the seat had seen are prefixes of
+    /// it, and it stands between two calls of the seat. It has the calls of other seats too, of
+    /// those that told this one nothing among them: this no clause says. Wait-free: one step.
     pub fn look(&self, seat: &mut Seat<B>)
         requires seat { seat.old.band ≡ self.now }
         ensures same { seat.new ≡ having_seen seat.new.seen seat.old }
@@ -84,7 +84,8 @@ impl<B: Buffer> Band<B> {
         let _not_retired = find(&self.table.shared, &mut seat.token, GATE);
     }
 
-    /// A mark of what the seat has seen: of the run, and of those that retired. Wait-free: one step.
+    /// A mark of what the seat has seen: of the run, and of those that retired. Wait-free: one
+    /// step.
     pub fn mark(&self, seat: &mut Seat<B>) -> Mark
         requires seat { seat.old.band ≡ self.now }
         ensures same { seat.new ≡ seat.old }
@@ -95,8 +96,8 @@ impl<B: Buffer> Band<B> {
         }
     }
 
-    /// The seat has seen what the mark's seat had. Each call that had ended in a run which that seat
-    /// had seen comes before each call that this one makes from now on
+    /// The seat has seen what the mark's seat had. Each call that had ended in a run which that
+    /// seat had seen comes before each call that this one makes from now on
     /// (`laws::calls_in_a_run_seen_come_first`). Wait-free: one step.
     pub fn heed(&self, seat: &mut Seat<B>, mark: Mark)
         requires seat { seat.old.band ≡ self.now }
@@ -107,9 +108,9 @@ impl<B: Buffer> Band<B> {
         learn(&self.table.shared, &mut seat.token, badge);
     }
 
-    /// Two seats meet: what they had seen are prefixes of one run, which both have seen from now on. So
-    /// of any two runs that the one or the other had seen, one is a prefix of the other. Wait-free: five
-    /// steps.
+    /// Two seats meet: what they had seen are prefixes of one run, which both have seen from now
+    /// on. So of any two runs that the one or the other had seen, one is a prefix of the other.
+    /// Wait-free: five steps.
     pub fn meet(&self, one: &mut Seat<B>, other: &mut Seat<B>)
         requires one { one.old.band ≡ self.now }
         requires other { other.old.band ≡ self.now }

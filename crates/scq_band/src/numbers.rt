@@ -1,14 +1,15 @@
 //! What is known of the rings.
 ghost use Rattle.std.specs.Prelude.{◌≡◌, ◌+◌, ◌<◌, ◌≤◌, ◌^◌, IfSome};
-ghost use Rattle.scq_band.specs.Numbers.{first_numbers_of, finishes, sees, passes, drew, empties, larger};
+ghost use Rattle.scq_band.specs.Numbers.{first_numbers_of, finishes, sees, passes, drew, empties};
+ghost use Rattle.scq_band.specs.Numbers.{larger};
 
 use scq_word::Setup;
 
 /// What a seat knows of one ring. Each number only rises, and stays true.
 ///
-/// `finished` is the highest place at which it knows that an enqueue has ended, `seen` the highest place at which
-/// it knows that an index was placed; as long as it knows of none, each is the number before the ring's first
-/// place. `head` is a number that Head has reached.
+/// `finished` is the highest place at which it knows that an enqueue has ended, `seen` the highest
+/// place at which it knows that an index was placed; as long as it knows of none, each is the
+/// number before the ring's first place. `head` is a number that Head has reached.
 #[derive(Clone, Copy, Debug, PartialEq, Eq)]
 pub struct Numbers {
     pub finished: u64,

@@ -59,7 +59,8 @@ impl Ring {
     #[inline(always)]
     pub fn entry(&self, ticket: u64) -> usize
         requires { self.now.tail < 2 ^ 32 }
-        ensures { (c : Setup) → IsRing c self.now → result ≡ at c (entry_at c self.now.number ticket) }
+        ensures { (c : Setup) → IsRing c self.now
+            → result ≡ at c (entry_at c self.now.number ticket) }
     {
         entry_word(self.tail, slot_of(self.shape, ticket))
     }

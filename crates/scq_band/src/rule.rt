@@ -5,7 +5,8 @@ use scq_word::{Buffer, Setup};
 use std::marker::Brand;
 use std::snapshot::Snapshot;
 
-/// What the table is told once, when it is made: its setup, and the buffers that it was given, that of index i at i.
+/// What the table is told once, when it is made: its setup, and the buffers that it was given, that
+/// of index i at i.
 pub struct Key<B> {
     pub setup: Setup,
     pub given: Snapshot<Vec<B>>,
@@ -20,20 +21,23 @@ impl<B> Drop for Key<B> {
     }
 }
 
-/// At every moment there is one run of the machine, the steps of all seats, whose last state is that of the words and the views.
+/// At every moment there is one run of the machine, the steps of all seats, whose last state is
+/// that of the words and the views.
 pub struct Rule {}
 
 impl<B: Buffer> TableRule<Slot<B>, View, Key<B>> for Rule {
     ghost use Rattle.scq_band.specs.Sights.{ShowsRun, first_sight};
     ghost use Rattle.scq_band.specs.Buffers.{LiesIn, opening_of};
 
-    ghost holds = { λ key. ShowsRun (LiesIn B.contents B.IsSameBuffer key.given.value.items) (opening_of B.contents key.given.value.items) key.setup };
+    ghost holds = { λ key.
+        ShowsRun (LiesIn B.contents B.IsSameBuffer key.given.value.items)
+        (opening_of B.contents key.given.value.items) key.setup };
 
     ghost first = { λ key. first_sight key.setup };
 }
 
-// What a step tells is picked at each call, in the proof of its caller (`ghosts-..` in its Invariants.antt). This stands for a call that
-// picks nothing.
+// What a step tells is picked at each call, in the proof of its caller (`ghosts-..` in its
+// Invariants.antt). This stands for a call that picks nothing.
 impl<B> Play<Slot<B>, View> for Brand {
     ghost then = { λ _ _ _ _. Unit {0} };
 }

@@ -1,5 +1,6 @@
 //! A table begins with one token, in whose view all seats stand. They are split off one by one.
-ghost use Rattle.std.specs.Prelude.{◌≡◌, ℕ, suc, ◌+◌, ◌<◌, ◌≤◌, [], All, length, vec_len, vec_capacity};
+ghost use Rattle.std.specs.Prelude.{◌≡◌, ℕ, suc, ◌+◌, ◌<◌, ◌≤◌, [], All, length, vec_len};
+ghost use Rattle.std.specs.Prelude.{vec_capacity};
 ghost use Rattle.scq_band.specs.Sights.{first_sight};
 ghost use Rattle.scq_band.specs.Standing.{first_standing, first_standings};
 ghost use Rattle.scq_band.specs.Kept.{identity_of};
@@ -32,7 +33,8 @@ fn peel<B: Buffer>(words: &Words<B>, rest: &mut Token<B>, key: &Key<B>, room: Ro
     requires room { IsRoom key.now.setup room }
     ensures own { rest.new.table_id ≡ rest.old.table_id }
     ensures peeled { (k : ℕ) → rest.old.me.0 ≡ sight_below key.now.setup (suc k)
-        → (rest.new.me.0 ≡ sight_below key.now.setup k) × (result ≡ first_standing (identity_of words.now.table_id key.now) k) }
+        → (rest.new.me.0 ≡ sight_below key.now.setup k)
+        × (result ≡ first_standing (identity_of words.now.table_id key.now) k) }
 {
     let Room { hand, numbers } = room;
     Seat {
@@ -59,7 +61,8 @@ pub fn split_all<B: Buffer>(
     requires count { vec_len rooms ≡ key.now.setup.seats }
     requires empty { seats.items ≡ [] }
     requires place { vec_len seats + vec_len rooms ≤ vec_capacity seats }
-    ensures { result.items ≡ first_standings (identity_of words.now.table_id key.now) key.now.setup.seats }
+    ensures { result.items
+        ≡ first_standings (identity_of words.now.table_id key.now) key.now.setup.seats }
 {
     while let Some(room) = rooms.pop() {
         seats.push_reserved(peel(words, &mut rest, key, room));

@@ -1,5 +1,5 @@
-//! The six atomic operations that the machine's sixteen steps are made of. Each makes one step of the seat: the one that its call is at,
-//! or the first of a call.
+//! The six atomic operations that the machine's sixteen steps are made of. Each makes one step of
+//! the seat: the one that its call is at, or the first of a call.
 ghost use Rattle.std.specs.Prelude.{◌≡◌, ◌<◌};
 ghost use Rattle.scq_word.specs.Words.{mark_of};
 ghost use Rattle.scq_core.specs.Table.{ring_slots, reset_level, location_of};
@@ -7,7 +7,8 @@ ghost use Rattle.scq_band.specs.Layout.{at};
 ghost use Rattle.scq_band.specs.Buffers.{LiesIn, opening_of};
 ghost use Rattle.scq_band.specs.Turns.{MayTurn, Carries, Turned};
 ghost use Rattle.scq_band.specs.Sights.{known_me, Went};
-ghost use Rattle.scq_band.specs.Steps.{my_phase, load_turn, draw_turn, IsLoad, IsDraw, Exchanges, IsReset, IsTaking, IsCount};
+ghost use Rattle.scq_band.specs.Steps.{my_phase, load_turn, draw_turn, IsLoad, IsDraw, Exchanges};
+ghost use Rattle.scq_band.specs.Steps.{IsReset, IsTaking, IsCount};
 
 use crate::rule::{Token, Words};
 use scq_word::Buffer;
@@ -18,13 +19,19 @@ use std::marker::Brand;
 pub fn load<B: Buffer>(words: &Words<B>, token: &mut Token<B>, word: usize) -> u64
     requires own { token.old.table_id ≡ words.now.table_id }
     requires low { word < words.now.table_id.words }
-    requires may { MayTurn words.now.key.setup token.old.me.0.known (load_turn words.now.key.setup word token.old.me.0.known) }
+    requires may { MayTurn words.now.key.setup token.old.me.0.known
+        (load_turn words.now.key.setup word token.old.me.0.known) }
     requires kind { IsLoad (load_turn words.now.key.setup word token.old.me.0.known) }
-    requires word { word ≡ at words.now.key.setup (location_of words.now.key.setup (load_turn words.now.key.setup word token.old.me.0.known)) }
+    requires word { word
+        ≡ at words.now.key.setup
+        (location_of words.now.key.setup (load_turn words.now.key.setup word token.old.me.0.known)) }
     ensures own { (token.new.table_id ≡ token.old.table_id) × (token.new.id ≡ token.old.id) }
-    ensures turned { Turned (LiesIn B.contents B.IsSameBuffer words.now.key.given.value.items) words.now.key.setup
-        (load_turn words.now.key.setup word token.old.me.0.known) (known_me token.old.me) result (known_me token.new.me) }
-    ensures went { Went words.now.key.setup (opening_of B.contents words.now.key.given.value.items) token.old.me.0 token.new.me.0 }
+    ensures turned { Turned
+        (LiesIn B.contents B.IsSameBuffer words.now.key.given.value.items) words.now.key.setup
+        (load_turn words.now.key.setup word token.old.me.0.known) (known_me token.old.me) result
+        (known_me token.new.me) }
+    ensures went { Went words.now.key.setup
+        (opening_of B.contents words.now.key.given.value.items) token.old.me.0 token.new.me.0 }
 {
     words.load::<Brand>(token, word)
 }
@@ -34,18 +41,26 @@ pub fn load<B: Buffer>(words: &Words<B>, token: &mut Token<B>, word: usize) -> u
 pub fn draw<B: Buffer>(words: &Words<B>, token: &mut Token<B>, word: usize) -> u64
     requires own { token.old.table_id ≡ words.now.table_id }
     requires low { word < words.now.table_id.words }
-    requires may { MayTurn words.now.key.setup token.old.me.0.known (draw_turn B.contents words.now.key.setup word (known_me token.old.me)) }
+    requires may { MayTurn words.now.key.setup token.old.me.0.known
+        (draw_turn B.contents words.now.key.setup word (known_me token.old.me)) }
     requires kind { IsDraw (draw_turn B.contents words.now.key.setup word (known_me token.old.me)) }
-    requires word { word ≡ at words.now.key.setup (location_of words.now.key.setup (draw_turn B.contents words.now.key.setup word (known_me token.old.me))) }
+    requires word { word
+        ≡ at words.now.key.setup
+        (location_of words.now.key.setup
+        (draw_turn B.contents words.now.key.setup word (known_me token.old.me))) }
     ensures own { (token.new.table_id ≡ token.old.table_id) × (token.new.id ≡ token.old.id) }
-    ensures turned { Turned (LiesIn B.contents B.IsSameBuffer words.now.key.given.value.items) words.now.key.setup
-        (draw_turn B.contents words.now.key.setup word (known_me token.old.me)) (known_me token.old.me) result (known_me token.new.me) }
-    ensures went { Went words.now.key.setup (opening_of B.contents words.now.key.given.value.items) token.old.me.0 token.new.me.0 }
+    ensures turned { Turned
+        (LiesIn B.contents B.IsSameBuffer words.now.key.given.value.items) words.now.key.setup
+        (draw_turn B.contents words.now.key.setup word (known_me token.old.me))
+        (known_me token.old.me) result (known_me token.new.me) }
+    ensures went { Went words.now.key.setup
+        (opening_of B.contents words.now.key.given.value.items) token.old.me.0 token.new.me.0 }
 {
     words.fetch_add::<Brand>(token, word, 1)
 }
 
-/// E4, D5 and D7: a compare-and-exchange. Answers the word as it was; it has become `new` if it was `old`.
+/// E4, D5 and D7: a compare-and-exchange. Answers the word as it was; it has become `new` if it was
+/// `old`.
 #[inline(always)]
 pub fn exchange<B: Buffer>(
     words: &Words<B>,
@@ -56,14 +71,20 @@ pub fn exchange<B: Buffer>(
 ) -> u64
     requires own { token.old.table_id ≡ words.now.table_id }
     requires low { word < words.now.table_id.words }
-    requires may { MayTurn words.now.key.setup token.old.me.0.known (my_phase token.old.me.0.known) }
+    requires may { MayTurn words.now.key.setup token.old.me.0.known
+        (my_phase token.old.me.0.known) }
     requires kind { Exchanges words.now.key.setup (my_phase token.old.me.0.known) old new }
-    requires word { word ≡ at words.now.key.setup (location_of words.now.key.setup (my_phase token.old.me.0.known)) }
-    requires carries { Carries (LiesIn B.contents B.IsSameBuffer words.now.key.given.value.items) (my_phase token.old.me.0.known) token.old.me.1 }
+    requires word { word
+        ≡ at words.now.key.setup (location_of words.now.key.setup (my_phase token.old.me.0.known)) }
+    requires carries { Carries (LiesIn B.contents B.IsSameBuffer words.now.key.given.value.items)
+        (my_phase token.old.me.0.known) token.old.me.1 }
     ensures own { (token.new.table_id ≡ token.old.table_id) × (token.new.id ≡ token.old.id) }
-    ensures turned { Turned (LiesIn B.contents B.IsSameBuffer words.now.key.given.value.items) words.now.key.setup (my_phase token.old.me.0.known)
+    ensures turned { Turned
+        (LiesIn B.contents B.IsSameBuffer words.now.key.given.value.items) words.now.key.setup
+        (my_phase token.old.me.0.known)
         (known_me token.old.me) result (known_me token.new.me) }
-    ensures went { Went words.now.key.setup (opening_of B.contents words.now.key.given.value.items) token.old.me.0 token.new.me.0 }
+    ensures went { Went words.now.key.setup
+        (opening_of B.contents words.now.key.given.value.items) token.old.me.0 token.new.me.0 }
 {
     words.compare_exchange::<Brand>(token, word, old, new)
 }
@@ -73,14 +94,19 @@ pub fn exchange<B: Buffer>(
 pub fn reset<B: Buffer>(words: &Words<B>, token: &mut Token<B>, word: usize, level: u64)
     requires own { token.old.table_id ≡ words.now.table_id }
     requires low { word < words.now.table_id.words }
-    requires may { MayTurn words.now.key.setup token.old.me.0.known (my_phase token.old.me.0.known) }
+    requires may { MayTurn words.now.key.setup token.old.me.0.known
+        (my_phase token.old.me.0.known) }
     requires kind { IsReset (my_phase token.old.me.0.known) }
-    requires word { word ≡ at words.now.key.setup (location_of words.now.key.setup (my_phase token.old.me.0.known)) }
+    requires word { word
+        ≡ at words.now.key.setup (location_of words.now.key.setup (my_phase token.old.me.0.known)) }
     requires level { level ≡ reset_level words.now.key.setup }
     ensures own { (token.new.table_id ≡ token.old.table_id) × (token.new.id ≡ token.old.id) }
-    ensures turned { Turned (LiesIn B.contents B.IsSameBuffer words.now.key.given.value.items) words.now.key.setup (my_phase token.old.me.0.known)
+    ensures turned { Turned
+        (LiesIn B.contents B.IsSameBuffer words.now.key.given.value.items) words.now.key.setup
+        (my_phase token.old.me.0.known)
         (known_me token.old.me) level (known_me token.new.me) }
-    ensures went { Went words.now.key.setup (opening_of B.contents words.now.key.given.value.items) token.old.me.0 token.new.me.0 }
+    ensures went { Went words.now.key.setup
+        (opening_of B.contents words.now.key.given.value.items) token.old.me.0 token.new.me.0 }
 {
     words.store::<Brand>(token, word, level)
 }
@@ -90,14 +116,19 @@ pub fn reset<B: Buffer>(words: &Words<B>, token: &mut Token<B>, word: usize, lev
 pub fn consume<B: Buffer>(words: &Words<B>, token: &mut Token<B>, word: usize, mark: u64) -> u64
     requires own { token.old.table_id ≡ words.now.table_id }
     requires low { word < words.now.table_id.words }
-    requires may { MayTurn words.now.key.setup token.old.me.0.known (my_phase token.old.me.0.known) }
+    requires may { MayTurn words.now.key.setup token.old.me.0.known
+        (my_phase token.old.me.0.known) }
     requires kind { IsTaking (my_phase token.old.me.0.known) }
-    requires word { word ≡ at words.now.key.setup (location_of words.now.key.setup (my_phase token.old.me.0.known)) }
+    requires word { word
+        ≡ at words.now.key.setup (location_of words.now.key.setup (my_phase token.old.me.0.known)) }
     requires mark { mark ≡ mark_of (ring_slots words.now.key.setup) }
     ensures own { (token.new.table_id ≡ token.old.table_id) × (token.new.id ≡ token.old.id) }
-    ensures turned { Turned (LiesIn B.contents B.IsSameBuffer words.now.key.given.value.items) words.now.key.setup (my_phase token.old.me.0.known)
+    ensures turned { Turned
+        (LiesIn B.contents B.IsSameBuffer words.now.key.given.value.items) words.now.key.setup
+        (my_phase token.old.me.0.known)
         (known_me token.old.me) result (known_me token.new.me) }
-    ensures went { Went words.now.key.setup (opening_of B.contents words.now.key.given.value.items) token.old.me.0 token.new.me.0 }
+    ensures went { Went words.now.key.setup
+        (opening_of B.contents words.now.key.given.value.items) token.old.me.0 token.new.me.0 }
 {
     words.fetch_or::<Brand>(token, word, mark)
 }
@@ -107,13 +138,18 @@ pub fn consume<B: Buffer>(words: &Words<B>, token: &mut Token<B>, word: usize, m
 pub fn count_down<B: Buffer>(words: &Words<B>, token: &mut Token<B>, word: usize) -> u64
     requires own { token.old.table_id ≡ words.now.table_id }
     requires low { word < words.now.table_id.words }
-    requires may { MayTurn words.now.key.setup token.old.me.0.known (my_phase token.old.me.0.known) }
+    requires may { MayTurn words.now.key.setup token.old.me.0.known
+        (my_phase token.old.me.0.known) }
     requires kind { IsCount (my_phase token.old.me.0.known) }
-    requires word { word ≡ at words.now.key.setup (location_of words.now.key.setup (my_phase token.old.me.0.known)) }
+    requires word { word
+        ≡ at words.now.key.setup (location_of words.now.key.setup (my_phase token.old.me.0.known)) }
     ensures own { (token.new.table_id ≡ token.old.table_id) × (token.new.id ≡ token.old.id) }
-    ensures turned { Turned (LiesIn B.contents B.IsSameBuffer words.now.key.given.value.items) words.now.key.setup (my_phase token.old.me.0.known)
+    ensures turned { Turned
+        (LiesIn B.contents B.IsSameBuffer words.now.key.given.value.items) words.now.key.setup
+        (my_phase token.old.me.0.known)
         (known_me token.old.me) result (known_me token.new.me) }
-    ensures went { Went words.now.key.setup (opening_of B.contents words.now.key.given.value.items) token.old.me.0 token.new.me.0 }
+    ensures went { Went words.now.key.setup
+        (opening_of B.contents words.now.key.given.value.items) token.old.me.0 token.new.me.0 }
 {
     words.fetch_sub::<Brand>(token, word, 1)
 }

@@ -1,6 +1,7 @@
 use std::marker::Model;
 
-/// What a token of the table knows, and what it has seen of the run. No value of it is ever made: it is a type of the proofs.
+/// What a token of the table knows, and what it has seen of the run. No value of it is ever made:
+/// it is a type of the proofs.
 pub struct View {}
 
 impl Model for View {

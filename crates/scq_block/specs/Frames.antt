@@ -27,11 +27,18 @@ pub same_back : (a b : Frame) → IsSame a b → IsSame b a
 same_back a b s = record { number = sym s.number; start = sym s.start; size = sym s.size }
 
 pub same_along : (a b c : Frame) → IsSame a b → IsSame b c → IsSame a c
-same_along a b c s t = record { number = s.number ∙ t.number; start = s.start ∙ t.start; size = s.size ∙ t.size }
+same_along a b c s t =
+    record { number = s.number ∙ t.number; start = s.start ∙ t.start; size = s.size ∙ t.size }
 
 -- a write leaves a frame the one that it was
-pub written_same : (a : Frame) (bytes : List ℕ) → IsSame a (record a { bytes = with_items a.bytes bytes })
-written_same a bytes = record { number = refl; start = refl; size = sym a.bytes.ok.0 ∙ (with_items a.bytes bytes).ok.0 }
+pub written_same : (a : Frame) (bytes : List ℕ)
+    → IsSame a (record a { bytes = with_items a.bytes bytes })
+written_same a bytes = record {
+  number = refl;
+  start = refl;
+  size =
+      sym a.bytes.ok.0 ∙ (with_items a.bytes bytes).ok.0;
+}
 
 -- the frame has `cap` bytes, and lies where its number says among frames that begin at `start`
 pub record IsPlaced (start : Ptr) (cap : ℕ) (f : Frame) : Type 0 where

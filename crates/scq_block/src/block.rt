@@ -1,5 +1,6 @@
 //! Blocks: one allocation that is carved into frames, and freed once all of them are back.
-ghost use Rattle.std.specs.Prelude.{◌≡◌, ◌*◌, ◌^◌, ◌<◌, ◌≤◌, [], length, replicate, IfOk, vec_capacity};
+ghost use Rattle.std.specs.Prelude.{◌≡◌, ◌*◌, ◌^◌, ◌<◌, ◌≤◌, [], length, replicate, IfOk};
+ghost use Rattle.std.specs.Prelude.{vec_capacity};
 ghost use Rattle.std.specs.List.{All};
 ghost use denote.RawPtr.{InBlock, null_ptr};
 ghost use Rattle.scq_block.specs.Frames.{IsPlaced, AreInOrder, AreDealt};
@@ -9,7 +10,8 @@ use crate::span::{Shell, Span};
 use scq_word::NoMemory;
 use std::alloc::Global;
 
-/// What is left of an allocation while its bytes are out as `count` frames of `cap` bytes. It ends only in `merge`.
+/// What is left of an allocation while its bytes are out as `count` frames of `cap` bytes. It ends
+/// only in `merge`.
 pub struct Block {
     shell: Shell,
     count: u32,
@@ -22,7 +24,8 @@ pub struct Block {
 impl Block {
     ghost use Rattle.scq_block.specs.Blocks.{IsCarved, AreAllOf};
 
-    /// `n` frames of `cap` zero bytes, in order of number, in one allocation beside the list of them.
+    /// `n` frames of `cap` zero bytes, in order of number, in one allocation beside the list of
+    /// them.
     pub fn carve(alloc: Global, n: u32, cap: u32) -> Result<(Block, Vec<Frame>), NoMemory>
         requires { (0 < n) × (0 < cap) × (n * cap ≤ 2 ^ 31) }
         ensures carved { IfOk result (λ p. IsCarved n cap p.0 p.1.items) }
@@ -57,7 +60,8 @@ impl Block {
     // The bytes of all frames, which lie one behind the other.
     fn gather(&self, mut frames: Vec<Frame>) -> Span
         requires all { length frames.items ≡ self.now.count }
-        requires places { AreInOrder frames.items × All (IsPlaced self.now.shell.ptr self.now.cap) frames.items }
+        requires places { AreInOrder frames.items
+            × All (IsPlaced self.now.shell.ptr self.now.cap) frames.items }
         ensures { (result.start ≡ self.now.shell.ptr) × (length result.bytes ≡ self.now.shell.len) }
     {
         let Some(last) = frames.pop() else {

@@ -2,14 +2,16 @@
 ghost use Rattle.std.specs.Prelude.{◌≡◌, ◌*◌, ◌^◌, ◌<◌, length};
 ghost use Rattle.std.specs.Vec.{with_items};
 ghost use Rattle.scq_word.specs.Written.{rewritten};
-ghost use Rattle.scq_block.specs.Frames.{bytes_of, IsSame, same_as_itself, same_back, same_along, written_same};
+ghost use Rattle.scq_block.specs.Frames.{bytes_of, IsSame, same_as_itself, same_back, same_along};
+ghost use Rattle.scq_block.specs.Frames.{written_same};
 ghost use denote.RawPtr.{InBlock, ◌+ₚ◌};
 
 use crate::span::Span;
 use scq_word::{Buffer, BufferMut};
 use std_alloc::vec::Lodged;
 
-/// A piece of a block: its bytes lie apart from those of the other frames. It ends in `Block::merge`, or where it is abandoned.
+/// A piece of a block: its bytes lie apart from those of the other frames. It ends in
+/// `Block::merge`, or where it is abandoned.
 pub struct Frame {
     pub(crate) bytes: Vec<u8, Lodged>,
     pub(crate) number: u32,
@@ -23,7 +25,8 @@ impl Frame {
         self.number
     }
 
-    /// Lets the frame go. Its bytes lie where they are, and its block can't be merged any more: `merge` wants all frames.
+    /// Lets the frame go. Its bytes lie where they are, and its block can't be merged any more:
+    /// `merge` wants all frames.
     pub fn abandon(self) {
         let Frame { bytes, number: _ } = self;
         drop(bytes);
@@ -34,7 +37,8 @@ impl Frame {
         requires inside { InBlock start }
         requires place { span.start ≡ start +ₚ number * cap }
         requires size { (length span.bytes ≡ cap) × (0 < cap) × (number * cap < 2 ^ 63) }
-        ensures { (result.number ≡ number) × (result.bytes.items ≡ span.bytes) × (result.bytes.ptr ≡ span.start) × (result.bytes.len ≡ cap) }
+        ensures { (result.number ≡ number) × (result.bytes.items ≡ span.bytes)
+            × (result.bytes.ptr ≡ span.start) × (result.bytes.len ≡ cap) }
     {
         let at = unsafe { start.byte_add(number as usize * cap as usize) };
         Frame {

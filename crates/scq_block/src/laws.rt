@@ -9,23 +9,28 @@ ghost use Rattle.scq_block.specs.Blocks.{IsFrameOf, AreAllOf};
 
 /// Two frames of one block are the same exactly where they have one number.
 pub fn numbers_tell_frames()
-    ensures { (b : Block) (f g : Frame) → IsFrameOf b f → IsFrameOf b g → (IsSame f g ↔ (f.number ≡ g.number)) }
+    ensures { (b : Block) (f g : Frame) → IsFrameOf b f → IsFrameOf b g
+        → (IsSame f g ↔ (f.number ≡ g.number)) }
 {}
 
-/// No byte of a block is in two frames: where the i-th byte of one lies where the j-th of another does, the two have
-/// one number, and i is j.
+/// No byte of a block is in two frames: where the i-th byte of one lies where the j-th of another
+/// does, the two have one number, and i is j.
 pub fn frames_lie_apart()
-    ensures { (b : Block) (f g : Frame) (i j : ℕ) → IsFrameOf b f → IsFrameOf b g → i < length (bytes_of f) → j < length (bytes_of g)
+    ensures { (b : Block) (f g : Frame) (i j : ℕ) → IsFrameOf b f → IsFrameOf b g
+        → i < length (bytes_of f) → j < length (bytes_of g)
         → start_of f +ₚ i ≡ start_of g +ₚ j → (f.number ≡ g.number) × (i ≡ j) }
 {}
 
-/// Frames that are, one by one, the same as all frames of a block are all frames of it, whatever they hold.
+/// Frames that are, one by one, the same as all frames of a block are all frames of it, whatever
+/// they hold.
 pub fn the_same_frames_are_all()
     ensures { (b : Block) (fs gs : List Frame) → AreAllOf b fs → length gs ≡ length fs
-        → ((k : ℕ) (d : Frame) → k < length fs → IsSame (slice_index_or fs k d) (slice_index_or gs k d)) → AreAllOf b gs }
+        → ((k : ℕ) (d : Frame) → k < length fs
+        → IsSame (slice_index_or fs k d) (slice_index_or gs k d)) → AreAllOf b gs }
 {}
 
 /// All frames of a block are all of them in any other order.
 pub fn all_frames_in_any_order()
-    ensures { (b : Block) (fs gs : List Frame) → AreAllOf b fs → IsPermutation fs gs → AreAllOf b gs }
+    ensures { (b : Block) (fs gs : List Frame) → AreAllOf b fs → IsPermutation fs gs
+        → AreAllOf b gs }
 {}

@@ -41,7 +41,8 @@ impl Shell {
     // Takes the bytes out of a vector.
     pub(crate) fn open(vec: Vec<u8>) -> (Shell, Span)
         requires { 0 < vec.len }
-        ensures { (result.0.ptr ≡ vec.ptr) × (result.0.len ≡ vec.len) × (result.1.start ≡ vec.ptr) × (result.1.bytes ≡ vec.items) × InBlock vec.ptr }
+        ensures { (result.0.ptr ≡ vec.ptr) × (result.0.len ≡ vec.len) × (result.1.start ≡ vec.ptr)
+            × (result.1.bytes ≡ vec.items) × InBlock vec.ptr }
     {
         (Shell { vec }, Span {})
     }

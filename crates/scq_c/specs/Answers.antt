@@ -1,12 +1,17 @@
--- What each call of C answers, by its number: what is written out, and what became of the port. Wherever the answer isn't 0 nothing is
--- written but, with 1, 2 and 3, the number that the queue answered. Where a buffer's bytes lie, and how many they are, is never written.
-use Rattle.std.specs.Prelude.{◌≡◌, ℕ, suc, ◌+◌, ◌*◌, ◌^◌, ◌<◌, ◌≤◌, ◌⊎◌, List, map, length, Option, Some, None, All}
+-- What each call of C answers, by its number: what is written out, and what became of the port.
+-- Wherever the answer isn't 0 nothing is written but, with 1, 2 and 3, the number that the queue
+-- answered. Where a buffer's bytes lie, and how many they are, is never written.
+use Rattle.std.specs.Prelude.{◌≡◌, ℕ, suc, ◌+◌, ◌*◌, ◌^◌, ◌<◌, ◌≤◌, ◌⊎◌, List, map, length, Option}
+use Rattle.std.specs.Prelude.{Some, None, All}
 use Rattle.scq_word.specs.declared.setup.Setup.{Setup}
 use Rattle.scq_word.specs.Sizes.{n_of}
 use Rattle.scq_word.specs.Ranges.{IsOutside}
 use Rattle.scq_queue.specs.Lists.{counts_of}
 use Rattle.scq_port.specs.Ports.{PortStanding}
-use Rattle.scq_port.specs.Calls.{IsLent, IsTaken, IsSent, IsGivenBack, WasFull, WasEmpty, IsSpentGet, IsSpentPut, HasNoRoom, HasTopic, HasNoTopic, HoldsNoSuch, HasRetired, HasAsked, HasCounted, retired_port, AreOpened, HasEnded}
+use Rattle.scq_port.specs.Calls.{IsLent, IsTaken, IsSent, IsGivenBack, WasFull, WasEmpty}
+use Rattle.scq_port.specs.Calls.{IsSpentGet, IsSpentPut, HasNoRoom, HasTopic, HasNoTopic}
+use Rattle.scq_port.specs.Calls.{HoldsNoSuch, HasRetired, HasAsked, HasCounted, retired_port}
+use Rattle.scq_port.specs.Calls.{AreOpened, HasEnded}
 use Rattle.scq_queue.specs.Passes.{PassStanding, lists_of}
 use Rattle.scq_port.specs.declared.port_buffer.PortBuffer.{PortBuffer}
 use Rattle.scq_port.specs.Closed.{HasClosed}
@@ -29,15 +34,18 @@ with_place n h = record h { place = n }
 pub record OfLend (code : ℕ) (before after : Held) (old new : PortStanding) : Type 0 where
   pub lent : code ≡ 0 → (index : ℕ) × (after ≡ shown_at 0 index before) × IsLent index old new
   pub full : code ≡ 2 → (head : ℕ) × (after ≡ with_place head before) × WasFull head old new
-  pub spent : code ≡ 3 → (ticket : ℕ) × (after ≡ with_place ticket before) × IsSpentGet 0 ticket old new
+  pub spent : code ≡ 3
+      → (ticket : ℕ) × (after ≡ with_place ticket before) × IsSpentGet 0 ticket old new
   pub no_room : code ≡ 7 → (after ≡ before) × HasNoRoom old new
   pub known : (code ≡ 0) ⊎ (code ≡ 2) ⊎ (code ≡ 3) ⊎ (code ≡ 7)
 
 -- of a take: 0 taken, 1 empty, 3 spent, 6 no topic, 7 no room
 pub record OfTake (topic code : ℕ) (before after : Held) (old new : PortStanding) : Type 0 where
-  pub taken : code ≡ 0 → (place : ℕ) × (index : ℕ) × (after ≡ shown_at place index before) × IsTaken topic place index old new
+  pub taken : code ≡ 0 → (place : ℕ) × (index : ℕ) × (after ≡ shown_at place index before)
+      × IsTaken topic place index old new
   pub empty : code ≡ 1 → (head : ℕ) × (after ≡ with_place head before) × WasEmpty topic head old new
-  pub spent : code ≡ 3 → (ticket : ℕ) × (after ≡ with_place ticket before) × IsSpentGet (suc topic) ticket old new
+  pub spent : code ≡ 3
+      → (ticket : ℕ) × (after ≡ with_place ticket before) × IsSpentGet (suc topic) ticket old new
   pub no_topic : code ≡ 6 → (after ≡ before) × HasNoTopic topic old new
   pub no_room : code ≡ 7 → (after ≡ before) × HasNoRoom old new × HasTopic topic old
   pub known : (code ≡ 0) ⊎ (code ≡ 1) ⊎ (code ≡ 3) ⊎ (code ≡ 6) ⊎ (code ≡ 7)
@@ -83,9 +91,10 @@ memories_of ports = map (λ (p : CPort). p.memory) ports
 abbrev pub IsClosed : CPort → Type 0
 IsClosed p = p.handle.port ≡ None
 
--- C's ports, which were closed, are those of a new queue, in order, and were told where the bytes are: of each buffer at least one, and none
--- of two buffers
-pub record HaveOpened (order topics hold limit : ℕ) (memory : Memory) (before after : List CPort) : Type 0 where
+-- C's ports, which were closed, are those of a new queue, in order, and were told where the bytes
+-- are: of each buffer at least one, and none of two buffers
+pub record HaveOpened (order topics hold limit : ℕ) (memory : Memory)
+    (before after : List CPort) : Type 0 where
   pub closed : All IsClosed before
   pub setup : Setup
   pub order_is : setup.order ≡ order
@@ -101,11 +110,13 @@ pub record HaveOpened (order topics hold limit : ℕ) (memory : Memory) (before 
   pub have : ports_of after ≡ map (λ (p : PortStanding). Some p) ports
   pub told : All (λ (p : CPort). p.memory ≡ memory) after
 
--- of an open: 0 opened, 8 no memory, and which argument is out of range, or that a port was open already. With all but 0 each of C's ports
--- is as it was
-pub record OfOpen (order topics hold limit : ℕ) (memory : Memory) (code : ℕ) (before after : List CPort) : Type 0 where
+-- of an open: 0 opened, 8 no memory, and which argument is out of range, or that a port was open
+-- already. With all but 0 each of C's ports is as it was
+pub record OfOpen (order topics hold limit : ℕ) (memory : Memory) (code : ℕ)
+    (before after : List CPort) : Type 0 where
   pub opened : code ≡ 0 → HaveOpened order topics hold limit memory before after
-  pub refused : (code ≡ 0 → ⊥) → (ports_of after ≡ ports_of before) × (memories_of after ≡ memories_of before)
+  pub refused : (code ≡ 0 → ⊥)
+      → (ports_of after ≡ ports_of before) × (memories_of after ≡ memories_of before)
   pub bad_order : code ≡ 9 → IsOutside 1 12 order
   pub bad_topics : code ≡ 10 → IsOutside 1 17 topics
   pub bad_ports : code ≡ 11 → IsOutside 1 4096 (length before)
@@ -115,8 +126,8 @@ pub record OfOpen (order topics hold limit : ℕ) (memory : Memory) (code : ℕ)
   pub is_open : code ≡ 15 → All IsClosed before → ⊥
   pub known : (code ≡ 0) ⊎ ((8 ≤ code) × (code ≤ 15))
 
--- the last port of a queue closed, with this pass: there are passes, which are all of the queue, what the
--- queue's close says holds of them, and their counts were written out
+-- the last port of a queue closed, with this pass: there are passes, which are all of the queue,
+-- what the queue's close says holds of them, and their counts were written out
 pub record AllHaveEnded (x : PortStanding) (its : PassStanding PortBuffer)
     (before after : List Tally) : Type 0 where
   pub passes : List (PassStanding PortBuffer)

@@ -5,7 +5,8 @@ ghost use Rattle.scq_queue.specs.Lists.{counts_of};
 ghost use Rattle.scq_queue.specs.Passes.{lists_of};
 ghost use Rattle.scq_port.specs.Ports.{PortStanding};
 ghost use Rattle.scq_port.specs.Calls.{retired_port};
-ghost use Rattle.scq_c.specs.Answers.{OfLend, OfTake, OfSend, OfGiveBack, OfOpen, OfEnd, OfRetired, OfCount, shown_at};
+ghost use Rattle.scq_c.specs.Answers.{OfLend, OfTake, OfSend, OfGiveBack, OfOpen, OfEnd, OfRetired};
+ghost use Rattle.scq_c.specs.Answers.{OfCount, shown_at};
 
 use crate::answers::{CLOSED, EMPTY, FULL, NO_ROOM, NO_TOPIC, NOT_HELD, OK, RETIRED, SPENT};
 use crate::c_port::{CPort, Memory};
@@ -15,8 +16,9 @@ use crate::tally::{Tally, write_out};
 use scq_port::{GiveBackRefusal, LendRefusal, Port, SendRefusal, TakeRefusal};
 use std::alloc::Global;
 
-/// A buffer that a port holds: where its bytes lie and how many they are, which C finds by the index, and nothing here reads or writes; the
-/// place at which it was taken (0 where it was lent), and its index.
+/// A buffer that a port holds: where its bytes lie and how many they are, which C finds by the
+/// index, and nothing here reads or writes; the place at which it was taken (0 where it was lent),
+/// and its index.
 #[repr(C)]
 #[derive(Clone, Copy)]
 pub struct Held {
@@ -91,7 +93,8 @@ pub(crate) fn lend_into(port: &mut Port, out: &mut Held) -> u32
 /// Lends a buffer: tells its index.
 #[unsafe(no_mangle)]
 pub extern "C" fn scq_lend_index(alloc: Global, handle: &mut Handle, out: &mut Held) -> u32
-    ensures closed { handle.old.port ≡ None → (result ≡ 4) × (handle.new.port ≡ None) × (out.new ≡ out.old) }
+    ensures closed { handle.old.port ≡ None
+        → (result ≡ 4) × (handle.new.port ≡ None) × (out.new ≡ out.old) }
     ensures answered { (x : PortStanding) → handle.old.port ≡ Some x
         → (y : PortStanding) × (handle.new.port ≡ Some y) × OfLend result out.old out.new x y }
 {
@@ -134,9 +137,11 @@ pub extern "C" fn scq_take_index(
     topic: u32,
     out: &mut Held,
 ) -> u32
-    ensures closed { handle.old.port ≡ None → (result ≡ 4) × (handle.new.port ≡ None) × (out.new ≡ out.old) }
+    ensures closed { handle.old.port ≡ None
+        → (result ≡ 4) × (handle.new.port ≡ None) × (out.new ≡ out.old) }
     ensures answered { (x : PortStanding) → handle.old.port ≡ Some x
-        → (y : PortStanding) × (handle.new.port ≡ Some y) × OfTake topic result out.old out.new x y }
+        → (y : PortStanding) × (handle.new.port ≡ Some y)
+        × OfTake topic result out.old out.new x y }
 {
     let Some(mut port) = taken(handle, alloc) else {
         return CLOSED;
@@ -175,9 +180,11 @@ pub extern "C" fn scq_send(
     topic: u32,
     place: &mut u64,
 ) -> u32
-    ensures closed { handle.old.port ≡ None → (result ≡ 4) × (handle.new.port ≡ None) × (place.new ≡ place.old) }
+    ensures closed { handle.old.port ≡ None
+        → (result ≡ 4) × (handle.new.port ≡ None) × (place.new ≡ place.old) }
     ensures answered { (x : PortStanding) → handle.old.port ≡ Some x
-        → (y : PortStanding) × (handle.new.port ≡ Some y) × OfSend index topic result place.old place.new x y }
+        → (y : PortStanding) × (handle.new.port ≡ Some y)
+        × OfSend index topic result place.old place.new x y }
 {
     let Some(mut port) = taken(handle, alloc) else {
         return CLOSED;
@@ -258,7 +265,8 @@ pub extern "C" fn scq_counts_of(alloc: Global, handle: &mut Handle, out: &mut Ta
     ensures same { handle.new.port ≡ handle.old.port }
     ensures closed { handle.old.port ≡ None → (result ≡ 4) × (out.new ≡ out.old) }
     ensures counts { (x : PortStanding) → handle.old.port ≡ Some x → (result ≡ 0)
-        × (out.new.sent ≡ (counts_of (lists_of x.pass)).sent) × (out.new.taken ≡ (counts_of (lists_of x.pass)).taken)
+        × (out.new.sent ≡ (counts_of (lists_of x.pass)).sent)
+        × (out.new.taken ≡ (counts_of (lists_of x.pass)).taken)
         × (out.new.full ≡ (counts_of (lists_of x.pass)).full) }
 {
     let Some(port) = taken(handle, alloc) else {
@@ -279,8 +287,10 @@ pub extern "C" fn scq_counts_of(alloc: Global, handle: &mut Handle, out: &mut Ta
 pub extern "C" fn scq_spent(alloc: Global, handle: &mut Handle, ticket: &mut u64) -> u32
     ensures same { handle.new.port ≡ handle.old.port }
     ensures closed { handle.old.port ≡ None → (result ≡ 4) × (ticket.new ≡ ticket.old) }
-    ensures none { (x : PortStanding) → handle.old.port ≡ Some x → x.pass.spent ≡ None → (result ≡ 0) × (ticket.new ≡ ticket.old) }
-    ensures spent { (x : PortStanding) (t : ℕ) → handle.old.port ≡ Some x → x.pass.spent ≡ Some t → (result ≡ 3) × (ticket.new ≡ t) }
+    ensures none { (x : PortStanding) → handle.old.port ≡ Some x → x.pass.spent ≡ None
+        → (result ≡ 0) × (ticket.new ≡ ticket.old) }
+    ensures spent { (x : PortStanding) (t : ℕ) → handle.old.port ≡ Some x → x.pass.spent ≡ Some t
+        → (result ≡ 3) × (ticket.new ≡ t) }
 {
     let Some(port) = taken(handle, alloc) else {
         return CLOSED;

@@ -61,7 +61,8 @@ impl Handle {
 /// Takes the port out of a handle, which is closed from then on.
 #[inline(always)]
 pub(crate) fn taken(handle: &mut Handle, alloc: Global) -> Option<Box<Port>>
-    ensures taken { MatchOption result (handle.old.port ≡ None) (λ b. handle.old.port ≡ Some b.value) }
+    ensures taken { MatchOption result (handle.old.port ≡ None) (λ b.
+        handle.old.port ≡ Some b.value) }
     ensures closed { handle.new.port ≡ None }
 {
     match mem::replace(handle, Handle::empty()).into_loose(alloc) {

@@ -1,5 +1,6 @@
 //! How C opens a queue.
-ghost use Rattle.std.specs.Prelude.{◌≡◌, ℕ, ◌+◌, ◌*◌, ◌^◌, ◌≤◌, map, length, true, false, Some, None, Err, IfOk, IfSome, All, vec_len};
+ghost use Rattle.std.specs.Prelude.{◌≡◌, ℕ, ◌+◌, ◌*◌, ◌^◌, ◌≤◌, map, length, true, false, Some};
+ghost use Rattle.std.specs.Prelude.{None, Err, IfOk, IfSome, All, vec_len};
 ghost use Rattle.scq_word.specs.Ranges.{IsOutside};
 ghost use Rattle.scq_word.specs.Sizes.{n_of};
 ghost use Rattle.scq_port.specs.Calls.{AreOpened};
@@ -36,12 +37,15 @@ fn any_open(ports: &mut [CPort], alloc: Global) -> bool
 
 /// The setup of a queue with so many topics and ports.
 fn setup_of(order: u32, topics: u32, ports: usize, limit: u64) -> Result<Setup, SetupFault>
-    ensures made { IfOk result (λ setup. (setup.order ≡ order) × (setup.rings ≡ topics + 1) × (setup.seats ≡ ports) × (setup.limit ≡ limit)
+    ensures made { IfOk result (λ setup.
+        (setup.order ≡ order) × (setup.rings ≡ topics + 1) × (setup.seats ≡ ports)
+        × (setup.limit ≡ limit)
         × (2 ≤ setup.rings)) }
     ensures bad_order { result ≡ Err SetupFault.BadOrder → IsOutside 1 12 order }
     ensures bad_topics { result ≡ Err SetupFault.BadRings → IsOutside 1 17 topics }
     ensures bad_ports { result ≡ Err SetupFault.BadSeats → IsOutside 1 4096 ports }
-    ensures bad_limit { result ≡ Err SetupFault.BadLimit → IsOutside (8 * n_of order) (2 ^ 60) limit }
+    ensures bad_limit { result ≡ Err SetupFault.BadLimit
+        → IsOutside (8 * n_of order) (2 ^ 60) limit }
 {
     if topics < 1 || topics > MOST_TOPICS {
         return Err(SetupFault::BadRings);

@@ -28,7 +28,8 @@ rings_after c rings turn =
     slice_set
     rings
     (ring_of turn)
-    (ring_with (ring_in c rings (ring_of turn)) (cell_of c turn) (writes c turn (found_by c rings turn))
+    (ring_with (ring_in c rings (ring_of turn)) (cell_of c turn)
+    (writes c turn (found_by c rings turn))
     (stores turn (found_by c rings turn) (beside_by c rings turn)))
 
 -- the seat's part after the turn
@@ -38,10 +39,12 @@ part_by c rings turn p = after c turn (found_by c rings turn) (beside_by c rings
 -- a step takes memory only where it copies a content or ends its call
 abbrev pub WantsMemory : Setup → Part → Step → List RingLists → Type 0
 WantsMemory c seat step rings =
-    (copies_content step ≡ true) ⊎ ((turn : Phase) → turn_of c seat step ≡ Some turn → ends_call c turn (found_by c rings turn) ≡ true)
+    (copies_content step ≡ true) ⊎ ((turn : Phase) → turn_of c seat step ≡ Some turn
+    → ends_call c turn (found_by c rings turn) ≡ true)
 
 -- a seat's step makes a turn of it
-pub record Advances (c : Setup) (step : Step) (rings : List RingLists) (seat : Part) (rings_then : List RingLists) (seat_then : Part) : Type 0 where
+pub record Advances (c : Setup) (step : Step) (rings : List RingLists) (seat : Part)
+    (rings_then : List RingLists) (seat_then : Part) : Type 0 where
   pub turn : Phase
   pub enabled : turn_of c seat step ≡ Some turn
   pub words : rings_then ≡ rings_after c rings turn

@@ -1,4 +1,5 @@
--- For private calls: the rings of the start as lists: one in which nothing was ever placed, and one in which each index stands.
+-- For private calls: the rings of the start as lists: one in which nothing was ever placed, and one
+-- in which each index stands.
 use Rattle.std.specs.Prelude.{ℕ, ◌≡◌, ◌+◌, ◌-◌, List, ◌∷◌, length, replicate, slice_index_or}
 use Rattle.scq_word.specs.declared.setup.Setup.{Setup}
 use Rattle.scq_word.specs.Sizes.{n_of}
@@ -11,13 +12,21 @@ use Rattle.scq_core.specs.StateLists.{no_slot}
 -- Head and Tail at the number of slots, Threshold at -1, and no slot used
 abbrev pub empty_ring : Setup → RingLists
 empty_ring c =
-    record { tail = ring_slots c; head = ring_slots c; threshold = zero_level - 1; slots = replicate (ring_slots c) (no_slot c) }
+    record {
+      tail = ring_slots c;
+      head = ring_slots c;
+      threshold = zero_level - 1;
+      slots =
+          replicate (ring_slots c) (no_slot c);
+    }
 
 -- the indices below a count stand in these slots, each with its opening content
-pub record IsFilled (c : Setup) (opening : List (List ℕ)) (count : ℕ) (slots : List Slot) : Type 0 where
+pub record IsFilled (c : Setup) (opening : List (List ℕ)) (count : ℕ)
+    (slots : List Slot) : Type 0 where
   pub many : length slots ≡ ring_slots c
   pub words : (s : ℕ) → (slice_index_or slots s (no_slot c)).word ≡ filled c count s
-  pub contents : (s : ℕ) → (slice_index_or slots s (no_slot c)).content ≡ filled_contents c opening count s
+  pub contents : (s : ℕ)
+      → (slice_index_or slots s (no_slot c)).content ≡ filled_contents c opening count s
 
 -- the ring in which each index stands, as after as many puts
 pub record IsFullRing (c : Setup) (opening : List (List ℕ)) (ring : RingLists) : Type 0 where
@@ -27,7 +36,8 @@ pub record IsFullRing (c : Setup) (opening : List (List ℕ)) (ring : RingLists)
   pub slots : IsFilled c opening (n_of c.order) ring.slots
 
 -- ring 0 of the start, and so many rings more
-pub record IsStart (c : Setup) (opening : List (List ℕ)) (more : ℕ) (rings : List RingLists) : Type 0 where
+pub record IsStart (c : Setup) (opening : List (List ℕ)) (more : ℕ)
+    (rings : List RingLists) : Type 0 where
   pub first : RingLists
   pub full : IsFullRing c opening first
   pub all : rings ≡ first ∷ replicate more (empty_ring c)

@@ -1,11 +1,15 @@
--- The laws of the machine that its own arithmetic stands on, for every reachable state and every enabled step.
-use Rattle.std.specs.Prelude.{ℕ, zero, suc, ◌≡◌, ◌≢◌, ◌+◌, ◌*◌, ◌^◌, ◌<◌, ◌≤◌, ◌⊎◌, true, List, [], ◌++◌, slice_index_or, Option, Some, None}
+-- The laws of the machine that its own arithmetic stands on, for every reachable state and every
+-- enabled step.
+use Rattle.std.specs.Prelude.{ℕ, zero, suc, ◌≡◌, ◌≢◌, ◌+◌, ◌*◌, ◌^◌, ◌<◌, ◌≤◌, ◌⊎◌, true, List, []}
+use Rattle.std.specs.Prelude.{◌++◌, slice_index_or, Option, Some, None}
 use Rattle.scq_word.specs.declared.setup.Setup.{Setup}
 use Rattle.scq_word.specs.Sizes.{n_of}
 use Rattle.scq_word.specs.Words.{packed, safe_in, cycle_in, is_none_in, rank_in}
 use Rattle.scq_core.specs.declared.ended.Ended.{Ended}
 use Rattle.scq_core.specs.declared.phase.Phase.{Phase}
-use Rattle.scq_core.specs.declared.phase.Phase.TheVariants.{Idle, AtE1, AtE2, AtE3, AtE4, AtE5, AtE6, AtD1, AtD2, AtD3, AtD4, AtD5, AtD6, AtD7, AtD8, AtD9, AtD10}
+use Rattle.scq_core.specs.declared.phase.Phase.TheVariants.{Idle, AtE1, AtE2, AtE3, AtE4, AtE5}
+use Rattle.scq_core.specs.declared.phase.Phase.TheVariants.{AtE6, AtD1, AtD2, AtD3, AtD4, AtD5}
+use Rattle.scq_core.specs.declared.phase.Phase.TheVariants.{AtD6, AtD7, AtD8, AtD9, AtD10}
 use Rattle.scq_core.specs.Machine.{Cells, Part, Machine, Location, written}
 use Rattle.scq_core.specs.Table.{ring_slots, cycle, slot, zero_level, reset_level, holds_index}
 use Rattle.scq_core.specs.Start.{unused}
@@ -28,7 +32,8 @@ pub record CountersRise (before later : Cells) : Type 0 where
 abbrev pub word_at : Setup → Cells → ℕ → ℕ → ℕ
 word_at c m r t = m.entries.word r (slot c t)
 
--- an enqueue that still has its index: ring and index are in range, and the index is in the seat's hand
+-- an enqueue that still has its index: ring and index are in range, and the index is in the seat's
+-- hand
 pub record Offers (c : Setup) (hand : List ℕ) (r i : ℕ) : Type 0 where
   pub ring : r < c.rings
   pub index : i < n_of c.order
@@ -58,9 +63,11 @@ Busy c m hand (AtE1 r i w l) = Offers c hand r i × (l ≤ m.tail r)
 Busy c m hand (AtE2 r i w t l) =
     Offers c hand r i × Drawn c (m.tail r) t × (l ≤ rank_in (ring_slots c) (word_at c m r t))
 Busy c m hand (AtE3 r i w t e) =
-    Offers c hand r i × Drawn c (m.tail r) t × Lags c t e (word_at c m r t) × (is_none_in (ring_slots c) e ≡ true) × (safe_in (ring_slots c) e ≡ 0)
+    Offers c hand r i × Drawn c (m.tail r) t × Lags c t e (word_at c m r t)
+    × (is_none_in (ring_slots c) e ≡ true) × (safe_in (ring_slots c) e ≡ 0)
 Busy c m hand (AtE4 r i w t e) =
-    Offers c hand r i × Drawn c (m.tail r) t × Lags c t e (word_at c m r t) × (is_none_in (ring_slots c) e ≡ true)
+    Offers c hand r i × Drawn c (m.tail r) t × Lags c t e (word_at c m r t)
+    × (is_none_in (ring_slots c) e ≡ true)
 Busy c m hand (AtE5 r i w t) = (r < c.rings) × Drawn c (m.tail r) t × (i < n_of c.order)
 Busy c m hand (AtE6 r i w t) = (r < c.rings) × Drawn c (m.tail r) t × (i < n_of c.order)
 Busy c m hand (AtD1 r) = r < c.rings
@@ -70,14 +77,15 @@ Busy c m hand (AtD3 r h l) =
 Busy c m hand (AtD4 r h) = (r < c.rings) × Drawn c (m.head r) h
 Busy c m hand (AtD5 r h e) = (r < c.rings) × Drawn c (m.head r) h × Lags c h e (word_at c m r h)
 Busy c m hand (AtD6 r h) = (r < c.rings) × Drawn c (m.head r) h
-Busy c m hand (AtD7 r h from to) = (r < c.rings) × Drawn c (m.head r) h × CatchesUp (m.tail r) (m.head r) from to
+Busy c m hand (AtD7 r h from to) =
+    (r < c.rings) × Drawn c (m.head r) h × CatchesUp (m.tail r) (m.head r) from to
 Busy c m hand (AtD8 r h from) = (r < c.rings) × Drawn c (m.head r) h × (from < m.tail r)
 Busy c m hand (AtD9 r h from to) =
     (r < c.rings) × Drawn c (m.head r) h × (from < m.tail r) × (to ≤ m.head r)
 Busy c m hand (AtD10 r h leaving) = (r < c.rings) × Drawn c (m.head r) h
 
--- each seat has what its phase says, a seat that keeps a spent ticket is idle and drew it at or past the limit, and
--- each ring's counters have left the first round behind
+-- each seat has what its phase says, a seat that keeps a spent ticket is idle and drew it at or
+-- past the limit, and each ring's counters have left the first round behind
 pub record IsSteady (c : Setup) (m : Machine) : Type 0 where
   pub busy : (k : ℕ) → Busy c m.cells (m.part k).hand (m.part k).phase
   pub kept : (k t : ℕ) → (m.part k).spent ≡ Some t → ((m.part k).phase ≡ Idle) × (c.limit ≤ t)
@@ -111,8 +119,8 @@ pub record CountersBounded (c : Setup) (m : Machine) : Type 0 where
   pub head : (r : ℕ) → m.cells.head r ≤ c.limit + spent_seats c m
   pub spent : spent_seats c m ≤ c.seats
 
--- Threshold is at least a - k, where a of the k seats are in a dequeue of the ring that has passed D1, and no higher
--- than a reset sets it. Both sides are raised by what the word of 0 is
+-- Threshold is at least a - k, where a of the k seats are in a dequeue of the ring that has passed
+-- D1, and no higher than a reset sets it. Both sides are raised by what the word of 0 is
 pub record ThresholdFloor (c : Setup) (m : Machine) : Type 0 where
   pub floor : (r : ℕ) → zero_level + dequeues_of c m r ≤ m.cells.threshold r + c.seats
   pub ceiling : (r : ℕ) → m.cells.threshold r ≤ reset_level c
@@ -121,12 +129,15 @@ pub record ThresholdFloor (c : Setup) (m : Machine) : Type 0 where
 pub record CyclesBounded (c : Setup) (m : Cells) : Type 0 where
   pub cycles : (r s : ℕ) → cycle_in (ring_slots c) (m.entries.word r s) * ring_slots c < c.limit
 
--- the entries of the start, told by ticket: in ring 0 the slot of the ticket 2n + j holds the index j, for each j below
--- n, and beside it the opening content j; each other entry was never used
+-- the entries of the start, told by ticket: in ring 0 the slot of the ticket 2n + j holds the index
+-- j, for each j below n, and beside it the opening content j; each other entry was never used
 pub record StartsFull (c : Setup) (opening : List (List ℕ)) (m : Cells) : Type 0 where
-  pub words : (j : ℕ) → j < n_of c.order → m.entries.word 0 (slot c (ring_slots c + j)) ≡ packed (ring_slots c) 1 1 j
-  pub contents : (j : ℕ) → j < n_of c.order → m.entries.content 0 (slot c (ring_slots c + j)) ≡ slice_index_or opening j []
-  pub others : (r s : ℕ) → ((j : ℕ) → j < n_of c.order → r ≡ 0 → s ≢ slot c (ring_slots c + j)) → m.entries.word r s ≡ unused (ring_slots c)
+  pub words : (j : ℕ) → j < n_of c.order
+      → m.entries.word 0 (slot c (ring_slots c + j)) ≡ packed (ring_slots c) 1 1 j
+  pub contents : (j : ℕ) → j < n_of c.order
+      → m.entries.content 0 (slot c (ring_slots c + j)) ≡ slice_index_or opening j []
+  pub others : (r s : ℕ) → ((j : ℕ) → j < n_of c.order → r ≡ 0 → s ≢ slot c (ring_slots c + j))
+      → m.entries.word r s ≡ unused (ring_slots c)
 
 -- every word is one of 64 bits, with room for a step
 pub record WordsFit (c : Setup) (m : Cells) : Type 0 where
@@ -144,7 +155,8 @@ pub record Grows (before later : List Ended) : Type 0 where
 pub record RecordsGrow (before later : Machine) : Type 0 where
   pub calls : (k : ℕ) → Grows (before.part k).calls (later.part k).calls
 
--- a step changes at most one word, with the content beside it where it is an entry, and its own seat's part
+-- a step changes at most one word, with the content beside it where it is an entry, and its own
+-- seat's part
 pub record ChangesOne (before : Machine) (seat : ℕ) (later : Machine) : Type 0 where
   pub location : Location
   pub value : ℕ

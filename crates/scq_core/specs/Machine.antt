@@ -1,5 +1,5 @@
--- A state of the machine: the words of all rings with the contents that stand beside their entries, the part of each
--- seat, and the opening contents.
+-- A state of the machine: the words of all rings with the contents that stand beside their entries,
+-- the part of each seat, and the opening contents.
 use Rattle.std.specs.Prelude.{ℕ, List, [], Option}
 use Rattle.scq_core.specs.declared.ended.Ended.{Ended}
 use Rattle.scq_core.specs.declared.phase.Phase.{Phase}
@@ -7,8 +7,9 @@ use Rattle.scq_core.specs.declared.slot.Cell.{Cell}
 use Rattle.scq_core.specs.declared.slot.Cell.TheVariants.{Tail, Head, Threshold, Entry}
 use Rattle.scq_core.specs.Updated.{updated}
 
--- the entries by ring and slot: the word, and the content that its put placed with it. A put's exchange writes both; a
--- dequeue changes the word alone, and the content that stays means nothing until the next put
+-- the entries by ring and slot: the word, and the content that its put placed with it. A put's
+-- exchange writes both; a dequeue changes the word alone, and the content that stays means nothing
+-- until the next put
 pub record Entries : Type 0 where
   pub word : ℕ → ℕ → ℕ
   pub content : ℕ → ℕ → List ℕ
@@ -20,7 +21,8 @@ pub record Cells : Type 0 where
   pub threshold : ℕ → ℕ
   pub entries : Entries
 
--- a seat's part: what it is in the middle of, the indices in its hand, the spent ticket that it keeps, and its record
+-- a seat's part: what it is in the middle of, the indices in its hand, the spent ticket that it
+-- keeps, and its record
 pub record Part : Type 0 where
   pub phase : Phase
   pub hand : List ℕ
@@ -70,5 +72,9 @@ written m (head_of r) x y = record m { head = updated m.head r x }
 written m (threshold_of r) x y = record m { threshold = updated m.threshold r x }
 written m (entry_of r s) x y =
     record m {
-      entries = record { word = updated_entry m.entries.word r s x; content = updated_entry m.entries.content r s y };
+      entries = record {
+        word = updated_entry m.entries.word r s x;
+        content =
+            updated_entry m.entries.content r s y;
+      };
     }

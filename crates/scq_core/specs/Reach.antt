@@ -8,5 +8,7 @@ use Rattle.scq_core.specs.Table.{step_of}
 use Rattle.scq_core.specs.Start.{start_of}
 
 pub data IsReachable (c : Setup) : Machine → Type 0 where
-  at_start : (opening : List (List ℕ)) → length opening ≡ n_of c.order → IsReachable c (start_of c opening)
-  by_step : {m m' : Machine} (seat : ℕ) (step : Step) → IsReachable c m → seat < c.seats → step_of c m seat step ≡ Some m' → IsReachable c m'
+  at_start : (opening : List (List ℕ)) → length opening ≡ n_of c.order
+      → IsReachable c (start_of c opening)
+  by_step : {m m' : Machine} (seat : ℕ) (step : Step) → IsReachable c m → seat < c.seats
+      → step_of c m seat step ≡ Some m' → IsReachable c m'

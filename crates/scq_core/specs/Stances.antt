@@ -1,11 +1,14 @@
--- What a seat is in the middle of, as far as laws ask: one table over all phases. Whatever tells phases apart for a law is
--- read off it.
+-- What a seat is in the middle of, as far as laws ask: one table over all phases. Whatever tells
+-- phases apart for a law is read off it.
 use Rattle.std.specs.Prelude.{ℕ, Bool, true, false, ◌==◌, if◌then◌else◌, List, Option, Some, None}
 use Rattle.scq_core.specs.declared.phase.Phase.{Phase}
-use Rattle.scq_core.specs.declared.phase.Phase.TheVariants.{Idle, AtE1, AtE2, AtE3, AtE4, AtE5, AtE6, AtD1, AtD2, AtD3, AtD4, AtD5, AtD6, AtD7, AtD8, AtD9, AtD10}
+use Rattle.scq_core.specs.declared.phase.Phase.TheVariants.{Idle, AtE1, AtE2, AtE3, AtE4, AtE5}
+use Rattle.scq_core.specs.declared.phase.Phase.TheVariants.{AtE6, AtD1, AtD2, AtD3, AtD4, AtD5}
+use Rattle.scq_core.specs.declared.phase.Phase.TheVariants.{AtD6, AtD7, AtD8, AtD9, AtD10}
 
--- nothing; an enqueue without a ticket, with one, with its index placed; a dequeue at its first step, without a ticket past
--- it, with one at whose slot it looks, and with one that it gave up: it goes on then, or leaves with nothing
+-- nothing; an enqueue without a ticket, with one, with its index placed; a dequeue at its first
+-- step, without a ticket past it, with one at whose slot it looks, and with one that it gave up: it
+-- goes on then, or leaves with nothing
 pub data Stance : Type 0 where
   resting : Stance
   drawing : (ring index : ℕ) (content : List ℕ) → Stance

@@ -22,7 +22,13 @@ abbrev pub no_slot : Setup → Slot
 no_slot c = record { word = unused (ring_slots c); content = [] }
 
 abbrev pub no_ring : Setup → RingLists
-no_ring c = record { tail = ring_slots c; head = ring_slots c; threshold = zero_level - 1; slots = [] }
+no_ring c = record {
+  tail = ring_slots c;
+  head = ring_slots c;
+  threshold = zero_level - 1;
+  slots =
+      [];
+}
 
 -- the ring of a number
 abbrev pub ring_in : Setup → List RingLists → ℕ → RingLists
@@ -39,7 +45,11 @@ cells_of c rings =
       tail = λ r. (ring_in c rings r).tail;
       head = λ r. (ring_in c rings r).head;
       threshold = λ r. (ring_in c rings r).threshold;
-      entries = record { word = λ r s. (slot_in c rings r s).word; content = λ r s. (slot_in c rings r s).content };
+      entries = record {
+        word = λ r s. (slot_in c rings r s).word;
+        content =
+            λ r s. (slot_in c rings r s).content;
+      };
     }
 
 -- the part of the seat of a number
@@ -48,11 +58,17 @@ part_in seats k = slice_index_or seats k idle_part
 
 -- the state of the machine
 abbrev pub machine_of : StateLists → Machine
-machine_of b = record { cells = cells_of b.setup b.rings; part = part_in b.seats; opening = b.opening }
+machine_of b = record {
+  cells = cells_of b.setup b.rings;
+  part = part_in b.seats;
+  opening =
+      b.opening;
+}
 
 -- every ring has two slots for each index
 abbrev pub HasRings : Setup → List RingLists → Type 0
-HasRings c rings = (length rings ≡ c.rings) × ((r : ℕ) → r < c.rings → length (ring_in c rings r).slots ≡ ring_slots c)
+HasRings c rings = (length rings ≡ c.rings) × ((r : ℕ) → r < c.rings
+    → length (ring_in c rings r).slots ≡ ring_slots c)
 
 -- a cell of any ring: a slot is one of so many
 abbrev pub IsCellOf : Setup → Cell → Type 0

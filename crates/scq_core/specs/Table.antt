@@ -1,9 +1,12 @@
--- The step table. A seat's next step is its phase, or the first step of a call that it begins: its turn. A turn reads
--- one word of one ring, writes that word and nothing else there, and changes its own seat's part.
--- The letters: c setup; m cells, or the whole state; p a seat's part; r ring; i index; w content of a put; t ticket of an
--- enqueue; h ticket of a dequeue; e word of the entry that was loaded; l least number that the step will find, at an
--- entry its rank; x word that the turn finds; y content beside it.
-use Rattle.std.specs.Prelude.{ℕ, ◌+◌, ◌-◌, ◌^◌, Bool, true, false, ◌==◌, ◌&&◌, not, nat_lt, nat_le, if◌then◌else◌, List, [], ◌∷◌, ◌++◌, filter, Option, Some, None, is_none}
+-- The step table. A seat's next step is its phase, or the first step of a call that it begins: its
+-- turn. A turn reads one word of one ring, writes that word and nothing else there, and changes its
+-- own seat's part. The letters: c setup; m cells, or the whole state; p a seat's part; r ring; i
+-- index; w content of a put; t ticket of an enqueue; h ticket of a dequeue; e word of the entry
+-- that was loaded; l least number that the step will find, at an entry its rank; x word that the
+-- turn finds; y content beside it.
+use Rattle.std.specs.Prelude.{ℕ, ◌+◌, ◌-◌, ◌^◌, Bool, true, false, ◌==◌, ◌&&◌, not, nat_lt, nat_le}
+use Rattle.std.specs.Prelude.{if◌then◌else◌, List, [], ◌∷◌, ◌++◌, filter, Option, Some, None}
+use Rattle.std.specs.Prelude.{is_none}
 use Rattle.std.specs.List.{list_any}
 use Rattle.std.specs.Option.{option_map}
 use Rattle.scq_word.specs.declared.setup.Setup.{Setup}
@@ -14,13 +17,17 @@ use Rattle.scq_word.specs.Words.{mark_of, packed, index_in, safe_in, cycle_in, i
 use Rattle.scq_core.specs.declared.ended.Ended.{Ended}
 use Rattle.scq_core.specs.declared.ended.Ended.TheVariants.{Done, Got, Nothing, Spent}
 use Rattle.scq_core.specs.declared.phase.Phase.{Phase}
-use Rattle.scq_core.specs.declared.phase.Phase.TheVariants.{Idle, AtE1, AtE2, AtE3, AtE4, AtE5, AtE6, AtD1, AtD2, AtD3, AtD4, AtD5, AtD6, AtD7, AtD8, AtD9, AtD10}
+use Rattle.scq_core.specs.declared.phase.Phase.TheVariants.{Idle, AtE1, AtE2, AtE3, AtE4, AtE5}
+use Rattle.scq_core.specs.declared.phase.Phase.TheVariants.{AtE6, AtD1, AtD2, AtD3, AtD4, AtD5}
+use Rattle.scq_core.specs.declared.phase.Phase.TheVariants.{AtD6, AtD7, AtD8, AtD9, AtD10}
 use Rattle.scq_core.specs.declared.slot.Cell.{Cell}
 use Rattle.scq_core.specs.declared.slot.Cell.TheVariants.{Tail, Head, Threshold, Entry}
 use Rattle.scq_core.specs.declared.step.Step.{Step}
-use Rattle.scq_core.specs.declared.step.Step.TheVariants.{E1, E1Again, E2, E3, E4, E5, E6, D1, D2, D3, D4, D5, D6, D7, D8, D9, D10}
+use Rattle.scq_core.specs.declared.step.Step.TheVariants.{E1, E1Again, E2, E3, E4, E5, E6, D1, D2}
+use Rattle.scq_core.specs.declared.step.Step.TheVariants.{D3, D4, D5, D6, D7, D8, D9, D10}
 use Rattle.scq_core.specs.Updated.{updated}
-use Rattle.scq_core.specs.Machine.{Cells, Part, Machine, Location, location_at, read, beside, written}
+use Rattle.scq_core.specs.Machine.{Cells, Part, Machine, Location, location_at, read, beside}
+use Rattle.scq_core.specs.Machine.{written}
 
 -- the word that stands for a Threshold of 0
 unfoldable pub zero_level : ℕ
@@ -48,11 +55,12 @@ hand_without index hand = filter (λ i. not (i == index)) hand
 abbrev pub holds_index : List ℕ → ℕ → Bool
 holds_index hand index = list_any (λ i. i == index) hand
 
--- the turn of a seat with this hand, kept ticket and phase, where the step is enabled. A seat in the middle of a call
--- keeps no spent ticket
+-- the turn of a seat with this hand, kept ticket and phase, where the step is enabled. A seat in
+-- the middle of a call keeps no spent ticket
 abbrev pub turn_at : Setup → List ℕ → Option ℕ → Phase → Step → Option Phase
 turn_at c hand spent Idle (E1 r i w) =
-    if is_none spent && nat_lt r c.rings && nat_lt i (n_of c.order) && holds_index hand i then Some (AtE1 r i w 0) else None
+    if is_none spent && nat_lt r c.rings && nat_lt i (n_of c.order) && holds_index hand i
+    then Some (AtE1 r i w 0) else None
 turn_at c hand spent Idle (D1 r) = if is_none spent && nat_lt r c.rings then Some (AtD1 r) else None
 turn_at c hand spent (AtE1 r i w l) E1Again = Some (AtE1 r i w l)
 turn_at c hand spent (AtE2 r i w t l) E2 = Some (AtE2 r i w t l)
@@ -137,7 +145,8 @@ cell_of c (AtD10 r h leaving) = Threshold
 abbrev pub location_of : Setup → Phase → Location
 location_of c turn = location_at (ring_of turn) (cell_of c turn)
 
--- an entry that a dequeue with a later ticket found: moved to that ticket's cycle where it has no index, else marked unsafe
+-- an entry that a dequeue with a later ticket found: moved to that ticket's cycle where it has no
+-- index, else marked unsafe
 abbrev pub passed : Setup → ℕ → ℕ → ℕ
 passed c h e =
     if is_none_in (ring_slots c) e
@@ -150,13 +159,16 @@ writes c (AtE1 r i w l) x = x + 1
 writes c (AtE4 r i w t e) x = if x == e then packed (ring_slots c) (cycle c t) 1 i else x
 writes c (AtE6 r i w t) x = reset_level c
 writes c (AtD2 r l) x = x + 1
-writes c (AtD4 r h) x = packed (ring_slots c) (cycle_in (ring_slots c) x) (safe_in (ring_slots c) x) (mark_of (ring_slots c))
+writes c (AtD4 r h) x =
+    packed (ring_slots c) (cycle_in (ring_slots c) x) (safe_in (ring_slots c) x)
+    (mark_of (ring_slots c))
 writes c (AtD5 r h e) x = if x == e then passed c h e else x
 writes c (AtD7 r h from to) x = if x == from then to else x
 writes c (AtD10 r h leaving) x = x - 1
 writes c turn x = x
 
--- the content beside an entry afterwards, where the turn found the word x and the content y: a put places its own
+-- the content beside an entry afterwards, where the turn found the word x and the content y: a put
+-- places its own
 abbrev pub stores : Phase → ℕ → List ℕ → List ℕ
 stores (AtE4 r i w t e) x y = if x == e then w else y
 stores turn x y = y
@@ -176,38 +188,50 @@ spends r ticket is_put p = record (ends (Spent r ticket is_put) p) { spent = Som
 -- the part of a seat after its turn, which found the word x and beside it the content y
 abbrev pub after : Setup → Phase → ℕ → List ℕ → Part → Part
 after c Idle x y p = p
-after c (AtE1 r i w l) x y p = if nat_le c.limit x then spends r x true p else goes_on (AtE2 r i w x 0) p
+after c (AtE1 r i w l) x y p =
+    if nat_le c.limit x then spends r x true p else goes_on (AtE2 r i w x 0) p
 after c (AtE2 r i w t l) x y p =
     if nat_lt (cycle_in (ring_slots c) x) (cycle c t) && is_none_in (ring_slots c) x
-    then (if safe_in (ring_slots c) x == 1 then goes_on (AtE4 r i w t x) p else goes_on (AtE3 r i w t x) p)
+    then (if safe_in (ring_slots c) x == 1 then goes_on (AtE4 r i w t x) p
+    else goes_on (AtE3 r i w t x) p)
     else goes_on (AtE1 r i w (t + 1)) p
-after c (AtE3 r i w t e) x y p = if nat_le x t then goes_on (AtE4 r i w t e) p else goes_on (AtE1 r i w (t + 1)) p
+after c (AtE3 r i w t e) x y p =
+    if nat_le x t then goes_on (AtE4 r i w t e) p else goes_on (AtE1 r i w (t + 1)) p
 after c (AtE4 r i w t e) x y p =
     if x == e
     then goes_on (AtE5 r i w t) (record p { hand = hand_without i p.hand })
     else goes_on (AtE2 r i w t (rank_in (ring_slots c) x)) p
-after c (AtE5 r i w t) x y p = if x == reset_level c then ends (Done r t w) p else goes_on (AtE6 r i w t) p
+after c (AtE5 r i w t) x y p =
+    if x == reset_level c then ends (Done r t w) p else goes_on (AtE6 r i w t) p
 after c (AtE6 r i w t) x y p = ends (Done r t w) p
 after c (AtD1 r) x y p = if nat_lt x zero_level then ends (Nothing r) p else goes_on (AtD2 r 0) p
 after c (AtD2 r l) x y p = if nat_le c.limit x then spends r x false p else goes_on (AtD3 r x 0) p
 after c (AtD3 r h l) x y p =
     if cycle_in (ring_slots c) x == cycle c h
     then goes_on (AtD4 r h) p
-    else (if nat_lt (cycle_in (ring_slots c) x) (cycle c h) then goes_on (AtD5 r h x) p else goes_on (AtD6 r h) p)
-after c (AtD4 r h) x y p = ends (Got r h y) (record p { hand = p.hand ++ index_in (ring_slots c) x ∷ [] })
-after c (AtD5 r h e) x y p = if x == e then goes_on (AtD6 r h) p else goes_on (AtD3 r h (rank_in (ring_slots c) x)) p
-after c (AtD6 r h) x y p = if nat_le x (h + 1) then goes_on (AtD7 r h x (h + 1)) p else goes_on (AtD10 r h false) p
-after c (AtD7 r h from to) x y p = if x == from then goes_on (AtD10 r h true) p else goes_on (AtD8 r h from) p
+    else (if nat_lt (cycle_in (ring_slots c) x) (cycle c h) then goes_on (AtD5 r h x) p
+    else goes_on (AtD6 r h) p)
+after c (AtD4 r h) x y p =
+    ends (Got r h y) (record p { hand = p.hand ++ index_in (ring_slots c) x ∷ [] })
+after c (AtD5 r h e) x y p =
+    if x == e then goes_on (AtD6 r h) p else goes_on (AtD3 r h (rank_in (ring_slots c) x)) p
+after c (AtD6 r h) x y p =
+    if nat_le x (h + 1) then goes_on (AtD7 r h x (h + 1)) p else goes_on (AtD10 r h false) p
+after c (AtD7 r h from to) x y p =
+    if x == from then goes_on (AtD10 r h true) p else goes_on (AtD8 r h from) p
 after c (AtD8 r h from) x y p = goes_on (AtD9 r h from x) p
-after c (AtD9 r h from to) x y p = if nat_le to x then goes_on (AtD10 r h true) p else goes_on (AtD7 r h x to) p
+after c (AtD9 r h from to) x y p =
+    if nat_le to x then goes_on (AtD10 r h true) p else goes_on (AtD7 r h x to) p
 after c (AtD10 r h true) x y p = ends (Nothing r) p
-after c (AtD10 r h false) x y p = if nat_le x zero_level then ends (Nothing r) p else goes_on (AtD2 r (h + 1)) p
+after c (AtD10 r h false) x y p =
+    if nat_le x zero_level then ends (Nothing r) p else goes_on (AtD2 r (h + 1)) p
 
 -- the cells after a turn
 abbrev pub cells_after : Setup → Phase → Cells → Cells
 cells_after c turn m =
     let location = location_of c turn in
-    written m location (writes c turn (read m location)) (stores turn (read m location) (beside m location))
+    written m location (writes c turn (read m location))
+    (stores turn (read m location) (beside m location))
 
 -- the state after a turn of a seat
 abbrev pub moved : Setup → Machine → ℕ → Phase → Machine
@@ -215,11 +239,12 @@ moved c m seat turn =
     let location = location_of c turn in
     record {
       cells = cells_after c turn m.cells;
-      part = updated m.part seat (after c turn (read m.cells location) (beside m.cells location) (m.part seat));
+      part = updated m.part seat
+          (after c turn (read m.cells location) (beside m.cells location) (m.part seat));
       opening = m.opening;
     }
 
--- what one line of the table does: the state after a step of a seat, or None where no line allows it. That the seat is
--- one of the setup's is asked where steps are joined to runs
+-- what one line of the table does: the state after a step of a seat, or None where no line allows
+-- it. That the seat is one of the setup's is asked where steps are joined to runs
 abbrev pub step_of : Setup → Machine → ℕ → Step → Option Machine
 step_of c m seat step = option_map (moved c m seat) (turn_of c (m.part seat) step)

@@ -1,18 +1,22 @@
 -- What the parts of a turn do, and what its arithmetic stands on.
-use Rattle.std.specs.Prelude.{ℕ, ◌≡◌, ◌⊎◌, ◌+◌, ◌^◌, ◌<◌, ◌==◌, Bool, true, false, nat_lt, nat_le, List, [], ◌∷◌, ◌++◌, Option, Some, None, IsSome}
+use Rattle.std.specs.Prelude.{ℕ, ◌≡◌, ◌⊎◌, ◌+◌, ◌^◌, ◌<◌, ◌==◌, Bool, true, false, nat_lt, nat_le}
+use Rattle.std.specs.Prelude.{List, [], ◌∷◌, ◌++◌, Option, Some, None, IsSome}
 use Rattle.scq_word.specs.declared.setup.Setup.{Setup}
 use Rattle.scq_word.specs.Sizes.{n_of}
 use Rattle.scq_word.specs.Entries.{IsIndexOrMark}
 use Rattle.scq_core.specs.declared.ended.Ended.TheVariants.{Got}
 use Rattle.scq_core.specs.declared.phase.Phase.{Phase}
-use Rattle.scq_core.specs.declared.phase.Phase.TheVariants.{Idle, AtE1, AtE2, AtE3, AtE4, AtE5, AtE6, AtD1, AtD2, AtD3, AtD4, AtD5, AtD6, AtD7, AtD8, AtD9, AtD10}
+use Rattle.scq_core.specs.declared.phase.Phase.TheVariants.{Idle, AtE1, AtE2, AtE3, AtE4, AtE5}
+use Rattle.scq_core.specs.declared.phase.Phase.TheVariants.{AtE6, AtD1, AtD2, AtD3, AtD4, AtD5}
+use Rattle.scq_core.specs.declared.phase.Phase.TheVariants.{AtD6, AtD7, AtD8, AtD9, AtD10}
 use Rattle.scq_core.specs.declared.step.Step.{Step}
 use Rattle.scq_core.specs.declared.step.Step.TheVariants.{E1, E4, D1, D4}
 use Rattle.scq_core.specs.declared.next.Next.{Next}
 use Rattle.scq_core.specs.declared.next.Next.TheVariants.{Goes, Ends, Spends, Places, Takes}
 use Rattle.scq_core.specs.Machine.{Part, Machine}
 use Rattle.scq_core.specs.Stances.{stance_of, get_ring}
-use Rattle.scq_core.specs.Table.{step_of, zero_level, reset_level, ring_of, goes_on, ends, spends, hand_without}
+use Rattle.scq_core.specs.Table.{step_of, zero_level, reset_level, ring_of, goes_on, ends, spends}
+use Rattle.scq_core.specs.Table.{hand_without}
 
 -- the ring of the call that a seat is in the middle of
 abbrev pub ring_under_way : Phase → Option ℕ
@@ -25,7 +29,8 @@ started (E1 r i w) = Some (AtE1 r i w 0)
 started (D1 r) = Some (AtD1 r)
 started step = None
 
--- the content that a turn needs a copy of: a put's own where it may place it, and the one beside the entry where it is taken
+-- the content that a turn needs a copy of: a put's own where it may place it, and the one beside
+-- the entry where it is taken
 abbrev pub copied : Phase → List ℕ → List ℕ
 copied (AtE4 r i w t e) beside = w
 copied (AtD4 r h) beside = beside
@@ -37,17 +42,20 @@ needs_copy (AtE4 r i w t e) = true
 needs_copy (AtD4 r h) = true
 needs_copy turn = false
 
--- a step that copies a content: the one that begins a put, its exchange, and the one that takes an index
+-- a step that copies a content: the one that begins a put, its exchange, and the one that takes an
+-- index
 abbrev pub copies_content : Step → Bool
 copies_content (E1 r i w) = true
 copies_content E4 = true
 copies_content D4 = true
 copies_content step = false
 
--- a step takes memory only where it copies a content, or where its seat is idle afterwards, since its call has ended
+-- a step takes memory only where it copies a content, or where its seat is idle afterwards, since
+-- its call has ended
 abbrev pub TakesMemory : Setup → Machine → ℕ → Step → Type 0
 TakesMemory c m seat step =
-    (copies_content step ≡ true) ⊎ ((later : Machine) → step_of c m seat step ≡ Some later → (later.part seat).phase ≡ Idle)
+    (copies_content step ≡ true)
+    ⊎ ((later : Machine) → step_of c m seat step ≡ Some later → (later.part seat).phase ≡ Idle)
 
 -- whether a turn ends its call where it found the word x
 abbrev pub ends_call : Setup → Phase → ℕ → Bool
@@ -74,7 +82,8 @@ abbrev pub part_after : Next → Part → Part
 part_after (Goes phase) p = goes_on phase p
 part_after (Ends ended) p = ends ended p
 part_after (Spends r t is_put) p = spends r t is_put p
-part_after (Places r i w t laid) p = goes_on (AtE5 r i w t) (record p { hand = hand_without i p.hand })
+part_after (Places r i w t laid) p =
+    goes_on (AtE5 r i w t) (record p { hand = hand_without i p.hand })
 part_after (Takes r h i w) p = ends (Got r h w) (record p { hand = p.hand ++ i ∷ [] })
 
 -- the content that is laid beside the entry
@@ -86,8 +95,9 @@ laid_by next = None
 abbrev pub IsOfGet : Phase → Type 0
 IsOfGet turn = IsSome (get_ring (stance_of turn))
 
--- what a turn's arithmetic stands on, where it found the word x: counters have room, tickets are below the limit, an
--- entry has an index of the ring or none, and Threshold is not yet at the bottom
+-- what a turn's arithmetic stands on, where it found the word x: counters have room, tickets are
+-- below the limit, an entry has an index of the ring or none, and Threshold is not yet at the
+-- bottom
 abbrev pub IsReady : Setup → Phase → ℕ → Type 0
 IsReady c Idle x = ⊥
 IsReady c (AtE1 r i w l) x = x + 1 < 2 ^ 64

@@ -33,8 +33,8 @@ impl From<NoMemory> for ApplyFault {
     }
 }
 
-/// One step of a seat: the one word that it reads, what becomes of the seat, and what is written there.
-/// What can fail comes before the first change.
+/// One step of a seat: the one word that it reads, what becomes of the seat, and what is written
+/// there. What can fail comes before the first change.
 pub fn advance(
     setup: &Setup,
     rings: &mut Vec<Ring>,
@@ -42,10 +42,14 @@ pub fn advance(
     step: &Step,
 ) -> Result<(), ApplyFault>
     requires rings { HasRings setup.now rings.old.items }
-    requires ready { (turn : Phase) → turn_of setup.now seat.old step.now ≡ Some turn → CanTurn setup.now rings.old.items turn }
-    ensures ok { OnOk result (Advances setup.now step.now rings.old.items seat.old rings.new.items seat.new) }
-    ensures not_enabled { (result ≡ Err ApplyFault.NotEnabled) ↔ (turn_of setup.now seat.old step.now ≡ None) }
-    ensures no_memory { (result ≡ Err ApplyFault.NoMemory) → WantsMemory setup.now seat.old step.now rings.old.items }
+    requires ready { (turn : Phase) → turn_of setup.now seat.old step.now ≡ Some turn
+        → CanTurn setup.now rings.old.items turn }
+    ensures ok { OnOk result
+        (Advances setup.now step.now rings.old.items seat.old rings.new.items seat.new) }
+    ensures not_enabled { (result ≡ Err ApplyFault.NotEnabled)
+        ↔ (turn_of setup.now seat.old step.now ≡ None) }
+    ensures no_memory { (result ≡ Err ApplyFault.NoMemory)
+        → WantsMemory setup.now seat.old step.now rings.old.items }
     ensures err { OnErr result ((rings.new.items ≡ rings.old.items) × (seat.new ≡ seat.old)) }
 {
     if !seat.allows(setup, step) {

@@ -1,5 +1,5 @@
-//! Laws of the machine, for every setup and every state that steps reach. The functions do nothing: each
-//! stands for its contract.
+//! Laws of the machine, for every setup and every state that steps reach. The functions do nothing:
+//! each stands for its contract.
 
 ghost use Rattle.std.specs.Prelude.{◌≡◌, ◌≢◌, ℕ, ◌<◌, List, Some, length};
 ghost use Rattle.scq_word.specs.declared.setup.Setup.{Setup};
@@ -12,57 +12,70 @@ ghost use Rattle.scq_core.specs.Table.{turn_of, next_step, location_of, step_of,
 ghost use Rattle.scq_core.specs.Turn.{IsReady};
 ghost use Rattle.scq_core.specs.Start.{start_of};
 ghost use Rattle.scq_core.specs.Reach.{IsReachable};
-ghost use Rattle.scq_core.specs.Laws.{ChangesOne, RankRises, CountersRise, IsSteady, CatchUpLags, CountersBounded, ThresholdFloor, CyclesBounded, WordsFit, RecordsGrow, StartsFull};
+ghost use Rattle.scq_core.specs.Laws.{ChangesOne, RankRises, CountersRise, IsSteady, CatchUpLags};
+ghost use Rattle.scq_core.specs.Laws.{CountersBounded, ThresholdFloor, CyclesBounded, WordsFit};
+ghost use Rattle.scq_core.specs.Laws.{RecordsGrow, StartsFull};
 
 /// The start is reachable, with an opening content for each index.
 pub fn start_is_reachable()
-    ensures { (c : Setup) (opening : List (List ℕ)) → length opening ≡ n_of c.order → IsReachable c (start_of c opening) }
+    ensures { (c : Setup) (opening : List (List ℕ)) → length opening ≡ n_of c.order
+        → IsReachable c (start_of c opening) }
 {}
 
-/// The entries of the start by ticket: in ring 0 the slot of the ticket `2n + j` holds the index j, safe, with cycle 1, and
-/// beside it the opening content j; each other entry was never used.
+/// The entries of the start by ticket: in ring 0 the slot of the ticket `2n + j` holds the index j,
+/// safe, with cycle 1, and beside it the opening content j; each other entry was never used.
 pub fn start_is_full_by_ticket()
-    ensures { (c : Setup) (opening : List (List ℕ)) → StartsFull c opening (start_of c opening).cells }
+    ensures { (c : Setup) (opening : List (List ℕ))
+        → StartsFull c opening (start_of c opening).cells }
 {}
 
 /// An enabled step of a seat leads from a reachable state to a reachable state.
 pub fn steps_stay_reachable()
-    ensures { (c : Setup) (m later : Machine) (seat : ℕ) (step : Step) → IsReachable c m → seat < c.seats → step_of c m seat step ≡ Some later
+    ensures { (c : Setup) (m later : Machine) (seat : ℕ) (step : Step) → IsReachable c m
+        → seat < c.seats → step_of c m seat step ≡ Some later
         → IsReachable c later }
 {}
 
-/// A step changes at most one word of one ring, with the content beside it, and its own seat's part.
+/// A step changes at most one word of one ring, with the content beside it, and its own seat's
+/// part.
 pub fn steps_change_one_word()
-    ensures { (c : Setup) (m later : Machine) (seat : ℕ) (step : Step) → step_of c m seat step ≡ Some later → ChangesOne m seat later }
+    ensures { (c : Setup) (m later : Machine) (seat : ℕ) (step : Step)
+        → step_of c m seat step ≡ Some later → ChangesOne m seat later }
 {}
 
 /// A seat in the middle of a call has exactly one enabled step, which is its phase.
 pub fn calls_go_on()
-    ensures enabled { (c : Setup) (m : Machine) (seat : ℕ) (step : Step) → next_step (m.part seat).phase ≡ Some step
+    ensures enabled { (c : Setup) (m : Machine) (seat : ℕ) (step : Step)
+        → next_step (m.part seat).phase ≡ Some step
         → turn_of c (m.part seat) step ≡ Some (m.part seat).phase }
-    ensures alone { (c : Setup) (m : Machine) (seat : ℕ) (step : Step) (turn : Phase) → (m.part seat).phase ≢ Idle
+    ensures alone { (c : Setup) (m : Machine) (seat : ℕ) (step : Step) (turn : Phase)
+        → (m.part seat).phase ≢ Idle
         → turn_of c (m.part seat) step ≡ Some turn → next_step (m.part seat).phase ≡ Some step }
 {}
 
 /// What stands in a seat's record stays there: a step adds ended calls only at its end.
 pub fn records_grow()
-    ensures { (c : Setup) (m later : Machine) (seat : ℕ) (step : Step) → step_of c m seat step ≡ Some later → RecordsGrow m later }
+    ensures { (c : Setup) (m later : Machine) (seat : ℕ) (step : Step)
+        → step_of c m seat step ≡ Some later → RecordsGrow m later }
 {}
 
 /// Each step leaves each entry as it is or raises its rank.
 pub fn ranks_rise()
-    ensures { (c : Setup) (m later : Machine) (seat : ℕ) (step : Step) → IsReachable c m → step_of c m seat step ≡ Some later
+    ensures { (c : Setup) (m later : Machine) (seat : ℕ) (step : Step) → IsReachable c m
+        → step_of c m seat step ≡ Some later
         → RankRises c m.cells later.cells }
 {}
 
 /// Tail and Head never fall.
 pub fn counters_rise()
-    ensures { (c : Setup) (m later : Machine) (seat : ℕ) (step : Step) → IsReachable c m → step_of c m seat step ≡ Some later
+    ensures { (c : Setup) (m later : Machine) (seat : ℕ) (step : Step) → IsReachable c m
+        → step_of c m seat step ≡ Some later
         → CountersRise m.cells later.cells }
 {}
 
-/// What each seat has by its phase: its ring, index and ticket are in range, its index is in its hand, and what it
-/// loaded stands still or never comes back. A seat that keeps a spent ticket is idle, and drew it at or past the limit.
+/// What each seat has by its phase: its ring, index and ticket are in range, its index is in its
+/// hand, and what it loaded stands still or never comes back. A seat that keeps a spent ticket is
+/// idle, and drew it at or past the limit.
 pub fn seats_are_steady()
     ensures { (c : Setup) (m : Machine) → IsReachable c m → IsSteady c m }
 {}
@@ -72,14 +85,14 @@ pub fn catch_ups_lag()
     ensures { (c : Setup) (m : Machine) → IsReachable c m → CatchUpLags m }
 {}
 
-/// Tail and Head pass the limit by at most one for each seat that keeps a spent ticket: so by at most the number of
-/// seats.
+/// Tail and Head pass the limit by at most one for each seat that keeps a spent ticket: so by at
+/// most the number of seats.
 pub fn counters_are_bounded()
     ensures { (c : Setup) (m : Machine) → IsReachable c m → CountersBounded c m }
 {}
 
-/// Threshold is at least `a - k`, where `a` of the `k` seats are in a dequeue of the ring that has passed D1: so at
-/// least `-k`. It is no higher than a reset sets it.
+/// Threshold is at least `a - k`, where `a` of the `k` seats are in a dequeue of the ring that has
+/// passed D1: so at least `-k`. It is no higher than a reset sets it.
 pub fn threshold_has_a_floor()
     ensures { (c : Setup) (m : Machine) → IsReachable c m → ThresholdFloor c m }
 {}
@@ -94,12 +107,15 @@ pub fn words_fit()
     ensures { (c : Setup) (m : Machine) → IsReachable c m → WordsFit c m.cells }
 {}
 
-/// An enabled turn of a reachable state is on one of the setup's rings, and has what its arithmetic stands on: the
-/// counter that it finds has room, its ticket is below the limit, the entry that it finds has an index of the ring or
-/// the mark, and Threshold is not yet at the bottom.
+/// An enabled turn of a reachable state is on one of the setup's rings, and has what its arithmetic
+/// stands on: the counter that it finds has room, its ticket is below the limit, the entry that it
+/// finds has an index of the ring or the mark, and Threshold is not yet at the bottom.
 pub fn enabled_turns_are_ready()
-    ensures ring { (c : Setup) (m : Machine) (seat : ℕ) (step : Step) (turn : Phase) → IsReachable c m
+    ensures ring { (c : Setup) (m : Machine) (seat : ℕ) (step : Step) (turn : Phase)
+        → IsReachable c m
         → turn_of c (m.part seat) step ≡ Some turn → ring_of turn < c.rings }
-    ensures ready { (c : Setup) (m : Machine) (seat : ℕ) (step : Step) (turn : Phase) → IsReachable c m
-        → turn_of c (m.part seat) step ≡ Some turn → IsReady c turn (read m.cells (location_of c turn)) }
+    ensures ready { (c : Setup) (m : Machine) (seat : ℕ) (step : Step) (turn : Phase)
+        → IsReachable c m
+        → turn_of c (m.part seat) step ≡ Some turn
+        → IsReady c turn (read m.cells (location_of c turn)) }
 {}

@@ -1,7 +1,7 @@
-//! The machine of the Scalable Circular Queue: rings of indices, the seats that make calls on them, and
-//! the sixteen kinds of step that calls are made of, each on one word of one ring. No threads. It stands
-//! on `scq_word` for the words and sizes. The layers above use two clauses: `State::apply` is the step
-//! table, and every state of the type is one that steps reach.
+//! The machine of the Scalable Circular Queue: rings of indices, the seats that make calls on them,
+//! and the sixteen kinds of step that calls are made of, each on one word of one ring. No threads.
+//! It stands on `scq_word` for the words and sizes. The layers above use two clauses:
+//! `State::apply` is the step table, and every state of the type is one that steps reach.
 #![tactic(auto)]
 
 mod advance;

@@ -7,16 +7,17 @@ ghost use Rattle.scq_word.specs.Words.{rank_in};
 ghost use Rattle.scq_word.specs.Entries.{IsIndexOrMark};
 ghost use Rattle.scq_core.specs.Machine.{Part};
 ghost use Rattle.scq_core.specs.Table.{ring_slots, after, stores};
-ghost use Rattle.scq_core.specs.Turn.{copied, ends_call, has_ended, part_after, laid_by, IsOfGet, IsReady};
+ghost use Rattle.scq_core.specs.Turn.{copied, ends_call, has_ended, part_after, laid_by, IsOfGet};
+ghost use Rattle.scq_core.specs.Turn.{IsReady};
 
 use crate::ended::Ended;
 use crate::phase::Phase;
 use crate::table::{ZERO_LEVEL, reset_level};
 use scq_word::{Bytes, Setup, cycle_of, rank, unpack};
 
-/// What becomes of a seat after a turn: its call goes on or ends, or keeps the ticket that it drew at
-/// or past the limit. Or it has placed an index, which leaves its hand, and `laid` comes to stand
-/// beside the entry; or it takes one, and its call ends so.
+/// What becomes of a seat after a turn: its call goes on or ends, or keeps the ticket that it drew
+/// at or past the limit. Or it has placed an index, which leaves its hand, and `laid` comes to
+/// stand beside the entry; or it takes one, and its call ends so.
 #[derive(Debug, Drop)]
 pub enum Next {
     Goes(Phase),
@@ -41,9 +42,9 @@ pub enum Next {
     },
 }
 
-/// What becomes of a seat after its turn, which found this word. `copy` is a copy of the content that
-/// the turn may need twice: a put's own where it may place it, and the one beside the entry where it
-/// is taken.
+/// What becomes of a seat after its turn, which found this word. `copy` is a copy of the content
+/// that the turn may need twice: a put's own where it may place it, and the one beside the entry
+/// where it is taken.
 pub fn next_of(setup: &Setup, turn: Phase, found: u64, copy: Bytes) -> Next
     requires { IsReady setup.now turn found }
     ensures part { (beside : List ℕ) → copied turn beside ≡ copy
@@ -140,7 +141,8 @@ pub fn next_of(setup: &Setup, turn: Phase, found: u64, copy: Bytes) -> Next
 
 /// An enqueue has drawn a ticket, which is the value that it found.
 fn drawn_by_put(setup: &Setup, ring: u32, index: u32, content: Bytes, found: u64) -> Next
-    ensures part { (least : ℕ) (beside : List ℕ) (p : Part) → after setup.now (AtE1 ring index content least) found beside p ≡ part_after result p }
+    ensures part { (least : ℕ) (beside : List ℕ) (p : Part)
+        → after setup.now (AtE1 ring index content least) found beside p ≡ part_after result p }
     ensures laid { laid_by result ≡ None }
     ensures ends { has_ended result ≡ nat_le setup.now.limit found }
 {
@@ -161,7 +163,8 @@ fn drawn_by_put(setup: &Setup, ring: u32, index: u32, content: Bytes, found: u64
     }
 }
 
-/// An enqueue's exchange found another word than it had loaded: it looks again, with the same ticket.
+/// An enqueue's exchange found another word than it had loaded: it looks again, with the same
+/// ticket.
 fn missed_by_put(
     setup: &Setup,
     ring: u32,
@@ -171,7 +174,8 @@ fn missed_by_put(
     found: u64,
 ) -> Next
     requires { IsIndexOrMark setup.now.order found }
-    ensures { result ≡ Next.Goes (AtE2 ring index content ticket (rank_in (ring_slots setup.now) found)) }
+    ensures { result
+        ≡ Next.Goes (AtE2 ring index content ticket (rank_in (ring_slots setup.now) found)) }
 {
     let least = rank(unpack(setup.shape(), found));
     Next::Goes(Phase::AtE2 {
@@ -194,8 +198,8 @@ fn finished(ring: u32, place: u64, content: Bytes) -> Next
     })
 }
 
-/// An enqueue has loaded the entry of its slot: it may fill an earlier cycle's entry without an index,
-/// where that is safe, or where no dequeue has passed yet.
+/// An enqueue has loaded the entry of its slot: it may fill an earlier cycle's entry without an
+/// index, where that is safe, or where no dequeue has passed yet.
 fn seen_by_put(
     setup: &Setup,
     ring: u32,
@@ -206,7 +210,9 @@ fn seen_by_put(
 ) -> Next
     requires below_limit { ticket < setup.now.limit }
     requires entry { IsIndexOrMark setup.now.order found }
-    ensures part { (least : ℕ) (beside : List ℕ) (p : Part) → after setup.now (AtE2 ring index content ticket least) found beside p ≡ part_after result p }
+    ensures part { (least : ℕ) (beside : List ℕ) (p : Part)
+        → after setup.now (AtE2 ring index content ticket least) found beside p
+        ≡ part_after result p }
     ensures laid { laid_by result ≡ None }
     ensures ends { has_ended result ≡ false }
 {
@@ -376,10 +382,12 @@ fn next_of_get(setup: &Setup, turn: Phase, found: u64, copy: Bytes) -> Next
     }
 }
 
-/// A dequeue has loaded the entry of its slot: of its own cycle it is taken, an earlier one is passed.
+/// A dequeue has loaded the entry of its slot: of its own cycle it is taken, an earlier one is
+/// passed.
 fn seen_by_get(setup: &Setup, ring: u32, ticket: u64, found: u64) -> Next
     requires { IsIndexOrMark setup.now.order found }
-    ensures part { (least : ℕ) (beside : List ℕ) (p : Part) → after setup.now (AtD3 ring ticket least) found beside p ≡ part_after result p }
+    ensures part { (least : ℕ) (beside : List ℕ) (p : Part)
+        → after setup.now (AtD3 ring ticket least) found beside p ≡ part_after result p }
     ensures laid { laid_by result ≡ None }
     ensures ends { has_ended result ≡ false }
 {

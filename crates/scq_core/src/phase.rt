@@ -8,15 +8,16 @@ use crate::step::Step;
 use scq_word::{Bytes, NoMemory};
 use std::alloc::Global;
 
-/// What a seat is in the middle of: its next step, with what it drew and loaded. `ticket` is the drawn
-/// one, and `word` the entry that was loaded.
+/// What a seat is in the middle of: its next step, with what it drew and loaded. `ticket` is the
+/// drawn one, and `word` the entry that was loaded.
 ///
 /// `least` bounds from below what the step will find, and no line of the step table looks at it: in
 /// AtE1 and AtD2 it is one more than the last ticket, in AtE2 and AtD3 the rank of the entry that a
-/// failed exchange found. It is 0 where nothing is known yet, and rises with each try of one ticket.
+/// failed exchange found. It is 0 where nothing is known yet, and rises with each try of one
+/// ticket.
 ///
-/// `from` and `to` are what a dequeue lifts Tail from and to. `leaving` says that Tail was caught up,
-/// so that the call ends with Nothing whatever Threshold was.
+/// `from` and `to` are what a dequeue lifts Tail from and to. `leaving` says that Tail was caught
+/// up, so that the call ends with Nothing whatever Threshold was.
 #[derive(Debug, Drop)]
 pub enum Phase {
     /// In the middle of no call.
@@ -36,7 +37,8 @@ pub enum Phase {
         ticket: u64,
         least: u64,
     },
-    /// An enqueue found the entry unsafe, and loads Head: it may fill it where no dequeue has drawn its ticket.
+    /// An enqueue found the entry unsafe, and loads Head: it may fill it where no dequeue has drawn
+    /// its ticket.
     AtE3 {
         ring: u32,
         index: u32,
@@ -86,8 +88,8 @@ pub enum Phase {
         ring: u32,
         ticket: u64,
     },
-    /// A dequeue found the entry in an earlier cycle, and exchanges it: for its own cycle where no index stands there,
-    /// else for the same index marked unsafe.
+    /// A dequeue found the entry in an earlier cycle, and exchanges it: for its own cycle where no
+    /// index stands there, else for the same index marked unsafe.
     AtD5 {
         ring: u32,
         ticket: u64,

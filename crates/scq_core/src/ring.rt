@@ -1,6 +1,7 @@
 //! One ring: its words, and the contents beside its entries.
 
-ghost use Rattle.std.specs.Prelude.{◌≡◌, ℕ, ◌+◌, ◌<◌, IfOk, replicate, slice_set, unwrap_or, vec_len};
+ghost use Rattle.std.specs.Prelude.{◌≡◌, ℕ, ◌+◌, ◌<◌, IfOk, replicate, slice_set, unwrap_or};
+ghost use Rattle.std.specs.Prelude.{vec_len};
 ghost use Rattle.scq_word.specs.Sizes.{n_of};
 ghost use Rattle.scq_word.specs.Words.{packed};
 ghost use Rattle.scq_core.specs.Table.{ring_slots, slot};
@@ -15,8 +16,8 @@ use scq_word::{Bytes, Entry, NoMemory, Setup, pack, slot_of};
 use std::alloc::Global;
 use std::marker::Model;
 
-/// The words of one ring and the contents beside its entries. Threshold is kept as 2^32 more than its
-/// value, as the running word is.
+/// The words of one ring and the contents beside its entries. Threshold is kept as 2^32 more than
+/// its value, as the running word is.
 #[derive(Debug, Drop)]
 pub struct Ring {
     tail: u64,
@@ -30,7 +31,8 @@ impl Model for Ring {
 
     ghost Value = { RingLists };
 
-    ghost view = { λ r. record { tail = r.tail; head = r.head; threshold = r.threshold; slots = r.slots.items } };
+    ghost view = { λ r.
+        record { tail = r.tail; head = r.head; threshold = r.threshold; slots = r.slots.items } };
 }
 
 impl Ring {
@@ -112,7 +114,9 @@ impl Ring {
     /// Writes the word at a cell, and beside an entry the content, where one is given.
     pub fn write(&mut self, cell: Cell, word: u64, content: Option<Bytes>)
         requires { IsCell self.old cell }
-        ensures { (past : Slot) → self.new ≡ ring_with self.old cell word (unwrap_or content (content_in past self.old cell)) }
+        ensures { (past : Slot)
+            → self.new ≡ ring_with self.old cell word
+            (unwrap_or content (content_in past self.old cell)) }
     {
         match cell {
             Cell::Tail => self.tail = word,
@@ -131,7 +135,8 @@ impl Ring {
 
 /// The slots of a ring in which nothing was ever placed.
 fn unused(alloc: Global, setup: &Setup) -> Result<Vec<Slot>, NoMemory>
-    ensures { IfOk result (λ slots. slots.items ≡ replicate (ring_slots setup.now) (no_slot setup.now)) }
+    ensures { IfOk result (λ slots.
+        slots.items ≡ replicate (ring_slots setup.now) (no_slot setup.now)) }
 {
     let shape = setup.shape();
     let entry = Entry {
@@ -155,7 +160,8 @@ fn unused(alloc: Global, setup: &Setup) -> Result<Vec<Slot>, NoMemory>
 fn fill(setup: &Setup, slots: &mut Vec<Slot>, index: u32, content: Bytes)
     requires many { vec_len slots.old ≡ ring_slots setup.now }
     requires own { index < n_of setup.now.order }
-    ensures { slots.new.items ≡ slice_set slots.old.items (slot setup.now (ring_slots setup.now + index))
+    ensures { slots.new.items
+        ≡ slice_set slots.old.items (slot setup.now (ring_slots setup.now + index))
         (record { word = packed (ring_slots setup.now) 1 1 index; content = content }) }
 {
     let shape = setup.shape();

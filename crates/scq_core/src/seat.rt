@@ -1,7 +1,8 @@
 //! A seat's part of a state.
 
 ghost use Rattle.std.specs.Option.{option_copied};
-ghost use Rattle.std.specs.Prelude.{◌-◌, length, slice_get, ◌≡◌, ℕ, List, ◌<◌, true, vec_len, vec_capacity, is_some, unwrap_or, IfOk, OnOk, OnErr};
+ghost use Rattle.std.specs.Prelude.{◌-◌, length, slice_get, ◌≡◌, ℕ, List, ◌<◌, true, vec_len};
+ghost use Rattle.std.specs.Prelude.{vec_capacity, is_some, unwrap_or, IfOk, OnOk, OnErr};
 ghost use Rattle.scq_core.specs.Table.{turn_of, after, stores, hand_without, holds_index};
 ghost use Rattle.scq_core.specs.Start.{idle_part};
 ghost use Rattle.scq_core.specs.Turn.{copied, ends_call, IsReady};
@@ -16,8 +17,8 @@ use std::alloc::Global;
 use std::marker::Model;
 use std::mem;
 
-/// A seat's part: what it is in the middle of, the indices in its hand, the spent ticket that it keeps,
-/// and the record of its ended calls.
+/// A seat's part: what it is in the middle of, the indices in its hand, the spent ticket that it
+/// keeps, and the record of its ended calls.
 #[derive(Debug, Drop)]
 pub struct Seat {
     phase: Phase,
@@ -31,7 +32,8 @@ impl Model for Seat {
 
     ghost Value = { Part };
 
-    ghost view = { λ s. record { phase = s.phase; hand = s.hand.items; spent = s.spent; calls = s.calls.items } };
+    ghost view = { λ s.
+        record { phase = s.phase; hand = s.hand.items; spent = s.spent; calls = s.calls.items } };
 }
 
 impl Seat {
@@ -130,7 +132,8 @@ impl Seat {
         }
     }
 
-    /// The turn of a step that is allowed: the one that it begins, or what the seat is in the middle of.
+    /// The turn of a step that is allowed: the one that it begins, or what the seat is in the
+    /// middle of.
     pub fn turn<'a>(&'a self, started: &'a Option<Phase>) -> &'a Phase
         ensures { result.now ≡ unwrap_or started.now self.now.phase }
     {
@@ -140,8 +143,8 @@ impl Seat {
         }
     }
 
-    /// Makes the turn, which found this word. Answers the content that is to stand beside the entry,
-    /// where the turn placed an index. After an `Err` the seat is unchanged.
+    /// Makes the turn, which found this word. Answers the content that is to stand beside the
+    /// entry, where the turn placed an index. After an `Err` the seat is unchanged.
     pub fn proceed(
         &mut self,
         setup: &Setup,
@@ -150,11 +153,14 @@ impl Seat {
         copy: Bytes,
     ) -> Result<Option<Bytes>, NoMemory>
         requires { IsReady setup.now (unwrap_or started self.old.phase) found }
-        ensures part { OnOk result ((beside : List ℕ) → copied (unwrap_or started self.old.phase) beside ≡ copy
+        ensures part { OnOk result ((beside : List ℕ)
+            → copied (unwrap_or started self.old.phase) beside ≡ copy
             → self.new ≡ after setup.now (unwrap_or started self.old.phase) found beside self.old) }
-        ensures laid { IfOk result (λ laid. (beside : List ℕ) → copied (unwrap_or started self.old.phase) beside ≡ copy
+        ensures laid { IfOk result (λ laid. (beside : List ℕ)
+            → copied (unwrap_or started self.old.phase) beside ≡ copy
             → unwrap_or laid beside ≡ stores (unwrap_or started self.old.phase) found beside) }
-        ensures err { OnErr result ((self.new ≡ self.old) × (ends_call setup.now (unwrap_or started self.old.phase) found ≡ true)) }
+        ensures err { OnErr result ((self.new ≡ self.old)
+            × (ends_call setup.now (unwrap_or started self.old.phase) found ≡ true)) }
     {
         let ending = ends_call(setup, self.turn(&started), found);
         make_room(&mut self.hand, &mut self.calls, ending)?;
@@ -212,7 +218,9 @@ impl Seat {
 fn make_room(hand: &mut Vec<u32>, calls: &mut Vec<Ended>, ending: bool) -> Result<(), NoMemory>
     ensures hand { hand.new.items ≡ hand.old.items }
     ensures calls { calls.new.items ≡ calls.old.items }
-    ensures room { OnOk result (ending ≡ true → (vec_len hand.new < vec_capacity hand.new) × (vec_len calls.new < vec_capacity calls.new)) }
+    ensures room { OnOk result (ending ≡ true
+        → (vec_len hand.new < vec_capacity hand.new)
+        × (vec_len calls.new < vec_capacity calls.new)) }
     ensures err { OnErr result (ending ≡ true) }
 {
     if ending {

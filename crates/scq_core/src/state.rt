@@ -1,7 +1,8 @@
 //! The states of the machine that steps reach.
 
 ghost use Rattle.std.specs.Option.{option_copied};
-ghost use Rattle.std.specs.Prelude.{◌≡◌, ℕ, pos, ◌+ℤ◌, IsTrue, length, slice_get, ◌-◌, ◌^◌, ◌<◌, ◌↔◌, replicate, Some, None, Err, IfOk, OnOk, OnErr, vec_len};
+ghost use Rattle.std.specs.Prelude.{◌≡◌, ℕ, pos, ◌+ℤ◌, IsTrue, length, slice_get, ◌-◌, ◌^◌, ◌<◌};
+ghost use Rattle.std.specs.Prelude.{◌↔◌, replicate, Some, None, Err, IfOk, OnOk, OnErr, vec_len};
 ghost use Rattle.scq_word.specs.Sizes.{n_of};
 ghost use Rattle.scq_core.specs.Start.{idle_part};
 ghost use Rattle.scq_core.specs.Fresh.{IsStart};
@@ -32,9 +33,21 @@ impl Model for State {
 
     ghost Value = { StateLists };
 
-    ghost view = { λ s. record { setup = s.setup; rings = s.rings.items; seats = s.seats.items; opening = s.opening.items } };
+    ghost view = { λ s. record {
+      setup = s.setup;
+      rings = s.rings.items;
+      seats =
+          s.seats.items;
+      opening = s.opening.items;
+    } };
 
-    ghost invariant = { λ s. IsState (record { setup = s.setup; rings = s.rings.items; seats = s.seats.items; opening = s.opening.items }) };
+    ghost invariant = { λ s. IsState (record {
+      setup = s.setup;
+      rings = s.rings.items;
+      seats =
+          s.seats.items;
+      opening = s.opening.items;
+    }) };
 }
 
 impl State {
@@ -48,7 +61,8 @@ impl State {
     ghost use Rattle.scq_core.specs.StateLists.{machine_of, ring_in, no_slot, IsCellOf};
     ghost use Rattle.scq_core.specs.Rings.{word_in};
 
-    /// Ring 0 full with the opening contents, all other rings empty, each seat idle with an empty hand.
+    /// Ring 0 full with the opening contents, all other rings empty, each seat idle with an empty
+    /// hand.
     pub fn start(alloc: Global, setup: Setup, opening: Vec<Bytes>) -> Result<State, NoMemory>
         requires { vec_len opening ≡ n_of setup.order }
         ensures setup { IfOk result (λ state. state.setup ≡ setup) }
@@ -65,14 +79,17 @@ impl State {
         })
     }
 
-    /// One step of a seat. After an `Err` the state is unchanged. Memory is taken only by a step that copies a content
-    /// or ends its call.
+    /// One step of a seat. After an `Err` the state is unchanged. Memory is taken only by a step
+    /// that copies a content or ends its call.
     pub fn apply(&mut self, seat: u32, step: &Step) -> Result<(), ApplyFault>
         requires { seat < self.old.setup.seats }
-        ensures ok { OnOk result (step_of self.old.setup (machine_of self.old) seat step.now ≡ Some (machine_of self.new)) }
+        ensures ok { OnOk result (step_of self.old.setup (machine_of self.old) seat step.now
+            ≡ Some (machine_of self.new)) }
         ensures setup { self.new.setup ≡ self.old.setup }
-        ensures not_enabled { (result ≡ Err ApplyFault.NotEnabled) ↔ (step_of self.old.setup (machine_of self.old) seat step.now ≡ None) }
-        ensures no_memory { (result ≡ Err ApplyFault.NoMemory) → TakesMemory self.old.setup (machine_of self.old) seat step.now }
+        ensures not_enabled { (result ≡ Err ApplyFault.NotEnabled)
+            ↔ (step_of self.old.setup (machine_of self.old) seat step.now ≡ None) }
+        ensures no_memory { (result ≡ Err ApplyFault.NoMemory)
+            → TakesMemory self.old.setup (machine_of self.old) seat step.now }
         ensures err { OnErr result (self.new ≡ self.old) }
         ensures reachable { IsReachable self.new.setup (machine_of self.new) }
     {
@@ -101,9 +118,11 @@ impl State {
     fn word(&self, ring: u32, cell: Cell) -> u64
         requires ring { ring < self.now.setup.rings }
         requires cell { IsCellOf self.now.setup cell }
-        ensures word { result ≡ word_in (no_slot self.now.setup) (ring_in self.now.setup self.now.rings ring) cell }
+        ensures word { result
+            ≡ word_in (no_slot self.now.setup) (ring_in self.now.setup self.now.rings ring) cell }
         ensures fits { (machine_of self.now).cells.threshold ring < 2 ^ 62 }
-        ensures index { (slot : ℕ) → cell ≡ EntryCell slot → IsIndexOrMark self.now.setup.order result }
+        ensures index { (slot : ℕ) → cell ≡ EntryCell slot
+            → IsIndexOrMark self.now.setup.order result }
     {
         self.rings[ring as usize].read(cell)
     }
@@ -230,7 +249,8 @@ impl State {
 /// Ring 0 full, and the others empty.
 fn start_rings(alloc: Global, setup: &Setup, opening: &Vec<Bytes>) -> Result<Vec<Ring>, NoMemory>
     requires { vec_len opening.now ≡ n_of setup.now.order }
-    ensures { IfOk result (λ rings. IsStart setup.now opening.now.items (setup.now.rings - 1) rings.items) }
+    ensures { IfOk result (λ rings.
+        IsStart setup.now opening.now.items (setup.now.rings - 1) rings.items) }
 {
     let mut rings = Vec::new(alloc);
     rings.reserve_exact(setup.rings() as usize)?;

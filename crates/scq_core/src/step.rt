@@ -6,7 +6,8 @@ use scq_word::{Bytes, NoMemory};
 use std::alloc::Global;
 
 /// One atomic step of one seat, by its line in the step table. `E1` begins an enqueue and `E1Again`
-/// draws its next ticket; both are the step E1. `D1` begins a dequeue. A content is what a put carries.
+/// draws its next ticket; both are the step E1. `D1` begins a dequeue. A content is what a put
+/// carries.
 #[derive(Debug, Drop)]
 pub enum Step {
     /// An enqueue of this index begins: it draws a ticket from Tail.
@@ -37,8 +38,8 @@ pub enum Step {
     D3,
     /// A dequeue takes the index that stands at its ticket.
     D4,
-    /// A dequeue exchanges an entry of an earlier cycle: for its own cycle where no index stands there, else for the
-    /// same index marked unsafe.
+    /// A dequeue exchanges an entry of an earlier cycle: for its own cycle where no index stands
+    /// there, else for the same index marked unsafe.
     D5,
     /// A dequeue that gave its ticket up loads Tail.
     D6,

@@ -7,7 +7,8 @@ ghost use Rattle.scq_word.specs.declared.setup.Setup.{Setup};
 ghost use Rattle.scq_word.specs.Words.{mark_of, packed, safe_in, cycle_in};
 ghost use Rattle.scq_word.specs.Entries.{IsIndexOrMark};
 ghost use Rattle.scq_core.specs.declared.slot.Cell.TheVariants.{Entry as EntryCell};
-ghost use Rattle.scq_core.specs.Table.{ring_slots, cycle, slot, reset_level, passed, writes, ring_of, cell_of};
+ghost use Rattle.scq_core.specs.Table.{ring_slots, cycle, slot, reset_level, passed, writes};
+ghost use Rattle.scq_core.specs.Table.{ring_of, cell_of};
 ghost use Rattle.scq_core.specs.Turn.{ends_call, IsReady};
 
 use crate::phase::Phase;
@@ -121,7 +122,8 @@ pub fn ends_call(setup: &Setup, turn: &Phase, found: u64) -> bool
 pub fn filled(shape: Shape, ticket: u64, index: u32) -> u64
     requires fits { cycle_of (slots_of shape.order) ticket < 2 ^ 62 / n_of shape.order }
     requires own { index < n_of shape.order }
-    ensures { (c : Setup) → shape.order ≡ c.order → result ≡ packed (ring_slots c) (cycle c ticket) 1 index }
+    ensures { (c : Setup) → shape.order ≡ c.order
+        → result ≡ packed (ring_slots c) (cycle c ticket) 1 index }
 {
     let entry = Entry {
         cycle: cycle_of(shape, ticket),
@@ -140,14 +142,17 @@ pub fn reset_level(setup: &Setup) -> u64
 
 /// A fetch_or of the mark takes the index out, and leaves the cycle and the safe bit.
 fn consumed(setup: &Setup, found: u64) -> u64
-    ensures { result ≡ packed (ring_slots setup.now) (cycle_in (ring_slots setup.now) found) (safe_in (ring_slots setup.now) found)
+    ensures { result
+        ≡ packed (ring_slots setup.now) (cycle_in (ring_slots setup.now) found)
+        (safe_in (ring_slots setup.now) found)
         (mark_of (ring_slots setup.now)) }
 {
     found | u64::from(setup.shape().none())
 }
 
-/// What a dequeue leaves in an entry of an earlier cycle: without an index it is moved to the cycle of
-/// the dequeue's ticket, so that no enqueue with an earlier one fills it; an index is marked unsafe.
+/// What a dequeue leaves in an entry of an earlier cycle: without an index it is moved to the cycle
+/// of the dequeue's ticket, so that no enqueue with an earlier one fills it; an index is marked
+/// unsafe.
 #[inline(always)]
 pub fn passed(shape: Shape, ticket: u64, found: u64) -> u64
     requires fits { cycle_of (slots_of shape.order) ticket < 2 ^ 62 / n_of shape.order }

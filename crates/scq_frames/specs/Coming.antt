@@ -1,10 +1,12 @@
--- What comes first in the bytes that a framer holds and those that its source gives, and what a call
--- found in all.
-use Rattle.std.specs.Prelude.{◌≡◌, ◌≢◌, ℕ, ◌+◌, ◌≤◌, Bool, true, false, IsTrue, Option, Some, None, Result, Ok, Err, List, [], ◌∷◌, ◌++◌, length}
+-- What comes first in the bytes that a framer holds and those that its source gives, and what a
+-- call found in all.
+use Rattle.std.specs.Prelude.{◌≡◌, ◌≢◌, ℕ, ◌+◌, ◌≤◌, Bool, true, false, IsTrue, Option, Some, None}
+use Rattle.std.specs.Prelude.{Result, Ok, Err, List, [], ◌∷◌, ◌++◌, length}
 use Rattle.std.specs.Option.{option_map}
 use Rattle.scq_frames.specs.declared.message.Message.{Message}
 use Rattle.scq_frames.specs.declared.fault.FrameFault.{FrameFault}
-use Rattle.scq_frames.specs.declared.fault.FrameFault.TheVariants.{ReadFault, TooLong, TooLarge, NoMemory}
+use Rattle.scq_frames.specs.declared.fault.FrameFault.TheVariants.{ReadFault, TooLong, TooLarge}
+use Rattle.scq_frames.specs.declared.fault.FrameFault.TheVariants.{NoMemory}
 use Rattle.scq_frames.specs.Text.{Framed, messages_after}
 use Rattle.scq_frames.specs.Trouble.{counted}
 use Rattle.scq_frames.specs.Framing.{Framing}
@@ -13,7 +15,8 @@ use Rattle.scq_frames.specs.Finding.{limit_left, MayFollow, Finds}
 -- the messages ahead of a framer, of lines that count, where these bytes came, and then the end or
 -- a failed read
 abbrev pub counted_ahead : Framing → Bool → List ℕ → List Framed
-counted_ahead f failed bytes = messages_after f.line (counted (limit_left f) failed (f.held ++ bytes))
+counted_ahead f failed bytes =
+    messages_after f.line (counted (limit_left f) failed (f.held ++ bytes))
 
 -- the first message is of this line, and its payload has so many bytes
 abbrev pub BeginsWithLong : ℕ → ℕ → List Framed → Type 0
@@ -26,7 +29,8 @@ abbrev pub Comes : Framing → Framing → List ℕ → Result (Option Message) 
 Comes old new bytes (Ok (Some m)) = Unit {0}
 Comes old new bytes (Ok None) = counted_ahead old false bytes ≡ []
 Comes old new bytes (Err ReadFault) = counted_ahead old true bytes ≡ []
-Comes old new bytes (Err (TooLong line len)) = (failed : Bool) (more : List ℕ) → MayFollow new failed more
+Comes old new bytes (Err (TooLong line len)) =
+    (failed : Bool) (more : List ℕ) → MayFollow new failed more
     → BeginsWithLong line len (counted_ahead old failed (bytes ++ more))
 Comes old new bytes (Err (TooLarge count)) = counted_ahead old false bytes ≡ []
 Comes old new bytes (Err NoMemory) = Unit {0}
@@ -41,7 +45,8 @@ pub record IsNeeded (old : Framing) (bytes : List ℕ) : Type 0 where
 
 -- in a call the source gave some bytes: as many as the framer counts, none where the end was read
 -- before it, and each needed. The answer says what trouble they are, and what comes first in them
-pub record Found (old new : Framing) (before after : Option (List ℕ)) (result : Result (Option Message) FrameFault) : Type 0 where
+pub record Found (old new : Framing) (before after : Option (List ℕ))
+    (result : Result (Option Message) FrameFault) : Type 0 where
   pub bytes : List ℕ
   pub count : new.read ≡ old.read + length bytes
   pub moved : before ≡ option_map (λ rest. bytes ++ rest) after

@@ -1,8 +1,10 @@
 -- What trouble a framer finds, in the bytes that it holds and those that its source gives.
-use Rattle.std.specs.Prelude.{◌≡◌, ℕ, ◌+◌, ◌-◌, ◌<◌, Bool, true, false, IsTrue, Option, Some, None, Result, Ok, Err, List, [], ◌++◌, length}
+use Rattle.std.specs.Prelude.{◌≡◌, ℕ, ◌+◌, ◌-◌, ◌<◌, Bool, true, false, IsTrue, Option, Some, None}
+use Rattle.std.specs.Prelude.{Result, Ok, Err, List, [], ◌++◌, length}
 use Rattle.scq_frames.specs.declared.message.Message.{Message}
 use Rattle.scq_frames.specs.declared.fault.FrameFault.{FrameFault}
-use Rattle.scq_frames.specs.declared.fault.FrameFault.TheVariants.{ReadFault, TooLong, TooLarge, NoMemory}
+use Rattle.scq_frames.specs.declared.fault.FrameFault.TheVariants.{ReadFault, TooLong, TooLarge}
+use Rattle.scq_frames.specs.declared.fault.FrameFault.TheVariants.{NoMemory}
 use Rattle.scq_frames.specs.Text.{payload_of}
 use Rattle.scq_frames.specs.Trouble.{Trouble, LongPayload, ManyBytes, trouble_after}
 use Rattle.scq_frames.specs.Framing.{Framing}
@@ -29,7 +31,8 @@ abbrev pub Finds : Framing → Framing → List ℕ → Result (Option Message) 
 Finds old new bytes (Ok (Some m)) = SameTrouble old new bytes
 Finds old new bytes (Ok None) = trouble_ahead old false bytes ≡ None
 Finds old new bytes (Err ReadFault) = trouble_ahead old true bytes ≡ None
-Finds old new bytes (Err (TooLong line len)) = trouble_ahead old false bytes ≡ Some (LongPayload line len)
+Finds old new bytes (Err (TooLong line len)) =
+    trouble_ahead old false bytes ≡ Some (LongPayload line len)
 Finds old new bytes (Err (TooLarge count)) = trouble_ahead old false bytes ≡ Some ManyBytes
 Finds old new bytes (Err NoMemory) = Unit {0}
 

@@ -1,5 +1,6 @@
 -- What contracts see of a framer, and what its calls do.
-use Rattle.std.specs.Prelude.{◌≡◌, ℕ, ◌+◌, ◌-◌, ◌*◌, ◌<◌, Bool, false, IsTrue, IfSome, List, [], ◌++◌, Option, Result, Ok, Err, length, map, max, if◌then◌else◌}
+use Rattle.std.specs.Prelude.{◌≡◌, ℕ, ◌+◌, ◌-◌, ◌*◌, ◌<◌, Bool, false, IsTrue, IfSome, List, []}
+use Rattle.std.specs.Prelude.{◌++◌, Option, Result, Ok, Err, length, map, max, if◌then◌else◌}
 use Rattle.std.specs.Option.{option_map, option_to_list}
 use Rattle.scq_outside.specs.Counts.{Rose}
 use Rattle.scq_frames.specs.declared.message.Message.{Message}
@@ -30,7 +31,8 @@ bytes_ahead f left = f.held ++ (if f.ended then [] else left)
 
 -- the messages ahead of it, with topics numbered so
 abbrev pub messages_ahead : (List ℕ → ℕ) → Framing → List ℕ → List Message
-messages_ahead number f left = map (numbered f.file number) (messages_after f.line (bytes_ahead f left))
+messages_ahead number f left =
+    map (numbered f.file number) (messages_after f.line (bytes_ahead f left))
 
 -- the messages ahead, where what the source has left is visible
 abbrev pub visible_ahead : (List ℕ → ℕ) → Framing → Option (List ℕ) → Option (List Message)
@@ -60,8 +62,8 @@ pub record IsNext (old new : Framing) (m : Message) : Type 0 where
   pub line : new.line ≡ m.line
   pub weight : new.weight ≡ old.weight + weight_of m
 
--- a call's source answered its end once where the framer came to know it in that call, and else not at all: none is read again
--- behind its end
+-- a call's source answered its end once where the framer came to know it in that call, and else not
+-- at all: none is read again behind its end
 pub record EndsOnce (was is : Bool) (before after : ℕ) : Type 0 where
   pub rose : was ≡ false → IsTrue is → Rose before after
   pub going : is ≡ false → after ≡ before

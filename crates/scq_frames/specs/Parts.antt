@@ -1,11 +1,12 @@
--- The parts in which a message goes through a queue: each has at most so many bytes of its payload. Parts are numbered from 1, and an
--- empty payload has one.
+-- The parts in which a message goes through a queue: each has at most so many bytes of its payload.
+-- Parts are numbered from 1, and an empty payload has one.
 use Rattle.std.specs.Prelude.{ℕ, ◌-◌, ◌*◌, ◌<◌, ◌≤◌, List, length, take, drop, map, max}
 use Rattle.std.specs.Int.{div_ceil}
 use Rattle.std.specs.List.{range_with_len}
 use Rattle.scq_frames.specs.declared.message.Message.{Message}
 
--- a part of a message: the file, line and topic of the message, the part's number, how many parts the message has, and the part's bytes
+-- a part of a message: the file, line and topic of the message, the part's number, how many parts
+-- the message has, and the part's bytes
 pub record Part : Type 0 where
   pub file : ℕ
   pub line : ℕ

@@ -47,7 +47,8 @@ abbrev pub message_in : ℕ → List ℕ → List Framed
 message_in number [] = []
 message_in number (b ∷ bs) = framed number (b ∷ bs) ∷ []
 
--- the messages of lines of which the first has this number: an empty line has its number and no message
+-- the messages of lines of which the first has this number: an empty line has its number and no
+-- message
 abbrev pub messages_from : ℕ → List (List ℕ) → List Framed
 messages_from number [] = []
 messages_from number (line ∷ more) = message_in number line ++ messages_from (number + 1) more

@@ -1,6 +1,7 @@
 -- What is wrong with the bytes that a source gave, where a payload may have so many bytes and the
 -- source so many in all.
-use Rattle.std.specs.Prelude.{ℕ, Bool, ◌||◌, nat_lt, List, [], ◌∷◌, length, take, Option, Some, None, if◌then◌else◌}
+use Rattle.std.specs.Prelude.{ℕ, Bool, ◌||◌, nat_lt, List, [], ◌∷◌, length, take, Option, Some}
+use Rattle.std.specs.Prelude.{None, if◌then◌else◌}
 use Rattle.std.specs.List.{list_any}
 use Rattle.std.specs.Option.{option_or}
 use Rattle.scq_frames.specs.Text.{Framed, messages_after, is_line_feed}
@@ -15,16 +16,18 @@ abbrev pub whole_lines : List ℕ → List ℕ
 whole_lines [] = []
 whole_lines (b ∷ bs) = if list_any is_line_feed (b ∷ bs) then b ∷ whole_lines bs else []
 
--- the bytes whose lines count: of a text that is too large, and of one whose source failed behind it,
--- the lines that end within the limit, and of another one all
+-- the bytes whose lines count: of a text that is too large, and of one whose source failed behind
+-- it, the lines that end within the limit, and of another one all
 unfoldable pub counted : ℕ → Bool → List ℕ → List ℕ
-counted most failed text = if failed || nat_lt most (length text) then whole_lines (take most text) else text
+counted most failed text =
+    if failed || nat_lt most (length text) then whole_lines (take most text) else text
 
 -- the first message whose payload is too long
 abbrev pub first_too_long : ℕ → List Framed → Option Trouble
 first_too_long size [] = None
 first_too_long size (m ∷ ms) =
-    if nat_lt size (length m.payload) then Some (LongPayload m.line (length m.payload)) else first_too_long size ms
+    if nat_lt size (length m.payload) then Some (LongPayload m.line (length m.payload))
+    else first_too_long size ms
 
 -- the trouble of a text that follows so many lines
 unfoldable pub trouble_after : ℕ → ℕ → Bool → ℕ → List ℕ → Option Trouble

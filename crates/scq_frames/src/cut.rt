@@ -1,4 +1,5 @@
-ghost use Rattle.std.specs.Prelude.{◌≡◌, ◌⊎◌, ℕ, ◌≤◌, length, map, IfOk, IfErr, IfSome, OnOk, IsErrOf};
+ghost use Rattle.std.specs.Prelude.{◌≡◌, ◌⊎◌, ℕ, ◌≤◌, length, map, IfOk, IfErr, IfSome, OnOk};
+ghost use Rattle.std.specs.Prelude.{IsErrOf};
 ghost use Rattle.std.specs.Option.{option_to_list};
 ghost use Rattle.std.specs.List.{before_first};
 ghost use Rattle.scq_topics.specs.Runs.{is_space};
@@ -22,11 +23,16 @@ pub fn message_of_line(
     line: u32,
     bytes: &[u8],
 ) -> Result<Option<Message>, FrameFault>
-    ensures given { IfOk result (λ given. option_to_list given ≡ map (numbered file (topic_of topics.now)) (message_in line bytes.now)) }
+    ensures given { IfOk result (λ given.
+        option_to_list given
+        ≡ map (numbered file (topic_of topics.now)) (message_in line bytes.now)) }
     ensures topic { IfOk result (λ given. IfSome given (λ m. m.topic ≤ length topics.now)) }
     ensures fits { OnOk result (length (payload_of bytes.now) ≤ size) }
-    ensures long { (at len : ℕ) → IsErrOf result (FrameFault.TooLong at len) → IsTooLong size line bytes.now at len }
-    ensures faults { IfErr result (λ fault. ((at : ℕ) × (len : ℕ) × (fault ≡ FrameFault.TooLong at len)) ⊎ (fault ≡ FrameFault.NoMemory)) }
+    ensures long { (at len : ℕ) → IsErrOf result (FrameFault.TooLong at len)
+        → IsTooLong size line bytes.now at len }
+    ensures faults { IfErr result (λ fault.
+        ((at : ℕ) × (len : ℕ) × (fault ≡ FrameFault.TooLong at len))
+        ⊎ (fault ≡ FrameFault.NoMemory)) }
 {
     if bytes.is_empty() {
         return Ok(None);

@@ -1,8 +1,11 @@
-ghost use Rattle.std.specs.Prelude.{◌≡◌, ◌^◌, ◌+◌, ◌<◌, ◌≤◌, ◌++◌, length, take, drop, IfSome, Some};
+ghost use Rattle.std.specs.Prelude.{◌≡◌, ◌^◌, ◌+◌, ◌<◌, ◌≤◌, ◌++◌, length, take, drop, IfSome};
+ghost use Rattle.std.specs.Prelude.{Some};
 ghost use Rattle.std.specs.Option.{option_map};
 ghost use Rattle.byteorder.specs.Endian.{big_bytes};
-ghost use Rattle.scq_frames.specs.Parts.{Part as ThePart, IsNumbered, parts_of as the_parts_of, part_bytes, part_of};
-ghost use Rattle.scq_frames.specs.Encoded.{message_bytes, IsEncodable, BeginsWith, number_at, part_at};
+ghost use Rattle.scq_frames.specs.Parts.{Part as ThePart, IsNumbered, parts_of as the_parts_of};
+ghost use Rattle.scq_frames.specs.Parts.{part_bytes, part_of};
+ghost use Rattle.scq_frames.specs.Encoded.{message_bytes, IsEncodable, BeginsWith, number_at};
+ghost use Rattle.scq_frames.specs.Encoded.{part_at};
 ghost use Rattle.scq_frames.specs.Views.{part_of_view};
 
 use crate::Message;
@@ -56,14 +59,16 @@ fn bytes_of_part(payload: &[u8], size: u32, part: u32) -> &[u8]
     &rest[..rest.len().min(size as usize)]
 }
 
-/// Writes the bytes of the message's part with this number to the front: file, line, topic, the part's length, its number and the number of parts
-/// in four bytes each, the highest first, and then the part. What stands behind them stays.
+/// Writes the bytes of the message's part with this number to the front: file, line, topic, the
+/// part's length, its number and the number of parts in four bytes each, the highest first, and
+/// then the part. What stands behind them stays.
 pub fn encode(message: &Message, size: u32, part: u32, into: &mut [u8])
     requires size { 0 < size }
     requires short { length message.now.payload < 2 ^ 32 }
     requires numbered { IsNumbered part (the_parts_of size message.now.payload) }
     requires room { 24 + length (part_bytes size part message.now.payload) ≤ length into.old }
-    ensures { into.new ≡ message_bytes (part_of size message.now part) ++ drop (24 + length (part_bytes size part message.now.payload)) into.old }
+    ensures { into.new ≡ message_bytes (part_of size message.now part)
+        ++ drop (24 + length (part_bytes size part message.now.payload)) into.old }
 {
     write_part(view_of(message, size, part), into);
 }
@@ -72,7 +77,8 @@ pub fn encode(message: &Message, size: u32, part: u32, into: &mut [u8])
 fn write_part(view: View<'_>, into: &mut [u8])
     requires short { length view.payload.now < 2 ^ 32 }
     requires room { 24 + length view.payload.now ≤ length into.old }
-    ensures { into.new ≡ message_bytes (part_of_view view.entry) ++ drop (24 + length view.entry.payload.now) into.old }
+    ensures { into.new ≡ message_bytes (part_of_view view.entry)
+        ++ drop (24 + length view.entry.payload.now) into.old }
 {
     write_number(into, 0, view.file);
     write_number(into, 4, view.line);
@@ -104,24 +110,30 @@ fn write_bytes(into: &mut [u8], at: usize, bytes: &[u8])
 pub fn decode(bytes: &[u8]) -> Option<View<'_>>
     ensures found { IfSome result (λ view. BeginsWith bytes.now (part_of_view view)) }
     ensures numbered { IfSome result (λ view. IsNumbered view.part view.parts) }
-    ensures only { (p : ThePart) → IsEncodable p → BeginsWith bytes.now p → option_map part_of_view result ≡ Some p }
+    ensures only { (p : ThePart) → IsEncodable p → BeginsWith bytes.now p
+        → option_map part_of_view result ≡ Some p }
     ensures part { option_map part_of_view result ≡ part_at bytes.now }
 {
     read_part(bytes)
 }
 
-/// How many bytes the part has that comes first: they stand behind its six numbers. `None` exactly where `decode` answers it.
+/// How many bytes the part has that comes first: they stand behind its six numbers. `None` exactly
+/// where `decode` answers it.
 pub fn payload_len(bytes: &[u8]) -> Option<usize>
     ensures len { result ≡ option_map (λ (p : ThePart). length p.payload) (part_at bytes.now) }
     ensures room { IfSome result (λ len. 24 + len ≤ length bytes.now) }
-    ensures bytes { IfSome result (λ len. option_map (λ (p : ThePart). p.payload) (part_at bytes.now) ≡ Some (take len (drop 24 bytes.now))) }
+    ensures bytes { IfSome result (λ len.
+        option_map (λ (p : ThePart). p.payload) (part_at bytes.now)
+        ≡ Some (take len (drop 24 bytes.now))) }
 {
     Some(read_part(bytes)?.payload.len())
 }
 
-/// The bytes of the part that comes first, where they stand, to be written. `None` exactly where `decode` answers it.
+/// The bytes of the part that comes first, where they stand, to be written. `None` exactly where
+/// `decode` answers it.
 pub fn payload_mut(bytes: &mut [u8]) -> Option<&mut [u8]>
-    ensures { option_map (λ payload. payload.now) result ≡ option_map (λ (p : ThePart). p.payload) (part_at bytes.old) }
+    ensures { option_map (λ payload. payload.now) result
+        ≡ option_map (λ (p : ThePart). p.payload) (part_at bytes.old) }
 {
     let len = payload_len(bytes)?;
     Some(&mut bytes[24..24 + len])

@@ -1,4 +1,6 @@
-ghost use Rattle.std.specs.Prelude.{◌≡◌, ◌≢◌, ◌⊎◌, ℕ, List, ◌+◌, ◌^◌, ◌<◌, ◌≤◌, ◌++◌, [], ◌∷◌, length, take, drop, false, map, IsTrue, Err, IfOk, IfErr, IfSome, IfNone, OnOk, OnErr, IsErrOf, is_err, sum_by};
+ghost use Rattle.std.specs.Prelude.{◌≡◌, ◌≢◌, ◌⊎◌, ℕ, List, ◌+◌, ◌^◌, ◌<◌, ◌≤◌, ◌++◌, [], ◌∷◌};
+ghost use Rattle.std.specs.Prelude.{length, take, drop, false, map, IsTrue, Err, IfOk, IfErr};
+ghost use Rattle.std.specs.Prelude.{IfSome, IfNone, OnOk, OnErr, IsErrOf, is_err, sum_by};
 ghost use Rattle.std.specs.Option.{option_map, option_to_list};
 ghost use Rattle.scq_outside.specs.Counts.{Rose};
 ghost use Rattle.scq_topics.specs.Topics.{HaveShortNames, topic_of};
@@ -8,7 +10,8 @@ ghost use Rattle.scq_frames.specs.Finding.{IsTooLong};
 ghost use Rattle.scq_frames.specs.Coming.{Found};
 ghost use Rattle.scq_frames.specs.Lines.{EndsAt, HasNoLineFeed};
 ghost use Rattle.scq_frames.specs.Trimming.{IsTrimmed};
-ghost use Rattle.scq_frames.specs.Framing.{EndsOnce, Fetched, IsNext, NothingLeft, fresh, given_by, visible_ahead, visible_size, weight_of, work_left};
+ghost use Rattle.scq_frames.specs.Framing.{EndsOnce, Fetched, IsNext, NothingLeft, fresh, given_by};
+ghost use Rattle.scq_frames.specs.Framing.{visible_ahead, visible_size, weight_of, work_left};
 
 use crate::cut::{message_of_line, split_line};
 use crate::window::{READ, Window};
@@ -82,48 +85,64 @@ impl Framer {
         requires { self.old.failed ≡ false }
 
         // Where what the source has left is visible, the message is the first of those ahead, and
-        // those that are ahead now are the rest. Of these answers None comes exactly where none is ahead.
-        ensures gives { IfOk result (λ given. visible_ahead (topic_of topics.now) self.old (S.left source.old)
-            ≡ option_map (λ rest. option_to_list given ++ rest) (visible_ahead (topic_of topics.now) self.new (S.left source.new))) }
-        ensures none { IfOk result (λ given. IfNone given (visible_ahead (topic_of topics.now) self.old (S.left source.old)
+        // those that are ahead now are the rest. Of these answers None comes exactly where none is
+        // ahead.
+        ensures gives { IfOk result (λ given.
+            visible_ahead (topic_of topics.now) self.old (S.left source.old)
+            ≡ option_map (λ rest.
+            option_to_list given
+            ++ rest) (visible_ahead (topic_of topics.now) self.new (S.left source.new))) }
+        ensures none { IfOk result (λ given.
+            IfNone given (visible_ahead (topic_of topics.now) self.old (S.left source.old)
             ≡ option_map (λ _. []) (S.left source.old))) }
 
-        // None says, for every source, that the end was read. Later calls leave the source as it is, and
-        // answer None once nothing is held either.
-        ensures over { IfOk result (λ given. IfNone given (IsTrue self.new.ended × (self.new.held ≡ []))) }
-        ensures end { (IsTrue self.old.ended → NothingLeft (S.left source.old)) → IsTrue self.new.ended → NothingLeft (S.left source.new) }
+        // None says, for every source, that the end was read. Later calls leave the source as it
+        // is, and answer None once nothing is held either.
+        ensures over { IfOk result (λ given.
+            IfNone given (IsTrue self.new.ended × (self.new.held ≡ []))) }
+        ensures end { (IsTrue self.old.ended → NothingLeft (S.left source.old))
+            → IsTrue self.new.ended → NothingLeft (S.left source.new) }
         ensures ended { IsTrue self.old.ended → (source.new ≡ source.old) × IsTrue self.new.ended }
         ensures again { IsTrue self.old.ended → self.old.held ≡ [] → result ≡ Ok None }
 
-        // No source is read again behind its end: the end is answered just once, in the call after which it is known.
-        ensures ends { EndsOnce self.old.ended self.new.ended (S.ends source.old) (S.ends source.new) }
+        // No source is read again behind its end: the end is answered just once, in the call after
+        // which it is known.
+        ensures ends { EndsOnce self.old.ended self.new.ended (S.ends source.old)
+            (S.ends source.new) }
 
-        // Of every source, also where nothing is visible, the messages are of the framer's file, their
-        // lines rise, and their weights are at most one more than the limit. No other answer adds any.
+        // Of every source, also where nothing is visible, the messages are of the framer's file,
+        // their lines rise, and their weights are at most one more than the limit. No other answer
+        // adds any.
         ensures next { IfOk result (λ given. IfSome given (IsNext self.old self.new)) }
         ensures topic { IfOk result (λ given. IfSome given (λ m. m.topic ≤ length topics.now)) }
         ensures fits { IfOk result (λ given. IfSome given (λ m. length m.payload ≤ self.old.size)) }
         ensures weight { self.new.weight ≡ self.old.weight + sum_by weight_of (given_by result) }
         ensures rises { self.old.line ≤ self.new.line }
         ensures bounded { self.new.weight ≤ self.new.most + 1 }
-        ensures limits { (self.new.file ≡ self.old.file) × (self.new.size ≡ self.old.size) × (self.new.most ≡ self.old.most) }
-        ensures size { visible_size self.new (S.left source.new) ≡ visible_size self.old (S.left source.old) }
+        ensures limits { (self.new.file ≡ self.old.file) × (self.new.size ≡ self.old.size)
+            × (self.new.most ≡ self.old.most) }
+        ensures size { visible_size self.new (S.left source.new)
+            ≡ visible_size self.old (S.left source.old) }
         ensures read { OnOk result (self.new.read ≤ self.new.most) }
 
-        // A fault is the trouble of what the source gave, and without one there is none so far. A long
-        // payload is found only once its line has ended, and each fault behind the messages in front of
-        // it. No byte is read too early.
+        // A fault is the trouble of what the source gave, and without one there is none so far. A
+        // long payload is found only once its line has ended, and each fault behind the messages in
+        // front of it. No byte is read too early.
         ensures found { Found self.old self.new (S.left source.old) (S.left source.new) result }
-        ensures read_fault { IsErrOf result FrameFault.ReadFault → Rose (S.faults source.old) (S.faults source.new) }
+        ensures read_fault { IsErrOf result FrameFault.ReadFault
+            → Rose (S.faults source.old) (S.faults source.new) }
         ensures never_falls { S.faults source.old ≤ S.faults source.new }
         ensures going { IsErrOf result FrameFault.ReadFault → self.old.ended ≡ false }
-        ensures kept { result ≢ Err FrameFault.ReadFault → S.faults source.new ≡ S.faults source.old }
-        ensures too_long { (line len : ℕ) → IsErrOf result (FrameFault.TooLong line len) → (self.old.line < line) × (self.old.size < len) }
-        ensures too_large { (bytes : ℕ) → IsErrOf result (FrameFault.TooLarge bytes) → (bytes ≡ self.new.most + 1) × (self.new.read ≡ bytes) }
+        ensures kept { result ≢ Err FrameFault.ReadFault
+            → S.faults source.new ≡ S.faults source.old }
+        ensures too_long { (line len : ℕ) → IsErrOf result (FrameFault.TooLong line len)
+            → (self.old.line < line) × (self.old.size < len) }
+        ensures too_large { (bytes : ℕ) → IsErrOf result (FrameFault.TooLarge bytes)
+            → (bytes ≡ self.new.most + 1) × (self.new.read ≡ bytes) }
         ensures failed { self.new.failed ≡ is_err result }
 
-        // Held are at most the bytes of a payload, those of a topic that is longer than any name with
-        // its space, and what one read gives: the others of a line are counted.
+        // Held are at most the bytes of a payload, those of a topic that is longer than any name
+        // with its space, and what one read gives: the others of a line are counted.
         ensures held { length self.new.held ≤ self.new.size + 4130 }
     {
         self.failed = true;
@@ -174,9 +193,11 @@ impl Framer {
         used: usize,
     ) -> Result<Option<Message>, FrameFault>
         requires within { used ≤ length self.old.held }
-        requires takes { (used ≡ len + 1) ⊎ ((used ≡ len) × (0 < len) × (len ≡ length self.old.held) × IsTrue self.old.ended) }
+        requires takes { (used ≡ len + 1)
+            ⊎ ((used ≡ len) × (0 < len) × (len ≡ length self.old.held) × IsTrue self.old.ended) }
         ensures given { IfOk result (λ given. option_to_list given
-            ≡ map (numbered self.old.file (topic_of topics.now)) (message_in (self.old.line + 1) (take len self.old.held))) }
+            ≡ map (numbered self.old.file (topic_of topics.now))
+            (message_in (self.old.line + 1) (take len self.old.held))) }
         ensures passed { IfOk result (λ given. self.new ≡ record self.old {
           line = self.old.line + 1;
           held = drop used self.old.held;
@@ -186,7 +207,9 @@ impl Framer {
         ensures fits { OnOk result (length (payload_of (take len self.old.held)) ≤ self.old.size) }
         ensures long { (at count : ℕ) → IsErrOf result (FrameFault.TooLong at count)
             → IsTooLong self.old.size (self.old.line + 1) (take len self.old.held) at count }
-        ensures faults { IfErr result (λ fault. ((at : ℕ) × (count : ℕ) × (fault ≡ FrameFault.TooLong at count)) ⊎ (fault ≡ FrameFault.NoMemory)) }
+        ensures faults { IfErr result (λ fault.
+            ((at : ℕ) × (count : ℕ) × (fault ≡ FrameFault.TooLong at count))
+            ⊎ (fault ≡ FrameFault.NoMemory)) }
         ensures err { OnErr result (self.new ≡ self.old) }
     {
         let line = self.line + 1;
@@ -204,16 +227,24 @@ impl Framer {
     fn last_line(&mut self, topics: &Topics) -> Result<Option<Message>, FrameFault>
         requires ended { IsTrue self.old.ended }
         ensures given { IfOk result (λ given. option_to_list given
-            ≡ map (numbered self.old.file (topic_of topics.now)) (message_in (self.old.line + 1) self.old.held)) }
+            ≡ map (numbered self.old.file (topic_of topics.now))
+            (message_in (self.old.line + 1) self.old.held)) }
         ensures none { IfOk result (λ given. IfNone given (self.new ≡ self.old)) }
         ensures nothing { self.old.held ≡ [] → result ≡ Ok None }
         ensures some { IfOk result (λ given. IfSome given (λ m.
-            self.new ≡ record self.old { line = self.old.line + 1; held = []; weight = self.old.weight + weight_of m })) }
+            self.new ≡ record self.old {
+              line = self.old.line + 1;
+              held = [];
+              weight =
+                  self.old.weight + weight_of m;
+            })) }
         ensures topic { IfOk result (λ given. IfSome given (λ m. m.topic ≤ length topics.now)) }
         ensures fits { OnOk result (length (payload_of self.old.held) ≤ self.old.size) }
         ensures long { (at count : ℕ) → IsErrOf result (FrameFault.TooLong at count)
             → IsTooLong self.old.size (self.old.line + 1) self.old.held at count }
-        ensures faults { IfErr result (λ fault. ((at : ℕ) × (count : ℕ) × (fault ≡ FrameFault.TooLong at count)) ⊎ (fault ≡ FrameFault.NoMemory)) }
+        ensures faults { IfErr result (λ fault.
+            ((at : ℕ) × (count : ℕ) × (fault ≡ FrameFault.TooLong at count))
+            ⊎ (fault ≡ FrameFault.NoMemory)) }
         ensures err { OnErr result (self.new ≡ self.old) }
     {
         let len = self.window.len();
@@ -223,8 +254,8 @@ impl Framer {
         self.pass(topics, len, len)
     }
 
-    /// Cuts the topic of a line that has not ended: what stays is still longer than any name. Answers
-    /// whether what is held then shows that the payload is too long.
+    /// Cuts the topic of a line that has not ended: what stays is still longer than any name.
+    /// Answers whether what is held then shows that the payload is too long.
     fn trim(&mut self, topics: &Topics) -> bool
         requires clear { HasNoLineFeed self.old.held 0 (length self.old.held) }
         ensures same { self.new ≡ record self.old { held = self.new.held } }
@@ -246,18 +277,29 @@ impl Framer {
         requires within { self.old.read ≤ self.old.most }
         requires clear { HasNoLineFeed self.old.held 0 (length self.old.held) }
         requires long { self.old.size < length (payload_of self.old.held) }
-        ensures same { self.new ≡ record self.old { held = self.new.held; read = self.new.read; ended = self.new.ended } }
-        ensures found { Found self.old self.new (S.left source.old) (S.left source.new) (Err result) }
-        ensures size { visible_size self.new (S.left source.new) ≡ visible_size self.old (S.left source.old) }
+        ensures same { self.new ≡ record self.old {
+          held = self.new.held;
+          read =
+              self.new.read;
+          ended = self.new.ended;
+        } }
+        ensures found { Found self.old self.new (S.left source.old) (S.left source.new)
+            (Err result) }
+        ensures size { visible_size self.new (S.left source.new)
+            ≡ visible_size self.old (S.left source.old) }
         ensures end { IsTrue self.new.ended → NothingLeft (S.left source.new) }
-        ensures ends { EndsOnce self.old.ended self.new.ended (S.ends source.old) (S.ends source.new) }
+        ensures ends { EndsOnce self.old.ended self.new.ended (S.ends source.old)
+            (S.ends source.new) }
         ensures held { length self.new.held ≤ self.new.size + 4130 }
 
-        ensures read_fault { result ≡ FrameFault.ReadFault → Rose (S.faults source.old) (S.faults source.new) }
+        ensures read_fault { result ≡ FrameFault.ReadFault
+            → Rose (S.faults source.old) (S.faults source.new) }
         ensures never_falls { S.faults source.old ≤ S.faults source.new }
         ensures kept { result ≢ FrameFault.ReadFault → S.faults source.new ≡ S.faults source.old }
-        ensures too_long { (line len : ℕ) → result ≡ FrameFault.TooLong line len → (self.old.line < line) × (self.old.size < len) }
-        ensures too_large { (bytes : ℕ) → result ≡ FrameFault.TooLarge bytes → (bytes ≡ self.new.most + 1) × (self.new.read ≡ bytes) }
+        ensures too_long { (line len : ℕ) → result ≡ FrameFault.TooLong line len
+            → (self.old.line < line) × (self.old.size < len) }
+        ensures too_large { (bytes : ℕ) → result ≡ FrameFault.TooLarge bytes
+            → (bytes ≡ self.new.most + 1) × (self.new.read ≡ bytes) }
     {
         let number = self.line + 1;
         let mut len = self.payload_len();
@@ -307,23 +349,34 @@ impl Framer {
         requires failing { IsTrue self.old.failed }
         requires within { self.old.read ≤ self.old.most }
         requires short { length self.old.held ≤ self.old.size + 34 }
-        ensures same { self.new ≡ record self.old { held = self.new.held; read = self.new.read; ended = self.new.ended } }
+        ensures same { self.new ≡ record self.old {
+          held = self.new.held;
+          read =
+              self.new.read;
+          ended = self.new.ended;
+        } }
         ensures few { self.new.read ≤ self.old.read + 4096 }
         ensures fetched { Fetched self.old self.new (S.left source.old) (S.left source.new) }
         ensures ahead { (number : List ℕ → ℕ) →
-            OnOk result (visible_ahead number self.old (S.left source.old) ≡ visible_ahead number self.new (S.left source.new)) }
-        ensures size { visible_size self.new (S.left source.new) ≡ visible_size self.old (S.left source.old) }
+            OnOk result (visible_ahead number self.old (S.left source.old)
+            ≡ visible_ahead number self.new (S.left source.new)) }
+        ensures size { visible_size self.new (S.left source.new)
+            ≡ visible_size self.old (S.left source.old) }
         ensures end { IsTrue self.new.ended → NothingLeft (S.left source.new) }
-        ensures ends { EndsOnce self.old.ended self.new.ended (S.ends source.old) (S.ends source.new) }
+        ensures ends { EndsOnce self.old.ended self.new.ended (S.ends source.old)
+            (S.ends source.new) }
         ensures within { OnOk result (self.new.read ≤ self.new.most) }
         ensures held { length self.new.held ≤ self.new.size + 4130 }
         ensures falls { OnOk result (work_left self.new < work_left self.old) }
 
-        ensures read_fault { IsErrOf result FrameFault.ReadFault → Rose (S.faults source.old) (S.faults source.new) }
+        ensures read_fault { IsErrOf result FrameFault.ReadFault
+            → Rose (S.faults source.old) (S.faults source.new) }
         ensures never_falls { S.faults source.old ≤ S.faults source.new }
-        ensures kept { result ≢ Err FrameFault.ReadFault → S.faults source.new ≡ S.faults source.old }
+        ensures kept { result ≢ Err FrameFault.ReadFault
+            → S.faults source.new ≡ S.faults source.old }
         ensures too_large { (bytes : ℕ) → IsErrOf result (FrameFault.TooLarge bytes)
-            → (bytes ≡ self.new.most + 1) × (self.new.read ≡ bytes) × (self.old.read ≡ self.old.most) }
+            → (bytes ≡ self.new.most + 1) × (self.new.read ≡ bytes)
+            × (self.old.read ≡ self.old.most) }
         ensures long { (at len : ℕ) → result ≢ Err (FrameFault.TooLong at len) }
         ensures unread { IsErrOf result FrameFault.ReadFault → self.new ≡ self.old }
     {

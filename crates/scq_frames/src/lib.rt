@@ -1,10 +1,10 @@
-//! Frames: a source's bytes cut into messages, line by line, and a part of a message as the bytes of a buffer.
-//! It stands on `scq_outside` for sources, on `scq_topics` for the numbers of topics, on `scq_word` for
-//! bytes, and on `memchr` and `byteorder`. The layer above uses the contract of `Framer::next`: it
-//! gives, one by one and with nothing between, the messages of what its source gave, for every cutting
-//! of reads, and each fault is the first trouble of what the source gave, behind the messages in front
-//! of it and whatever follows; and those of `parts_of`, `encode` and `decode`: the parts of a message, the
-//! bytes of one, and the part that bytes begin with.
+//! Frames: a source's bytes cut into messages, line by line, and a part of a message as the bytes
+//! of a buffer. It stands on `scq_outside` for sources, on `scq_topics` for the numbers of topics,
+//! on `scq_word` for bytes, and on `memchr` and `byteorder`. The layer above uses the contract of
+//! `Framer::next`: it gives, one by one and with nothing between, the messages of what its source
+//! gave, for every cutting of reads, and each fault is the first trouble of what the source gave,
+//! behind the messages in front of it and whatever follows; and those of `parts_of`, `encode` and
+//! `decode`: the parts of a message, the bytes of one, and the part that bytes begin with.
 #![tactic(auto)]
 
 mod cut;

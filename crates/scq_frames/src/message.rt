@@ -1,7 +1,7 @@
 use scq_word::Bytes;
 
-/// A message of a file: files and lines are numbered from 1, declared topics from 0, and an undeclared
-/// topic has the number after the last of them.
+/// A message of a file: files and lines are numbered from 1, declared topics from 0, and an
+/// undeclared topic has the number after the last of them.
 #[derive(Debug, Drop)]
 pub struct Message {
     pub file: u32,

@@ -1,5 +1,6 @@
 //! The room in which a window's bytes stand: how more of it is made, and how it is read into.
-ghost use Rattle.std.specs.Prelude.{◌≡◌, ◌≢◌, ◌⊎◌, ℕ, ◌+◌, ◌-◌, ◌*◌, ◌<◌, ◌≤◌, ◌++◌, take, drop, slice_range, vec_len, Ok, IfOk, IfSome, OnOk, OnErr, []};
+ghost use Rattle.std.specs.Prelude.{◌≡◌, ◌≢◌, ◌⊎◌, ℕ, ◌+◌, ◌-◌, ◌*◌, ◌<◌, ◌≤◌, ◌++◌, take, drop};
+ghost use Rattle.std.specs.Prelude.{slice_range, vec_len, Ok, IfOk, IfSome, OnOk, OnErr, []};
 ghost use Rattle.std.specs.Option.{option_map};
 ghost use Rattle.scq_outside.specs.Counts.{Rose};
 
@@ -8,7 +9,8 @@ use scq_word::NoMemory;
 
 /// Makes room for so many bytes more behind the held ones, which stand from `start` up to `end`.
 /// Answers where the held bytes begin then: they move only where that makes room enough. Where the
-/// room grows it is to double what is needed, so that a long line is copied a few times and no more.
+/// room grows it is to double what is needed, so that a long line is copied a few times and no
+/// more.
 pub fn make_room(
     room: &mut Vec<u8>,
     start: usize,
@@ -18,10 +20,14 @@ pub fn make_room(
     requires ordered { start ≤ end }
     requires within { end ≤ vec_len room.old }
     requires small { more ≤ 4096 }
-    ensures held { IfOk result (λ from. slice_range room.new.items from (from + (end - start)) ≡ slice_range room.old.items start end) }
+    ensures held { IfOk result (λ from.
+        slice_range room.new.items from (from + (end - start))
+        ≡ slice_range room.old.items start end) }
     ensures enough { IfOk result (λ from. from + (end - start) + more ≤ vec_len room.new) }
-    ensures grows { OnOk result ((vec_len room.new ≡ vec_len room.old) ⊎ (vec_len room.new ≡ (end - start + more) * 2)) }
-    ensures needed { OnOk result (vec_len room.old < vec_len room.new → vec_len room.old < end - start + more) }
+    ensures grows { OnOk result ((vec_len room.new ≡ vec_len room.old)
+        ⊎ (vec_len room.new ≡ (end - start + more) * 2)) }
+    ensures needed { OnOk result (vec_len room.old < vec_len room.new
+        → vec_len room.old < end - start + more) }
     ensures err { OnErr result (room.new.items ≡ room.old.items) }
 {
     let len = room.len();
@@ -42,7 +48,8 @@ pub fn close_gap(room: &mut Vec<u8>, from: usize, len: usize, to: usize)
     requires up { from ≤ to }
     requires within { to + len ≤ vec_len room.old }
     ensures len { vec_len room.new ≡ vec_len room.old }
-    ensures moved { slice_range room.new.items to (to + len) ≡ slice_range room.old.items from (from + len) }
+    ensures moved { slice_range room.new.items to (to + len)
+        ≡ slice_range room.old.items from (from + len) }
     ensures behind { drop (to + len) room.new.items ≡ drop (to + len) room.old.items }
 {
     room.copy_within(from..from + len, to);
@@ -60,7 +67,9 @@ pub fn read_at<S: Source>(
     ensures before { take at room.new.items ≡ take at room.old.items }
     ensures len { vec_len room.new ≡ vec_len room.old }
     ensures most { IfOk result (λ k. k ≤ most) }
-    ensures moved { IfOk result (λ k. S.left source.old ≡ option_map (λ rest. slice_range room.new.items at (at + k) ++ rest) (S.left source.new)) }
+    ensures moved { IfOk result (λ k.
+        S.left source.old ≡ option_map (λ rest. slice_range room.new.items at (at + k)
+        ++ rest) (S.left source.new)) }
     ensures end { IfOk result (λ k. k ≡ 0 → IfSome (S.left source.old) (λ bytes. bytes ≡ [])) }
     ensures kept { OnOk result (S.faults source.new ≡ S.faults source.old) }
     ensures unmoved { OnErr result (S.left source.new ≡ S.left source.old) }

@@ -1,4 +1,6 @@
-ghost use Rattle.std.specs.Prelude.{◌≡◌, ℕ, ◌+◌, ◌-◌, ◌<◌, ◌≤◌, ◌++◌, [], length, take, drop, slice_range, vec_len, Ok, IfOk, IfErr, IfSome, IfNone, OnOk, OnErr, IsErrOf, ◌⊎◌, ◌≢◌};
+ghost use Rattle.std.specs.Prelude.{◌≡◌, ℕ, ◌+◌, ◌-◌, ◌<◌, ◌≤◌, ◌++◌, [], length, take, drop};
+ghost use Rattle.std.specs.Prelude.{slice_range, vec_len, Ok, IfOk, IfErr, IfSome, IfNone, OnOk};
+ghost use Rattle.std.specs.Prelude.{OnErr, IsErrOf, ◌⊎◌, ◌≢◌};
 ghost use Rattle.std.specs.Option.{option_map};
 ghost use Rattle.scq_outside.specs.Counts.{Rose};
 ghost use Rattle.std.specs.List.{before_first};
@@ -128,16 +130,20 @@ impl Window {
         requires some { 0 < most }
         requires small { most ≤ 4096 }
         ensures most { IfOk result (λ k. k ≤ most) }
-        ensures reads { IfOk result (Reads self.old self.new (S.left source.old) (S.left source.new)) }
+        ensures reads { IfOk result
+            (Reads self.old self.new (S.left source.old) (S.left source.new)) }
 
         // After a fault nothing moved.
-        ensures faults { IfErr result (λ fault. (fault ≡ FrameFault.ReadFault) ⊎ (fault ≡ FrameFault.NoMemory)) }
+        ensures faults { IfErr result (λ fault.
+            (fault ≡ FrameFault.ReadFault) ⊎ (fault ≡ FrameFault.NoMemory)) }
         ensures held { OnErr result (self.new ≡ self.old) }
         ensures left { OnErr result (S.left source.new ≡ S.left source.old) }
 
-        ensures rose { IsErrOf result FrameFault.ReadFault → Rose (S.faults source.old) (S.faults source.new) }
+        ensures rose { IsErrOf result FrameFault.ReadFault
+            → Rose (S.faults source.old) (S.faults source.new) }
         ensures never_falls { S.faults source.old ≤ S.faults source.new }
-        ensures kept { result ≢ Err FrameFault.ReadFault → S.faults source.new ≡ S.faults source.old }
+        ensures kept { result ≢ Err FrameFault.ReadFault
+            → S.faults source.new ≡ S.faults source.old }
         ensures ended { result ≡ Ok 0 → Rose (S.ends source.old) (S.ends source.new) }
         ensures not_ended { result ≢ Ok 0 → S.ends source.new ≡ S.ends source.old }
     {

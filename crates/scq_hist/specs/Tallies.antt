@@ -1,4 +1,5 @@
--- For private calls. Of some puts: how many no End has got, and from which moment on the others are claimed
+-- For private calls. Of some puts: how many no End has got, and from which moment on the others are
+-- claimed
 use Rattle.std.specs.Prelude.{◌≡◌, ℕ, ◌+◌, ◌<◌, ◌≤◌, ◌⊎◌, max, List, length}
 use Rattle.scq_hist.specs.Calls.{IsCall, IsPut, IsGot, IsGetOf}
 use Rattle.scq_hist.specs.declared.events.Call.TheVariants.{Get}
@@ -17,7 +18,8 @@ pub record HasLateGet (events : List Event) (Puts : PutName → Type 0) (m : ℕ
   pub get : IsGetOf events name s e
   pub late : m ≤ s
 
--- u of these puts aren't got, and f is the first moment by which the gets of the others have started
+-- u of these puts aren't got, and f is the first moment by which the gets of the others have
+-- started
 pub record IsTally (events : List Event) (Puts : PutName → Type 0) (u f : ℕ) : Type 0 where
   pub ungot : IsCount (λ name. Puts name × (¬ IsGot events name)) u
   pub claimed : (name : PutName) (s e : ℕ) → Puts name → IsGetOf events name s e → s < f
@@ -49,7 +51,8 @@ pub record IsTokenGotAt (opening : List (List ℕ)) (events : List Event) (e s :
 pub record NoTokenGotAt (opening : List (List ℕ)) (events : List Event) (e : ℕ) : Type 0 where
   pub none : (number s : ℕ) → number < length opening → ¬ IsGetOf events (Opening number) s e
 
--- the get that ends at position e has got a seat's put of this queue, which starts at position `start`
+-- the get that ends at position e has got a seat's put of this queue, which starts at position
+-- `start`
 pub record IsPutGotAt (events : List Event) (e queue start : ℕ) : Type 0 where
   pub s : ℕ
   pub seat : ℕ
@@ -59,7 +62,8 @@ pub record IsPutGotAt (events : List Event) (e queue start : ℕ) : Type 0 where
   pub put : IsPut events seat number queue content start
 
 pub record NoPutGotAt (events : List Event) (e : ℕ) : Type 0 where
-  pub none : (s seat number queue start : ℕ) (content : List ℕ) → IsGetOf events (Of seat number) s e → IsPut events seat number queue content start → ⊥
+  pub none : (s seat number queue start : ℕ) (content : List ℕ)
+      → IsGetOf events (Of seat number) s e → IsPut events seat number queue content start → ⊥
 
 -- a get of this queue that starts at position s ends with Nothing at position e
 pub record IsEmptyAt (events : List Event) (e queue s : ℕ) : Type 0 where

@@ -1,6 +1,7 @@
 //! Empty is right: at a moment inside its call each finished put was claimed.
 
-ghost use Rattle.std.specs.Prelude.{◌≡◌, ◌+◌, ◌<◌, ◌≤◌, ◌^◌, ◌↔◌, ℕ, List, IsTrue, MatchOption, length, IfSome};
+ghost use Rattle.std.specs.Prelude.{◌≡◌, ◌+◌, ◌<◌, ◌≤◌, ◌^◌, ◌↔◌, ℕ, List, IsTrue, MatchOption};
+ghost use Rattle.std.specs.Prelude.{length, IfSome};
 ghost use Rattle.scq_hist.specs.Calls.{IsFinishedAt};
 ghost use Rattle.scq_hist.specs.Aspects.{IsLawful, IsRightWithin, IsEmptyRightAt, IsEmptyRight};
 ghost use Rattle.scq_hist.specs.First.{IsFirstFailing};
@@ -37,7 +38,8 @@ fn is_right_within(tokens: Tally, events: &[Event], queue: u32, start: usize, en
 /// The get that ends with Nothing at this position: the position of its Start, and its queue.
 fn empty_at(events: &[Event], e: usize) -> Option<(usize, u32)>
     requires { e < length events.now }
-    ensures { MatchOption result (NoEmptyAt events.now e) (λ get. IsEmptyAt events.now e get.1 get.0) }
+    ensures { MatchOption result (NoEmptyAt events.now e) (λ get.
+        IsEmptyAt events.now e get.1 get.0) }
 {
     match &events[e] {
         Event::End {
@@ -81,9 +83,9 @@ pub fn first_wrong_empty(opening: &[Bytes], events: &[Event]) -> Option<usize>
     None
 }
 
-/// Empty is right: whether each Empty has a moment inside its call at which every finished put of its
-/// queue is claimed, by a get that has started or, if no End has got it, by one that never ends.
-/// `opening` has the contents of the tokens that stand in queue 0 before the list.
+/// Empty is right: whether each Empty has a moment inside its call at which every finished put of
+/// its queue is claimed, by a get that has started or, if no End has got it, by one that never
+/// ends. `opening` has the contents of the tokens that stand in queue 0 before the list.
 pub fn empty_right(opening: &[Bytes], events: &[Event]) -> bool
     requires { IsLawful events.now }
     ensures { IsTrue result ↔ IsEmptyRight opening.now events.now }

@@ -25,7 +25,8 @@ fn is_token(opening: &[Bytes], number: u32, queue: u32, content: &Bytes) -> bool
     }
 }
 
-/// Whether the seat's put of this number is of this queue and content, and starts before position e.
+/// Whether the seat's put of this number is of this queue and content, and starts before position
+/// e.
 fn is_put(events: &[Event], seat: u32, number: u64, queue: u32, content: &Bytes, e: usize) -> bool
     ensures { IsTrue result
         ↔ ((s : ℕ) × (s < e) × IsPut events.now seat number queue content.now s) }
@@ -36,8 +37,8 @@ fn is_put(events: &[Event], seat: u32, number: u64, queue: u32, content: &Bytes,
     }
 }
 
-/// Whether the put of this name is of this queue and content, and is an opening token or starts before
-/// position e.
+/// Whether the put of this name is of this queue and content, and is an opening token or starts
+/// before position e.
 fn is_begun(
     opening: &[Bytes],
     events: &[Event],
@@ -75,8 +76,8 @@ fn is_fresh_at(opening: &[Bytes], events: &[Event], e: usize) -> bool
     }
 }
 
-/// The position of the first Got that isn't fresh. `opening` has the contents of the tokens that stand
-/// in queue 0 before the list.
+/// The position of the first Got that isn't fresh. `opening` has the contents of the tokens that
+/// stand in queue 0 before the list.
 pub fn first_unfresh(opening: &[Bytes], events: &[Event]) -> Option<usize>
     requires { IsLawful events.now }
     ensures first { IsFirstFailing (IsFreshAt opening.now events.now) result }

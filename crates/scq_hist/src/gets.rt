@@ -1,6 +1,7 @@
 //! The gets that have got a put, and those that never end.
 
-ghost use Rattle.std.specs.Prelude.{◌≡◌, ◌+◌, ◌<◌, ◌≤◌, ◌^◌, ◌↔◌, ℕ, suc, Some, IsTrue, MatchOption, length, slice_get};
+ghost use Rattle.std.specs.Prelude.{◌≡◌, ◌+◌, ◌<◌, ◌≤◌, ◌^◌, ◌↔◌, ℕ, suc, Some, IsTrue};
+ghost use Rattle.std.specs.Prelude.{MatchOption, length, slice_get};
 ghost use Rattle.scq_hist.specs.Calls.{IsGot, IsGetOf, IsPending};
 ghost use Rattle.scq_hist.specs.Aspects.{IsLawful};
 ghost use Rattle.scq_hist.specs.Counts.{IsCount};
@@ -63,12 +64,13 @@ pub(crate) fn get_of(events: &[Event], name: PutName) -> Option<usize>
     call_start(events, e)
 }
 
-/// If the call that ends at this position is the get that has got a put: that put, and the position of the
-/// get's Start.
+/// If the call that ends at this position is the get that has got a put: that put, and the position
+/// of the get's Start.
 pub(crate) fn get_ending_at(events: &[Event], e: usize) -> Option<(PutName, usize)>
     requires lawful { IsLawful events.now }
     requires within { e < length events.now }
-    ensures { MatchOption result (EndsNoGet events.now e) (λ get. IsGetOf events.now get.0 get.1 e) }
+    ensures { MatchOption result (EndsNoGet events.now e) (λ get.
+        IsGetOf events.now get.0 get.1 e) }
 {
     let name = got_name(&events[e])?;
     if first_named(events, name) != Some(e) {
@@ -91,8 +93,8 @@ fn never_ends(events: &[Event], queue: u32, s: usize) -> bool
     }
 }
 
-/// From the number of gets of this queue that started before position s and are under way at the end of
-/// the list to that of those which started up to position s.
+/// From the number of gets of this queue that started before position s and are under way at the
+/// end of the list to that of those which started up to position s.
 pub(crate) fn pending_after(pending: usize, events: &[Event], queue: u32, s: usize) -> usize
     requires within { s < length events.now }
     requires room { pending + 1 < 2 ^ 64 }
@@ -107,7 +109,8 @@ pub(crate) fn pending_after(pending: usize, events: &[Event], queue: u32, s: usi
     }
 }
 
-/// How many gets of this queue that started before this moment are under way at the end of the list.
+/// How many gets of this queue that started before this moment are under way at the end of the
+/// list.
 pub(crate) fn pending_gets(events: &[Event], queue: u32, moment: usize) -> usize
     requires { moment ≤ length events.now }
     ensures few { result ≤ moment }

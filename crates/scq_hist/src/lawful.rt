@@ -16,8 +16,8 @@ fn suits(call: &Call, reply: &Reply) -> bool
     }
 }
 
-/// Whether a seat that starts a call here has none under way, and one that ends a call here has one that the
-/// reply suits.
+/// Whether a seat that starts a call here has none under way, and one that ends a call here has one
+/// that the reply suits.
 pub fn is_lawful_at(events: &[Event], i: usize) -> bool
     requires { i < length events.now }
     ensures { IsTrue result ↔ IsLawfulAt events.now i (slice_get events.now i) }
@@ -31,8 +31,8 @@ pub fn is_lawful_at(events: &[Event], i: usize) -> bool
     }
 }
 
-/// Lawful: whether each seat's events alternate, beginning with a Start, and each reply suits its call.
-/// The other tests are of lawful lists.
+/// Lawful: whether each seat's events alternate, beginning with a Start, and each reply suits its
+/// call. The other tests are of lawful lists.
 pub fn lawful_calls(events: &[Event]) -> bool
     ensures { IsTrue result ↔ IsLawful events.now }
 {

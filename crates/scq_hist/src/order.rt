@@ -1,6 +1,7 @@
 //! In order: nothing is taken before what was put wholly before it.
 
-ghost use Rattle.std.specs.Prelude.{◌≡◌, ◌+◌, ◌<◌, ◌≤◌, ◌^◌, ◌↔◌, ℕ, List, IsTrue, MatchOption, length, IfSome};
+ghost use Rattle.std.specs.Prelude.{◌≡◌, ◌+◌, ◌<◌, ◌≤◌, ◌^◌, ◌↔◌, ℕ, List, IsTrue, MatchOption};
+ghost use Rattle.std.specs.Prelude.{length, IfSome};
 ghost use Rattle.scq_hist.specs.Calls.{IsFinishedAt};
 ghost use Rattle.scq_hist.specs.Aspects.{IsLawful, IsInOrderAt, IsInOrder};
 ghost use Rattle.scq_hist.specs.First.{IsFirstFailing};
@@ -12,8 +13,8 @@ use crate::gets::{get_ending_at, pending_gets};
 use crate::tallies::{Tally, are_claimed, finished_tally, opening_tally};
 use scq_word::Bytes;
 
-/// The seat's put that the get which ends at this position has got: the position of its Start, and its
-/// queue.
+/// The seat's put that the get which ends at this position has got: the position of its Start, and
+/// its queue.
 fn put_got_at(events: &[Event], e: usize) -> Option<(usize, u32)>
     requires lawful { IsLawful events.now }
     requires within { e < length events.now }
@@ -31,7 +32,8 @@ fn put_got_at(events: &[Event], e: usize) -> Option<(usize, u32)>
     }
 }
 
-/// Whether all that precede the put which the get that ends at this position has got are claimed by then.
+/// Whether all that precede the put which the get that ends at this position has got are claimed by
+/// then.
 fn is_in_order_at(tokens: Tally, events: &[Event], e: usize) -> bool
     requires lawful { IsLawful events.now }
     requires within { e < length events.now }
@@ -49,8 +51,8 @@ fn is_in_order_at(tokens: Tally, events: &[Event], e: usize) -> bool
     }
 }
 
-/// The position of the first Got that is the get of a put before which others had to be claimed, and
-/// weren't.
+/// The position of the first Got that is the get of a put before which others had to be claimed,
+/// and weren't.
 pub fn first_out_of_order(opening: &[Bytes], events: &[Event]) -> Option<usize>
     requires { IsLawful events.now }
     ensures first { IsFirstFailing (IsInOrderAt opening.now events.now) result }
@@ -65,9 +67,10 @@ pub fn first_out_of_order(opening: &[Bytes], events: &[Event]) -> Option<usize>
     None
 }
 
-/// In order: whether no put is got before one that precedes it, unless a get that is under way at the
-/// end of the list may have that one. A put precedes those of its queue that start after its End with
-/// Done; an opening token precedes every put of queue 0. `opening` has the tokens' contents.
+/// In order: whether no put is got before one that precedes it, unless a get that is under way at
+/// the end of the list may have that one. A put precedes those of its queue that start after its
+/// End with Done; an opening token precedes every put of queue 0. `opening` has the tokens'
+/// contents.
 pub fn in_order(opening: &[Bytes], events: &[Event]) -> bool
     requires { IsLawful events.now }
     ensures { IsTrue result ↔ IsInOrder opening.now events.now }

@@ -1,6 +1,8 @@
-//! Tallies of finished puts: how many aren't got, and by which moment the gets of the others have started.
+//! Tallies of finished puts: how many aren't got, and by which moment the gets of the others have
+//! started.
 
-ghost use Rattle.std.specs.Prelude.{◌≡◌, ◌+◌, ◌<◌, ◌≤◌, ◌^◌, ◌↔◌, ℕ, List, IsTrue, MatchOption, length};
+ghost use Rattle.std.specs.Prelude.{◌≡◌, ◌+◌, ◌<◌, ◌≤◌, ◌^◌, ◌↔◌, ℕ, List, IsTrue, MatchOption};
+ghost use Rattle.std.specs.Prelude.{length};
 ghost use Rattle.scq_hist.specs.Calls.{IsFinishedAt};
 ghost use Rattle.scq_hist.specs.Aspects.{IsLawful};
 ghost use Rattle.scq_hist.specs.declared.events.Event.{Event};
@@ -23,7 +25,8 @@ pub(crate) struct Tally {
 fn with_put(tally: Tally, events: &[Event], name: PutName) -> Tally
     requires lawful { IsLawful events.now }
     requires room { tally.ungot + 1 < 2 ^ 64 }
-    ensures { AddsPut events.now name tally.ungot tally.claimed_from result.ungot result.claimed_from }
+    ensures { AddsPut events.now name tally.ungot tally.claimed_from result.ungot
+        result.claimed_from }
 {
     match get_of(events, name) {
         None => Tally {
@@ -37,16 +40,18 @@ fn with_put(tally: Tally, events: &[Event], name: PutName) -> Tally
     }
 }
 
-/// From the puts of this queue that are finished just before the event at position e to those that are
-/// finished just after it.
+/// From the puts of this queue that are finished just before the event at position e to those that
+/// are finished just after it.
 pub(crate) fn tally_after(tally: Tally, events: &[Event], queue: u32, e: usize) -> Tally
     requires lawful { IsLawful events.now }
     requires within { e < length events.now }
     requires room { tally.ungot + 1 < 2 ^ 64 }
     ensures few { result.ungot ≤ tally.ungot + 1 }
     ensures tally { (opening : List (List ℕ))
-        → IsTally events.now (IsFinishedAt opening events.now queue e) tally.ungot tally.claimed_from
-        → IsTally events.now (IsFinishedAt opening events.now queue (e + 1)) result.ungot result.claimed_from }
+        → IsTally events.now
+        (IsFinishedAt opening events.now queue e) tally.ungot tally.claimed_from
+        → IsTally events.now
+        (IsFinishedAt opening events.now queue (e + 1)) result.ungot result.claimed_from }
 {
     match done_put(events, queue, e) {
         None => tally,
@@ -74,7 +79,8 @@ fn token_got_at(opening: &[Bytes], events: &[Event], e: usize) -> Option<usize>
 pub(crate) fn opening_tally(opening: &[Bytes], events: &[Event]) -> Tally
     requires { IsLawful events.now }
     ensures few { result.ungot ≤ length opening.now }
-    ensures tally { IsTally events.now (IsFinishedAt opening.now events.now 0 0) result.ungot result.claimed_from }
+    ensures tally { IsTally events.now
+        (IsFinishedAt opening.now events.now 0 0) result.ungot result.claimed_from }
 {
     let mut got = 0;
     let mut claimed_from = 0usize;
@@ -119,7 +125,8 @@ pub(crate) fn finished_tally(tokens: Tally, events: &[Event], queue: u32, moment
     ensures few { result.ungot ≤ tokens.ungot + moment }
     ensures tally { (opening : List (List ℕ))
         → IsTally events.now (IsFinishedAt opening events.now 0 0) tokens.ungot tokens.claimed_from
-        → IsTally events.now (IsFinishedAt opening events.now queue moment) result.ungot result.claimed_from }
+        → IsTally events.now
+        (IsFinishedAt opening events.now queue moment) result.ungot result.claimed_from }
 {
     let mut tally = tally_before_all(tokens, queue);
     for e in 0..moment {
@@ -128,8 +135,8 @@ pub(crate) fn finished_tally(tokens: Tally, events: &[Event], queue: u32, moment
     tally
 }
 
-/// Whether all tallied puts are claimed at this moment, at which so many gets have started that never
-/// end.
+/// Whether all tallied puts are claimed at this moment, at which so many gets have started that
+/// never end.
 pub(crate) fn are_claimed(tally: Tally, pending: usize, moment: usize) -> bool
     ensures { IsTrue result ↔ ((tally.claimed_from ≤ moment) × (tally.ungot ≤ pending)) }
 {

@@ -1,6 +1,7 @@
--- For private calls: what a turn may add to what is recorded of its run, as its seat's phase and the step say; and what it adds, by what became of
--- its seat.
-use Rattle.std.specs.Prelude.{ℕ, ◌+◌, ◌-◌, ◌<◌, List, [], ◌∷◌, length, Option, Some, None, slice_get, slice_index, slice_set}
+-- For private calls: what a turn may add to what is recorded of its run, as its seat's phase and
+-- the step say; and what it adds, by what became of its seat.
+use Rattle.std.specs.Prelude.{ℕ, ◌+◌, ◌-◌, ◌<◌, List, [], ◌∷◌, length, Option, Some, None}
+use Rattle.std.specs.Prelude.{slice_get, slice_index, slice_set}
 use Rattle.scq_core.specs.declared.ended.Ended.{Ended}
 use Rattle.scq_core.specs.declared.phase.Phase.{Phase}
 use Rattle.scq_core.specs.declared.phase.Phase.TheVariants.{Idle, AtE4, AtE5, AtE6, AtD10}

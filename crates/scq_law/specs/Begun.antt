@@ -17,7 +17,7 @@ starts_put r event = false
 abbrev pub puts_started : ℕ → List Event → ℕ
 puts_started r events = count_by (starts_put r) events
 
--- on each ring the enqueues begun, which are read off records and phases, are the puts that start in the history, and
--- the opening puts
+-- on each ring the enqueues begun, which are read off records and phases, are the puts that start
+-- in the history, and the opening puts
 pub record EnqueuesBegun (c : Setup) (m : Machine) (events : List Event) : Type 0 where
   pub begun : (r : ℕ) → enqueues c m r ≡ puts_started r events + openings c r

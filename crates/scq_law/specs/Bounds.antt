@@ -1,5 +1,7 @@
--- How far Tail, Head and Threshold of a ring are apart, and how many tickets the enqueues that were begun can use up.
-use Rattle.std.specs.Prelude.{◌≡◌, ℕ, ◌+◌, ◌*◌, ◌<◌, ◌≤◌, ◌⊎◌, min, Bool, true, false, ◌==◌, if◌then◌else◌, List, [], ◌∷◌}
+-- How far Tail, Head and Threshold of a ring are apart, and how many tickets the enqueues that were
+-- begun can use up.
+use Rattle.std.specs.Prelude.{◌≡◌, ℕ, ◌+◌, ◌*◌, ◌<◌, ◌≤◌, ◌⊎◌, min, Bool, true, false, ◌==◌}
+use Rattle.std.specs.Prelude.{if◌then◌else◌, List, [], ◌∷◌}
 use Rattle.std.specs.List.{Contains}
 use Rattle.scq_word.specs.declared.setup.Setup.{Setup}
 use Rattle.scq_word.specs.Sizes.{n_of}
@@ -13,12 +15,13 @@ use Rattle.scq_core.specs.Laws.{total}
 use Rattle.scq_law.specs.Run.{Recorded}
 use Rattle.scq_word.specs.Bounds.{reset_value, ticket_bound}
 
--- no ring's Tail, as far as it is below the limit, is more than twice the number of indices, less one, past its Head
+-- no ring's Tail, as far as it is below the limit, is more than twice the number of indices, less
+-- one, past its Head
 pub record WithinWindow (c : Setup) (m : Machine) : Type 0 where
   pub within : (r : ℕ) → min (m.cells.tail r) c.limit + 1 ≤ m.cells.head r + 2 * n_of c.order
 
--- 1 for a seat whose attempt is in flight on this ring: it has drawn a ticket below the limit to dequeue, and hasn't yet
--- taken what is there or counted the attempt as failed
+-- 1 for a seat whose attempt is in flight on this ring: it has drawn a ticket below the limit to
+-- dequeue, and hasn't yet taken what is there or counted the attempt as failed
 abbrev pub in_flight : ℕ → Phase → ℕ
 in_flight r phase = one_on r (attempt_ring (stance_of phase))
 
@@ -42,12 +45,14 @@ pub record IsOpening (c : Setup) (r p : ℕ) : Type 0 where
 abbrev pub IsFinished : Setup → Machine → ℕ → ℕ → Type 0
 IsFinished c m r p = IsDone m r p ⊎ IsOpening c r p
 
--- with q attempts in flight, Threshold is at least (p - Head) + q + 2 for each finished place p at or past Head. Both sides
--- are raised by Head and by what the word of 0 is
+-- with q attempts in flight, Threshold is at least (p - Head) + q + 2 for each finished place p at
+-- or past Head. Both sides are raised by Head and by what the word of 0 is
 pub record ThresholdCovers (c : Setup) (m : Machine) : Type 0 where
-  pub covers : (r p : ℕ) → IsFinished c m r p → m.cells.head r ≤ p → zero_level + p + attempts_in_flight c m r + 2 ≤ m.cells.threshold r + m.cells.head r
+  pub covers : (r p : ℕ) → IsFinished c m r p → m.cells.head r ≤ p
+      → zero_level + p + attempts_in_flight c m r + 2 ≤ m.cells.threshold r + m.cells.head r
 
--- since a put last ended with Done on a ring, or since the start, no more attempts to dequeue have failed there than a reset sets and there are seats
+-- since a put last ended with Done on a ring, or since the start, no more attempts to dequeue have
+-- failed there than a reset sets and there are seats
 pub record FailsBounded (c : Setup) (recorded : Recorded) : Type 0 where
   pub fails : (r : ℕ) → recorded.fails r ≤ reset_value c.order c.seats + c.seats
 
@@ -74,13 +79,18 @@ openings c r = if r == 0 then n_of c.order else 0
 
 -- how many enqueues were begun on this ring: the ended ones, those under way, and the opening puts
 abbrev pub enqueues : Setup → Machine → ℕ → ℕ
-enqueues c m r = total (λ p. tally (was_put r) p.calls + is_putting r p.phase) m.part c.seats + openings c r
+enqueues c m r =
+    total (λ p. tally (was_put r) p.calls + is_putting r p.phase) m.part c.seats + openings c r
 
--- Head, and Tail as far as it is below the limit, stay below the bound for the enqueues that were begun on their ring
+-- Head, and Tail as far as it is below the limit, stay below the bound for the enqueues that were
+-- begun on their ring
 pub record TicketsBounded (c : Setup) (m : Machine) : Type 0 where
-  pub head : (r : ℕ) → m.cells.head r + 2 * n_of c.order ≤ ticket_bound c.order c.seats (enqueues c m r)
-  pub tail : (r : ℕ) → min (m.cells.tail r) c.limit + 1 ≤ ticket_bound c.order c.seats (enqueues c m r)
+  pub head : (r : ℕ)
+      → m.cells.head r + 2 * n_of c.order ≤ ticket_bound c.order c.seats (enqueues c m r)
+  pub tail : (r : ℕ)
+      → min (m.cells.tail r) c.limit + 1 ≤ ticket_bound c.order c.seats (enqueues c m r)
 
 -- where the bound of a ring is within the limit, no call on that ring has ended for want of tickets
 pub record NoneSpent (c : Setup) (m : Machine) : Type 0 where
-  pub none : (r : ℕ) → ticket_bound c.order c.seats (enqueues c m r) ≤ c.limit → (k t : ℕ) (is_put : Bool) → Contains (m.part k).calls (Spent r t is_put) → ⊥
+  pub none : (r : ℕ) → ticket_bound c.order c.seats (enqueues c m r) ≤ c.limit
+      → (k t : ℕ) (is_put : Bool) → Contains (m.part k).calls (Spent r t is_put) → ⊥

@@ -1,10 +1,13 @@
 -- How many steps of its own a call can still make, whatever the other seats do.
-use Rattle.std.specs.Prelude.{◌≡◌, ℕ, ◌+◌, ◌-◌, ◌*◌, ◌<◌, ◌≤◌, true, false, ◌==◌, List, length, Some}
+use Rattle.std.specs.Prelude.{◌≡◌, ℕ, ◌+◌, ◌-◌, ◌*◌, ◌<◌, ◌≤◌, true, false, ◌==◌, List, length}
+use Rattle.std.specs.Prelude.{Some}
 use Rattle.std.specs.List.{count_by}
 use Rattle.scq_word.specs.declared.setup.Setup.{Setup}
 use Rattle.scq_word.specs.Words.{rank_in}
 use Rattle.scq_core.specs.declared.phase.Phase.{Phase}
-use Rattle.scq_core.specs.declared.phase.Phase.TheVariants.{Idle, AtE1, AtE2, AtE3, AtE4, AtE5, AtE6, AtD1, AtD2, AtD3, AtD4, AtD5, AtD6, AtD7, AtD8, AtD9, AtD10}
+use Rattle.scq_core.specs.declared.phase.Phase.TheVariants.{Idle, AtE1, AtE2, AtE3, AtE4, AtE5}
+use Rattle.scq_core.specs.declared.phase.Phase.TheVariants.{AtE6, AtD1, AtD2, AtD3, AtD4, AtD5}
+use Rattle.scq_core.specs.declared.phase.Phase.TheVariants.{AtD6, AtD7, AtD8, AtD9, AtD10}
 use Rattle.scq_core.specs.declared.step.Step.{Step}
 use Rattle.scq_core.specs.Machine.{Machine, read, beside}
 use Rattle.scq_core.specs.Table.{ring_slots, turn_of, location_of, after}
@@ -29,8 +32,8 @@ steps_from c least = (c.limit - least + 1) * ticket_steps c
 abbrev pub call_steps : Setup → ℕ
 call_steps c = steps_from c 0 + 1
 
--- at most so many steps are left to a call that is at this phase: fewer with one ticket as the rank rises, fewer in a
--- catch-up as Tail rises, and fewer from ticket to ticket
+-- at most so many steps are left to a call that is at this phase: fewer with one ticket as the rank
+-- rises, fewer in a catch-up as Tail rises, and fewer from ticket to ticket
 abbrev pub steps_left : Setup → Phase → ℕ
 steps_left c Idle = 0
 steps_left c (AtE1 r i w l) = steps_from c l
@@ -54,13 +57,15 @@ steps_left c (AtD10 r h false) = steps_past c h + 1
 -- each step of a seat leaves its call fewer, and a call that begins has no more left than this
 pub record CallsEnd (c : Setup) (m : Machine) : Type 0 where
   pub fewer : (k : ℕ) (s : Step) (turn : Phase) → turn_of c (m.part k) s ≡ Some turn
-      → steps_left c (after c turn (read m.cells (location_of c turn)) (beside m.cells (location_of c turn)) (m.part k)).phase < steps_left c turn
+      → steps_left c (after c turn (read m.cells (location_of c turn))
+      (beside m.cells (location_of c turn)) (m.part k)).phase < steps_left c turn
   pub most : (phase : Phase) → steps_left c phase ≤ call_steps c
 
 -- how many of a run's steps are those of a seat
 abbrev pub steps_of : ℕ → List (ℕ × Step) → ℕ
 steps_of k steps = count_by (λ (x : ℕ × Step). x.0 == k) steps
 
--- a seat has made at most so many steps for each call that it has ended, and for one that it has under way
+-- a seat has made at most so many steps for each call that it has ended, and for one that it has
+-- under way
 pub record FewSteps (c : Setup) (steps : List (ℕ × Step)) (m : Machine) : Type 0 where
   pub few : (k : ℕ) → steps_of k steps ≤ (length (m.part k).calls + 1) * call_steps c

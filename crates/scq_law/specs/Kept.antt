@@ -1,4 +1,5 @@
--- How many indices are left in the rings and lie in hands, beside what was put into each ring and got from it.
+-- How many indices are left in the rings and lie in hands, beside what was put into each ring and
+-- got from it.
 use Rattle.std.specs.Prelude.{◌≡◌, ℕ, ◌+◌, ◌≤◌, ◌==◌, if◌then◌else◌, length}
 use Rattle.scq_word.specs.declared.setup.Setup.{Setup}
 use Rattle.scq_word.specs.Sizes.{n_of}
@@ -49,7 +50,8 @@ puts_of r p = tally (was_done r) p.calls + has_placed r p.phase
 
 -- on each ring, what is left and what gets took is what puts placed, the opening puts among them
 pub record Balanced (c : Setup) (m : Machine) : Type 0 where
-  pub balance : (r : ℕ) → left_in c m.cells r + total (gets_of r) m.part c.seats ≡ total (puts_of r) m.part c.seats + openings c r
+  pub balance : (r : ℕ) → left_in c m.cells r + total (gets_of r) m.part c.seats
+      ≡ total (puts_of r) m.part c.seats + openings c r
 
 -- what is left in all rings and what lies in all hands is n together, so no hand holds more than n
 pub record AllKept (c : Setup) (m : Machine) : Type 0 where

@@ -7,4 +7,5 @@ use Rattle.scq_core.specs.Table.{step_of}
 
 pub data IsLater (c : Setup) (m : Machine) : Machine → Type 0 where
   at_once : IsLater c m m
-  by_step : {n n' : Machine} (seat : ℕ) (step : Step) → IsLater c m n → seat < c.seats → step_of c n seat step ≡ Some n' → IsLater c m n'
+  by_step : {n n' : Machine} (seat : ℕ) (step : Step) → IsLater c m n → seat < c.seats
+      → step_of c n seat step ≡ Some n' → IsLater c m n'

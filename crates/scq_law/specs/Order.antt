@@ -1,6 +1,8 @@
--- The one-thread order of a run in which every call has ended, for one of its rings: the opening puts and the calls in order of
--- their points, at one point a Nothing first, then puts by place, then gets by place. And what it promises.
-use Rattle.std.specs.Prelude.{◌≡◌, ◌⊎◌, ℕ, ◌+◌, ◌<◌, ◌≤◌, List, [], ◌∷◌, ◌++◌, Some, slice_get, slice_index_or}
+-- The one-thread order of a run in which every call has ended, for one of its rings: the opening
+-- puts and the calls in order of their points, at one point a Nothing first, then puts by place,
+-- then gets by place. And what it promises.
+use Rattle.std.specs.Prelude.{◌≡◌, ◌⊎◌, ℕ, ◌+◌, ◌<◌, ◌≤◌, List, [], ◌∷◌, ◌++◌, Some, slice_get}
+use Rattle.std.specs.Prelude.{slice_index_or}
 use Rattle.std.specs.List.{Contains}
 use Rattle.scq_word.specs.Sizes.{n_of}
 use Rattle.scq_core.specs.declared.ended.Ended.{Ended}
@@ -25,16 +27,22 @@ abbrev pub key : ℕ → ℕ → ℕ → Key
 key point kind place = record { point = point; kind = kind; place = place }
 
 pub record IsBefore (f g : Key) : Type 0 where
-  pub before : (f.point < g.point) ⊎ ((f.point ≡ g.point) × ((f.kind < g.kind) ⊎ ((f.kind ≡ g.kind) × (f.place < g.place))))
+  pub before : (f.point < g.point)
+      ⊎ ((f.point ≡ g.point) × ((f.kind < g.kind) ⊎ ((f.kind ≡ g.kind) × (f.place < g.place))))
 
--- what is ordered for ring r, each with its key: the opening puts, and the calls that ended otherwise than with Spent. A call is
--- named by its seat and its number, which counts the seat's ended calls from 1
+-- what is ordered for ring r, each with its key: the opening puts, and the calls that ended
+-- otherwise than with Spent. A call is named by its seat and its number, which counts the seat's
+-- ended calls from 1
 pub data HasKey (run : Run) (r : ℕ) : Ordered → Key → Type 0 where
-  of_opening : (j : ℕ) → r ≡ 0 → j < n_of run.setup.order → HasKey run r (Opening j) (key 0 1 (ring_slots run.setup + j))
-  of_nothing : (seat call d : ℕ) → HasEnded run seat call (Nothing r) → IsDecidingStep run d seat call r → HasKey run r (Call seat (call + 1)) (key (d + 1) 0 0)
-  of_put : (seat call p point : ℕ) (w : List ℕ) → HasEnded run seat call (Done r p w) → IsPutPoint run seat call r p point
+  of_opening : (j : ℕ) → r ≡ 0 → j < n_of run.setup.order
+      → HasKey run r (Opening j) (key 0 1 (ring_slots run.setup + j))
+  of_nothing : (seat call d : ℕ) → HasEnded run seat call (Nothing r)
+      → IsDecidingStep run d seat call r → HasKey run r (Call seat (call + 1)) (key (d + 1) 0 0)
+  of_put : (seat call p point : ℕ) (w : List ℕ) → HasEnded run seat call (Done r p w)
+      → IsPutPoint run seat call r p point
       → HasKey run r (Call seat (call + 1)) (key point 1 p)
-  of_get : (seat call p point : ℕ) (w : List ℕ) → HasEnded run seat call (Got r p w) → IsGetPoint run seat r p point
+  of_get : (seat call p point : ℕ) (w : List ℕ) → HasEnded run seat call (Got r p w)
+      → IsGetPoint run seat r p point
       → HasKey run r (Call seat (call + 1)) (key point 2 p)
 
 -- a call of ring r that ended otherwise than with Spent
@@ -51,7 +59,8 @@ pub record IsLinearization (run : Run) (r : ℕ) (order : List Ordered) : Type 0
   -- nothing else does: each member has a key
   pub only : (x : Ordered) → Contains order x → (f : Key) × HasKey run r x f
   -- and stands before those of later keys
-  pub sorted : (a b : ℕ) (x y : Ordered) (f g : Key) → a < b → slice_get order a ≡ Some x → slice_get order b ≡ Some y → HasKey run r x f → HasKey run r y g
+  pub sorted : (a b : ℕ) (x y : Ordered) (f g : Key) → a < b → slice_get order a ≡ Some x
+      → slice_get order b ≡ Some y → HasKey run r x f → HasKey run r y g
       → IsBefore f g
 
 -- What the order promises.
@@ -72,26 +81,35 @@ pub record LiesWithin (run : Run) (seat call point : ℕ) : Type 0 where
 -- along the list each call's reply is what a plain queue replies, which holds these puts at first
 abbrev pub AnswersPlainly : Run → List (PutName × List ℕ) → List Ordered → Type 0
 AnswersPlainly run queue [] = Unit {0}
-AnswersPlainly run queue (Opening j ∷ order) = AnswersPlainly run (queue ++ (Token j, slice_index_or run.opening j []) ∷ []) order
+AnswersPlainly run queue (Opening j ∷ order) =
+    AnswersPlainly run (queue ++ (Token j, slice_index_or run.opening j []) ∷ []) order
 AnswersPlainly run queue (Call seat number ∷ order) =
     (call : ℕ) × (ended : Ended) × (number ≡ call + 1) × HasEnded run seat call ended
     × (recorded_reply (recorded_last run).placer ended ≡ plain_reply queue (call_of_ended ended))
-    × AnswersPlainly run (plain_after queue (name_of_put ((last_state run).part seat).calls seat call) (call_of_ended ended)) order
+    × AnswersPlainly run
+    (plain_after queue (name_of_put ((last_state run).part seat).calls seat call)
+    (call_of_ended ended)) order
 
 pub record IsOneOrder (run : Run) (r : ℕ) (order : List Ordered) : Type 0 where
-  -- each put and get of the ring that did not end with Spent stands in the list, and each opening put, and nothing else
+  -- each put and get of the ring that did not end with Spent stands in the list, and each opening
+  -- put, and nothing else
   pub calls : (seat call : ℕ) → IsOrderable run r seat call → Contains order (Call seat (call + 1))
   pub openings : (j : ℕ) → r ≡ 0 → j < n_of run.setup.order → Contains order (Opening j)
-  pub only_calls : (seat number : ℕ) → Contains order (Call seat number) → (call : ℕ) × (number ≡ call + 1) × IsOrderable run r seat call
+  pub only_calls : (seat number : ℕ) → Contains order (Call seat number)
+      → (call : ℕ) × (number ≡ call + 1) × IsOrderable run r seat call
   pub only_openings : (j : ℕ) → Contains order (Opening j) → (r ≡ 0) × (j < n_of run.setup.order)
   -- once
-  pub once : (a b : ℕ) (x : Ordered) → slice_get order a ≡ Some x → slice_get order b ≡ Some x → a ≡ b
+  pub once : (a b : ℕ) (x : Ordered) → slice_get order a ≡ Some x → slice_get order b ≡ Some x
+      → a ≡ b
   -- the opening puts stand first
-  pub first : (a b j seat number : ℕ) → slice_get order a ≡ Some (Opening j) → slice_get order b ≡ Some (Call seat number) → a < b
+  pub first : (a b j seat number : ℕ) → slice_get order a ≡ Some (Opening j)
+      → slice_get order b ≡ Some (Call seat number) → a < b
   -- a call that ended before another started stands before it
-  pub real_time : (a b seat call k x : ℕ) → slice_get order a ≡ Some (Call seat (call + 1)) → slice_get order b ≡ Some (Call k (x + 1))
+  pub real_time : (a b seat call k x : ℕ) → slice_get order a ≡ Some (Call seat (call + 1))
+      → slice_get order b ≡ Some (Call k (x + 1))
       → EndedBefore run seat call k x → a < b
   -- each point lies between its call's first and last step
-  pub points : (seat call : ℕ) (f : Key) → HasKey run r (Call seat (call + 1)) f → LiesWithin run seat call f.point
+  pub points : (seat call : ℕ) (f : Key) → HasKey run r (Call seat (call + 1)) f
+      → LiesWithin run seat call f.point
   -- each reply is the plain queue's
   pub plain : AnswersPlainly run [] order

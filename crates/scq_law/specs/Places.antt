@@ -1,6 +1,8 @@
--- Places of a ring are its tickets at which an index was placed. Each is placed once and taken at most once, and what is
--- taken there is what was placed there. All of it is read off the seats' records and what they are in the middle of.
-use Rattle.std.specs.Prelude.{◌≡◌, ℕ, ◌+◌, ◌-◌, ◌<◌, ◌≤◌, ◌⊎◌, Bool, false, List, [], length, Some, slice_get, slice_index_or}
+-- Places of a ring are its tickets at which an index was placed. Each is placed once and taken at
+-- most once, and what is taken there is what was placed there. All of it is read off the seats'
+-- records and what they are in the middle of.
+use Rattle.std.specs.Prelude.{◌≡◌, ℕ, ◌+◌, ◌-◌, ◌<◌, ◌≤◌, ◌⊎◌, Bool, false, List, [], length, Some}
+use Rattle.std.specs.Prelude.{slice_get, slice_index_or}
 use Rattle.scq_word.specs.declared.setup.Setup.{Setup}
 use Rattle.scq_word.specs.Sizes.{n_of}
 use Rattle.scq_word.specs.Words.{is_none_in}
@@ -29,12 +31,16 @@ LooksAt phase r h = stance_of phase ≡ trying r h
 abbrev pub GaveUp : Phase → ℕ → ℕ → Type 0
 GaveUp phase r h = (leaves : Bool) × (stance_of phase ≡ gave_up r h leaves)
 
--- the content w was placed at the place p of ring r: at the start, by a call in a record, or by one that has not ended
+-- the content w was placed at the place p of ring r: at the start, by a call in a record, or by one
+-- that has not ended
 pub data IsPlacedBy (c : Setup) (m : Machine) (r p : ℕ) (w : List ℕ) : Maker → Type 0 where
-  at_opening : r ≡ 0 → ring_slots c ≤ p → p < ring_slots c + n_of c.order → w ≡ slice_index_or m.opening (p - ring_slots c) []
+  at_opening : r ≡ 0 → ring_slots c ≤ p → p < ring_slots c + n_of c.order
+      → w ≡ slice_index_or m.opening (p - ring_slots c) []
       → IsPlacedBy c m r p w opening_put
-  in_record : (seat number : ℕ) → slice_get (m.part seat).calls number ≡ Some (Done r p w) → IsPlacedBy c m r p w (call_of seat number)
-  under_way : (seat : ℕ) → HasLanded (m.part seat).phase r p w → IsPlacedBy c m r p w (call_of seat (length (m.part seat).calls))
+  in_record : (seat number : ℕ) → slice_get (m.part seat).calls number ≡ Some (Done r p w)
+      → IsPlacedBy c m r p w (call_of seat number)
+  under_way : (seat : ℕ) → HasLanded (m.part seat).phase r p w
+      → IsPlacedBy c m r p w (call_of seat (length (m.part seat).calls))
 
 -- a call in a record took there
 abbrev pub IsTakenBy : Machine → ℕ → ℕ → List ℕ → ℕ → ℕ → Type 0
@@ -63,20 +69,29 @@ AllIdle c m = (k : ℕ) → k < c.seats → (m.part k).phase ≡ Idle
 
 pub record PlacesOnce (c : Setup) (m : Machine) : Type 0 where
   -- a place is placed once, by one call with one content, below Tail and the limit
-  pub once : (r p : ℕ) (v w : List ℕ) (a b : Maker) → IsPlacedBy c m r p v a → IsPlacedBy c m r p w b → (a ≡ b) × (v ≡ w)
-  pub below_limit : (r p : ℕ) (w : List ℕ) (a : Maker) → IsPlacedBy c m r p w a → (ring_slots c ≤ p) × (p < m.cells.tail r) × (p < c.limit)
+  pub once : (r p : ℕ) (v w : List ℕ) (a b : Maker) → IsPlacedBy c m r p v a
+      → IsPlacedBy c m r p w b → (a ≡ b) × (v ≡ w)
+  pub below_limit : (r p : ℕ) (w : List ℕ) (a : Maker) → IsPlacedBy c m r p w a
+      → (ring_slots c ≤ p) × (p < m.cells.tail r) × (p < c.limit)
   -- it is taken once, below Head
-  pub taken_once : (r p : ℕ) (v w : List ℕ) (k x j y : ℕ) → IsTakenBy m r p v k x → IsTakenBy m r p w j y → (k ≡ j) × (x ≡ y)
+  pub taken_once : (r p : ℕ) (v w : List ℕ) (k x j y : ℕ) → IsTakenBy m r p v k x
+      → IsTakenBy m r p w j y → (k ≡ j) × (x ≡ y)
   pub taken_below : (r p : ℕ) (w : List ℕ) (k x : ℕ) → IsTakenBy m r p w k x → p < m.cells.head r
   -- with the content that was placed there
-  pub fresh : (r p : ℕ) (w : List ℕ) (k x : ℕ) → IsTakenBy m r p w k x → (a : Maker) × IsPlacedBy c m r p w a
+  pub fresh : (r p : ℕ) (w : List ℕ) (k x : ℕ) → IsTakenBy m r p w k x
+      → (a : Maker) × IsPlacedBy c m r p w a
   -- what was placed has been taken, or is at or above Head, or just one seat looks at it
-  pub claimed : (r p : ℕ) (w : List ℕ) (a : Maker) → IsPlacedBy c m r p w a → IsTaken m r p w ⊎ (m.cells.head r ≤ p) ⊎ OneLooks c m r p
+  pub claimed : (r p : ℕ) (w : List ℕ) (a : Maker) → IsPlacedBy c m r p w a
+      → IsTaken m r p w ⊎ (m.cells.head r ≤ p) ⊎ OneLooks c m r p
   -- where a dequeue looks Head has passed and nobody has taken
-  pub looked_at : (k r h : ℕ) → LooksAt (m.part k).phase r h → (h < m.cells.head r) × IsUntaken m r h
+  pub looked_at : (k r h : ℕ) → LooksAt (m.part k).phase r h
+      → (h < m.cells.head r) × IsUntaken m r h
   -- nothing is placed at a ticket that a dequeue has given up
-  pub given_up : (k r h : ℕ) → GaveUp (m.part k).phase r h → (w : List ℕ) (a : Maker) → IsPlacedBy c m r h w a → ⊥
+  pub given_up : (k r h : ℕ) → GaveUp (m.part k).phase r h → (w : List ℕ) (a : Maker)
+      → IsPlacedBy c m r h w a → ⊥
   -- where a dequeue is about to take, an index stands
-  pub stands : (k r h : ℕ) → (m.part k).phase ≡ AtD4 r h → is_none_in (ring_slots c) (word_at c m.cells r h) ≡ false
+  pub stands : (k r h : ℕ) → (m.part k).phase ≡ AtD4 r h
+      → is_none_in (ring_slots c) (word_at c m.cells r h) ≡ false
   -- what a dequeue is about to answer is what was placed at its ticket
-  pub answered : (k r h : ℕ) → (m.part k).phase ≡ AtD4 r h → (a : Maker) × IsPlacedBy c m r h (m.cells.entries.content r (slot c h)) a
+  pub answered : (k r h : ℕ) → (m.part k).phase ≡ AtD4 r h
+      → (a : Maker) × IsPlacedBy c m r h (m.cells.entries.content r (slot c h)) a

@@ -1,5 +1,5 @@
--- A plain queue: a list of puts, the front first, each with its name and content. What it replies to a call, and what it is
--- after it.
+-- A plain queue: a list of puts, the front first, each with its name and content. What it replies
+-- to a call, and what it is after it.
 use Rattle.std.specs.Prelude.{ℕ, ◌+◌, Bool, true, false, List, [], ◌∷◌, ◌++◌, take}
 use Rattle.std.specs.List.{count_by}
 use Rattle.scq_core.specs.declared.ended.Ended.{Ended}
@@ -36,6 +36,7 @@ is_put (ended.Done r p w) = true
 is_put (ended.Spent r t put) = put
 is_put _ = false
 
--- the name of a seat's put that is its call of this number, from 0: a seat's puts are numbered from 1
+-- the name of a seat's put that is its call of this number, from 0: a seat's puts are numbered from
+-- 1
 abbrev pub name_of_put : List Ended → ℕ → ℕ → PutName
 name_of_put calls seat call = Of seat (count_by is_put (take (call + 1) calls))

@@ -18,14 +18,16 @@ AllPrefixes [] steps = Unit {0}
 AllPrefixes (one ∷ others) steps = IsPrefix one steps × AllPrefixes others steps
 
 -- the steps are a run, after which this seat is in the middle of no call and has this record
-pub record IsRecordAfter (c : Setup) (opening : List (List ℕ)) (steps : List (ℕ × Step)) (seat : ℕ) (calls : List Ended) : Type 0 where
+pub record IsRecordAfter (c : Setup) (opening : List (List ℕ)) (steps : List (ℕ × Step)) (seat : ℕ)
+    (calls : List Ended) : Type 0 where
   pub recorded : Recorded
   pub is_run : IsRun c opening steps recorded
   pub idle : (recorded.state.part seat).phase ≡ Idle
   pub calls_are : (recorded.state.part seat).calls ≡ calls
 
 -- the first steps of a run are one, whose history is the beginning of the whole's
-pub record IsPrefixOfRun (c : Setup) (opening : List (List ℕ)) (short : List (ℕ × Step)) (recorded : Recorded) : Type 0 where
+pub record IsPrefixOfRun (c : Setup) (opening : List (List ℕ)) (short : List (ℕ × Step))
+    (recorded : Recorded) : Type 0 where
   pub then_recorded : Recorded
   pub is_run : IsRun c opening short then_recorded
   pub later : List Event

@@ -13,7 +13,8 @@ use Rattle.scq_law.specs.Acts.{starts_by, puts_by, names_by, resets_by, fails_by
 use Rattle.scq_law.specs.Names.{name_at, placer_in}
 use Rattle.scq_law.specs.Replay.{Counts}
 
--- the state, the events and the counts are those that are recorded, and the names say who placed where
+-- the state, the events and the counts are those that are recorded, and the names say who placed
+-- where
 pub record Shows (c : Setup) (recorded : Recorded) (t : Recording) : Type 0 where
   pub setup : t.state.setup ≡ c
   pub state : machine_of t.state ≡ recorded.state
@@ -34,11 +35,16 @@ abbrev pub finishes_by : ℕ → (ℕ → ℕ → PutName) → Part → List Eve
 finishes_by seat placer p = end_of seat placer (ended_in p.phase p.calls)
 
 -- what a turn adds, after which its seat's part is p
-pub record AddsTurn (c : Setup) (seat : ℕ) (act : Act) (p : Part) (old new : Recording) : Type 0 where
+pub record AddsTurn (c : Setup) (seat : ℕ) (act : Act) (p : Part)
+    (old new : Recording) : Type 0 where
   pub state : new.state ≡ old.state
-  pub events : new.events.items ≡ old.events.items ++ starts_by seat act ++ finishes_by seat (placer_in c (name_at new.names.items)) p
+  pub events : new.events.items ≡ old.events.items ++ starts_by seat act
+      ++ finishes_by seat (placer_in c (name_at new.names.items)) p
   pub puts : new.puts.items ≡ puts_by seat act old.puts.items
   pub rings : length new.names.items ≡ length old.names.items
-  pub names : (r q : ℕ) → name_at new.names.items r q ≡ names_by act p.phase (Of seat (slice_index new.puts.items seat)) (name_at old.names.items) r q
+  pub names : (r q : ℕ)
+      → name_at new.names.items r q
+      ≡ names_by act p.phase (Of seat (slice_index new.puts.items seat))
+      (name_at old.names.items) r q
   pub resets : new.resets.items ≡ resets_by act p.phase old.resets.items
   pub fails : new.fails.items ≡ fails_by act p.phase old.fails.items

@@ -12,7 +12,8 @@ pub record Counts (many : ℕ) (counts : List ℕ) (count : ℕ → ℕ) : Type 
   pub each : (k : ℕ) → slice_index counts k ≡ count k
 
 -- the steps are a run, and this is what is recorded of it
-pub record ShowsRun (c : Setup) (opening : List (List ℕ)) (steps : List (ℕ × Step)) (replayed : Replayed) : Type 0 where
+pub record ShowsRun (c : Setup) (opening : List (List ℕ)) (steps : List (ℕ × Step))
+    (replayed : Replayed) : Type 0 where
   pub recorded : Recorded
   pub run : IsRun c opening steps recorded
   pub setup : replayed.state.setup ≡ c
@@ -22,7 +23,8 @@ pub record ShowsRun (c : Setup) (opening : List (List ℕ)) (steps : List (ℕ �
   pub fails : Counts c.rings replayed.fails.items recorded.fails
 
 -- the steps before this one are a run, and this one is not enabled after them
-pub record StopsAt (c : Setup) (opening : List (List ℕ)) (steps : List (ℕ × Step)) (at : ℕ) : Type 0 where
+pub record StopsAt (c : Setup) (opening : List (List ℕ)) (steps : List (ℕ × Step))
+    (at : ℕ) : Type 0 where
   pub within : at < length steps
   pub before : IsSome (recorded_of c opening (take at steps))
   pub here : recorded_of c opening (take (at + 1) steps) ≡ None

@@ -1,5 +1,7 @@
--- What a run is, and what is recorded of it: the state that it leads to, its history, and the counts of each ring.
-use Rattle.std.specs.Prelude.{◌≡◌, ℕ, ◌+◌, ◌-◌, ◌==◌, ◌&&◌, ◌<◌, nat_le, nat_lt, if◌then◌else◌, List, [], ◌∷◌, ◌++◌, length, Option, Some, None, slice_get}
+-- What a run is, and what is recorded of it: the state that it leads to, its history, and the
+-- counts of each ring.
+use Rattle.std.specs.Prelude.{◌≡◌, ℕ, ◌+◌, ◌-◌, ◌==◌, ◌&&◌, ◌<◌, nat_le, nat_lt, if◌then◌else◌}
+use Rattle.std.specs.Prelude.{List, [], ◌∷◌, ◌++◌, length, Option, Some, None, slice_get}
 use Rattle.std.specs.List.{All}
 use Rattle.std.specs.Option.{option_and_then, option_map}
 use Rattle.scq_word.specs.declared.setup.Setup.{Setup}
@@ -7,7 +9,8 @@ use Rattle.scq_word.specs.Sizes.{n_of}
 use Rattle.scq_core.specs.declared.ended.Ended.{Ended}
 use Rattle.scq_core.specs.declared.ended.Ended.TheVariants as ended
 use Rattle.scq_core.specs.declared.phase.Phase.{Phase}
-use Rattle.scq_core.specs.declared.phase.Phase.TheVariants.{Idle, AtE1, AtE4, AtE5, AtE6, AtD1, AtD10}
+use Rattle.scq_core.specs.declared.phase.Phase.TheVariants.{Idle, AtE1, AtE4, AtE5, AtE6, AtD1}
+use Rattle.scq_core.specs.declared.phase.Phase.TheVariants.{AtD10}
 use Rattle.scq_core.specs.declared.step.Step.{Step}
 use Rattle.scq_core.specs.Updated.{updated}
 use Rattle.scq_core.specs.Machine.{Machine, read, updated_entry}
@@ -21,9 +24,10 @@ use Rattle.scq_hist.specs.declared.events.PutName.TheVariants.{Opening, Of}
 use Rattle.scq_hist.specs.declared.events.Reply.{Reply}
 use Rattle.scq_hist.specs.declared.events.Reply.TheVariants.{Done, Got, Nothing, Spent}
 
--- what is recorded of a run: the state that it has led to, the events so far, how many puts each seat has begun, the put that
--- placed at each place of each ring, and for each ring how often a put has ended with Done and how many attempts to dequeue failed
--- since the last of these, or since the start
+-- what is recorded of a run: the state that it has led to, the events so far, how many puts each
+-- seat has begun, the put that placed at each place of each ring, and for each ring how often a put
+-- has ended with Done and how many attempts to dequeue failed since the last of these, or since the
+-- start
 pub record Recorded : Type 0 where
   pub state : Machine
   pub events : List Event
@@ -91,7 +95,8 @@ recorded_after c seat turn recorded =
     let placer = placer_after seat turn found recorded.puts recorded.placer in
     record {
       state = state;
-      events = recorded.events ++ starts seat before.phase turn ++ finishes seat placer after.phase after.calls;
+      events = recorded.events ++ starts seat before.phase turn
+          ++ finishes seat placer after.phase after.calls;
       puts = puts_after seat before.phase turn recorded.puts;
       placer = placer;
       resets = resets_after (is_reset turn after.phase) recorded.resets;
@@ -100,7 +105,9 @@ recorded_after c seat turn recorded =
 
 -- what is recorded after one more step, or None where it isn't enabled
 abbrev pub recorded_by : Setup → Recorded → ℕ × Step → Option Recorded
-recorded_by c recorded x = option_map (λ turn. recorded_after c x.0 turn recorded) (turn_of c (recorded.state.part x.0) x.1)
+recorded_by c recorded x =
+    option_map (λ turn.
+    recorded_after c x.0 turn recorded) (turn_of c (recorded.state.part x.0) x.1)
 
 -- the name of no put, since a seat's puts are numbered from 1
 abbrev pub nobody : PutName
@@ -109,7 +116,8 @@ nobody = Of 0 0
 -- at the start opening put j stands in ring 0, at the place j behind the number of slots
 abbrev pub first_placer : Setup → ℕ → ℕ → PutName
 first_placer c r p =
-    if (r == 0) && nat_le (ring_slots c) p && nat_lt p (ring_slots c + n_of c.order) then Opening (p - ring_slots c) else nobody
+    if (r == 0) && nat_le (ring_slots c) p && nat_lt p (ring_slots c + n_of c.order)
+    then Opening (p - ring_slots c) else nobody
 
 -- what is recorded before the first step
 abbrev pub recorded_first : Setup → List (List ℕ) → Recorded
@@ -125,15 +133,18 @@ recorded_first c opening = record {
 -- what is recorded after more steps, or None where one of them isn't enabled
 abbrev pub recorded_along : Setup → Recorded → List (ℕ × Step) → Option Recorded
 recorded_along c recorded [] = Some recorded
-recorded_along c recorded (x ∷ xs) = option_and_then (λ next. recorded_along c next xs) (recorded_by c recorded x)
+recorded_along c recorded (x ∷ xs) =
+    option_and_then (λ next. recorded_along c next xs) (recorded_by c recorded x)
 
--- what is recorded of these steps from the start, or None where they are no run: where one isn't enabled in its turn
+-- what is recorded of these steps from the start, or None where they are no run: where one isn't
+-- enabled in its turn
 abbrev pub recorded_of : Setup → List (List ℕ) → List (ℕ × Step) → Option Recorded
 recorded_of c opening steps = recorded_along c (recorded_first c opening) steps
 
--- these steps are a run, and this is recorded of it: there is an opening content for each index, the seats are the setup's, and
--- each step is enabled in its turn
-pub record IsRun (c : Setup) (opening : List (List ℕ)) (steps : List (ℕ × Step)) (recorded : Recorded) : Type 0 where
+-- these steps are a run, and this is recorded of it: there is an opening content for each index,
+-- the seats are the setup's, and each step is enabled in its turn
+pub record IsRun (c : Setup) (opening : List (List ℕ)) (steps : List (ℕ × Step))
+    (recorded : Recorded) : Type 0 where
   pub full : length opening ≡ n_of c.order
   pub seats : All (λ (x : ℕ × Step). x.0 < c.seats) steps
   pub recorded_is : recorded_of c opening steps ≡ Some recorded

@@ -1,5 +1,6 @@
--- A run step by step. Steps are numbered from 0: what is recorded before each, and which turn of which seat it is. Calls of a
--- seat are numbered from 0 as its record has them; the one that it is in the middle of has the number of those that have ended.
+-- A run step by step. Steps are numbered from 0: what is recorded before each, and which turn of
+-- which seat it is. Calls of a seat are numbered from 0 as its record has them; the one that it is
+-- in the middle of has the number of those that have ended.
 use Rattle.std.specs.Prelude.{◌≡◌, ◌≢◌, ℕ, ◌<◌, List, length, take, Some, slice_get, unwrap_or}
 use Rattle.scq_word.specs.declared.setup.Setup.{Setup}
 use Rattle.scq_core.specs.declared.ended.Ended.{Ended}
@@ -20,9 +21,12 @@ pub record Run : Type 0 where
 abbrev pub run_of : Setup → List (List ℕ) → List (ℕ × Step) → Run
 run_of c opening steps = record { setup = c; opening = opening; steps = steps }
 
--- what is recorded of the steps before step i. Where they are no run, which is never asked, it is what is recorded of none
+-- what is recorded of the steps before step i. Where they are no run, which is never asked, it is
+-- what is recorded of none
 abbrev pub recorded_before : Run → ℕ → Recorded
-recorded_before run i = unwrap_or (recorded_of run.setup run.opening (take i run.steps)) (recorded_first run.setup run.opening)
+recorded_before run i =
+    unwrap_or (recorded_of run.setup run.opening (take i run.steps))
+    (recorded_first run.setup run.opening)
 
 -- the state before step i
 abbrev pub state_before : Run → ℕ → Machine

@@ -1,5 +1,6 @@
 -- The calls of a seat as a history shows them, and as the seat's record has them.
-use Rattle.std.specs.Prelude.{◌≡◌, ℕ, true, ◌==◌, if◌then◌else◌, List, [], ◌∷◌, ◌++◌, Option, Some, None}
+use Rattle.std.specs.Prelude.{◌≡◌, ℕ, true, ◌==◌, if◌then◌else◌, List, [], ◌∷◌, ◌++◌, Option, Some}
+use Rattle.std.specs.Prelude.{None}
 use Rattle.scq_core.specs.declared.ended.Ended.{Ended}
 use Rattle.scq_core.specs.declared.ended.Ended.TheVariants as ended
 use Rattle.scq_hist.specs.declared.events.Call.{Call}
@@ -16,29 +17,37 @@ abbrev pub answered : Option Call → Reply → List (Call × Reply)
 answered None reply = []
 answered (Some call) reply = (call, reply) ∷ []
 
--- the calls of a seat that end in these events, each with its reply, where this call is under way before them
+-- the calls of a seat that end in these events, each with its reply, where this call is under way
+-- before them
 abbrev pub calls_from : ℕ → Option Call → List Event → List (Call × Reply)
 calls_from k under [] = []
-calls_from k under (Start seat call ∷ events) = calls_from k (if seat == k then Some call else under) events
+calls_from k under (Start seat call ∷ events) =
+    calls_from k (if seat == k then Some call else under) events
 calls_from k under (End seat reply ∷ events) =
-    (if seat == k then answered under reply else []) ++ calls_from k (if seat == k then None else under) events
+    (if seat == k then answered under reply else [])
+    ++ calls_from k (if seat == k then None else under) events
 
 -- those of a history, in order
 abbrev pub calls_shown : ℕ → List Event → List (Call × Reply)
 calls_shown k events = calls_from k None events
 
--- the call that was asked for where a record has this: of a put that ended with Spent it does not keep the content
+-- the call that was asked for where a record has this: of a put that ended with Spent it does not
+-- keep the content
 abbrev pub AskedFor : Ended → Call → Type 0
 AskedFor (ended.Spent r t true) call = (content : List ℕ) × (call ≡ Put r content)
 AskedFor e call = call ≡ call_of_ended e
 
--- one by one the calls of a record, each with its reply, in which a get names the put that placed where it took
+-- one by one the calls of a record, each with its reply, in which a get names the put that placed
+-- where it took
 abbrev pub AllShown : (ℕ → ℕ → PutName) → List Ended → List (Call × Reply) → Type 0
 AllShown placer [] [] = Unit {0}
 AllShown placer [] (x ∷ xs) = ⊥
 AllShown placer (e ∷ es) [] = ⊥
-AllShown placer (e ∷ es) (x ∷ xs) = AskedFor e x.0 × (x.1 ≡ recorded_reply placer e) × AllShown placer es xs
+AllShown placer (e ∷ es) (x ∷ xs) =
+    AskedFor e x.0 × (x.1 ≡ recorded_reply placer e) × AllShown placer es xs
 
--- the history of what is recorded shows each seat's calls just as its record has them, in order, and none besides
+-- the history of what is recorded shows each seat's calls just as its record has them, in order,
+-- and none besides
 pub record HistoryShowsRecords (recorded : Recorded) : Type 0 where
-  pub shows : (seat : ℕ) → AllShown recorded.placer (recorded.state.part seat).calls (calls_shown seat recorded.events)
+  pub shows : (seat : ℕ)
+      → AllShown recorded.placer (recorded.state.part seat).calls (calls_shown seat recorded.events)

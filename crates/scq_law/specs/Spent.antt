@@ -15,8 +15,11 @@ pub record EndedSpent (p : Part) (r t : ℕ) : Type 0 where
   pub calls : p.calls ≡ before ++ Spent r t is_put ∷ []
 
 pub record SpentKept (c : Setup) (m : Machine) : Type 0 where
-  -- a ticket that a seat keeps is that of its last call, whose ring's bound for the enqueues begun is past the limit
+  -- a ticket that a seat keeps is that of its last call, whose ring's bound for the enqueues begun
+  -- is past the limit
   pub last : (k t : ℕ) → (m.part k).spent ≡ Some t
-      → (r : ℕ) × EndedSpent (m.part k) r t × (r < c.rings) × (c.limit < ticket_bound c.order c.seats (enqueues c m r))
+      → (r : ℕ) × EndedSpent (m.part k) r t × (r < c.rings)
+      × (c.limit < ticket_bound c.order c.seats (enqueues c m r))
   -- and a call that has ended with Spent is its seat's last: the seat keeps its ticket
-  pub kept : (k r t : ℕ) (is_put : Bool) → Contains (m.part k).calls (Spent r t is_put) → (m.part k).spent ≡ Some t
+  pub kept : (k r t : ℕ) (is_put : Bool) → Contains (m.part k).calls (Spent r t is_put)
+      → (m.part k).spent ≡ Some t

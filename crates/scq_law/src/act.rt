@@ -47,10 +47,12 @@ pub(crate) fn act_of(alloc: Global, phase: &Phase, step: &Step) -> Result<Act, N
     }
 }
 
-/// The call that the seat's step has ended: the newest of its record, where the seat is idle after it.
+/// The call that the seat's step has ended: the newest of its record, where the seat is idle after
+/// it.
 pub fn ended(state: &State, seat: u32) -> Option<&Ended>
     requires { seat < state.now.setup.seats }
-    ensures { let part = (machine_of state.now).part seat in option_copied result ≡ ended_in part.phase part.calls }
+    ensures { let part =
+        (machine_of state.now).part seat in option_copied result ≡ ended_in part.phase part.calls }
 {
     match state.phase(seat) {
         Phase::Idle => state.last(seat),

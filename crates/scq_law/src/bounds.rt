@@ -8,17 +8,19 @@ ghost use Rattle.scq_core.specs.Machine.{Machine};
 ghost use Rattle.scq_core.specs.Reach.{IsReachable};
 ghost use Rattle.scq_core.specs.Laws.{CountersBounded, ThresholdFloor};
 ghost use Rattle.scq_law.specs.Run.{Recorded, IsRun};
-ghost use Rattle.scq_law.specs.Bounds.{WithinWindow, ThresholdCovers, FailsBounded, TicketsBounded, NoneSpent};
+ghost use Rattle.scq_law.specs.Bounds.{WithinWindow, ThresholdCovers, FailsBounded, TicketsBounded};
+ghost use Rattle.scq_law.specs.Bounds.{NoneSpent};
 ghost use Rattle.scq_law.specs.Spent.{SpentKept};
 
-/// Tail, as far as it is below the limit, is at most `2n - 1` past Head on each ring of `n` indices.
+/// Tail, as far as it is below the limit, is at most `2n - 1` past Head on each ring of `n`
+/// indices.
 pub fn tail_is_within_the_window()
     ensures { (c : Setup) (m : Machine) → IsReachable c m → WithinWindow c m }
 {}
 
-/// With `q` attempts of a ring in flight, each finished place at or past Head has Threshold at least
-/// `(place - Head) + q + 2`. An attempt is in flight from the draw of its ticket, below the limit, until
-/// it has taken an index or lowered Threshold.
+/// With `q` attempts of a ring in flight, each finished place at or past Head has Threshold at
+/// least `(place - Head) + q + 2`. An attempt is in flight from the draw of its ticket, below the
+/// limit, until it has taken an index or lowered Threshold.
 pub fn threshold_covers_the_finished()
     ensures { (c : Setup) (m : Machine) → IsReachable c m → ThresholdCovers c m }
 {}
@@ -34,28 +36,29 @@ pub fn counters_are_bounded()
     ensures { (c : Setup) (m : Machine) → IsReachable c m → CountersBounded c m }
 {}
 
-/// After each run, no more attempts to dequeue from a ring have failed since a put last ended there with Done, or
-/// since the start, than what a reset sets and the number of seats together.
+/// After each run, no more attempts to dequeue from a ring have failed since a put last ended there
+/// with Done, or since the start, than what a reset sets and the number of seats together.
 pub fn fails_are_bounded()
     ensures { (c : Setup) (opening : List (List ℕ)) (steps : List (ℕ × Step)) (recorded : Recorded)
         → IsRun c opening steps recorded → FailsBounded c recorded }
 {}
 
-/// Head is at most `bound(E) - 2n`, and Tail, as far as it is below the limit, at most `bound(E) - 1`,
-/// where `E` enqueues were begun on the ring, the opening puts among them, and
-/// `bound(E) = 4n + (E + 1) * (R + 1 + k) + k` for `k` seats and a Threshold that resets to `R`.
+/// Head is at most `bound(E) - 2n`, and Tail, as far as it is below the limit, at most `bound(E) -
+/// 1`, where `E` enqueues were begun on the ring, the opening puts among them, and `bound(E) = 4n +
+/// (E + 1) * (R + 1 + k) + k` for `k` seats and a Threshold that resets to `R`.
 pub fn tickets_are_bounded()
     ensures { (c : Setup) (m : Machine) → IsReachable c m → TicketsBounded c m }
 {}
 
-/// While a ring's bound for the enqueues begun is within the limit, no call on that ring has ended with
-/// Spent, whatever became of the other rings.
+/// While a ring's bound for the enqueues begun is within the limit, no call on that ring has ended
+/// with Spent, whatever became of the other rings.
 pub fn none_is_spent_within_the_bound()
     ensures { (c : Setup) (m : Machine) → IsReachable c m → NoneSpent c m }
 {}
 
-/// A seat that keeps a spent ticket ended its last call with it, on a ring whose bound for the enqueues
-/// begun is past the limit; and a call that ended with Spent is its seat's last, whose ticket it keeps.
+/// A seat that keeps a spent ticket ended its last call with it, on a ring whose bound for the
+/// enqueues begun is past the limit; and a call that ended with Spent is its seat's last, whose
+/// ticket it keeps.
 pub fn spent_tickets_are_kept()
     ensures { (c : Setup) (m : Machine) → IsReachable c m → SpentKept c m }
 {}

@@ -1,4 +1,5 @@
-//! Why each call ends, and after how many steps. The functions do nothing: each stands for its contract.
+//! Why each call ends, and after how many steps. The functions do nothing: each stands for its
+//! contract.
 
 ghost use Rattle.std.specs.Prelude.{ℕ, List};
 ghost use Rattle.scq_word.specs.declared.setup.Setup.{Setup};
@@ -10,24 +11,24 @@ ghost use Rattle.scq_law.specs.Retries.{RetriesRise};
 ghost use Rattle.scq_law.specs.CallSteps.{CallsEnd, FewSteps};
 ghost use Rattle.scq_law.specs.Progress.{HasProgress, DelayedByEnds, EndsAlone};
 
-/// Why each loop of a call ends, in its seat's steps. The exchanges with one ticket: a failed one found
-/// an entry of a higher rank, and is tried again only while that is below what the ticket's cycle has.
-/// The tickets of one call: each is higher than the one before, and the call goes on only below the
-/// limit. The catch-up of Tail: a failed exchange found it higher, and it is never further past the
-/// limit than the number of seats.
+/// Why each loop of a call ends, in its seat's steps. The exchanges with one ticket: a failed one
+/// found an entry of a higher rank, and is tried again only while that is below what the ticket's
+/// cycle has. The tickets of one call: each is higher than the one before, and the call goes on
+/// only below the limit. The catch-up of Tail: a failed exchange found it higher, and it is never
+/// further past the limit than the number of seats.
 pub fn retries_rise()
     ensures { (c : Setup) (m : Machine) → IsReachable c m → RetriesRise c m }
 {}
 
-/// Each call ends after a bounded number of its seat's steps, whatever the other seats do: each step
-/// leaves the call fewer, and none has more left than a dequeue that begins, which are about `15 L * L`
-/// for the limit `L` of tickets.
+/// Each call ends after a bounded number of its seat's steps, whatever the other seats do: each
+/// step leaves the call fewer, and none has more left than a dequeue that begins, which are about
+/// `15 L * L` for the limit `L` of tickets.
 pub fn calls_end()
     ensures { (c : Setup) (m : Machine) → IsReachable c m → CallsEnd c m }
 {}
 
-/// So in each run, of any length, a seat makes at most that number of steps for each call that it has
-/// ended, and for the one that it may have under way.
+/// So in each run, of any length, a seat makes at most that number of steps for each call that it
+/// has ended, and for the one that it may have under way.
 pub fn calls_take_few_steps()
     ensures { (c : Setup) (opening : List (List ℕ)) (steps : List (ℕ × Step)) (recorded : Recorded)
         → IsRun c opening steps recorded → FewSteps c steps recorded.state }

@@ -22,8 +22,8 @@ pub fn all_indices_are_kept()
     ensures { (c : Setup) (m : Machine) → IsReachable c m → AllKept c m }
 {}
 
-/// After each run, the enqueues begun on a ring, as the bound on tickets counts them, are the puts of that
-/// ring whose Start is in the history, and the opening puts.
+/// After each run, the enqueues begun on a ring, as the bound on tickets counts them, are the puts
+/// of that ring whose Start is in the history, and the opening puts.
 pub fn begun_enqueues_are_starts()
     ensures { (c : Setup) (opening : List (List ℕ)) (steps : List (ℕ × Step)) (recorded : Recorded)
         → IsRun c opening steps recorded → EnqueuesBegun c recorded.state recorded.events }

@@ -1,5 +1,5 @@
-//! Laws of the history of every run, of any number of steps, where seats may stop for ever in the middle
-//! of a call. The functions do nothing: each stands for its contract.
+//! Laws of the history of every run, of any number of steps, where seats may stop for ever in the
+//! middle of a call. The functions do nothing: each stands for its contract.
 
 ghost use Rattle.std.specs.Prelude.{ℕ, List, [], ◌∷◌, ◌++◌};
 ghost use Rattle.scq_word.specs.declared.setup.Setup.{Setup};
@@ -38,9 +38,9 @@ pub fn histories_are_in_order()
         → IsRun c opening steps recorded → IsInOrder opening recorded.events }
 {}
 
-/// Each Nothing is right: at a moment inside its call each finished put of the queue had been got by a get
-/// that had started, or isn't got at all, and those are matched one to one by other gets of the queue that
-/// had started and are still under way.
+/// Each Nothing is right: at a moment inside its call each finished put of the queue had been got
+/// by a get that had started, or isn't got at all, and those are matched one to one by other gets
+/// of the queue that had started and are still under way.
 pub fn empties_are_right()
     ensures { (c : Setup) (opening : List (List ℕ)) (steps : List (ℕ × Step)) (recorded : Recorded)
         → IsRun c opening steps recorded → IsEmptyRight opening recorded.events }
@@ -52,8 +52,8 @@ pub fn histories_have_aspects()
         → IsRun c opening steps recorded → HistoryHasAspects opening recorded }
 {}
 
-/// The history of every run shows each seat's calls as its record has them, in order: ring, content, and how each ended, where a
-/// Got names the put that placed where it took.
+/// The history of every run shows each seat's calls as its record has them, in order: ring,
+/// content, and how each ended, where a Got names the put that placed where it took.
 pub fn histories_show_records()
     ensures { (c : Setup) (opening : List (List ℕ)) (steps : List (ℕ × Step)) (recorded : Recorded)
         → IsRun c opening steps recorded → HistoryShowsRecords recorded }
@@ -61,14 +61,19 @@ pub fn histories_show_records()
 
 /// The first steps of every run are a run, and its history begins with theirs.
 pub fn prefixes_are_runs()
-    ensures { (c : Setup) (opening : List (List ℕ)) (short steps : List (ℕ × Step)) (recorded : Recorded)
-        → IsPrefix short steps → IsRun c opening steps recorded → IsPrefixOfRun c opening short recorded }
+    ensures { (c : Setup) (opening : List (List ℕ)) (short steps : List (ℕ × Step))
+        (recorded : Recorded)
+        → IsPrefix short steps → IsRun c opening steps recorded
+        → IsPrefixOfRun c opening short recorded }
 {}
 
-/// Where one more call of a seat has ended with Nothing between two moments at which it rested, the history has this call between
-/// them, and a moment inside it at which each put of the ring that had ended is claimed; whether other seats' calls have ended or not.
+/// Where one more call of a seat has ended with Nothing between two moments at which it rested, the
+/// history has this call between them, and a moment inside it at which each put of the ring that
+/// had ended is claimed; whether other seats' calls have ended or not.
 pub fn empties_are_right_at_their_call()
-    ensures { (c : Setup) (opening : List (List ℕ)) (before after : List (ℕ × Step)) (seat r : ℕ) (calls : List Ended) → IsPrefix before after
-        → (was : IsRecordAfter c opening before seat calls) → (now : IsRecordAfter c opening after seat (calls ++ Nothing r ∷ []))
+    ensures { (c : Setup) (opening : List (List ℕ)) (before after : List (ℕ × Step)) (seat r : ℕ)
+        (calls : List Ended) → IsPrefix before after
+        → (was : IsRecordAfter c opening before seat calls)
+        → (now : IsRecordAfter c opening after seat (calls ++ Nothing r ∷ []))
         → IsEmptyAtCall opening was.recorded.events now.recorded.events seat r }
 {}

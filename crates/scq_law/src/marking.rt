@@ -1,6 +1,7 @@
 //! A run made step by step, with what is marked of it for the order of one ring.
 
-ghost use Rattle.std.specs.Prelude.{◌≡◌, ◌+◌, ◌<◌, ◌^◌, ℕ, [], None, Some, Err, IfOk, OnOk, vec_len, slice_index};
+ghost use Rattle.std.specs.Prelude.{◌≡◌, ◌+◌, ◌<◌, ◌^◌, ℕ, [], None, Some, Err, IfOk, OnOk};
+ghost use Rattle.std.specs.Prelude.{vec_len, slice_index};
 ghost use Rattle.scq_word.specs.Sizes.{n_of};
 ghost use Rattle.scq_core.specs.StateLists.{machine_of};
 ghost use Rattle.scq_core.specs.Start.{start_of};
@@ -31,7 +32,8 @@ impl Marking {
     ) -> Result<Marking, NoMemory>
         requires { vec_len opening ≡ n_of setup.order }
         ensures setup { IfOk result (λ marking. marking.state.setup ≡ setup) }
-        ensures machine { IfOk result (λ marking. machine_of marking.state ≡ start_of setup opening.items) }
+        ensures machine { IfOk result (λ marking.
+            machine_of marking.state ≡ start_of setup opening.items) }
         ensures marks { IfOk result (λ marking. IsUnmarked setup ring marking.marks) }
     {
         let members = tokens(alloc, &setup, ring)?;
@@ -46,11 +48,15 @@ impl Marking {
         requires ring { self.old.marks.ring < self.old.state.setup.rings }
         requires calls { vec_len self.old.marks.calls ≡ self.old.state.setup.seats }
         requires room { slice_index self.old.marks.calls.items seat + 1 < 2 ^ 64 }
-        ensures step { OnOk result (step_of self.old.state.setup (machine_of self.old.state) seat step.now ≡ Some (machine_of self.new.state)) }
+        ensures step { OnOk result
+            (step_of self.old.state.setup (machine_of self.old.state) seat step.now
+            ≡ Some (machine_of self.new.state)) }
         ensures setup { OnOk result (self.new.state.setup ≡ self.old.state.setup) }
-        ensures marks { OnOk result (AddsStep self.old.state.setup seat step.now (machine_of self.old.state) (machine_of self.new.state) point
+        ensures marks { OnOk result (AddsStep self.old.state.setup seat step.now
+            (machine_of self.old.state) (machine_of self.new.state) point
             self.old.marks self.new.marks) }
-        ensures not_enabled { result ≡ Err ApplyFault.NotEnabled → step_of self.old.state.setup (machine_of self.old.state) seat step.now ≡ None }
+        ensures not_enabled { result ≡ Err ApplyFault.NotEnabled
+            → step_of self.old.state.setup (machine_of self.old.state) seat step.now ≡ None }
     {
         let note = note_of(&self.state, self.marks.ring, seat, step);
         self.state.apply(seat, step)?;

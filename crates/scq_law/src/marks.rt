@@ -1,10 +1,13 @@
 //! What is marked of a run for the order of one ring.
 
-ghost use Rattle.std.specs.Prelude.{◌≡◌, ◌+◌, ◌++◌, ◌<◌, ◌^◌, ℕ, [], None, false, true, IfOk, OnOk, MatchOption, max, vec_len, slice_index, replicate};
+ghost use Rattle.std.specs.Prelude.{◌≡◌, ◌+◌, ◌++◌, ◌<◌, ◌^◌, ℕ, [], None, false, true, IfOk, OnOk};
+ghost use Rattle.std.specs.Prelude.{MatchOption, max, vec_len, slice_index, replicate};
 ghost use Rattle.std.specs.Option.{option_copied};
 ghost use Rattle.scq_law.specs.declared.marks.Member.{Member as TheMember};
 ghost use Rattle.scq_law.specs.declared.ordered.Ordered.TheVariants.{Call as TheCall};
-ghost use Rattle.scq_law.specs.Notes.{marked, puts_by, gets_by, decided_by, decisions_by, calls_by, is_on, mark_or, Rise, IsPutMark, IsMarkedKey, AddsMember, token};
+ghost use Rattle.scq_law.specs.Notes.{marked, puts_by, gets_by, decided_by, decisions_by, calls_by};
+ghost use Rattle.scq_law.specs.Notes.{is_on, mark_or, Rise, IsPutMark, IsMarkedKey, AddsMember};
+ghost use Rattle.scq_law.specs.Notes.{token};
 
 use crate::note::Note;
 use crate::ordered::Ordered;
@@ -13,8 +16,8 @@ use scq_word::NoMemory;
 use std::alloc::Global;
 use std::collections::HashMap;
 
-/// What a key says between the point and the place: at one point a Nothing comes first, then puts, then
-/// gets.
+/// What a key says between the point and the place: at one point a Nothing comes first, then puts,
+/// then gets.
 const NOTHING: u8 = 0;
 
 const PUT: u8 = 1;
@@ -48,7 +51,8 @@ impl Member {
     }
 }
 
-/// What is marked of the steps so far. A point is how many steps were made with the one that is marked.
+/// What is marked of the steps so far. A point is how many steps were made with the one that is
+/// marked.
 #[derive(Debug, Drop)]
 pub(crate) struct Marks {
     pub(crate) ring: u32,
@@ -93,10 +97,14 @@ impl Marks {
     /// Marks a turn of a seat, by what it is to the order.
     pub(crate) fn note(&mut self, note: Note, seat: u32, point: u64) -> Result<(), NoMemory>
         ensures ring { OnOk result (self.new.ring ≡ self.old.ring) }
-        ensures puts { OnOk result ((p : ℕ) → marked self.new.puts p ≡ puts_by note point (marked self.old.puts) p) }
-        ensures gets { OnOk result ((p : ℕ) → marked self.new.gets p ≡ gets_by note point (marked self.old.gets) p) }
-        ensures decided { OnOk result ((k : ℕ) → marked self.new.decided k ≡ decided_by note seat point (marked self.old.decided) k) }
-        ensures decisions { OnOk result (self.new.decisions.items ≡ decisions_by note point self.old.decisions.items) }
+        ensures puts { OnOk result ((p : ℕ)
+            → marked self.new.puts p ≡ puts_by note point (marked self.old.puts) p) }
+        ensures gets { OnOk result ((p : ℕ)
+            → marked self.new.gets p ≡ gets_by note point (marked self.old.gets) p) }
+        ensures decided { OnOk result ((k : ℕ)
+            → marked self.new.decided k ≡ decided_by note seat point (marked self.old.decided) k) }
+        ensures decisions { OnOk result (self.new.decisions.items
+            ≡ decisions_by note point self.old.decisions.items) }
         ensures calls { OnOk result (self.new.calls ≡ self.old.calls) }
         ensures members { OnOk result (self.new.members ≡ self.old.members) }
     {
@@ -125,9 +133,12 @@ impl Marks {
         ensures gets { OnOk result (self.new.gets ≡ self.old.gets) }
         ensures decided { OnOk result (self.new.decided ≡ self.old.decided) }
         ensures decisions { OnOk result (self.new.decisions ≡ self.old.decisions) }
-        ensures calls { OnOk result (self.new.calls.items ≡ calls_by seat (option_copied ended.entry) self.old.calls.items) }
-        ensures members { OnOk result (AddsMember self.old.ring (marked self.old.puts) (marked self.old.gets) (marked self.old.decided) self.old.decisions.items
-            seat (slice_index self.old.calls.items seat + 1) (option_copied ended.entry) self.old.members.items self.new.members.items) }
+        ensures calls { OnOk result (self.new.calls.items
+            ≡ calls_by seat (option_copied ended.entry) self.old.calls.items) }
+        ensures members { OnOk result (AddsMember self.old.ring (marked self.old.puts)
+            (marked self.old.gets) (marked self.old.decided) self.old.decisions.items
+            seat (slice_index self.old.calls.items seat
+            + 1) (option_copied ended.entry) self.old.members.items self.new.members.items) }
     {
         if let Some(ended) = ended {
             self.calls[seat as usize] += 1;
@@ -143,7 +154,8 @@ impl Marks {
     fn member_of(&self, seat: u32, number: u64, ended: &Ended) -> Option<Member>
         ensures { MatchOption result (is_on self.now.ring ended.now ≡ false)
             (λ m. (is_on self.now.ring ended.now ≡ true) × (m.ordered ≡ TheCall seat number)
-            × IsMarkedKey (marked self.now.puts) (marked self.now.gets) (marked self.now.decided) self.now.decisions.items seat ended.now m.key) }
+            × IsMarkedKey (marked self.now.puts) (marked self.now.gets)
+            (marked self.now.decided) self.now.decisions.items seat ended.now m.key) }
     {
         let ordered = Ordered::Call { seat, number };
         let key = match ended {
@@ -167,15 +179,18 @@ impl Marks {
 
     /// The point of the put at this place.
     fn put_point(&self, place: u64) -> u64
-        ensures { Rise self.now.decisions.items → IsPutMark self.now.decisions.items (mark_or (marked self.now.puts place)) place result }
+        ensures { Rise self.now.decisions.items
+            → IsPutMark self.now.decisions.items
+            (mark_or (marked self.now.puts place)) place result }
     {
         last_decision(&self.decisions, self.drawn_for_put(place), place)
     }
 
-    /// The point of the get at this place. The decisions don't matter: where Head is no further than the
-    /// place, it has not been drawn for the get.
+    /// The point of the get at this place. The decisions don't matter: where Head is no further
+    /// than the place, it has not been drawn for the get.
     fn get_point(&self, place: u64) -> u64
-        ensures { result ≡ max (mark_or (marked self.now.gets place)) (mark_or (marked self.now.puts place)) }
+        ensures { result
+            ≡ max (mark_or (marked self.now.gets place)) (mark_or (marked self.now.puts place)) }
     {
         let drawn = self.gets.get(&place).copied().unwrap_or(0);
         drawn.max(self.drawn_for_put(place))
@@ -196,8 +211,8 @@ impl Marks {
     }
 }
 
-/// The point of the last decision with a Head no further than the place, or the first point where that
-/// is later.
+/// The point of the last decision with a Head no further than the place, or the first point where
+/// that is later.
 fn last_decision(decisions: &[Decision], first: u64, place: u64) -> u64
     ensures { Rise decisions.now → IsPutMark decisions.now first place result }
 {

@@ -2,7 +2,8 @@
 
 ghost use Rattle.std.specs.Prelude.{◌≡◌, ◌<◌};
 ghost use Rattle.scq_core.specs.StateLists.{machine_of};
-ghost use Rattle.scq_law.specs.Notes.{put_note, get_note, refusal_note, end_note, level_note, note_of};
+ghost use Rattle.scq_law.specs.Notes.{put_note, get_note, refusal_note, end_note, level_note};
+ghost use Rattle.scq_law.specs.Notes.{note_of};
 
 use scq_core::{Phase, State, Step};
 
@@ -23,7 +24,9 @@ pub(crate) enum Note {
 pub(crate) fn note_of(state: &State, ring: u32, seat: u32, step: &Step) -> Note
     requires seat { seat < state.now.setup.seats }
     requires ring { ring < state.now.setup.rings }
-    ensures { let m = machine_of state.now in result ≡ note_of state.now.setup m.cells ring (m.part seat).phase step.now }
+    ensures { let m =
+        machine_of state.now in result
+        ≡ note_of state.now.setup m.cells ring (m.part seat).phase step.now }
 {
     match (state.phase(seat), step) {
         (Phase::Idle, Step::E1 { ring: on, .. }) => put_note(state, ring, *on),

@@ -10,7 +10,8 @@ use thiserror::Error;
 pub enum Ordered {
     /// An opening put of ring 0, by its index.
     Opening { number: u32 },
-    /// A call, by its seat and its number, which counts the seat's ended calls from 1 over all rings.
+    /// A call, by its seat and its number, which counts the seat's ended calls from 1 over all
+    /// rings.
     Call { seat: u32, number: u64 },
 }
 

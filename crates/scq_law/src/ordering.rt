@@ -20,10 +20,10 @@ use scq_core::{ApplyFault, State, Step};
 use scq_word::{Bytes, NoMemory, Setup};
 use std::alloc::Global;
 
-/// Makes the steps one after another from the start, where the opening contents stand in ring 0, and
-/// answers the one-thread order of the calls of one ring, its queue. Every call must have ended. Calls
-/// that ended with Spent are left out. In the order each reply is a plain queue's, and a call that ended
-/// before another started stands before it.
+/// Makes the steps one after another from the start, where the opening contents stand in ring 0,
+/// and answers the one-thread order of the calls of one ring, its queue. Every call must have
+/// ended. Calls that ended with Spent are left out. In the order each reply is a plain queue's, and
+/// a call that ended before another started stands before it.
 pub fn one_order(
     alloc: Global,
     setup: Setup,
@@ -35,10 +35,14 @@ pub fn one_order(
     requires seats { All (λ (x : ℕ × StepOf). x.0 < setup.seats) steps.now }
     requires queue { queue < setup.rings }
     ensures finished { OnOk result (IsFinishedRun (run_of setup opening.items steps.now)) }
-    ensures order { IfOk result (λ order. IsLinearization (run_of setup opening.items steps.now) queue order.items) }
-    ensures plain { IfOk result (λ order. IsOneOrder (run_of setup opening.items steps.now) queue order.items) }
-    ensures not_enabled { (at : ℕ) → result ≡ Err (OrderFault.NotEnabled at) → StopsAt setup opening.items steps.now at }
-    ensures unfinished { (seat : ℕ) → result ≡ Err (OrderFault.Unfinished seat) → IsUnfinished (run_of setup opening.items steps.now) seat }
+    ensures order { IfOk result (λ order.
+        IsLinearization (run_of setup opening.items steps.now) queue order.items) }
+    ensures plain { IfOk result (λ order.
+        IsOneOrder (run_of setup opening.items steps.now) queue order.items) }
+    ensures not_enabled { (at : ℕ) → result ≡ Err (OrderFault.NotEnabled at)
+        → StopsAt setup opening.items steps.now at }
+    ensures unfinished { (seat : ℕ) → result ≡ Err (OrderFault.Unfinished seat)
+        → IsUnfinished (run_of setup opening.items steps.now) seat }
 {
     let marking = marked(alloc, setup, opening, steps, queue)?;
     if let Some(seat) = busy_seat(&marking.state) {
@@ -61,7 +65,8 @@ fn marked(
     requires seats { All (λ (x : ℕ × StepOf). x.0 < setup.seats) steps.now }
     requires ring { ring < setup.rings }
     ensures run { IfOk result (IsMarkedRun setup opening.items steps.now ring) }
-    ensures not_enabled { (at : ℕ) → result ≡ Err (OrderFault.NotEnabled at) → StopsAt setup opening.items steps.now at }
+    ensures not_enabled { (at : ℕ) → result ≡ Err (OrderFault.NotEnabled at)
+        → StopsAt setup opening.items steps.now at }
     ensures no_seat { (seat : ℕ) → result ≡ Err (OrderFault.Unfinished seat) → ⊥ }
 {
     let mut marking = Marking::first(alloc, setup, opening, ring)?;
@@ -77,7 +82,8 @@ fn marked(
 
 /// The lowest seat that is in the middle of a call.
 fn busy_seat(state: &State) -> Option<u32>
-    ensures { MatchOption result (AllIdle state.now.setup (machine_of state.now)) (IsLowestBusy state.now.setup (machine_of state.now)) }
+    ensures { MatchOption result (AllIdle state.now.setup (machine_of state.now))
+        (IsLowestBusy state.now.setup (machine_of state.now)) }
 {
     for seat in 0..state.setup().seats() {
         if !state.idle(seat) {
@@ -98,7 +104,8 @@ fn sort_members(members: &mut Vec<Member>) -> Result<(), NoMemory>
 
 /// What the members are, in their order.
 fn ordered(alloc: Global, members: &Vec<Member>) -> Result<Vec<Ordered>, NoMemory>
-    ensures { IfOk result (λ list. list.items ≡ map (λ (m : TheMember). m.ordered) members.now.items) }
+    ensures { IfOk result (λ list.
+        list.items ≡ map (λ (m : TheMember). m.ordered) members.now.items) }
 {
     let mut list = Vec::new(alloc);
     for member in members {

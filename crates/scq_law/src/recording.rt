@@ -1,10 +1,12 @@
 //! What a run records, kept step by step.
 
-ghost use Rattle.std.specs.Prelude.{◌≡◌, ℕ, ◌+◌, ◌^◌, ◌<◌, List, ◌++◌, Some, None, Err, length, slice_index, vec_len, unwrap_or, IfOk, OnOk};
+ghost use Rattle.std.specs.Prelude.{◌≡◌, ℕ, ◌+◌, ◌^◌, ◌<◌, List, ◌++◌, Some, None, Err, length};
+ghost use Rattle.std.specs.Prelude.{slice_index, vec_len, unwrap_or, IfOk, OnOk};
 ghost use Rattle.scq_word.specs.Sizes.{n_of};
 ghost use Rattle.scq_core.specs.StateLists.{machine_of};
 ghost use Rattle.scq_core.specs.Reach.{IsReachable};
-ghost use Rattle.scq_law.specs.Run.{Recorded, recorded_reply, first_placer, recorded_by, recorded_first};
+ghost use Rattle.scq_law.specs.Run.{Recorded, recorded_reply, first_placer, recorded_by};
+ghost use Rattle.scq_law.specs.Run.{recorded_first};
 ghost use Rattle.scq_law.specs.Acts.{IsOnRing, starts_by, puts_by, names_by, resets_by, fails_by};
 ghost use Rattle.scq_law.specs.Names.{name_at, placer_in};
 ghost use Rattle.scq_law.specs.Recording.{Shows, HasRoom, AddsTurn, finishes_by};
@@ -22,8 +24,8 @@ pub(crate) type Names = HashMap<u64, PutName>;
 /// No put has this name, since a seat's puts are numbered from 1.
 const NOBODY: PutName = PutName::Of { seat: 0, number: 0 };
 
-/// What is recorded of a run so far: its state and history, how many puts each seat has begun, and for
-/// each ring the puts that placed there, and its resets and fails.
+/// What is recorded of a run so far: its state and history, how many puts each seat has begun, and
+/// for each ring the puts that placed there, and its resets and fails.
 #[derive(Debug, Drop)]
 pub(crate) struct Recording {
     pub(crate) state: State,
@@ -59,11 +61,15 @@ impl Recording {
     pub(crate) fn make(&mut self, setup: &Setup, seat: u32, step: &Step) -> Result<(), ApplyFault>
         requires seat { seat < setup.now.seats }
         requires room { HasRoom self.old }
-        requires shown { (recorded : Recorded) × Shows setup.now recorded self.old × IsReachable setup.now recorded.state }
+        requires shown { (recorded : Recorded) × Shows setup.now recorded self.old
+            × IsReachable setup.now recorded.state }
         ensures ok { (recorded : Recorded) → Shows setup.now recorded self.old
-            → OnOk result ((next : Recorded) × (recorded_by setup.now recorded (seat, step.now) ≡ Some next) × Shows setup.now next self.new) }
+            → OnOk result ((next : Recorded)
+            × (recorded_by setup.now recorded (seat, step.now) ≡ Some next)
+            × Shows setup.now next self.new) }
         ensures not_enabled { (recorded : Recorded) → Shows setup.now recorded self.old
-            → result ≡ Err ApplyFault.NotEnabled → recorded_by setup.now recorded (seat, step.now) ≡ None }
+            → result ≡ Err ApplyFault.NotEnabled
+            → recorded_by setup.now recorded (seat, step.now) ≡ None }
     {
         let alloc = *self.events.allocator();
         let act = act_of(alloc, self.state.phase(seat), step)?;
@@ -80,7 +86,8 @@ impl Recording {
         requires resets { IsOnRing (vec_len self.old.resets) act }
         requires fails { IsOnRing (vec_len self.old.fails) act }
         requires room { HasRoom self.old }
-        ensures { OnOk result (AddsTurn setup.now seat act ((machine_of self.old.state).part seat) self.old self.new) }
+        ensures { OnOk result
+            (AddsTurn setup.now seat act ((machine_of self.old.state).part seat) self.old self.new) }
     {
         let next = self.state.phase(seat);
         count_put(&mut self.puts, seat, &act);
@@ -127,7 +134,9 @@ fn name_place(
 ) -> Result<(), NoMemory>
     requires { IsOnRing (vec_len names.old) act.now }
     ensures many { OnOk result (vec_len names.new ≡ vec_len names.old) }
-    ensures names { OnOk result ((r p : ℕ) → name_at names.new.items r p ≡ names_by act.now next.now name (name_at names.old.items) r p) }
+    ensures names { OnOk result ((r p : ℕ)
+        → name_at names.new.items r p
+        ≡ names_by act.now next.now name (name_at names.old.items) r p) }
 {
     if let (Act::Exchanges { ring, place }, Phase::AtE5 { .. }) = (act, next) {
         names[*ring as usize].insert(*place, name)?;
@@ -174,7 +183,10 @@ fn finish(
 ) -> Result<(), NoMemory>
     requires { seat < state.now.setup.seats }
     ensures { OnOk result
-        (events.new.items ≡ events.old.items ++ finishes_by seat (placer_in setup.now (name_at names.now)) ((machine_of state.now).part seat)) }
+        (events.new.items
+        ≡ events.old.items
+        ++ finishes_by seat (placer_in setup.now (name_at names.now))
+        ((machine_of state.now).part seat)) }
 {
     if let Some(ended) = ended(state, seat) {
         let alloc = *events.allocator();
@@ -191,7 +203,8 @@ fn recorded_reply(
     names: &[Names],
     ended: &Ended,
 ) -> Result<Reply, NoMemory>
-    ensures { IfOk result (λ reply. reply ≡ recorded_reply (placer_in setup.now (name_at names.now)) ended.now) }
+    ensures { IfOk result (λ reply.
+        reply ≡ recorded_reply (placer_in setup.now (name_at names.now)) ended.now) }
 {
     match ended {
         Ended::Done { .. } => Ok(Reply::Done),

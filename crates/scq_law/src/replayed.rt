@@ -7,9 +7,9 @@ use scq_hist::Event;
 use scq_word::NoMemory;
 use thiserror::Error;
 
-/// What is recorded of a run: the state that it led to, its history, and for each ring how many puts have
-/// ended with Done there, and how many attempts to dequeue have failed since the last of these, or since the
-/// start.
+/// What is recorded of a run: the state that it led to, its history, and for each ring how many
+/// puts have ended with Done there, and how many attempts to dequeue have failed since the last of
+/// these, or since the start.
 #[derive(Debug, Drop)]
 pub struct Replayed {
     pub state: State,
@@ -18,8 +18,8 @@ pub struct Replayed {
     pub fails: Vec<u64>,
 }
 
-/// Why steps were not replayed: the one at this position, from 0, is the first that is not enabled. Or
-/// memory was wanted.
+/// Why steps were not replayed: the one at this position, from 0, is the first that is not enabled.
+/// Or memory was wanted.
 #[derive(Clone, Copy, Debug, PartialEq, Eq, Error)]
 pub enum ReplayFault {
     #[error("step {at} is not enabled")]

@@ -28,8 +28,8 @@ use scq_core::{ApplyFault, Step};
 use scq_word::{Bytes, Setup};
 use std::alloc::Global;
 
-/// Makes the steps one after another from the start, where the opening contents stand in ring 0, and
-/// answers what is recorded of them. After each run the laws of the machine hold.
+/// Makes the steps one after another from the start, where the opening contents stand in ring 0,
+/// and answers what is recorded of them. After each run the laws of the machine hold.
 pub fn replay(
     alloc: Global,
     setup: Setup,
@@ -40,17 +40,24 @@ pub fn replay(
     requires seats { All (λ (x : ℕ × StepOf). x.0 < setup.seats) steps.now }
 
     ensures run { IfOk result (ShowsRun setup opening.items steps.now) }
-    ensures not_enabled { (at : ℕ) → result ≡ Err (ReplayFault.NotEnabled at) → StopsAt setup opening.items steps.now at }
+    ensures not_enabled { (at : ℕ) → result ≡ Err (ReplayFault.NotEnabled at)
+        → StopsAt setup opening.items steps.now at }
 
     // The state that the run has led to.
     ensures one_hand { IfOk result (λ replayed. OneHand setup (machine_of replayed.state)) }
     ensures places_once { IfOk result (λ replayed. PlacesOnce setup (machine_of replayed.state)) }
-    ensures entries_match_places { IfOk result (λ replayed. EntriesMatchPlaces setup (machine_of replayed.state)) }
-    ensures counters_bounded { IfOk result (λ replayed. CountersBounded setup (machine_of replayed.state)) }
-    ensures threshold_floor { IfOk result (λ replayed. ThresholdFloor setup (machine_of replayed.state)) }
-    ensures within_window { IfOk result (λ replayed. WithinWindow setup (machine_of replayed.state)) }
-    ensures threshold_covers { IfOk result (λ replayed. ThresholdCovers setup (machine_of replayed.state)) }
-    ensures tickets_bounded { IfOk result (λ replayed. TicketsBounded setup (machine_of replayed.state)) }
+    ensures entries_match_places { IfOk result (λ replayed.
+        EntriesMatchPlaces setup (machine_of replayed.state)) }
+    ensures counters_bounded { IfOk result (λ replayed.
+        CountersBounded setup (machine_of replayed.state)) }
+    ensures threshold_floor { IfOk result (λ replayed.
+        ThresholdFloor setup (machine_of replayed.state)) }
+    ensures within_window { IfOk result (λ replayed.
+        WithinWindow setup (machine_of replayed.state)) }
+    ensures threshold_covers { IfOk result (λ replayed.
+        ThresholdCovers setup (machine_of replayed.state)) }
+    ensures tickets_bounded { IfOk result (λ replayed.
+        TicketsBounded setup (machine_of replayed.state)) }
     ensures none_spent { IfOk result (λ replayed. NoneSpent setup (machine_of replayed.state)) }
     ensures spent_kept { IfOk result (λ replayed. SpentKept setup (machine_of replayed.state)) }
     ensures balanced { IfOk result (λ replayed. Balanced setup (machine_of replayed.state)) }
@@ -63,10 +70,15 @@ pub fn replay(
     ensures fresh { IfOk result (λ replayed. IsFresh opening.items replayed.events.items) }
     ensures once { IfOk result (λ replayed. IsOnce replayed.events.items) }
     ensures in_order { IfOk result (λ replayed. IsInOrder opening.items replayed.events.items) }
-    ensures empty_right { IfOk result (λ replayed. IsEmptyRight opening.items replayed.events.items) }
-    ensures fails_bounded { IfOk result (λ replayed. All (λ fails. fails ≤ reset_value setup.order setup.seats + setup.seats) replayed.fails.items) }
-    ensures begun { IfOk result (λ replayed. EnqueuesBegun setup (machine_of replayed.state) replayed.events.items) }
-    ensures few_steps { IfOk result (λ replayed. FewSteps setup steps.now (machine_of replayed.state)) }
+    ensures empty_right { IfOk result (λ replayed.
+        IsEmptyRight opening.items replayed.events.items) }
+    ensures fails_bounded { IfOk result (λ replayed.
+        All (λ fails. fails
+        ≤ reset_value setup.order setup.seats + setup.seats) replayed.fails.items) }
+    ensures begun { IfOk result (λ replayed.
+        EnqueuesBegun setup (machine_of replayed.state) replayed.events.items) }
+    ensures few_steps { IfOk result (λ replayed.
+        FewSteps setup steps.now (machine_of replayed.state)) }
 
     // All along it.
     ensures progress { HasProgress setup opening.items steps.now }
@@ -88,7 +100,8 @@ fn recorded(
     requires opening { vec_len opening ≡ n_of setup.order }
     requires seats { All (λ (x : ℕ × StepOf). x.0 < setup.seats) steps.now }
     ensures run { IfOk result (ShowsRun setup opening.items steps.now) }
-    ensures not_enabled { (at : ℕ) → result ≡ Err (ReplayFault.NotEnabled at) → StopsAt setup opening.items steps.now at }
+    ensures not_enabled { (at : ℕ) → result ≡ Err (ReplayFault.NotEnabled at)
+        → StopsAt setup opening.items steps.now at }
 {
     let mut recording = Recording::first(alloc, setup, opening)?;
     for (at, (seat, step)) in steps.iter().enumerate() {

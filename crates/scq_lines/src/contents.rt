@@ -25,7 +25,8 @@ pub fn content(alloc: Global, most: u32, field: &[u8]) -> Result<Option<Bytes>, 
     }
 }
 
-// Whether this is 1 lower-case hexadecimal digit or more, and at most two for each of so many bytes.
+// Whether this is 1 lower-case hexadecimal digit or more, and at most two for each of so many
+// bytes.
 fn is_hex(most: u32, field: &[u8]) -> bool
     ensures { result ≡ is_hex most field.now }
 {

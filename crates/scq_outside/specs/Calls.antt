@@ -3,7 +3,8 @@ use Rattle.std.specs.Prelude.{ℕ, ◌+◌, Bool, ◌==◌, nat_lt, List, min, s
 use Rattle.std.specs.List.{list_all, list_any}
 use Rattle.scq_outside.specs.Counts.{last_count}
 
--- the most bytes that each call moves, as far as that is said, which calls fail, and how many were made
+-- the most bytes that each call moves, as far as that is said, which calls fail, and how many were
+-- made
 pub record Calls : Type 0 where
   pub pieces : List ℕ
   pub fails : List ℕ

@@ -2,13 +2,15 @@
 use Rattle.std.specs.Prelude.{◌≡◌, ℕ, ◌+◌, ◌≤◌, ◌++◌, List, Option, length}
 use Rattle.std.specs.Option.{option_map}
 use Rattle.scq_outside.specs.declared.read_all_fault.ReadAllFault.{ReadAllFault}
-use Rattle.scq_outside.specs.declared.read_all_fault.ReadAllFault.TheVariants.{ReadFault, TooLarge, NoMemory}
+use Rattle.scq_outside.specs.declared.read_all_fault.ReadAllFault.TheVariants.{ReadFault, TooLarge}
+use Rattle.scq_outside.specs.declared.read_all_fault.ReadAllFault.TheVariants.{NoMemory}
 
 -- these bytes were taken from the front of what was left, where that is visible
 abbrev pub Took : List ℕ → Option (List ℕ) → Option (List ℕ) → Type 0
 Took bytes old new = old ≡ option_map (λ rest. bytes ++ rest) new
 
--- so many bytes were taken where reading a whole source of at most `most` bytes ended with this fault
+-- so many bytes were taken where reading a whole source of at most `most` bytes ended with this
+-- fault
 abbrev pub TookBy : ℕ → ReadAllFault → ℕ → Type 0
 TookBy most ReadFault count = count ≤ most
 TookBy most (TooLarge bytes) count = (count ≡ bytes) × (bytes ≡ most + 1)

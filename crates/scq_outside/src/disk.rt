@@ -9,9 +9,9 @@ use std::rt::{self, Stdin};
 
 /// Files of the system, opened to be read. What they hold isn't visible.
 ///
-/// `/dev/stdin` and `/dev/fd/0` are opened anew as any name is. Where the system refuses that, as for a
-/// socket, or for a file that only another user may open, standard input is read as it stands. The
-/// kit reaches no other descriptor by its number.
+/// `/dev/stdin` and `/dev/fd/0` are opened anew as any name is. Where the system refuses that, as
+/// for a socket, or for a file that only another user may open, standard input is read as it
+/// stands. The kit reaches no other descriptor by its number.
 #[derive(Drop)]
 pub struct DiskFiles<R: rt::Files + Drop> {
     system: R,

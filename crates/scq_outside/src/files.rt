@@ -15,12 +15,15 @@ pub trait Files {
     /// For each name that is there its content, where the table is visible.
     ghost table: { Self → Option Table };
 
-    /// The source of this name. Where the table is visible, it comes exactly where the name is in it,
-    /// has the name's content left, and the name leaves the table.
+    /// The source of this name. Where the table is visible, it comes exactly where the name is in
+    /// it, has the name's content left, and the name leaves the table.
     fn source(&mut self, name: &str) -> Result<Self::Src, Failed>
         ensures fresh { IfOk result (λ source. Self.Src.faults source ≡ 0) }
-        ensures content { IfOk result (λ source. IfSome (table self.old) (λ files. IsSome (files name.now) × (Self.Src.left source ≡ files name.now))) }
-        ensures given { OnOk result (table self.new ≡ option_map (without_name name.now) (table self.old)) }
+        ensures content { IfOk result (λ source.
+            IfSome (table self.old) (λ files.
+            IsSome (files name.now) × (Self.Src.left source ≡ files name.now))) }
+        ensures given { OnOk result (table self.new
+            ≡ option_map (without_name name.now) (table self.old)) }
         ensures kept { OnOk result (faults self.new ≡ faults self.old) }
 
         // After a fault the table is what it was.

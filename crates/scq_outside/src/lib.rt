@@ -1,8 +1,9 @@
 //! The outside of the service: what bytes are read from and written to, and where files come from.
-//! Each is a trait with a count of faults that contracts see, and with its bytes where they are visible.
-//! It stands on `scq_word`. The layers above are generic over the traits, and use their clauses: a
-//! fault only where the count rose, visible bytes moved exactly, the bounds on each piece. The forms
-//! in memory make all of it visible; those over std nothing, and are the edge that is trusted.
+//! Each is a trait with a count of faults that contracts see, and with its bytes where they are
+//! visible. It stands on `scq_word`. The layers above are generic over the traits, and use their
+//! clauses: a fault only where the count rose, visible bytes moved exactly, the bounds on each
+//! piece. The forms in memory make all of it visible; those over std nothing, and are the edge that
+//! is trusted.
 #![tactic(auto)]
 
 mod disk;

@@ -50,8 +50,10 @@ impl MemFiles {
         requires missing { source_in self.old name.now ≡ None }
         requires unfailed { source.faults ≡ 0 }
         ensures added { OnOk result ((other : List ℕ) →
-            source_in self.new other ≡ (if bytes_eq name.now other then Some source else source_in self.old other)) }
-        ensures unchanged { OnErr result ((other : List ℕ) → source_in self.new other ≡ source_in self.old other) }
+            source_in self.new other
+            ≡ (if bytes_eq name.now other then Some source else source_in self.old other)) }
+        ensures unchanged { OnErr result ((other : List ℕ)
+            → source_in self.new other ≡ source_in self.old other) }
         ensures faults { faults_of self.new ≡ faults_of self.old }
     {
         let name = String::from_str(self.alloc, name)?;
@@ -73,12 +75,14 @@ impl Files for MemFiles {
         ensures same { IfOk result (λ source. source_in self.old name.now ≡ Some source) }
         ensures fresh { IfOk result (λ source. source.faults ≡ 0) }
         ensures given { OnOk result ((other : List ℕ) →
-            source_in self.new other ≡ (if bytes_eq name.now other then None else source_in self.old other)) }
+            source_in self.new other
+            ≡ (if bytes_eq name.now other then None else source_in self.old other)) }
         ensures kept { OnOk result (faults_of self.new ≡ faults_of self.old) }
 
         // A name that is missing leaves the files as they are, and counts once.
         ensures missing { OnErr result (source_in self.old name.now ≡ None) }
-        ensures unchanged { OnErr result ((other : List ℕ) → source_in self.new other ≡ source_in self.old other) }
+        ensures unchanged { OnErr result ((other : List ℕ)
+            → source_in self.new other ≡ source_in self.old other) }
         ensures counted { OnErr result (faults_of self.new ≡ one_more (faults_of self.old)) }
         ensures never_falls { faults_of self.old ≤ faults_of self.new }
     {

@@ -1,4 +1,5 @@
-ghost use Rattle.std.specs.Prelude.{◌≡◌, ◌⊎◌, ◌+◌, ◌<◌, ◌≤◌, ◌++◌, [], Some, IsTrue, false, length, take, min, vec_capacity, IfOk, OnOk, OnErr, IsErr, ◌↔◌};
+ghost use Rattle.std.specs.Prelude.{◌≡◌, ◌⊎◌, ◌+◌, ◌<◌, ◌≤◌, ◌++◌, [], Some, IsTrue, false, length};
+ghost use Rattle.std.specs.Prelude.{take, min, vec_capacity, IfOk, OnOk, OnErr, IsErr, ◌↔◌};
 ghost use Rattle.scq_outside.specs.Calls.{are_pieces, first_call, next_call, fails_next, granted};
 ghost use Rattle.scq_outside.specs.Counts.{one_more};
 ghost use Rattle.scq_outside.specs.Written.{Written};
@@ -23,7 +24,8 @@ pub struct MemSink {
 impl Model for MemSink {
     ghost Value = { Written };
 
-    ghost view = { λ s. record { bytes = s.bytes.items; room = s.room; writes = s.writes; faults = s.faults } };
+    ghost view = { λ s.
+        record { bytes = s.bytes.items; room = s.room; writes = s.writes; faults = s.faults } };
 
     ghost invariant = { λ s. length s.bytes.items + s.room ≤ vec_capacity s.bytes };
 }
@@ -37,7 +39,14 @@ impl MemSink {
         fails: Vec<u32>,
     ) -> Result<MemSink, NoMemory>
         requires { IsTrue (are_pieces pieces.items) }
-        ensures { IfOk result (λ sink. sink ≡ record { bytes = []; room = room; writes = first_call pieces.items fails.items; faults = 0 }) }
+        ensures { IfOk result (λ sink.
+            sink ≡ record {
+              bytes = [];
+              room = room;
+              writes =
+                  first_call pieces.items fails.items;
+              faults = 0;
+            }) }
     {
         let room = room as usize;
         Ok(MemSink {

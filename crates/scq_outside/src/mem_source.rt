@@ -1,4 +1,5 @@
-ghost use Rattle.std.specs.Prelude.{◌≡◌, ◌≢◌, ℕ, ◌<◌, ◌≤◌, ◌++◌, List, [], Some, Ok, IsTrue, false, length, take, drop, min, IfOk, OnOk, OnErr, IsErr, ◌↔◌};
+ghost use Rattle.std.specs.Prelude.{◌≡◌, ◌≢◌, ℕ, ◌<◌, ◌≤◌, ◌++◌, List, [], Some, Ok, IsTrue, false};
+ghost use Rattle.std.specs.Prelude.{length, take, drop, min, IfOk, OnOk, OnErr, IsErr, ◌↔◌};
 ghost use Rattle.scq_outside.specs.Calls.{are_pieces, first_call, next_call, fails_next, granted};
 ghost use Rattle.scq_outside.specs.Counts.{one_more};
 ghost use Rattle.scq_outside.specs.Readable.{Readable};
@@ -20,14 +21,21 @@ pub struct MemSource {
 impl Model for MemSource {
     ghost Value = { Readable };
 
-    ghost view = { λ s. record { left = s.rest.left; reads = s.reads; faults = s.faults; ends = s.rest.ends } };
+    ghost view = { λ s.
+        record { left = s.rest.left; reads = s.reads; faults = s.faults; ends = s.rest.ends } };
 }
 
 impl MemSource {
     /// The vector's own bytes, in no new memory.
     pub fn new(bytes: Vec<u8>, pieces: Vec<u32>, fails: Vec<u32>) -> MemSource
         requires { IsTrue (are_pieces pieces.items) }
-        ensures { result ≡ record { left = bytes.items; reads = first_call pieces.items fails.items; faults = 0; ends = 0 } }
+        ensures { result ≡ record {
+          left = bytes.items;
+          reads =
+              first_call pieces.items fails.items;
+          faults = 0;
+          ends = 0;
+        } }
     {
         MemSource {
             rest: PlainSource::new(bytes),
@@ -47,7 +55,8 @@ impl Source for MemSource {
     fn read(&mut self, into: &mut [u8]) -> Result<usize, Failed>
         requires { 0 < length into.old }
         ensures fails { IsErr result ↔ IsTrue (fails_next self.old.reads) }
-        ensures takes { fails_next self.old.reads ≡ false → result ≡ Ok (min (granted self.old.reads (length into.old)) (length self.old.left)) }
+        ensures takes { fails_next self.old.reads ≡ false
+            → result ≡ Ok (min (granted self.old.reads (length into.old)) (length self.old.left)) }
         ensures moved { IfOk result (λ k. self.old.left ≡ take k into.new ++ self.new.left) }
         ensures within { IfOk result (λ k. k ≤ length into.new) }
         ensures end { IfOk result (λ k. k ≡ 0 → self.old.left ≡ []) }

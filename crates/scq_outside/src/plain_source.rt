@@ -1,12 +1,13 @@
-ghost use Rattle.std.specs.Prelude.{◌≡◌, ◌≢◌, ℕ, ◌<◌, ◌≤◌, ◌++◌, List, [], Some, Ok, length, take, drop, min, IfOk};
+ghost use Rattle.std.specs.Prelude.{◌≡◌, ◌≢◌, ℕ, ◌<◌, ◌≤◌, ◌++◌, List, [], Some, Ok, length, take};
+ghost use Rattle.std.specs.Prelude.{drop, min, IfOk};
 ghost use Rattle.scq_outside.specs.Counts.{one_more};
 ghost use Rattle.scq_outside.specs.Readable.{Plain};
 
 use crate::{Failed, Source};
 use std::marker::Model;
 
-/// A source in memory that gives as many bytes as it is asked for and never fails. Contracts see the
-/// bytes that are left and how many reads have answered the end.
+/// A source in memory that gives as many bytes as it is asked for and never fails. Contracts see
+/// the bytes that are left and how many reads have answered the end.
 #[derive(Drop)]
 pub struct PlainSource {
     bytes: Vec<u8>,

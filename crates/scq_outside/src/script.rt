@@ -1,7 +1,8 @@
 //! How the calls of an object in memory go: which of them fail, and how many bytes the others move.
 ghost use Rattle.std.specs.Prelude.{◌≡◌, ◌==◌, ◌<◌, IsTrue, IfSome, IsNone, ◌↔◌};
 ghost use Rattle.std.specs.List.{list_any};
-ghost use Rattle.scq_outside.specs.Calls.{Calls, are_pieces, first_call, next_call, fails_next, granted};
+ghost use Rattle.scq_outside.specs.Calls.{Calls, are_pieces, first_call, next_call, fails_next};
+ghost use Rattle.scq_outside.specs.Calls.{granted};
 
 use std::marker::Model;
 

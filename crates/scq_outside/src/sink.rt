@@ -1,4 +1,5 @@
-ghost use Rattle.std.specs.Prelude.{◌≡◌, ℕ, ◌<◌, ◌≤◌, ◌++◌, List, Option, length, take, IfOk, OnOk, OnErr};
+ghost use Rattle.std.specs.Prelude.{◌≡◌, ℕ, ◌<◌, ◌≤◌, ◌++◌, List, Option, length, take, IfOk, OnOk};
+ghost use Rattle.std.specs.Prelude.{OnErr};
 ghost use Rattle.std.specs.Option.{option_map};
 ghost use Rattle.scq_outside.specs.Counts.{Rose};
 
@@ -18,7 +19,8 @@ pub trait Sink {
         requires { 0 < length piece.now }
         ensures some { IfOk result (λ k. 0 < k) }
         ensures within { IfOk result (λ k. k ≤ length piece.now) }
-        ensures appended { IfOk result (λ k. written self.new ≡ option_map (λ bytes. bytes ++ take k piece.now) (written self.old)) }
+        ensures appended { IfOk result (λ k.
+            written self.new ≡ option_map (λ bytes. bytes ++ take k piece.now) (written self.old)) }
         ensures kept { OnOk result (faults self.new ≡ faults self.old) }
 
         // After a fault the sink has what it had.

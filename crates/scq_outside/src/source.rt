@@ -1,4 +1,5 @@
-ghost use Rattle.std.specs.Prelude.{◌≡◌, ◌≢◌, ℕ, ◌<◌, ◌≤◌, ◌++◌, List, [], Option, Ok, length, take, IfOk, OnOk, OnErr, IfSome};
+ghost use Rattle.std.specs.Prelude.{◌≡◌, ◌≢◌, ℕ, ◌<◌, ◌≤◌, ◌++◌, List, [], Option, Ok, length};
+ghost use Rattle.std.specs.Prelude.{take, IfOk, OnOk, OnErr, IfSome};
 ghost use Rattle.std.specs.Option.{option_map};
 ghost use Rattle.scq_outside.specs.Counts.{Rose};
 
@@ -25,12 +26,13 @@ pub trait Source: Send + Drop {
     fn read(&mut self, into: &mut [u8]) -> Result<usize, Failed>
         requires { 0 < length into.old }
         ensures within { IfOk result (λ k. k ≤ length into.new) }
-        ensures moved { IfOk result (λ k. left self.old ≡ option_map (λ rest. take k into.new ++ rest) (left self.new)) }
+        ensures moved { IfOk result (λ k.
+            left self.old ≡ option_map (λ rest. take k into.new ++ rest) (left self.new)) }
         ensures end { IfOk result (λ k. k ≡ 0 → IfSome (left self.old) (λ bytes. bytes ≡ [])) }
         ensures kept { OnOk result (faults self.new ≡ faults self.old) }
 
-        // An end that is answered is counted, and nothing else is: so that a caller can say that it read no source again
-        // behind its end.
+        // An end that is answered is counted, and nothing else is: so that a caller can say that it
+        // read no source again behind its end.
         ensures ended { result ≡ Ok 0 → Rose (ends self.old) (ends self.new) }
         ensures not_ended { result ≢ Ok 0 → ends self.new ≡ ends self.old }
 

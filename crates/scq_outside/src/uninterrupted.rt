@@ -9,7 +9,8 @@ use std::io::{self, Error, ErrorKind, Read, Write};
 /// One read. Where a signal interrupts it, nothing was taken of the reader, and it is made again.
 pub fn read_uninterrupted<R: Read>(reader: &mut R, into: &mut [u8]) -> io::Result<usize>
     ensures within { ReadsAtMost result into.new }
-    ensures moved { IfOk result (λ k. Consumes (R.remaining reader.old) (R.remaining reader.new) (take k into.new)) }
+    ensures moved { IfOk result (λ k.
+        Consumes (R.remaining reader.old) (R.remaining reader.new) (take k into.new)) }
     ensures unmoved { OnErr result (Keeps (R.remaining reader.old) (R.remaining reader.new)) }
     ensures again { IfErr result (λ error. error_kind error ≢ ErrorKind.Interrupted) }
 {
@@ -25,7 +26,8 @@ pub fn read_uninterrupted<R: Read>(reader: &mut R, into: &mut [u8]) -> io::Resul
 /// One write. Where a signal interrupts it, the writer took nothing, and it is made again.
 pub fn write_uninterrupted<W: Write>(writer: &mut W, piece: &[u8]) -> io::Result<usize>
     ensures within { WritesAtMost result piece.now }
-    ensures appended { IfOk result (λ k. Appends (W.contents writer.old) (W.contents writer.new) (take k piece.now)) }
+    ensures appended { IfOk result (λ k.
+        Appends (W.contents writer.old) (W.contents writer.new) (take k piece.now)) }
     ensures unwritten { OnErr result (Keeps (W.contents writer.old) (W.contents writer.new)) }
     ensures again { IfErr result (λ error. error_kind error ≢ ErrorKind.Interrupted) }
 {

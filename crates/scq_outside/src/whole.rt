@@ -1,5 +1,6 @@
 //! A source read to its end.
-ghost use Rattle.std.specs.Prelude.{◌≡◌, ◌≢◌, ℕ, ◌^◌, ◌<◌, ◌≤◌, List, [], length, Err, IfOk, IfErr, OnOk, OnErr, IfSome, IsErrOf};
+ghost use Rattle.std.specs.Prelude.{◌≡◌, ◌≢◌, ℕ, ◌^◌, ◌<◌, ◌≤◌, List, [], length, Err, IfOk, IfErr};
+ghost use Rattle.std.specs.Prelude.{OnOk, OnErr, IfSome, IsErrOf};
 ghost use Rattle.scq_outside.specs.Counts.{Rose};
 ghost use Rattle.scq_outside.specs.Taking.{Took, TookUntil};
 
@@ -10,7 +11,8 @@ use std::alloc::Global;
 /// The most bytes that one read is asked for.
 const PIECE: usize = 4096;
 
-/// All bytes that are left of a source, where they are at most `most`. It reads one byte more at most.
+/// All bytes that are left of a source, where they are at most `most`. It reads one byte more at
+/// most.
 pub fn read_all<S: Source>(alloc: Global, source: &mut S, most: u64) -> Result<Bytes, ReadAllFault>
     requires { most < 2 ^ 31 }
     ensures all { IfOk result (λ bytes. Took bytes (S.left source.old) (S.left source.new)) }
@@ -19,7 +21,8 @@ pub fn read_all<S: Source>(alloc: Global, source: &mut S, most: u64) -> Result<B
     ensures ended { OnOk result (Rose (S.ends source.old) (S.ends source.new)) }
     ensures not_ended { OnErr result (S.ends source.new ≡ S.ends source.old) }
     ensures until { IfErr result (TookUntil most (S.left source.old) (S.left source.new)) }
-    ensures read_fault { IsErrOf result ReadAllFault.ReadFault → Rose (S.faults source.old) (S.faults source.new) }
+    ensures read_fault { IsErrOf result ReadAllFault.ReadFault
+        → Rose (S.faults source.old) (S.faults source.new) }
     ensures kept { result ≢ Err ReadAllFault.ReadFault → S.faults source.new ≡ S.faults source.old }
 {
     let limit = most as usize + 1;

@@ -1,12 +1,17 @@
--- What each call makes of a port. What it makes of the port's pass is said in the words of the queue, for topic t and index i.
-use Rattle.std.specs.Prelude.{◌≡◌, ℕ, suc, ◌+◌, ◌<◌, ◌≤◌, List, [], ◌∷◌, ◌++◌, length, reverse, filter_map, Option, Some, None, slice_set, replicate, map}
+-- What each call makes of a port. What it makes of the port's pass is said in the words of the
+-- queue, for topic t and index i.
+use Rattle.std.specs.Prelude.{◌≡◌, ℕ, suc, ◌+◌, ◌<◌, ◌≤◌, List, [], ◌∷◌, ◌++◌, length, reverse}
+use Rattle.std.specs.Prelude.{filter_map, Option, Some, None, slice_set, replicate, map}
 use Rattle.std.specs.List.{Contains}
 use Rattle.scq_word.specs.declared.setup.Setup.{Setup}
 use Rattle.scq_word.specs.Sizes.{n_of}
 use Rattle.scq_band.specs.Buffers.{opening_of}
-use Rattle.scq_band.specs.RunSeen.{IsCallInRun, WasEmptyInRun, IsReadingInRun, WasCountedInRun, AllWereSeenRetired, with_retiree}
+use Rattle.scq_band.specs.RunSeen.{IsCallInRun, WasEmptyInRun, IsReadingInRun, WasCountedInRun}
+use Rattle.scq_band.specs.RunSeen.{AllWereSeenRetired, with_retiree}
 use Rattle.scq_queue.specs.Lists.{with_send, with_take, with_full}
-use Rattle.scq_queue.specs.Passes.{PassStanding, lists_of, known_on, WasLent, HasGot, WasGivenBack, FoundNothing, FoundFull, having_seen, caller_of, after_put, after_spent_put, after_spent_get, after_look, first_passes}
+use Rattle.scq_queue.specs.Passes.{PassStanding, lists_of, known_on, WasLent, HasGot, WasGivenBack}
+use Rattle.scq_queue.specs.Passes.{FoundNothing, FoundFull, having_seen, caller_of, after_put}
+use Rattle.scq_queue.specs.Passes.{after_spent_put, after_spent_get, after_look, first_passes}
 use Rattle.scq_port.specs.declared.port_buffer.PortBuffer.{PortBuffer}
 use Rattle.scq_port.specs.Numbers.{number_bytes, numbers_below}
 use Rattle.scq_port.specs.Ports.{PortStanding, PortQueue, Value, HasValue, bytes_of}
@@ -16,7 +21,8 @@ pub record HoldsAsBefore (old new : PortStanding) : Type 0 where
   pub slots : new.slots ≡ old.slots
   pub hold : new.hold ≡ old.hold
 
--- a value came, for which there was room: it is the one that the port holds at its index from then on
+-- a value came, for which there was room: it is the one that the port holds at its index from then
+-- on
 pub record Came (old new : PortStanding) (h : Value) : Type 0 where
   pub room : length old.pass.held < old.hold
   pub slots : new.slots ≡ slice_set old.slots h.index (Some h)
@@ -31,7 +37,9 @@ pub record Went (old new : PortStanding) (h : Value) : Type 0 where
 
 -- the call is one in the run of all passes of the queue
 abbrev pub IsInRun : PortStanding → PortStanding → Type 0
-IsInRun old new = IsCallInRun old.pass.queue.setup (opening_of bytes_of old.pass.queue.given) (caller_of old.pass) (caller_of new.pass)
+IsInRun old new =
+    IsCallInRun old.pass.queue.setup (opening_of bytes_of old.pass.queue.given) (caller_of old.pass)
+    (caller_of new.pass)
 
 -- the value contains the number of its index
 abbrev pub HasItsNumber : Value → Type 0
@@ -68,7 +76,9 @@ pub record IsSent (index topic place : ℕ) (old new : PortStanding) : Type 0 wh
   pub is : value.index ≡ index
   pub there : topic + 1 < old.pass.queue.setup.rings
   pub awake : old.pass.retired ≡ None
-  pub sent : new.pass ≡ having_seen new.pass.seen (after_put (suc topic) index place (bytes_of value.buffer) old.pass)
+  pub sent : new.pass
+      ≡ having_seen new.pass.seen
+      (after_put (suc topic) index place (bytes_of value.buffer) old.pass)
   pub low : place < old.pass.queue.setup.limit
   pub above : (known_on topic old.pass).seen < place
   pub went : Went old new value
@@ -89,7 +99,8 @@ pub record IsGivenBack (index : ℕ) (old new : PortStanding) : Type 0 where
 -- no buffer was free, with this head of the free ring
 pub record WasFull (head : ℕ) (old new : PortStanding) : Type 0 where
   pub found : FoundFull head old.pass new.pass
-  pub in_run : WasEmptyInRun old.pass.queue.setup (opening_of bytes_of old.pass.queue.given) 0 head (caller_of old.pass) (caller_of new.pass)
+  pub in_run : WasEmptyInRun old.pass.queue.setup (opening_of bytes_of old.pass.queue.given) 0 head
+      (caller_of old.pass) (caller_of new.pass)
   pub lists : lists_of new.pass ≡ with_full head (lists_of old.pass)
   pub holds : HoldsAsBefore old new
   pub unspent : old.pass.spent ≡ None
@@ -98,14 +109,19 @@ pub record WasFull (head : ℕ) (old new : PortStanding) : Type 0 where
 pub record WasEmpty (topic head : ℕ) (old new : PortStanding) : Type 0 where
   pub there : topic + 1 < old.pass.queue.setup.rings
   pub found : FoundNothing (suc topic) head old.pass new.pass
-  pub in_run : WasEmptyInRun old.pass.queue.setup (opening_of bytes_of old.pass.queue.given) (suc topic) head (caller_of old.pass) (caller_of new.pass)
+  pub in_run : WasEmptyInRun old.pass.queue.setup (opening_of bytes_of old.pass.queue.given)
+      (suc topic) head (caller_of old.pass) (caller_of new.pass)
   pub lists : lists_of new.pass ≡ lists_of old.pass
   pub holds : HoldsAsBefore old new
   pub unspent : old.pass.spent ≡ None
 
--- the port keeps a ticket at or past the limit: one that this call drew on a ring, or one that it kept before, and then nothing changed
-pub record IsSpent (after : PassStanding PortBuffer) (ticket : ℕ) (old new : PortStanding) : Type 0 where
-  pub drawn : old.pass.spent ≡ None → (new.pass ≡ having_seen new.pass.seen after) × (old.pass.queue.setup.limit ≤ ticket) × IsInRun old new
+-- the port keeps a ticket at or past the limit: one that this call drew on a ring, or one that it
+-- kept before, and then nothing changed
+pub record IsSpent (after : PassStanding PortBuffer) (ticket : ℕ)
+    (old new : PortStanding) : Type 0 where
+  pub drawn : old.pass.spent ≡ None
+      → (new.pass ≡ having_seen new.pass.seen after) × (old.pass.queue.setup.limit ≤ ticket)
+      × IsInRun old new
   pub kept : (before : ℕ) → old.pass.spent ≡ Some before → (before ≡ ticket) × (new ≡ old)
   pub lists : lists_of new.pass ≡ lists_of old.pass
   pub holds : HoldsAsBefore old new
@@ -144,7 +160,11 @@ pub record HasRetired (old new : PortStanding) : Type 0 where
 -- a pass that has retired, now where it hadn't before; and its port
 abbrev pub retired_as : Option ℕ → PassStanding PortBuffer → PassStanding PortBuffer
 retired_as None p =
-    record p { retired = Some (length p.calls); seen = with_retiree (p.number, length p.calls) p.seen }
+    record p {
+      retired = Some (length p.calls);
+      seen =
+          with_retiree (p.number, length p.calls) p.seen;
+    }
 retired_as (Some calls) p = p
 
 abbrev pub retired_pass : PassStanding PortBuffer → PassStanding PortBuffer
@@ -153,10 +173,12 @@ retired_pass p = retired_as p.retired p
 abbrev pub retired_port : PortStanding → PortStanding
 retired_port x = record x { pass = retired_pass x.pass }
 
--- the port asked whether all had retired, when so many had not; none, where it had seen each retired
+-- the port asked whether all had retired, when so many had not; none, where it had seen each
+-- retired
 pub record HasAsked (found : ℕ) (old new : PortStanding) : Type 0 where
   pub looked : new ≡ record old { pass = having_seen new.pass.seen (after_look found old.pass) }
-  pub in_run : IsReadingInRun old.pass.queue.setup (opening_of bytes_of old.pass.queue.given) old.pass.retired
+  pub in_run : IsReadingInRun old.pass.queue.setup
+      (opening_of bytes_of old.pass.queue.given) old.pass.retired
       (caller_of old.pass) (caller_of new.pass) found
   pub told : AllWereSeenRetired old.pass.queue.setup old.pass.seen → found ≡ 0
 
@@ -165,7 +187,8 @@ pub record HasCounted (topic count : ℕ) (old new : PortStanding) : Type 0 wher
   pub there : HasTopic topic old
   pub seen : new ≡ record old { pass = having_seen new.pass.seen old.pass }
   pub at_most : count ≤ n_of old.pass.queue.setup.order
-  pub in_run : WasCountedInRun old.pass.queue.setup (opening_of bytes_of old.pass.queue.given) (suc topic)
+  pub in_run : WasCountedInRun old.pass.queue.setup (opening_of bytes_of old.pass.queue.given)
+      (suc topic)
       count (caller_of old.pass) (caller_of new.pass)
 
 -- the values that stand in these places, from the last on
@@ -176,10 +199,12 @@ values_of slots = filter_map (λ (o : Option Value). o) (reverse slots)
 abbrev pub GaveBack : List Value → PassStanding PortBuffer → PassStanding PortBuffer → Type 0
 GaveBack [] old new = new ≡ old
 GaveBack (h ∷ hs) old new =
-    (between : PassStanding PortBuffer) × WasGivenBack (bytes_of h.buffer) h.index old between × GaveBack hs between new
+    (between : PassStanding PortBuffer) × WasGivenBack (bytes_of h.buffer) h.index old between
+    × GaveBack hs between new
 
--- what a port's end made of its pass. The values that it held were given back, from that of the last index on: all of them, where the pass
--- keeps no spent ticket, and then it holds nothing; else those before the first that was refused
+-- what a port's end made of its pass. The values that it held were given back, from that of the
+-- last index on: all of them, where the pass keeps no spent ticket, and then it holds nothing; else
+-- those before the first that was refused
 pub record HasEnded (old : PortStanding) (new : PassStanding PortBuffer) : Type 0 where
   pub given : List Value
   pub left : List Value
@@ -188,16 +213,20 @@ pub record HasEnded (old : PortStanding) (new : PassStanding PortBuffer) : Type 
   pub before : PassStanding PortBuffer
   pub gave : GaveBack given old.pass before
   pub home : new.spent ≡ None → (left ≡ []) × (new ≡ before) × (new.held ≡ [])
-  -- the ticket was drawn then, and is at or past the limit; or the port kept it, and nothing changed
+  -- the ticket was drawn then, and is at or past the limit; or the port kept it, and nothing
+  -- changed
   pub drawn : (ticket : ℕ) → old.pass.spent ≡ None → new.spent ≡ Some ticket
-      → (new ≡ having_seen new.seen (after_spent_put 0 ticket before)) × (old.pass.queue.setup.limit ≤ ticket)
+      → (new ≡ having_seen new.seen (after_spent_put 0 ticket before))
+      × (old.pass.queue.setup.limit ≤ ticket)
   pub kept : (ticket : ℕ) → old.pass.spent ≡ Some ticket → (given ≡ []) × (new ≡ old.pass)
 
 -- a port of a new queue, which holds nothing
 abbrev pub new_port : ℕ → PassStanding PortBuffer → PortStanding
-new_port hold p = record { pass = p; slots = replicate (n_of p.queue.setup.order) None; hold = hold }
+new_port hold p =
+    record { pass = p; slots = replicate (n_of p.queue.setup.order) None; hold = hold }
 
--- the ports of a new queue of this setup, in the order of their numbers, over buffers that contain their numbers
+-- the ports of a new queue of this setup, in the order of their numbers, over buffers that contain
+-- their numbers
 pub record AreOpened (c : Setup) (hold : ℕ) (opened : List PortStanding) : Type 0 where
   pub queue : PortQueue
   pub setup : queue.setup ≡ c

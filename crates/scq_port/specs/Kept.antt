@@ -1,5 +1,6 @@
 -- For private calls: what a port keeps.
-use Rattle.std.specs.Prelude.{◌≡◌, ℕ, ◌+◌, ◌<◌, ◌≤◌, Bool, is_none, List, [], length, map, Option, Some, None, slice_get}
+use Rattle.std.specs.Prelude.{◌≡◌, ℕ, ◌+◌, ◌<◌, ◌≤◌, Bool, is_none, List, [], length, map, Option}
+use Rattle.std.specs.Prelude.{Some, None, slice_get}
 use Rattle.scq_law.specs.Hands.{times}
 use Rattle.scq_word.specs.Sizes.{n_of}
 use Rattle.scq_queue.specs.Passes.{PassStanding}
@@ -12,7 +13,8 @@ abbrev pub indices : List Value → List ℕ
 indices values = map (λ (h : Value). h.index) values
 
 -- a value stands at its index, and is one that this pass of the queue holds
-pub record StandsAt (queue : PortQueue) (p : PassStanding PortBuffer) (i : ℕ) (h : Value) : Type 0 where
+pub record StandsAt (queue : PortQueue) (p : PassStanding PortBuffer) (i : ℕ)
+    (h : Value) : Type 0 where
   pub queue_of : h.queue ≡ queue
   pub pass : h.pass ≡ p.number
   pub index : h.index ≡ i
@@ -20,7 +22,8 @@ pub record StandsAt (queue : PortQueue) (p : PassStanding PortBuffer) (i : ℕ) 
 
 -- a pass of the queue, with all the values that it holds, each at its index; how many they are, and
 -- how many there may be
-pub record Keeps (queue : PortQueue) (p : PassStanding PortBuffer) (slots : List (Option Value)) (count hold : ℕ) : Type 0 where
+pub record Keeps (queue : PortQueue) (p : PassStanding PortBuffer) (slots : List (Option Value))
+    (count hold : ℕ) : Type 0 where
   pub own : p.queue ≡ queue
   pub places : length slots ≡ n_of queue.setup.order
   pub here : (i : ℕ) (h : Value) → slice_get slots i ≡ Some (Some h) → StandsAt queue p i h
@@ -53,7 +56,8 @@ pub record IsFresh (queue : PortQueue) (p : PassStanding PortBuffer) : Type 0 wh
   pub none : p.held ≡ []
 
 -- a pass of the queue that holds the values at these places, and no others
-pub record LetsGo (queue : PortQueue) (p : PassStanding PortBuffer) (slots : List (Option Value)) : Type 0 where
+pub record LetsGo (queue : PortQueue) (p : PassStanding PortBuffer)
+    (slots : List (Option Value)) : Type 0 where
   pub own : p.queue ≡ queue
   pub here : (i : ℕ) (h : Value) → slice_get slots i ≡ Some (Some h) → StandsAt queue p i h
   pub free : (i : ℕ) → slice_get slots i ≡ Some None → times i p.held ≡ 0

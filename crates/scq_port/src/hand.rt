@@ -1,5 +1,6 @@
 //! The values that a port holds, each at its index.
-ghost use Rattle.std.specs.Prelude.{◌≡◌, ℕ, ◌<◌, length, Some, None, MatchOption, slice_get, slice_set};
+ghost use Rattle.std.specs.Prelude.{◌≡◌, ℕ, ◌<◌, length, Some, None, MatchOption, slice_get};
+ghost use Rattle.std.specs.Prelude.{slice_set};
 ghost use Rattle.scq_port.specs.Ports.{Value};
 
 use crate::port_buffer::PortBuffer;
@@ -7,7 +8,8 @@ use scq_band::Lifted;
 use scq_queue::Held;
 use std::mem;
 
-/// The values that a port holds, each at the index of its buffer: `used` of them, and no more than `hold`.
+/// The values that a port holds, each at the index of its buffer: `used` of them, and no more than
+/// `hold`.
 pub struct Hand {
     pub(crate) slots: Vec<Option<Held<PortBuffer>>>,
     pub(crate) used: u32,
@@ -35,7 +37,8 @@ impl Hand {
     pub(crate) fn take_out(&mut self, index: u32) -> Option<Held<PortBuffer>>
         ensures none { result ≡ None → (self.new.slots.items ≡ self.old.slots.items)
             × ((h : Value) → slice_get self.old.slots.items index ≡ Some (Some h) → ⊥) }
-        ensures some { (h : Value) → result ≡ Some h → (slice_get self.old.slots.items index ≡ Some (Some h))
+        ensures some { (h : Value) → result ≡ Some h
+            → (slice_get self.old.slots.items index ≡ Some (Some h))
             × (self.new.slots.items ≡ slice_set self.old.slots.items index None) }
         ensures rest { (self.new.used ≡ self.old.used) × (self.new.hold ≡ self.old.hold) }
     {

@@ -1,6 +1,8 @@
 //! The calls of a pass together with the values that it holds.
-ghost use Rattle.std.specs.Prelude.{◌≡◌, ℕ, suc, ◌+◌, ◌<◌, ◌≤◌, [], length, Some, None, Err, IfOk, ◌≢◌};
-ghost use Rattle.scq_port.specs.Calls.{IsLent, IsTaken, IsSent, IsGivenBack, WasFull, WasEmpty, IsSpentGet, IsSpentPut, HoldsNoSuch};
+ghost use Rattle.std.specs.Prelude.{◌≡◌, ℕ, suc, ◌+◌, ◌<◌, ◌≤◌, [], length, Some, None, Err, IfOk};
+ghost use Rattle.std.specs.Prelude.{◌≢◌};
+ghost use Rattle.scq_port.specs.Calls.{IsLent, IsTaken, IsSent, IsGivenBack, WasFull, WasEmpty};
+ghost use Rattle.scq_port.specs.Calls.{IsSpentGet, IsSpentPut, HoldsNoSuch};
 ghost use Rattle.scq_port.specs.Kept.{KeepsHand, seen_as};
 ghost use Rattle.scq_port.specs.Ports.{AreNumbered};
 
@@ -22,9 +24,11 @@ pub(crate) fn lend(
     ensures kept { KeepsHand queue.now pass.new hand.new }
     ensures number { pass.new.number ≡ pass.old.number }
     ensures retired { pass.new.retired ≡ pass.old.retired }
-    ensures lent { IfOk result (λ index. IsLent index (seen_as pass.old hand.old) (seen_as pass.new hand.new)) }
+    ensures lent { IfOk result (λ index.
+        IsLent index (seen_as pass.old hand.old) (seen_as pass.new hand.new)) }
     ensures no_room { result ≢ Err LendRefusal.NoRoom }
-    ensures full { (head : ℕ) → result ≡ Err (LendRefusal.Full head) → WasFull head (seen_as pass.old hand.old) (seen_as pass.new hand.new) }
+    ensures full { (head : ℕ) → result ≡ Err (LendRefusal.Full head)
+        → WasFull head (seen_as pass.old hand.old) (seen_as pass.new hand.new) }
     ensures spent { (ticket : ℕ) → result ≡ Err (LendRefusal.Spent ticket)
         → IsSpentGet 0 ticket (seen_as pass.old hand.old) (seen_as pass.new hand.new) }
 {
@@ -53,7 +57,8 @@ pub(crate) fn take(
     ensures kept { KeepsHand queue.now pass.new hand.new }
     ensures number { pass.new.number ≡ pass.old.number }
     ensures retired { pass.new.retired ≡ pass.old.retired }
-    ensures taken { IfOk result (λ r. IsTaken topic r.0 r.1 (seen_as pass.old hand.old) (seen_as pass.new hand.new)) }
+    ensures taken { IfOk result (λ r.
+        IsTaken topic r.0 r.1 (seen_as pass.old hand.old) (seen_as pass.new hand.new)) }
     ensures tested { (result ≢ Err TakeRefusal.NoTopic) × (result ≢ Err TakeRefusal.NoRoom) }
     ensures empty { (head : ℕ) → result ≡ Err (TakeRefusal.Empty head)
         → WasEmpty topic head (seen_as pass.old hand.old) (seen_as pass.new hand.new) }
@@ -70,7 +75,8 @@ pub(crate) fn take(
     }
 }
 
-/// Sends the value of an index on a topic: answers its place. Where it is refused the value is held as before.
+/// Sends the value of an index on a topic: answers its place. Where it is refused the value is held
+/// as before.
 #[inline(always)]
 pub(crate) fn send(
     queue: &Queue<PortBuffer>,
@@ -85,9 +91,11 @@ pub(crate) fn send(
     ensures kept { KeepsHand queue.now pass.new hand.new }
     ensures number { pass.new.number ≡ pass.old.number }
     ensures retired { pass.new.retired ≡ pass.old.retired }
-    ensures sent { IfOk result (λ place. IsSent index topic place (seen_as pass.old hand.old) (seen_as pass.new hand.new)) }
+    ensures sent { IfOk result (λ place.
+        IsSent index topic place (seen_as pass.old hand.old) (seen_as pass.new hand.new)) }
     ensures tested { (result ≢ Err SendRefusal.NoTopic) × (result ≢ Err SendRefusal.Retired) }
-    ensures not_held { result ≡ Err SendRefusal.NotHeld → HoldsNoSuch index (seen_as pass.old hand.old) (seen_as pass.new hand.new) }
+    ensures not_held { result ≡ Err SendRefusal.NotHeld
+        → HoldsNoSuch index (seen_as pass.old hand.old) (seen_as pass.new hand.new) }
     ensures spent { (ticket : ℕ) → result ≡ Err (SendRefusal.Spent ticket)
         → IsSpentPut (suc topic) ticket (seen_as pass.old hand.old) (seen_as pass.new hand.new) }
 {
@@ -120,8 +128,10 @@ pub(crate) fn give_back(
     ensures kept { KeepsHand queue.now pass.new hand.new }
     ensures number { pass.new.number ≡ pass.old.number }
     ensures retired { pass.new.retired ≡ pass.old.retired }
-    ensures given { IfOk result (λ _. IsGivenBack index (seen_as pass.old hand.old) (seen_as pass.new hand.new)) }
-    ensures not_held { result ≡ Err GiveBackRefusal.NotHeld → HoldsNoSuch index (seen_as pass.old hand.old) (seen_as pass.new hand.new) }
+    ensures given { IfOk result (λ _.
+        IsGivenBack index (seen_as pass.old hand.old) (seen_as pass.new hand.new)) }
+    ensures not_held { result ≡ Err GiveBackRefusal.NotHeld
+        → HoldsNoSuch index (seen_as pass.old hand.old) (seen_as pass.new hand.new) }
     ensures spent { (ticket : ℕ) → result ≡ Err (GiveBackRefusal.Spent ticket)
         → IsSpentPut 0 ticket (seen_as pass.old hand.old) (seen_as pass.new hand.new) }
 {

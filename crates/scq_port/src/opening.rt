@@ -32,7 +32,8 @@ fn buffers(alloc: Global, count: u32) -> Result<Vec<PortBuffer>, NoMemory>
 
 /// A hand without values, with a place for each of so many indices.
 fn empty_hand(alloc: Global, places: u32, hold: u32) -> Result<Hand, NoMemory>
-    ensures { IfOk result (λ hand. (hand.slots.items ≡ replicate places None) × (hand.used ≡ 0) × (hand.hold ≡ hold)) }
+    ensures { IfOk result (λ hand.
+        (hand.slots.items ≡ replicate places None) × (hand.used ≡ 0) × (hand.hold ≡ hold)) }
 {
     let mut slots = Vec::with_capacity(alloc, places as usize)?;
     while slots.len() < places as usize {
@@ -95,8 +96,9 @@ fn ports_of(
     Ok(ports)
 }
 
-/// A queue over 2^order buffers, by its ports, as many as the setup has seats and in the order of their numbers, each of which may hold
-/// `hold` values. Topic t is ring t + 1, so there is one topic less than rings. Where memory is refused nothing is left.
+/// A queue over 2^order buffers, by its ports, as many as the setup has seats and in the order of
+/// their numbers, each of which may hold `hold` values. Topic t is ring t + 1, so there is one
+/// topic less than rings. Where memory is refused nothing is left.
 pub fn open(alloc: Global, setup: Setup, hold: u32) -> Result<Vec<Port>, NoMemory>
     requires rings { 2 ≤ setup.rings }
     ensures { IfOk result (λ ports. AreOpened setup hold ports.items) }

@@ -1,10 +1,14 @@
 //! A port.
-ghost use Rattle.std.specs.Prelude.{◌≡◌, ◌==◌, ℕ, suc, ◌+◌, ◌<◌, ◌≤◌, is_none, length, map, Some, None, Err, IfOk, IfErr, IfSome};
+ghost use Rattle.std.specs.Prelude.{◌≡◌, ◌==◌, ℕ, suc, ◌+◌, ◌<◌, ◌≤◌, is_none, length, map, Some};
+ghost use Rattle.std.specs.Prelude.{None, Err, IfOk, IfErr, IfSome};
 ghost use Rattle.std.specs.Arc.{arc_value};
 ghost use Rattle.scq_word.specs.Sizes.{n_of};
 ghost use Rattle.scq_queue.specs.Lists.{counts_of};
 ghost use Rattle.scq_queue.specs.Passes.{lists_of};
-ghost use Rattle.scq_port.specs.Calls.{HasRetired, HasAsked, HasCounted, retired_pass, retired_port, IsLent, IsTaken, IsSent, IsGivenBack, WasFull, WasEmpty, IsSpentGet, IsSpentPut, HasNoRoom, HasTopic, HasNoTopic, HoldsNoSuch, HasEnded};
+ghost use Rattle.scq_port.specs.Calls.{HasRetired, HasAsked, HasCounted, retired_pass};
+ghost use Rattle.scq_port.specs.Calls.{retired_port, IsLent, IsTaken, IsSent, IsGivenBack, WasFull};
+ghost use Rattle.scq_port.specs.Calls.{WasEmpty, IsSpentGet, IsSpentPut, HasNoRoom, HasTopic};
+ghost use Rattle.scq_port.specs.Calls.{HasNoTopic, HoldsNoSuch, HasEnded};
 ghost use Rattle.scq_port.specs.Kept.{KeepsHand, seen_as};
 ghost use Rattle.scq_port.specs.Ports.{bytes_of};
 ghost use Rattle.scq_port.specs.Closed.{HasClosed};
@@ -22,8 +26,9 @@ use std::marker::Model;
 use std::snapshot::Snapshot;
 use std::sync::Arc;
 
-/// A pass with its queue and the values that it holds. One call at a time is made with it, by whichever thread has it. Where it is dropped
-/// it gives back what it holds, and the last port of a queue frees it.
+/// A pass with its queue and the values that it holds. One call at a time is made with it, by
+/// whichever thread has it. Where it is dropped it gives back what it holds, and the last port of a
+/// queue frees it.
 pub struct Port {
     pub(crate) owner: Arc<Owner, Global>,
     pub(crate) pass: Pass<PortBuffer>,
@@ -54,8 +59,10 @@ impl Port {
     pub fn lend(&mut self) -> Result<u32, LendRefusal>
         ensures lent { IfOk result (λ index. IsLent index self.old self.new) }
         ensures no_room { result ≡ Err LendRefusal.NoRoom → HasNoRoom self.old self.new }
-        ensures full { (head : ℕ) → result ≡ Err (LendRefusal.Full head) → WasFull head self.old self.new }
-        ensures spent { (ticket : ℕ) → result ≡ Err (LendRefusal.Spent ticket) → IsSpentGet 0 ticket self.old self.new }
+        ensures full { (head : ℕ) → result ≡ Err (LendRefusal.Full head)
+            → WasFull head self.old self.new }
+        ensures spent { (ticket : ℕ) → result ≡ Err (LendRefusal.Spent ticket)
+            → IsSpentGet 0 ticket self.old self.new }
     {
         if self.hand.used >= self.hand.hold {
             return Err(LendRefusal::NoRoom);
@@ -65,15 +72,18 @@ impl Port {
 
     /// Takes a value from a topic: answers its place and its index.
     ///
-    /// NoTopic where there are not so many topics, NoRoom as with `lend`. Empty and Spent as with `scq_queue`.
+    /// NoTopic where there are not so many topics, NoRoom as with `lend`. Empty and Spent as with
+    /// `scq_queue`.
     #[inline(always)]
     pub fn take(&mut self, topic: u32) -> Result<(u64, u32), TakeRefusal>
         ensures taken { IfOk result (λ r. IsTaken topic r.0 r.1 self.old self.new) }
         ensures no_topic { result ≡ Err TakeRefusal.NoTopic → HasNoTopic topic self.old self.new }
         ensures no_room { result ≡ Err TakeRefusal.NoRoom
             → HasNoRoom self.old self.new × HasTopic topic self.old }
-        ensures empty { (head : ℕ) → result ≡ Err (TakeRefusal.Empty head) → WasEmpty topic head self.old self.new }
-        ensures spent { (ticket : ℕ) → result ≡ Err (TakeRefusal.Spent ticket) → IsSpentGet (suc topic) ticket self.old self.new }
+        ensures empty { (head : ℕ) → result ≡ Err (TakeRefusal.Empty head)
+            → WasEmpty topic head self.old self.new }
+        ensures spent { (ticket : ℕ) → result ≡ Err (TakeRefusal.Spent ticket)
+            → IsSpentGet (suc topic) ticket self.old self.new }
     {
         if topic >= self.topics {
             return Err(TakeRefusal::NoTopic);
@@ -86,9 +96,9 @@ impl Port {
 
     /// Sends the value of an index on a topic: answers its place.
     ///
-    /// NoTopic where there are not so many topics, Retired where the port has retired, NotHeld where
-    /// it holds no value of this index. Spent as with `scq_queue`; then the port still holds the
-    /// value.
+    /// NoTopic where there are not so many topics, Retired where the port has retired, NotHeld
+    /// where it holds no value of this index. Spent as with `scq_queue`; then the port still holds
+    /// the value.
     #[inline(always)]
     pub fn send(&mut self, index: u32, topic: u32) -> Result<u64, SendRefusal>
         ensures sent { IfOk result (λ place. IsSent index topic place self.old self.new) }
@@ -96,8 +106,10 @@ impl Port {
         ensures retired { result ≡ Err SendRefusal.Retired
             → HasRetired self.old self.new × HasTopic topic self.old }
         ensures not_held { result ≡ Err SendRefusal.NotHeld
-            → HoldsNoSuch index self.old self.new × HasTopic topic self.old × (self.old.pass.retired ≡ None) }
-        ensures spent { (ticket : ℕ) → result ≡ Err (SendRefusal.Spent ticket) → IsSpentPut (suc topic) ticket self.old self.new }
+            → HoldsNoSuch index self.old self.new × HasTopic topic self.old
+            × (self.old.pass.retired ≡ None) }
+        ensures spent { (ticket : ℕ) → result ≡ Err (SendRefusal.Spent ticket)
+            → IsSpentPut (suc topic) ticket self.old self.new }
     {
         if topic >= self.topics {
             return Err(SendRefusal::NoTopic);
@@ -120,8 +132,10 @@ impl Port {
     #[inline(always)]
     pub fn give_back(&mut self, index: u32) -> Result<(), GiveBackRefusal>
         ensures given { IfOk result (λ _. IsGivenBack index self.old self.new) }
-        ensures not_held { result ≡ Err GiveBackRefusal.NotHeld → HoldsNoSuch index self.old self.new }
-        ensures spent { (ticket : ℕ) → result ≡ Err (GiveBackRefusal.Spent ticket) → IsSpentPut 0 ticket self.old self.new }
+        ensures not_held { result ≡ Err GiveBackRefusal.NotHeld
+            → HoldsNoSuch index self.old self.new }
+        ensures spent { (ticket : ℕ) → result ≡ Err (GiveBackRefusal.Spent ticket)
+            → IsSpentPut 0 ticket self.old self.new }
     {
         holding::give_back(&self.owner.queue, &mut self.pass, index, &mut self.hand)
     }
@@ -167,7 +181,8 @@ impl Port {
         self.pass.counts()
     }
 
-    /// The ticket at or past the limit that it keeps. From then on each call on a ring answers Spent with it.
+    /// The ticket at or past the limit that it keeps. From then on each call on a ring answers
+    /// Spent with it.
     pub fn spent(&self) -> Option<u64>
         ensures { result ≡ self.now.pass.spent }
     {
@@ -175,8 +190,8 @@ impl Port {
     }
 
     /// Closes the port, as dropping it does: retires it, gives back what it holds, and answers for
-    /// contracts alone what its pass was then. The last port of a queue that closes closes the queue, and is
-    /// told of all passes together.
+    /// contracts alone what its pass was then. The last port of a queue that closes closes the
+    /// queue, and is told of all passes together.
     ///
     /// Where the pass keeps a spent ticket, or draws one, what can't be given back goes with it,
     /// and back to the queue where that closes.
@@ -200,8 +215,8 @@ impl Port {
     }
 }
 
-/// Retires a port, gives back what it holds, leaves its pass with the others, and lets go of its share of the
-/// queue; who gets the queue back closes it.
+/// Retires a port, gives back what it holds, leaves its pass with the others, and lets go of its
+/// share of the queue; who gets the queue back closes it.
 fn end(
     owner: Arc<Owner, Global>,
     mut pass: Pass<PortBuffer>,

@@ -1,4 +1,5 @@
-//! The buffers of ports: numbers. The bytes that are sent lie with the caller, who finds those of a number; nothing here knows where.
+//! The buffers of ports: numbers. The bytes that are sent lie with the caller, who finds those of a
+//! number; nothing here knows where.
 ghost use Rattle.std.specs.Prelude.{◌≡◌, length};
 ghost use Rattle.std.proofs.Common.{sym, refl, ap, ◌∙◌};
 ghost use Rattle.scq_port.specs.Numbers.{number_bytes};

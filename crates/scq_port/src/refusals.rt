@@ -1,7 +1,7 @@
 //! Why a port's calls did nothing.
 
-/// Why nothing was lent: the port holds as many values as it may; no buffer was free, the free ring's Head being at or past this number;
-/// or the port keeps a ticket at or past the limit.
+/// Why nothing was lent: the port holds as many values as it may; no buffer was free, the free
+/// ring's Head being at or past this number; or the port keeps a ticket at or past the limit.
 #[derive(Clone, Copy, Debug, PartialEq, Eq)]
 pub enum LendRefusal {
     NoRoom,
@@ -9,8 +9,9 @@ pub enum LendRefusal {
     Spent { ticket: u64 },
 }
 
-/// Why nothing was taken: there is no such topic; the port holds as many values as it may; the topic was empty, its ring's Head being at
-/// or past this number; or the port keeps a ticket at or past the limit.
+/// Why nothing was taken: there is no such topic; the port holds as many values as it may; the
+/// topic was empty, its ring's Head being at or past this number; or the port keeps a ticket at or
+/// past the limit.
 #[derive(Clone, Copy, Debug, PartialEq, Eq)]
 pub enum TakeRefusal {
     NoTopic,
@@ -29,7 +30,8 @@ pub enum SendRefusal {
     Spent { ticket: u64 },
 }
 
-/// Why nothing was given back: the port holds no value of this index; or it keeps a ticket at or past the limit.
+/// Why nothing was given back: the port holds no value of this index; or it keeps a ticket at or
+/// past the limit.
 #[derive(Clone, Copy, Debug, PartialEq, Eq)]
 pub enum GiveBackRefusal {
     NotHeld,

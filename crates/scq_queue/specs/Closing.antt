@@ -1,6 +1,7 @@
--- What all passes say together once a queue is closed. A pass is told by its position among those that were given, a send or a take by
--- its position among those of its pass.
-use Rattle.std.specs.Prelude.{◌≡◌, ℕ, suc, ◌+◌, ◌<◌, List, map, length, Some, slice_get, slice_index, All, sum, sum_by}
+-- What all passes say together once a queue is closed. A pass is told by its position among those
+-- that were given, a send or a take by its position among those of its pass.
+use Rattle.std.specs.Prelude.{◌≡◌, ℕ, suc, ◌+◌, ◌<◌, List, map, length, Some, slice_get}
+use Rattle.std.specs.Prelude.{slice_index, All, sum, sum_by}
 use Rattle.std.specs.List.{Contains}
 use Rattle.scq_core.specs.declared.ended.Ended.{Ended}
 use Rattle.scq_word.specs.declared.setup.Setup.{Setup}
@@ -26,10 +27,12 @@ module _ {B : Type 0} where
 
   -- the send, or the take, of these numbers is this
   abbrev pub IsSend : List (PassStanding B) → ℕ → ℕ → Placed → Type 0
-  IsSend passes pass number m = (p : PassStanding B) × (slice_get passes pass ≡ Some p) × (slice_get (sends_of p.calls) number ≡ Some m)
+  IsSend passes pass number m = (p : PassStanding B) × (slice_get passes pass ≡ Some p)
+      × (slice_get (sends_of p.calls) number ≡ Some m)
 
   abbrev pub IsTake : List (PassStanding B) → ℕ → ℕ → Placed → Type 0
-  IsTake passes pass number m = (p : PassStanding B) × (slice_get passes pass ≡ Some p) × (slice_get (takes_of p.calls) number ≡ Some m)
+  IsTake passes pass number m = (p : PassStanding B) × (slice_get passes pass ≡ Some p)
+      × (slice_get (takes_of p.calls) number ≡ Some m)
 
   -- some pass sent it, or took it
   pub record WasSent (passes : List (PassStanding B)) (m : Placed) : Type 0 where
@@ -49,12 +52,14 @@ module _ {B : Type 0} where
   -- no place of a topic was sent at twice
   abbrev pub NoPlaceIsSentTwice : List (PassStanding B) → Type 0
   NoPlaceIsSentTwice passes =
-      (a x b y : ℕ) (m n : Placed) → IsSend passes a x m → IsSend passes b y n → m.topic ≡ n.topic → m.place ≡ n.place → (a ≡ b) × (x ≡ y)
+      (a x b y : ℕ) (m n : Placed) → IsSend passes a x m → IsSend passes b y n → m.topic ≡ n.topic
+      → m.place ≡ n.place → (a ≡ b) × (x ≡ y)
 
   -- no place of a topic was taken twice
   abbrev pub NoPlaceIsTakenTwice : List (PassStanding B) → Type 0
   NoPlaceIsTakenTwice passes =
-      (a x b y : ℕ) (m n : Placed) → IsTake passes a x m → IsTake passes b y n → m.topic ≡ n.topic → m.place ≡ n.place → (a ≡ b) × (x ≡ y)
+      (a x b y : ℕ) (m n : Placed) → IsTake passes a x m → IsTake passes b y n → m.topic ≡ n.topic
+      → m.place ≡ n.place → (a ≡ b) × (x ≡ y)
 
   -- how many sends, and takes, of a topic all passes made
   abbrev pub sends_on : ℕ → List (PassStanding B) → ℕ
@@ -66,12 +71,14 @@ module _ {B : Type 0} where
   -- on each topic, the sends less the takes are what is left
   pub record IsBalance (c : Setup) (passes : List (PassStanding B)) (left : List ℕ) : Type 0 where
     pub rings : length left ≡ c.rings
-    pub balance : (topic : ℕ) → suc topic < c.rings → slice_index left (suc topic) + takes_on topic passes ≡ sends_on topic passes
+    pub balance : (topic : ℕ) → suc topic < c.rings
+        → slice_index left (suc topic) + takes_on topic passes ≡ sends_on topic passes
 
   -- each send whose place is below a head that some pass knows was taken
   abbrev pub EachSendPassedIsTaken : List (PassStanding B) → Type 0
   EachSendPassedIsTaken passes =
-      (m : Placed) (pass : ℕ) (p : PassStanding B) → WasSent passes m → slice_get passes pass ≡ Some p → m.place < (known_on m.topic p).head
+      (m : Placed) (pass : ℕ) (p : PassStanding B) → WasSent passes m
+      → slice_get passes pass ≡ Some p → m.place < (known_on m.topic p).head
       → WasTaken passes m
 
   -- what is left in all rings and the held values are n together
@@ -84,25 +91,31 @@ module _ {B : Type 0} where
 
   -- where a pass keeps a spent ticket, the ticket bound of the ticket's ring is past the limit
   abbrev pub EachKeptIsPastTheBound : Setup → List (PassStanding B) → Type 0
-  EachKeptIsPastTheBound c passes = EachSpentIsPastTheBound c (records_of passes) (map (λ p. p.spent) passes)
+  EachKeptIsPastTheBound c passes =
+      EachSpentIsPastTheBound c (records_of passes) (map (λ p. p.spent) passes)
 
   -- where the limit is enough for so many puts, and on no ring more were begun, none keeps one
   abbrev pub NoneIsKeptWithinTheLimit : Setup → List (PassStanding B) → Type 0
-  NoneIsKeptWithinTheLimit c passes = NoneIsSpentWithinTheLimit c (records_of passes) (map (λ p. p.spent) passes)
+  NoneIsKeptWithinTheLimit c passes =
+      NoneIsSpentWithinTheLimit c (records_of passes) (map (λ p. p.spent) passes)
 
   -- where some pass was told that all had retired, each has
   abbrev pub AllRetiredWhereTold : List (PassStanding B) → Type 0
   AllRetiredWhereTold passes =
-      (a b : ℕ) (told other : PassStanding B) → slice_get passes a ≡ Some told → told.gate ≡ Some 0 → slice_get passes b ≡ Some other
+      (a b : ℕ) (told other : PassStanding B) → slice_get passes a ≡ Some told → told.gate ≡ Some 0
+      → slice_get passes b ≡ Some other
       → (calls : ℕ) × (other.retired ≡ Some calls)
 
   -- each pass that some pass had seen retired has retired, with so many calls made before
   abbrev pub EachSeenRetiredHas : List (PassStanding B) → Type 0
   EachSeenRetiredHas passes =
-      (a b calls : ℕ) (one other : PassStanding B) → slice_get passes a ≡ Some one → slice_get passes b ≡ Some other
+      (a b calls : ℕ) (one other : PassStanding B) → slice_get passes a ≡ Some one
+      → slice_get passes b ≡ Some other
       → Contains one.seen.retirees (other.number, calls) → other.retired ≡ Some calls
 
   -- these are the values that the passes of the queue hold, and no others
-  pub record AreTheHeld (queue : Identity B) (passes : List (PassStanding B)) (held : List (HeldStanding B)) : Type 0 where
+  pub record AreTheHeld (queue : Identity B) (passes : List (PassStanding B))
+      (held : List (HeldStanding B)) : Type 0 where
     pub queue_of : (k : ℕ) (h : HeldStanding B) → slice_get held k ≡ Some h → h.queue ≡ queue
-    pub all : (i : ℕ) → times i (map (λ h. h.index) held) ≡ sum_by (λ (p : PassStanding B). times i p.held) passes
+    pub all : (i : ℕ) → times i (map (λ h. h.index) held)
+        ≡ sum_by (λ (p : PassStanding B). times i p.held) passes

@@ -1,4 +1,5 @@
--- For those who call: a pass of a queue with just the values that it holds, in the order in which they came.
+-- For those who call: a pass of a queue with just the values that it holds, in the order in which
+-- they came.
 use Rattle.std.specs.Prelude.{◌≡◌, ℕ, ◌≤◌, List, [], ◌∷◌, map, None}
 use Rattle.scq_law.specs.Hands.{times}
 use Rattle.scq_band.specs.Standing.{Identity}
@@ -11,7 +12,8 @@ module _ {B : Type 0} where
   AllOf queue number (h ∷ hs) = (h.queue ≡ queue) × (h.pass ≡ number) × AllOf queue number hs
 
   -- the pass is awake, and holds these values, no index twice
-  pub record HoldsJust (queue : Identity B) (p : PassStanding B) (values : List (HeldStanding B)) : Type 0 where
+  pub record HoldsJust (queue : Identity B) (p : PassStanding B)
+      (values : List (HeldStanding B)) : Type 0 where
     pub own : p.queue ≡ queue
     pub awake : p.retired ≡ None
     pub same : map (λ (h : HeldStanding B). h.index) values ≡ p.held

@@ -59,8 +59,9 @@ module _ {B : Type 0} where
     pub lifted : AreLifted later
     pub gate : later.gate ≡ s.gate
 
-  -- what a pass keeps: the buffers of all its values are lifted, its Full replies are those in its record, its counts are the lengths
-  -- of its lists, and it says that all have retired where its last reading was 0
+  -- what a pass keeps: the buffers of all its values are lifted, its Full replies are those in its
+  -- record, its counts are the lengths of its lists, and it says that all have retired where its
+  -- last reading was 0
   pub record IsPass (s : Standing B) (fulls : List ℕ) (counts : Counts) (saw : Bool) : Type 0 where
     pub lifted : AreLifted s
     pub all_fulls : length fulls ≡ fulls_in s.calls
@@ -69,7 +70,8 @@ module _ {B : Type 0} where
 
   -- the value of an index that a pass got with its seat
   abbrev pub held_of : Standing B → ℕ → B → HeldStanding B
-  held_of s index buffer = record { queue = s.band; pass = s.number; index = index; buffer = buffer }
+  held_of s index buffer =
+      record { queue = s.band; pass = s.number; index = index; buffer = buffer }
 
   -- the buffer of a value, with its index
   abbrev pub value_of : HeldStanding B → ℕ × B
@@ -80,7 +82,8 @@ module _ {B : Type 0} where
   IsGiven IsSame h = IsAsGiven IsSame h.queue.given h.index h.buffer
 
   -- what a queue keeps: empty lists with room for all seats, their counts and what each was told
-  pub record IsQueue (queue : Identity B) (seats : List (Standing B)) (seat_room : ℕ) (counts : List Counts) (count_room : ℕ) (saw : List Bool)
+  pub record IsQueue (queue : Identity B) (seats : List (Standing B)) (seat_room : ℕ)
+      (counts : List Counts) (count_room : ℕ) (saw : List Bool)
       (saw_room : ℕ) : Type 0 where
     pub no_seat : seats ≡ []
     pub all_seats : queue.setup.seats ≤ seat_room

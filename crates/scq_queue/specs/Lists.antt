@@ -1,6 +1,7 @@
--- The sends, the takes and the Full replies of a pass, in the order of its record. Topic t is ring t + 1, and ring 0 has the indices
--- that nobody holds.
-use Rattle.std.specs.Prelude.{ℕ, zero, suc, ◌-◌, ◌^◌, ◌==◌, min, List, [], ◌∷◌, ◌++◌, length, Option, Some, None, count_by}
+-- The sends, the takes and the Full replies of a pass, in the order of its record. Topic t is ring
+-- t + 1, and ring 0 has the indices that nobody holds.
+use Rattle.std.specs.Prelude.{ℕ, zero, suc, ◌-◌, ◌^◌, ◌==◌, min, List, [], ◌∷◌, ◌++◌, length}
+use Rattle.std.specs.Prelude.{Option, Some, None, count_by}
 use Rattle.std.specs.List.{filter_map}
 use Rattle.scq_core.specs.declared.ended.Ended.{Ended}
 use Rattle.scq_core.specs.declared.ended.Ended.TheVariants.{Done, Got, Nothing}
@@ -13,7 +14,8 @@ pub record Placed : Type 0 where
   pub place : ℕ
   pub bytes : List ℕ
 
--- what a call sent, where it is a send that ended with a place; and what it took, where it is such a take
+-- what a call sent, where it is a send that ended with a place; and what it took, where it is such
+-- a take
 abbrev pub sent_by : Ended → Option Placed
 sent_by (Done (suc t) p w) = Some (record { topic = t; place = p; bytes = w })
 sent_by call = None
@@ -49,10 +51,12 @@ pub record Lists : Type 0 where
 
 -- the lists with one member more
 abbrev pub with_send : ℕ → ℕ → List ℕ → Lists → Lists
-with_send topic place bytes l = record l { sends = l.sends ++ record { topic = topic; place = place; bytes = bytes } ∷ [] }
+with_send topic place bytes l =
+    record l { sends = l.sends ++ record { topic = topic; place = place; bytes = bytes } ∷ [] }
 
 abbrev pub with_take : ℕ → ℕ → List ℕ → Lists → Lists
-with_take topic place bytes l = record l { takes = l.takes ++ record { topic = topic; place = place; bytes = bytes } ∷ [] }
+with_take topic place bytes l =
+    record l { takes = l.takes ++ record { topic = topic; place = place; bytes = bytes } ∷ [] }
 
 abbrev pub with_full : ℕ → Lists → Lists
 with_full head l = record l { fulls = l.fulls ++ head ∷ [] }
@@ -63,4 +67,9 @@ counted n = min n (2 ^ 64 - 1)
 
 -- the lengths of the lists, as they are counted
 abbrev pub counts_of : Lists → Counts
-counts_of l = record { sent = counted (length l.sends); taken = counted (length l.takes); full = counted (length l.fulls) }
+counts_of l = record {
+  sent = counted (length l.sends);
+  taken = counted (length l.takes);
+  full =
+      counted (length l.fulls);
+}

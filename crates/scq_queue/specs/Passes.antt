@@ -1,12 +1,15 @@
--- What contracts see of a pass and of a value that it holds, and what each call makes of a pass. A queue is seen as its band is: by
--- its setup, and by the buffers that it was given, that of index i at i.
-use Rattle.std.specs.Prelude.{◌≡◌, ℕ, zero, suc, ◌+◌, ◌<◌, ◌≤◌, Bool, true, false, not, ◌==◌, List, [], ◌∷◌, ◌++◌, filter, Option, Some, None}
+-- What contracts see of a pass and of a value that it holds, and what each call makes of a pass. A
+-- queue is seen as its band is: by its setup, and by the buffers that it was given, that of index i
+-- at i.
+use Rattle.std.specs.Prelude.{◌≡◌, ℕ, zero, suc, ◌+◌, ◌<◌, ◌≤◌, Bool, true, false, not, ◌==◌, List}
+use Rattle.std.specs.Prelude.{[], ◌∷◌, ◌++◌, filter, Option, Some, None}
 use Rattle.std.specs.List.{Contains}
 use Rattle.scq_core.specs.declared.ended.Ended.{Ended}
 use Rattle.scq_core.specs.declared.ended.Ended.TheVariants.{Done, Got, Nothing, Spent}
 use Rattle.scq_band.specs.declared.numbers.Numbers.{Numbers}
 use Rattle.scq_band.specs.RunSeen.{Seen, nothing_seen, Caller}
-use Rattle.scq_band.specs.Numbers.{known_of, first_numbers, changed, finishes, sees, passes, drew, empties}
+use Rattle.scq_band.specs.Numbers.{known_of, first_numbers, changed, finishes, sees, passes, drew}
+use Rattle.scq_band.specs.Numbers.{empties}
 use Rattle.scq_band.specs.Standing.{Identity}
 use Rattle.scq_queue.specs.Lists.{Lists, sends_of, takes_of}
 
@@ -24,7 +27,8 @@ pub record PassStanding (B : Type 0) : Type 0 where
   pub numbers : List Numbers
   -- the spent ticket that it keeps
   pub spent : Option ℕ
-  -- how often it asked whether all passes had retired, and how many had not when it last did; before the first, the number of passes
+  -- how often it asked whether all passes had retired, and how many had not when it last did;
+  -- before the first, the number of passes
   pub gates : ℕ
   pub gate : Option ℕ
   -- how many calls stood in its record when it retired
@@ -32,7 +36,8 @@ pub record PassStanding (B : Type 0) : Type 0 where
   -- what it has seen of the run of all passes, and of those that retired
   pub seen : Seen
 
--- what contracts see of a held value: its queue, the number of the pass that got it, its index, and its buffer
+-- what contracts see of a held value: its queue, the number of the pass that got it, its index, and
+-- its buffer
 pub record HeldStanding (B : Type 0) : Type 0 where
   pub queue : Identity B
   pub pass : ℕ
@@ -116,11 +121,16 @@ module _ {B : Type 0} where
   -- a pass that found a ring empty, with the last ticket that it drew there, if any
   abbrev pub after_nothing : ℕ → Option ℕ → PassStanding B → PassStanding B
   after_nothing ring drawn p =
-      record p { calls = p.calls ++ Nothing ring ∷ []; numbers = changed (λ x. empties (drew drawn x)) ring p.numbers }
+      record p {
+        calls = p.calls ++ Nothing ring ∷ [];
+        numbers =
+            changed (λ x. empties (drew drawn x)) ring p.numbers;
+      }
 
   -- a pass whose put, or get, drew a ticket at or past the limit
   abbrev pub after_spent_put : ℕ → ℕ → PassStanding B → PassStanding B
-  after_spent_put ring ticket p = record p { calls = p.calls ++ Spent ring ticket true ∷ []; spent = Some ticket }
+  after_spent_put ring ticket p =
+      record p { calls = p.calls ++ Spent ring ticket true ∷ []; spent = Some ticket }
 
   abbrev pub after_spent_get : ℕ → ℕ → PassStanding B → PassStanding B
   after_spent_get ring ticket p =
@@ -134,28 +144,33 @@ module _ {B : Type 0} where
   abbrev pub after_look : ℕ → PassStanding B → PassStanding B
   after_look found p = record p { gates = p.gates + 1; gate = Some found }
 
-  -- a pass that got a value off a ring at a place: it holds the value, whose bytes stand in its record, and did not hold it before
-  pub record HasGot (contents : B → List ℕ) (ring place : ℕ) (old new : PassStanding B) (h : HeldStanding B) : Type 0 where
+  -- a pass that got a value off a ring at a place: it holds the value, whose bytes stand in its
+  -- record, and did not hold it before
+  pub record HasGot (contents : B
+      → List ℕ) (ring place : ℕ) (old new : PassStanding B) (h : HeldStanding B) : Type 0 where
     pub pass : new ≡ having_seen new.seen (after_get ring h.index place (contents h.buffer) old)
     pub held : IsHeldBy new h
     pub came : Contains old.held h.index → ⊥
 
-  -- a pass that was lent a value: the place on the free ring is below the limit, and not below the head that the pass knew
-  pub record WasLent (contents : B → List ℕ) (old new : PassStanding B) (h : HeldStanding B) : Type 0 where
+  -- a pass that was lent a value: the place on the free ring is below the limit, and not below the
+  -- head that the pass knew
+  pub record WasLent (contents : B
+      → List ℕ) (old new : PassStanding B) (h : HeldStanding B) : Type 0 where
     pub place : ℕ
     pub got : HasGot contents 0 place old new h
     pub low : place < old.queue.setup.limit
     pub known : (known_free old).head ≤ place
 
-  -- a pass that gave a value of an index back: the place on the free ring is below the limit, and above the places that the pass knew
+  -- a pass that gave a value of an index back: the place on the free ring is below the limit, and
+  -- above the places that the pass knew
   pub record WasGivenBack (bytes : List ℕ) (index : ℕ) (old new : PassStanding B) : Type 0 where
     pub place : ℕ
     pub pass : new ≡ having_seen new.seen (after_put 0 index place bytes old)
     pub low : place < old.queue.setup.limit
     pub known : (known_free old).seen < place
 
-  -- a pass that found a ring empty: the head that was answered is the larger of the head known, past the tickets drawn, and of one
-  -- more than the finished place known
+  -- a pass that found a ring empty: the head that was answered is the larger of the head known,
+  -- past the tickets drawn, and of one more than the finished place known
   pub record FoundNothing (ring head : ℕ) (old new : PassStanding B) : Type 0 where
     pub drawn : Option ℕ
     pub pass : new ≡ having_seen new.seen (after_nothing ring drawn old)

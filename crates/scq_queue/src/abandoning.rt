@@ -14,7 +14,8 @@ fn lay_down<B: Buffer>(band: &Band<B>, seat: &mut Seat<B>, held: Held<B>)
     requires seat { seat.old.band ≡ band.now }
     requires own { held.queue ≡ band.now }
     requires lifted { in_hand seat.old.hand held.index ≡ Some None }
-    ensures laid { seat.new ≡ record seat.old { hand = with_buffer held.index (Some held.buffer) seat.old.hand } }
+    ensures laid { seat.new
+        ≡ record seat.old { hand = with_buffer held.index (Some held.buffer) seat.old.hand } }
 {
     held.is_given();
     let Held {
@@ -26,12 +27,14 @@ fn lay_down<B: Buffer>(band: &Band<B>, seat: &mut Seat<B>, held: Held<B>)
 }
 
 impl<B: Buffer> Queue<B> {
-    /// A pass goes for good, with what it holds: `held` has values of it, each at its index. Their buffers stay with the queue, which
-    /// lends them to nobody any more, and go where it goes: a buffer is laid in its slot, since none may be let go of where its type
-    /// isn't `Drop`. Takes no memory.
+    /// A pass goes for good, with what it holds: `held` has values of it, each at its index. Their
+    /// buffers stay with the queue, which lends them to nobody any more, and go where it goes: a
+    /// buffer is laid in its slot, since none may be let go of where its type isn't `Drop`. Takes
+    /// no memory.
     pub fn leave(&self, pass: Pass<B>, mut held: Vec<Option<Held<B>>>)
         requires pass { pass.queue ≡ self.now }
-        requires held { (i : ℕ) (h : HeldStanding B) → slice_get held.items i ≡ Some (Some h) → (h.index ≡ i) × IsHeldBy pass h }
+        requires held { (i : ℕ) (h : HeldStanding B) → slice_get held.items i ≡ Some (Some h)
+            → (h.index ≡ i) × IsHeldBy pass h }
     {
         let Pass {
             mut seat,
@@ -49,7 +52,8 @@ impl<B: Buffer> Queue<B> {
 }
 
 impl<B: Buffer + Drop> Queue<B> {
-    /// Lets the queue go, and with it the buffers that nobody holds. It asks for no pass; where all come back, `close` says what they did.
+    /// Lets the queue go, and with it the buffers that nobody holds. It asks for no pass; where all
+    /// come back, `close` says what they did.
     pub fn abandon(self) {
         let Queue {
             band: _band,

@@ -5,7 +5,9 @@ ghost use Rattle.scq_band.specs.Buffers.{opening_of};
 ghost use Rattle.scq_band.specs.RunSeen.{IsCallInRun, WasEmptyInRun};
 ghost use Rattle.scq_band.specs.Standing.{IsAsGiven};
 ghost use Rattle.scq_queue.specs.Lists.{with_send, with_take, with_full};
-ghost use Rattle.scq_queue.specs.Passes.{lists_of, known_on, IsHeldBy, HasGot, WasLent, WasGivenBack, FoundFull, FoundEmpty, having_seen, caller_of, after_put, after_spent_put, after_spent_get};
+ghost use Rattle.scq_queue.specs.Passes.{lists_of, known_on, IsHeldBy, HasGot, WasLent};
+ghost use Rattle.scq_queue.specs.Passes.{WasGivenBack, FoundFull, FoundEmpty, having_seen};
+ghost use Rattle.scq_queue.specs.Passes.{caller_of, after_put, after_spent_put, after_spent_get};
 
 use crate::counts::count;
 use crate::fulls::once_more;
@@ -16,49 +18,61 @@ use crate::values::{get, put};
 use scq_band::{DeqRefusal, Spent};
 use scq_word::Buffer;
 
-/// Why no buffer was lent: there was none that nobody held, the free ring's Head being at or past this number; or the pass keeps a
-/// ticket at or past the limit.
+/// Why no buffer was lent: there was none that nobody held, the free ring's Head being at or past
+/// this number; or the pass keeps a ticket at or past the limit.
 #[derive(Clone, Copy, Debug, PartialEq, Eq)]
 pub enum LendRefusal {
     Full { head: u64 },
     Spent { ticket: u64 },
 }
 
-/// Why nothing was taken: the topic was empty, its ring's Head being at or past this number; or the pass keeps a ticket at or past the
-/// limit.
+/// Why nothing was taken: the topic was empty, its ring's Head being at or past this number; or the
+/// pass keeps a ticket at or past the limit.
 #[derive(Clone, Copy, Debug, PartialEq, Eq)]
 pub enum TakeRefusal {
     Empty { head: u64 },
     Spent { ticket: u64 },
 }
 
-// Each call of a pass that keeps no spent ticket is a call in the run of all passes (the clause `run`): all that the pass had seen of the
-// run lies before the call's first step, and the call's last step is the last that the pass has seen from then on.
+// Each call of a pass that keeps no spent ticket is a call in the run of all passes (the clause
+// `run`): all that the pass had seen of the run lies before the call's first step, and the call's
+// last step is the last that the pass has seen from then on.
 impl<B: Buffer> Queue<B> {
     /// Lends the pass a buffer that nobody holds, with whatever bytes stand in it.
     ///
-    /// Full where there was none: the free ring's Head is past each place at which the pass knew a buffer to be given back. In the run of
-    /// all passes Head was at or past the number answered after the call's last step, and at a moment inside the call each buffer that
-    /// was given back had been lent, or was claimed by a call under way (the clause `full_in_run`). Spent where the ticket that was
-    /// drawn is at or past the limit; the pass keeps it, and answers it from then on, with no step made.
+    /// Full where there was none: the free ring's Head is past each place at which the pass knew a
+    /// buffer to be given back. In the run of all passes Head was at or past the number answered
+    /// after the call's last step, and at a moment inside the call each buffer that was given back
+    /// had been lent, or was claimed by a call under way (the clause `full_in_run`). Spent where
+    /// the ticket that was drawn is at or past the limit; the pass keeps it, and answers it from
+    /// then on, with no step made.
     #[inline(always)]
     pub fn lend(&self, pass: &mut Pass<B>) -> Result<Held<B>, LendRefusal>
         requires pass { pass.old.queue ≡ self.now }
         ensures own { (pass.new.queue ≡ pass.old.queue) × (pass.new.number ≡ pass.old.number) }
         ensures lent { IfOk result (λ held. WasLent B.contents pass.old pass.new held) }
-        ensures given { IfOk result (λ held. IsAsGiven B.IsSameBuffer self.now.given held.index held.buffer) }
+        ensures given { IfOk result (λ held.
+            IsAsGiven B.IsSameBuffer self.now.given held.index held.buffer) }
         ensures index { IfOk result (λ held. held.index < n_of self.now.setup.order) }
         ensures lists { IfOk result (λ _. lists_of pass.new ≡ lists_of pass.old) }
-        ensures full { (head : ℕ) → result ≡ Err (LendRefusal.Full head) → FoundFull head pass.old pass.new }
+        ensures full { (head : ℕ) → result ≡ Err (LendRefusal.Full head)
+            → FoundFull head pass.old pass.new }
         ensures full_in_run { (head : ℕ) → result ≡ Err (LendRefusal.Full head)
-            → WasEmptyInRun self.now.setup (opening_of B.contents self.now.given) 0 head (caller_of pass.old) (caller_of pass.new) }
-        ensures full_lists { (head : ℕ) → result ≡ Err (LendRefusal.Full head) → lists_of pass.new ≡ with_full head (lists_of pass.old) }
-        ensures spent { (ticket : ℕ) → result ≡ Err (LendRefusal.Spent ticket) → pass.old.spent ≡ None
-            → (pass.new ≡ having_seen pass.new.seen (after_spent_get 0 ticket pass.old)) × (self.now.setup.limit ≤ ticket) }
-        ensures spent_lists { (ticket : ℕ) → result ≡ Err (LendRefusal.Spent ticket) → lists_of pass.new ≡ lists_of pass.old }
+            → WasEmptyInRun self.now.setup (opening_of B.contents self.now.given) 0 head
+            (caller_of pass.old) (caller_of pass.new) }
+        ensures full_lists { (head : ℕ) → result ≡ Err (LendRefusal.Full head)
+            → lists_of pass.new ≡ with_full head (lists_of pass.old) }
+        ensures spent { (ticket : ℕ) → result ≡ Err (LendRefusal.Spent ticket)
+            → pass.old.spent ≡ None
+            → (pass.new ≡ having_seen pass.new.seen (after_spent_get 0 ticket pass.old))
+            × (self.now.setup.limit ≤ ticket) }
+        ensures spent_lists { (ticket : ℕ) → result ≡ Err (LendRefusal.Spent ticket)
+            → lists_of pass.new ≡ lists_of pass.old }
         ensures run { pass.old.spent ≡ None
-            → IsCallInRun self.now.setup (opening_of B.contents self.now.given) (caller_of pass.old) (caller_of pass.new) }
-        ensures kept { (ticket : ℕ) → pass.old.spent ≡ Some ticket → (result ≡ Err (LendRefusal.Spent ticket)) × (pass.new ≡ pass.old) }
+            → IsCallInRun self.now.setup (opening_of B.contents self.now.given) (caller_of pass.old)
+            (caller_of pass.new) }
+        ensures kept { (ticket : ℕ) → pass.old.spent ≡ Some ticket
+            → (result ≡ Err (LendRefusal.Spent ticket)) × (pass.new ≡ pass.old) }
     {
         match get(&self.band, &mut pass.seat, 0) {
             Ok((_, held)) => Ok(held),
@@ -73,8 +87,9 @@ impl<B: Buffer> Queue<B> {
         }
     }
 
-    /// Sends a value that the pass holds on a topic, with the bytes that stand in it: answers its place, which is below the limit and
-    /// above each place of a send of this topic that the pass knew.
+    /// Sends a value that the pass holds on a topic, with the bytes that stand in it: answers its
+    /// place, which is below the limit and above each place of a send of this topic that the pass
+    /// knew.
     ///
     /// Spent as with `lend`; the value comes back as it was.
     #[inline(always)]
@@ -89,16 +104,25 @@ impl<B: Buffer> Queue<B> {
         requires held { IsHeldBy pass.old held }
         requires stays { pass.old.retired ≡ None }
         ensures own { (pass.new.queue ≡ pass.old.queue) × (pass.new.number ≡ pass.old.number) }
-        ensures sent { IfOk result (λ place. pass.new ≡ having_seen pass.new.seen (after_put (suc topic) held.index place (B.contents held.buffer) pass.old)) }
-        ensures place { IfOk result (λ place. (place < self.now.setup.limit) × ((known_on topic pass.old).seen < place)) }
-        ensures lists { IfOk result (λ place. lists_of pass.new ≡ with_send topic place (B.contents held.buffer) (lists_of pass.old)) }
+        ensures sent { IfOk result (λ place.
+            pass.new ≡ having_seen pass.new.seen
+            (after_put (suc topic) held.index place (B.contents held.buffer) pass.old)) }
+        ensures place { IfOk result (λ place.
+            (place < self.now.setup.limit) × ((known_on topic pass.old).seen < place)) }
+        ensures lists { IfOk result (λ place.
+            lists_of pass.new
+            ≡ with_send topic place (B.contents held.buffer) (lists_of pass.old)) }
         ensures back { IfErr result (λ refused. refused.0 ≡ held) }
         ensures spent { IfErr result (λ refused. pass.old.spent ≡ None
-            → (pass.new ≡ having_seen pass.new.seen (after_spent_put (suc topic) refused.1.ticket pass.old)) × (self.now.setup.limit ≤ refused.1.ticket)) }
+            → (pass.new ≡ having_seen pass.new.seen
+            (after_spent_put (suc topic) refused.1.ticket pass.old))
+            × (self.now.setup.limit ≤ refused.1.ticket)) }
         ensures spent_lists { IfErr result (λ _. lists_of pass.new ≡ lists_of pass.old) }
         ensures run { pass.old.spent ≡ None
-            → IsCallInRun self.now.setup (opening_of B.contents self.now.given) (caller_of pass.old) (caller_of pass.new) }
-        ensures kept { (ticket : ℕ) → pass.old.spent ≡ Some ticket → (result ≡ Err (held, record { ticket = ticket })) × (pass.new ≡ pass.old) }
+            → IsCallInRun self.now.setup (opening_of B.contents self.now.given) (caller_of pass.old)
+            (caller_of pass.new) }
+        ensures kept { (ticket : ℕ) → pass.old.spent ≡ Some ticket
+            → (result ≡ Err (held, record { ticket = ticket })) × (pass.new ≡ pass.old) }
     {
         match put(&self.band, &mut pass.seat, topic + 1, held) {
             Ok(place) => {
@@ -109,31 +133,42 @@ impl<B: Buffer> Queue<B> {
         }
     }
 
-    /// Takes a value from a topic: answers its place, which is below the limit and not below the head of this topic that the pass
-    /// knew, and the value. That its bytes are those that were sent there is told of all passes together by `close`.
+    /// Takes a value from a topic: answers its place, which is below the limit and not below the
+    /// head of this topic that the pass knew, and the value. That its bytes are those that were
+    /// sent there is told of all passes together by `close`.
     ///
-    /// Empty where there was none: the topic's Head is past each place of a send that the pass knew to be finished. In the run of all
-    /// passes Head was at or past the number answered after the call's last step, and at a moment inside the call each send that had
-    /// ended was taken, or claimed by a take under way (the clause `empty_in_run`). Spent as with `lend`.
+    /// Empty where there was none: the topic's Head is past each place of a send that the pass knew
+    /// to be finished. In the run of all passes Head was at or past the number answered after the
+    /// call's last step, and at a moment inside the call each send that had ended was taken, or
+    /// claimed by a take under way (the clause `empty_in_run`). Spent as with `lend`.
     #[inline(always)]
     pub fn take(&self, pass: &mut Pass<B>, topic: u32) -> Result<(u64, Held<B>), TakeRefusal>
         requires pass { pass.old.queue ≡ self.now }
         requires topic { topic + 1 < self.now.setup.rings }
         ensures own { (pass.new.queue ≡ pass.old.queue) × (pass.new.number ≡ pass.old.number) }
         ensures took { IfOk result (λ r. HasGot B.contents (suc topic) r.0 pass.old pass.new r.1) }
-        ensures given { IfOk result (λ r. IsAsGiven B.IsSameBuffer self.now.given r.1.index r.1.buffer) }
-        ensures place { IfOk result (λ r. (r.0 < self.now.setup.limit) × ((known_on topic pass.old).head ≤ r.0)) }
+        ensures given { IfOk result (λ r.
+            IsAsGiven B.IsSameBuffer self.now.given r.1.index r.1.buffer) }
+        ensures place { IfOk result (λ r.
+            (r.0 < self.now.setup.limit) × ((known_on topic pass.old).head ≤ r.0)) }
         ensures index { IfOk result (λ r. r.1.index < n_of self.now.setup.order) }
-        ensures lists { IfOk result (λ r. lists_of pass.new ≡ with_take topic r.0 (B.contents r.1.buffer) (lists_of pass.old)) }
-        ensures empty { (head : ℕ) → result ≡ Err (TakeRefusal.Empty head) → FoundEmpty topic head pass.old pass.new }
+        ensures lists { IfOk result (λ r.
+            lists_of pass.new ≡ with_take topic r.0 (B.contents r.1.buffer) (lists_of pass.old)) }
+        ensures empty { (head : ℕ) → result ≡ Err (TakeRefusal.Empty head)
+            → FoundEmpty topic head pass.old pass.new }
         ensures empty_in_run { (head : ℕ) → result ≡ Err (TakeRefusal.Empty head)
-            → WasEmptyInRun self.now.setup (opening_of B.contents self.now.given) (suc topic) head (caller_of pass.old) (caller_of pass.new) }
-        ensures spent { (ticket : ℕ) → result ≡ Err (TakeRefusal.Spent ticket) → pass.old.spent ≡ None
-            → (pass.new ≡ having_seen pass.new.seen (after_spent_get (suc topic) ticket pass.old)) × (self.now.setup.limit ≤ ticket) }
+            → WasEmptyInRun self.now.setup (opening_of B.contents self.now.given) (suc topic) head
+            (caller_of pass.old) (caller_of pass.new) }
+        ensures spent { (ticket : ℕ) → result ≡ Err (TakeRefusal.Spent ticket)
+            → pass.old.spent ≡ None
+            → (pass.new ≡ having_seen pass.new.seen (after_spent_get (suc topic) ticket pass.old))
+            × (self.now.setup.limit ≤ ticket) }
         ensures refused_lists { IfErr result (λ _. lists_of pass.new ≡ lists_of pass.old) }
         ensures run { pass.old.spent ≡ None
-            → IsCallInRun self.now.setup (opening_of B.contents self.now.given) (caller_of pass.old) (caller_of pass.new) }
-        ensures kept { (ticket : ℕ) → pass.old.spent ≡ Some ticket → (result ≡ Err (TakeRefusal.Spent ticket)) × (pass.new ≡ pass.old) }
+            → IsCallInRun self.now.setup (opening_of B.contents self.now.given) (caller_of pass.old)
+            (caller_of pass.new) }
+        ensures kept { (ticket : ℕ) → pass.old.spent ≡ Some ticket
+            → (result ≡ Err (TakeRefusal.Spent ticket)) × (pass.new ≡ pass.old) }
     {
         let (place, held) = match get(&self.band, &mut pass.seat, topic + 1) {
             Ok(got) => got,
@@ -152,14 +187,18 @@ impl<B: Buffer> Queue<B> {
         requires pass { pass.old.queue ≡ self.now }
         requires held { IsHeldBy pass.old held }
         ensures own { (pass.new.queue ≡ pass.old.queue) × (pass.new.number ≡ pass.old.number) }
-        ensures given { IfOk result (λ _. WasGivenBack (B.contents held.buffer) held.index pass.old pass.new) }
+        ensures given { IfOk result (λ _.
+            WasGivenBack (B.contents held.buffer) held.index pass.old pass.new) }
         ensures lists { lists_of pass.new ≡ lists_of pass.old }
         ensures back { IfErr result (λ refused. refused.0 ≡ held) }
         ensures spent { IfErr result (λ refused. pass.old.spent ≡ None
-            → (pass.new ≡ having_seen pass.new.seen (after_spent_put 0 refused.1.ticket pass.old)) × (self.now.setup.limit ≤ refused.1.ticket)) }
+            → (pass.new ≡ having_seen pass.new.seen (after_spent_put 0 refused.1.ticket pass.old))
+            × (self.now.setup.limit ≤ refused.1.ticket)) }
         ensures run { pass.old.spent ≡ None
-            → IsCallInRun self.now.setup (opening_of B.contents self.now.given) (caller_of pass.old) (caller_of pass.new) }
-        ensures kept { (ticket : ℕ) → pass.old.spent ≡ Some ticket → (result ≡ Err (held, record { ticket = ticket })) × (pass.new ≡ pass.old) }
+            → IsCallInRun self.now.setup (opening_of B.contents self.now.given) (caller_of pass.old)
+            (caller_of pass.new) }
+        ensures kept { (ticket : ℕ) → pass.old.spent ≡ Some ticket
+            → (result ≡ Err (held, record { ticket = ticket })) × (pass.new ≡ pass.old) }
     {
         let _place = match put(&self.band, &mut pass.seat, 0, held) {
             Ok(place) => place,

@@ -1,10 +1,17 @@
-//! The end of a queue: its passes and the values that are still held come back, and its buffers are handed out.
+//! The end of a queue: its passes and the values that are still held come back, and its buffers are
+//! handed out.
 ghost use Rattle.std.specs.Prelude.{◌≡◌, ◌≤◌, [], map, All, vec_len, vec_capacity};
-ghost use Rattle.scq_band.specs.Closing.{IsOneRunToTheEnd, AreTheSame, ComesBackAsItWas, EachIsInOneHand, EachLeftIsItsPut};
+ghost use Rattle.scq_band.specs.Closing.{IsOneRunToTheEnd, AreTheSame, ComesBackAsItWas};
+ghost use Rattle.scq_band.specs.Closing.{EachIsInOneHand, EachLeftIsItsPut};
 ghost use Rattle.scq_band.specs.Buffers.{opening_of};
 ghost use Rattle.scq_queue.specs.Lists.{counts_of};
 ghost use Rattle.scq_queue.specs.Passes.{lists_of, was_told};
-ghost use Rattle.scq_queue.specs.Closing.{EachTakeIsASend, NoPlaceIsSentTwice, NoPlaceIsTakenTwice, IsBalance, EachSendPassedIsTaken, IsAllThere, AllFullsStand, EachKeptIsPastTheBound, NoneIsKeptWithinTheLimit, AllRetiredWhereTold, EachSeenRetiredHas, AreTheHeld, records_of, all_held, callers_of};
+ghost use Rattle.scq_queue.specs.Closing.{EachTakeIsASend, NoPlaceIsSentTwice, NoPlaceIsTakenTwice};
+ghost use Rattle.scq_queue.specs.Closing.{IsBalance, EachSendPassedIsTaken, IsAllThere};
+ghost use Rattle.scq_queue.specs.Closing.{AllFullsStand, EachKeptIsPastTheBound};
+ghost use Rattle.scq_queue.specs.Closing.{NoneIsKeptWithinTheLimit, AllRetiredWhereTold};
+ghost use Rattle.scq_queue.specs.Closing.{EachSeenRetiredHas, AreTheHeld, records_of, all_held};
+ghost use Rattle.scq_queue.specs.Closing.{callers_of};
 ghost use Rattle.scq_queue.specs.Kept.{seat_of, value_of, IsGiven};
 
 use crate::counts::Counts;
@@ -15,9 +22,9 @@ use scq_band::{BandClosed, Seat};
 use scq_word::Buffer;
 use std::snapshot::Snapshot;
 
-/// What is left of a queue: its buffers in order of index, for each ring how many indices were left in it, and of each pass the counts, and
-/// whether it saw that all had retired.
-/// `passes` are the passes as they came, for contracts alone: it has no bytes when the program runs.
+/// What is left of a queue: its buffers in order of index, for each ring how many indices were left
+/// in it, and of each pass the counts, and whether it saw that all had retired. `passes` are the
+/// passes as they came, for contracts alone: it has no bytes when the program runs.
 #[derive(Drop)]
 pub struct Closed<B: Buffer> {
     pub buffers: Vec<B>,
@@ -27,7 +34,8 @@ pub struct Closed<B: Buffer> {
     pub passes: Snapshot<Vec<Pass<B>>>,
 }
 
-/// The seats of these passes, their counts and what they saw, in their order, put into empty lists with room.
+/// The seats of these passes, their counts and what they saw, in their order, put into empty lists
+/// with room.
 fn unpack<B: Buffer>(
     mut passes: Vec<Pass<B>>,
     seats: &mut Vec<Seat<B>>,
@@ -35,7 +43,8 @@ fn unpack<B: Buffer>(
     saw: &mut Vec<bool>,
 )
     requires empty { (seats.old.items ≡ []) × (counts.old.items ≡ []) × (saw.old.items ≡ []) }
-    requires room { (vec_len passes ≤ vec_capacity seats.old) × (vec_len passes ≤ vec_capacity counts.old) × (vec_len passes ≤ vec_capacity saw.old) }
+    requires room { (vec_len passes ≤ vec_capacity seats.old)
+        × (vec_len passes ≤ vec_capacity counts.old) × (vec_len passes ≤ vec_capacity saw.old) }
     ensures seats { seats.new.items ≡ map seat_of passes.items }
     ensures counts { counts.new.items ≡ map (λ p. counts_of (lists_of p)) passes.items }
     ensures saw { saw.new.items ≡ map (λ p. was_told p.gate) passes.items }
@@ -66,16 +75,19 @@ fn all_given<B: Buffer>(held: &[Held<B>])
 }
 
 impl<B: Buffer> Queue<B> {
-    /// Closes a queue whose passes and held values all come back. All buffers are handed out. Takes no memory.
+    /// Closes a queue whose passes and held values all come back. All buffers are handed out. Takes
+    /// no memory.
     ///
-    /// The clauses read what the passes did together, in the order in which they are given. One run stands behind all their calls: what
-    /// each pass had seen are prefixes of it, its history has the four aspects, and the calls of each ring stand in one order in which
-    /// every reply is a plain queue's.
+    /// The clauses read what the passes did together, in the order in which they are given. One run
+    /// stands behind all their calls: what each pass had seen are prefixes of it, its history has
+    /// the four aspects, and the calls of each ring stand in one order in which every reply is a
+    /// plain queue's.
     pub fn close(self, passes: Vec<Pass<B>>, held: Vec<Held<B>>) -> Closed<B>
         requires passes { All (λ p. p.queue ≡ self) passes.items }
         requires all { vec_len passes ≡ self.setup.seats }
         requires held { AreTheHeld self passes.items held.items }
-        ensures run { IsOneRunToTheEnd self.setup (opening_of B.contents self.given) (callers_of passes.items) (records_of passes.items)
+        ensures run { IsOneRunToTheEnd self.setup (opening_of B.contents self.given)
+            (callers_of passes.items) (records_of passes.items)
             (all_held passes.items) (map B.contents result.buffers.items) }
         ensures buffers { AreTheSame B.IsSameBuffer self.given result.buffers.items }
         ensures counts { result.counts.items ≡ map (λ p. counts_of (lists_of p)) passes.items }
@@ -89,8 +101,10 @@ impl<B: Buffer> Queue<B> {
         ensures all_there { IsAllThere self.setup held.items result.left.items }
         ensures fulls { AllFullsStand passes.items }
         ensures hands { EachIsInOneHand self.setup (all_held passes.items) }
-        ensures held { All (ComesBackAsItWas B.contents result.buffers.items) (map value_of held.items) }
-        ensures left { EachLeftIsItsPut self.setup (opening_of B.contents self.given) (records_of passes.items) (all_held passes.items)
+        ensures held { All (ComesBackAsItWas B.contents result.buffers.items)
+            (map value_of held.items) }
+        ensures left { EachLeftIsItsPut self.setup (opening_of B.contents self.given)
+            (records_of passes.items) (all_held passes.items)
             (map B.contents result.buffers.items) }
         ensures kept { EachKeptIsPastTheBound self.setup passes.items }
         ensures limits { NoneIsKeptWithinTheLimit self.setup passes.items }

@@ -18,11 +18,12 @@ impl<B: Buffer> Queue<B> {
         self.band.capacity()
     }
 
-    /// About how many values stand on a topic: a hint, as other passes send and take meanwhile. It is the
-    /// topic's Tail less its Head, each as it stood at a moment of its own, Head's before Tail's; and no
-    /// more than there are buffers. Tickets that found nothing or were not used count too, so it may be
-    /// too high, and where takes have drawn tickets past Tail, too low: so 0 doesn't say Empty. The pass
-    /// is shown the run at both moments, as by two looks. Wait-free: two steps.
+    /// About how many values stand on a topic: a hint, as other passes send and take meanwhile. It
+    /// is the topic's Tail less its Head, each as it stood at a moment of its own, Head's before
+    /// Tail's; and no more than there are buffers. Tickets that found nothing or were not used
+    /// count too, so it may be too high, and where takes have drawn tickets past Tail, too low: so
+    /// 0 doesn't say Empty. The pass is shown the run at both moments, as by two looks. Wait-free:
+    /// two steps.
     pub fn count(&self, pass: &mut Pass<B>, topic: u32) -> u32
         requires pass { pass.old.queue ≡ self.now }
         requires topic { topic + 1 < self.now.setup.rings }

@@ -1,6 +1,7 @@
 ghost use Rattle.std.specs.Prelude.{◌≡◌, ◌+◌, ◌-◌, ◌^◌, min};
 
-/// How many sends, takes and Full replies a pass had. Each count stands still at the last value of 64 bits.
+/// How many sends, takes and Full replies a pass had. Each count stands still at the last value of
+/// 64 bits.
 #[derive(Clone, Copy, Debug, PartialEq, Eq)]
 pub struct Counts {
     pub sent: u64,

@@ -5,7 +5,8 @@ ghost use Rattle.scq_queue.specs.Kept.{heads_of};
 use std::mem;
 use std::snapshot::Snapshot;
 
-/// Full was never answered, or once more after these times. A pass keeps a snapshot of it, which has no bytes when the program runs.
+/// Full was never answered, or once more after these times. A pass keeps a snapshot of it, which
+/// has no bytes when the program runs.
 #[derive(Drop)]
 pub enum Fulls {
     Never,

@@ -8,8 +8,9 @@ use scq_word::{Buffer, BufferMut};
 use std::marker::Model;
 use std::snapshot::Snapshot;
 
-/// A buffer of a queue, in the hands of the pass that got it. It must be spent: it ends where it is sent, given back, or closed with its
-/// queue. `owner` is the pass's seat as it was when the value came.
+/// A buffer of a queue, in the hands of the pass that got it. It must be spent: it ends where it is
+/// sent, given back, or closed with its queue. `owner` is the pass's seat as it was when the value
+/// came.
 pub struct Held<B: Buffer> {
     pub(crate) index: u32,
     pub(crate) buffer: B,

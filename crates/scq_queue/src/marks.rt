@@ -1,4 +1,5 @@
-//! What a pass has seen of the run of all passes, carried to another: a mark; and how two passes meet.
+//! What a pass has seen of the run of all passes, carried to another: a mark; and how two passes
+//! meet.
 ghost use Rattle.std.specs.Prelude.{◌≡◌};
 ghost use Rattle.scq_band.specs.Buffers.{opening_of};
 ghost use Rattle.scq_band.specs.RunSeen.{IsMomentInRun, HaveMet, HaveSeenOneRun, both_seen};
@@ -9,7 +10,8 @@ use crate::queue::Queue;
 use scq_word::Buffer;
 use std::marker::Model;
 
-/// What a pass had seen when the mark was made. It has no bytes when the program runs, and may be dropped.
+/// What a pass had seen when the mark was made. It has no bytes when the program runs, and may be
+/// dropped.
 #[derive(Drop)]
 pub struct Mark {
     inner: scq_band::Mark,
@@ -24,9 +26,9 @@ impl Model for Mark {
 }
 
 impl<B: Buffer> Queue<B> {
-    /// Shows the pass the run of all passes as it is now. All that the pass had seen are prefixes of it,
-    /// and it stands between two calls of the pass. It has the calls of other passes too, of those that
-    /// told this one nothing among them: this no clause says. Wait-free: one step.
+    /// Shows the pass the run of all passes as it is now. All that the pass had seen are prefixes
+    /// of it, and it stands between two calls of the pass. It has the calls of other passes too, of
+    /// those that told this one nothing among them: this no clause says. Wait-free: one step.
     pub fn look(&self, pass: &mut Pass<B>)
         requires pass { pass.old.queue ≡ self.now }
         ensures same { pass.new ≡ having_seen pass.new.seen pass.old }
@@ -36,7 +38,8 @@ impl<B: Buffer> Queue<B> {
         self.band.look(&mut pass.seat);
     }
 
-    /// A mark of what the pass has seen: of the run, and of those that retired. Wait-free: one step.
+    /// A mark of what the pass has seen: of the run, and of those that retired. Wait-free: one
+    /// step.
     pub fn mark(&self, pass: &mut Pass<B>) -> Mark
         requires pass { pass.old.queue ≡ self.now }
         ensures same { pass.new ≡ pass.old }
@@ -47,10 +50,10 @@ impl<B: Buffer> Queue<B> {
         }
     }
 
-    /// The pass has seen what the mark's pass had. Each call, of any pass, that had ended in a run which
-    /// that pass had seen comes before each call that this one makes from now on
-    /// (`scq_band::laws::calls_in_a_run_seen_come_first`). So who takes Empty behind a mark is right
-    /// about each send that had ended there. Wait-free: one step.
+    /// The pass has seen what the mark's pass had. Each call, of any pass, that had ended in a run
+    /// which that pass had seen comes before each call that this one makes from now on
+    /// (`scq_band::laws::calls_in_a_run_seen_come_first`). So who takes Empty behind a mark is
+    /// right about each send that had ended there. Wait-free: one step.
     pub fn heed(&self, pass: &mut Pass<B>, mark: Mark)
         requires pass { pass.old.queue ≡ self.now }
         requires mark { mark.table ≡ self.now.table }
@@ -60,9 +63,9 @@ impl<B: Buffer> Queue<B> {
         self.band.heed(&mut pass.seat, inner);
     }
 
-    /// Two passes meet: what they had seen are prefixes of one run, which both have seen from now on. So
-    /// of any two runs that the one or the other had seen, one is a prefix of the other. Wait-free: five
-    /// steps.
+    /// Two passes meet: what they had seen are prefixes of one run, which both have seen from now
+    /// on. So of any two runs that the one or the other had seen, one is a prefix of the other.
+    /// Wait-free: five steps.
     pub fn meet(&self, one: &mut Pass<B>, other: &mut Pass<B>)
         requires one { one.old.queue ≡ self.now }
         requires other { other.old.queue ≡ self.now }

@@ -28,20 +28,26 @@ impl<B: Buffer> Queue<B> {
     pub fn note(&self, pass: &mut Pass<B>) -> Note
         requires pass { pass.old.queue ≡ self.now }
         ensures same { pass.new ≡ pass.old }
-        ensures note { (result.table ≡ self.now.table) × (result.numbers ≡ pass.old.numbers) × (result.seen ≡ pass.old.seen) }
+        ensures note { (result.table ≡ self.now.table) × (result.numbers ≡ pass.old.numbers)
+            × (result.seen ≡ pass.old.seen) }
     {
         Note {
             inner: self.band.note(&mut pass.seat),
         }
     }
 
-    /// From then on the pass knows the larger of each number, and has seen what the note's pass had: each call, of any pass, that had
-    /// ended in a run which that pass had seen comes before each call that this one makes from now on
-    /// (`scq_band::laws::calls_in_a_run_seen_come_first`). A mark carries the same without the numbers.
+    /// From then on the pass knows the larger of each number, and has seen what the note's pass
+    /// had: each call, of any pass, that had ended in a run which that pass had seen comes before
+    /// each call that this one makes from now on
+    /// (`scq_band::laws::calls_in_a_run_seen_come_first`). A mark carries the same without the
+    /// numbers.
     pub fn learn(&self, pass: &mut Pass<B>, note: Note)
         requires pass { pass.old.queue ≡ self.now }
         requires note { note.table ≡ self.now.table }
-        ensures { pass.new ≡ record pass.old { numbers = joined pass.old.numbers note.numbers; seen = both_seen pass.old.seen note.seen } }
+        ensures { pass.new ≡ record pass.old {
+          numbers = joined pass.old.numbers note.numbers;
+          seen = both_seen pass.old.seen note.seen;
+        } }
     {
         let Note { inner } = note;
         self.band.learn(&mut pass.seat, inner);

@@ -10,7 +10,8 @@ use scq_word::Buffer;
 use std::marker::Model;
 use std::snapshot::Snapshot;
 
-/// A pass of a queue. One call at a time is made with it, by whichever thread has it. `saw` is what its last reading of the gate answered.
+/// A pass of a queue. One call at a time is made with it, by whichever thread has it. `saw` is what
+/// its last reading of the gate answered.
 #[derive(Drop)]
 pub struct Pass<B: Buffer> {
     pub(crate) seat: Seat<B>,
@@ -40,14 +41,16 @@ impl<B: Buffer> Pass<B> {
         self.counts
     }
 
-    /// Whether a `closed` of this pass answered true: so where its last reading was 0, since the number read never rises.
+    /// Whether a `closed` of this pass answered true: so where its last reading was 0, since the
+    /// number read never rises.
     pub fn saw_closed(&self) -> bool
         ensures { result ≡ was_told self.now.gate }
     {
         self.saw
     }
 
-    /// The ticket at or past the limit that it keeps. From then on each call on a ring answers Spent with it.
+    /// The ticket at or past the limit that it keeps. From then on each call on a ring answers
+    /// Spent with it.
     pub fn spent(&self) -> Option<u64>
         ensures { result ≡ self.now.spent }
     {

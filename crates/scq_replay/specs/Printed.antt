@@ -1,5 +1,7 @@
--- How a step of a schedule is printed: the words of its call's ring after it, and the reply where it ends the call
-use Rattle.std.specs.Prelude.{ℕ, zero, suc, ◌-◌, ℤ, pos, ◌-ℤ◌, List, [], ◌++◌, Option, Some, None, unwrap_or, codes, decimal}
+-- How a step of a schedule is printed: the words of its call's ring after it, and the reply where
+-- it ends the call
+use Rattle.std.specs.Prelude.{ℕ, zero, suc, ◌-◌, ℤ, pos, ◌-ℤ◌, List, [], ◌++◌, Option, Some, None}
+use Rattle.std.specs.Prelude.{unwrap_or, codes, decimal}
 use Rattle.std.specs.Fmt.{signed_decimal}
 use Rattle.std.specs.Option.{option_or}
 use Rattle.scq_word.specs.declared.setup.Setup.{Setup}
@@ -7,7 +9,8 @@ use Rattle.scq_core.specs.declared.ended.Ended.{Ended}
 use Rattle.scq_core.specs.declared.ended.Ended.TheVariants.{Done, Got, Nothing, Spent}
 use Rattle.scq_core.specs.declared.phase.Phase.{Phase}
 use Rattle.scq_core.specs.declared.step.Step.{Step}
-use Rattle.scq_core.specs.declared.step.Step.TheVariants.{E1, E1Again, E2, E3, E4, E5, E6, D1, D2, D3, D4, D5, D6, D7, D8, D9, D10}
+use Rattle.scq_core.specs.declared.step.Step.TheVariants.{E1, E1Again, E2, E3, E4, E5, E6, D1, D2}
+use Rattle.scq_core.specs.declared.step.Step.TheVariants.{D3, D4, D5, D6, D7, D8, D9, D10}
 use Rattle.scq_core.specs.Machine.{Cells, Machine}
 use Rattle.scq_core.specs.Table.{ring_slots, zero_level}
 use Rattle.scq_core.specs.Turn.{ring_under_way}
@@ -40,7 +43,8 @@ begun_on (E1 ring index content) = Some ring
 begun_on (D1 ring) = Some ring
 begun_on step = None
 
--- the ring of a step's call: of the one that it begins, or of the one that its seat is in the middle of before it
+-- the ring of a step's call: of the one that it begins, or of the one that its seat is in the
+-- middle of before it
 abbrev pub call_ring : Step → Phase → ℕ
 call_ring step phase = unwrap_or (option_or (begun_on step) (ring_under_way phase)) 0
 
@@ -55,29 +59,35 @@ threshold_value word = pos word -ℤ pos zero_level
 
 -- the words of a ring
 abbrev pub counter_words : ℕ → ℕ → ℕ → List ℕ
-counter_words ring head tail = codes " ring " ++ decimal ring ++ codes " head " ++ decimal head ++ codes " tail " ++ decimal tail
+counter_words ring head tail =
+    codes " ring " ++ decimal ring ++ codes " head " ++ decimal head ++ codes " tail "
+    ++ decimal tail
 
 abbrev pub threshold_words : ℕ → List ℕ
 threshold_words word = codes " threshold " ++ signed_decimal (threshold_value word)
 
 abbrev pub ring_words : Setup → Cells → ℕ → List ℕ
 ring_words c m ring =
-    counter_words ring (m.head ring) (m.tail ring) ++ threshold_words (m.threshold ring) ++ codes " entries"
+    counter_words ring (m.head ring) (m.tail ring) ++ threshold_words (m.threshold ring)
+    ++ codes " entries"
     ++ entry_words (m.entries.word ring) (ring_slots c)
 
 -- the reply of a call that has ended
 abbrev pub reply_words : Option Ended → List ℕ
 reply_words None = []
 reply_words (Some (Done ring place content)) = codes " done " ++ decimal place
-reply_words (Some (Got ring place content)) = codes " got " ++ decimal place ++ codes " " ++ content_text content
+reply_words (Some (Got ring place content)) =
+    codes " got " ++ decimal place ++ codes " " ++ content_text content
 reply_words (Some (Nothing ring)) = codes " nothing"
 reply_words (Some (Spent ring ticket is_put)) = codes " spent " ++ decimal ticket
 
 -- which step of which seat it is
 abbrev pub head_words : ℕ → ℕ → Step → List ℕ
-head_words number seat step = decimal number ++ codes " " ++ decimal seat ++ codes " " ++ step_name step
+head_words number seat step =
+    decimal number ++ codes " " ++ decimal seat ++ codes " " ++ step_name step
 
 -- the line of a step of this number, seat and ring, from the state after it
 abbrev pub step_line : Setup → ℕ → ℕ → Step → ℕ → Machine → List ℕ
 step_line c number seat step ring m =
-    head_words number seat step ++ ring_words c m.cells ring ++ reply_words (ended_in (m.part seat).phase (m.part seat).calls) ++ codes "\n"
+    head_words number seat step ++ ring_words c m.cells ring
+    ++ reply_words (ended_in (m.part seat).phase (m.part seat).calls) ++ codes "\n"

@@ -1,12 +1,13 @@
--- What the lines of a schedule say: `setup ORDER RINGS SEATS LIMIT`, and then a step a line. The fields of a line stand one
--- space apart
+-- What the lines of a schedule say: `setup ORDER RINGS SEATS LIMIT`, and then a step a line. The
+-- fields of a line stand one space apart
 use Rattle.std.specs.Prelude.{◌≡◌, ℕ, ◌≤◌, List, [], ◌∷◌, Option, Some, None, codes, if◌then◌else◌}
 use Rattle.std.specs.Option.{option_map}
 use Rattle.std.specs.Str.{bytes_eq}
 use Rattle.scq_word.specs.Sizes.{n_of}
 use Rattle.scq_word.specs.declared.setup.Setup.{Setup}
 use Rattle.scq_core.specs.declared.step.Step.{Step}
-use Rattle.scq_core.specs.declared.step.Step.TheVariants.{E1, E1Again, E2, E3, E4, E5, E6, D1, D2, D3, D4, D5, D6, D7, D8, D9, D10}
+use Rattle.scq_core.specs.declared.step.Step.TheVariants.{E1, E1Again, E2, E3, E4, E5, E6, D1, D2}
+use Rattle.scq_core.specs.declared.step.Step.TheVariants.{D3, D4, D5, D6, D7, D8, D9, D10}
 use Rattle.scq_lines.specs.Lines.{fields_of, number_of, number_below, content_of}
 use Rattle.scq_replay.specs.declared.schedule.SetupNumbers.{SetupNumbers}
 
@@ -18,12 +19,15 @@ setup_of _ _ _ _ = None
 
 abbrev pub setup_said : List (List ℕ) → Option SetupNumbers
 setup_said (word ∷ order ∷ rings ∷ seats ∷ limit ∷ []) =
-    if bytes_eq word (codes "setup") then setup_of (number_of order) (number_of rings) (number_of seats) (number_of limit) else None
+    if bytes_eq word (codes "setup")
+    then setup_of (number_of order) (number_of rings) (number_of seats) (number_of limit)
+    else None
 setup_said _ = None
 
 -- the line says this setup, of an order of at most 4
 pub record IsSetupLine (line : List ℕ) (c : Setup) : Type 0 where
-  pub says : setup_said (fields_of line) ≡ Some (record { order = c.order; rings = c.rings; seats = c.seats; limit = c.limit })
+  pub says : setup_said (fields_of line)
+      ≡ Some (record { order = c.order; rings = c.rings; seats = c.seats; limit = c.limit })
   pub small : c.order ≤ 4
 
 -- the step of this name, where it stands alone: `E1` draws a next ticket
@@ -54,10 +58,12 @@ put_of _ _ _ = None
 -- the step of these fields, for rings, indices and seats of the setup
 abbrev pub step_said : Setup → List (List ℕ) → Option Step
 step_said c (name ∷ []) = bare_step name
-step_said c (name ∷ ring ∷ []) = if bytes_eq name (codes "D1") then option_map D1 (number_below c.rings ring) else None
+step_said c (name ∷ ring ∷ []) =
+    if bytes_eq name (codes "D1") then option_map D1 (number_below c.rings ring) else None
 step_said c (name ∷ ring ∷ index ∷ content ∷ []) =
     if bytes_eq name (codes "E1")
-    then put_of (number_below c.rings ring) (number_below (n_of c.order) index) (content_of 16 content)
+    then put_of (number_below c.rings ring) (number_below (n_of c.order) index)
+    (content_of 16 content)
     else None
 step_said c _ = None
 

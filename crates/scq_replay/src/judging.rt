@@ -13,8 +13,8 @@ use scq_law::{ReplayFault, replay};
 use scq_word::{Bytes, NoMemory, Setup};
 use std::alloc::Global;
 
-/// Makes the steps one after another from the start, where the opening contents stand in ring 0, and
-/// judges the history of the run. Each aspect of it holds.
+/// Makes the steps one after another from the start, where the opening contents stand in ring 0,
+/// and judges the history of the run. Each aspect of it holds.
 pub fn judge_run(
     alloc: Global,
     setup: Setup,
@@ -24,7 +24,8 @@ pub fn judge_run(
     requires opening { vec_len opening ≡ n_of setup.order }
     requires seats { All (λ (x : ℕ × StepOf). x.0 < setup.seats) steps.now }
     ensures run { OnOk result (IsSome (recorded_of setup opening.items steps.now)) }
-    ensures not_enabled { (at : ℕ) → result ≡ Err (ReplayFault.NotEnabled at) → StopsAt setup opening.items steps.now at }
+    ensures not_enabled { (at : ℕ) → result ≡ Err (ReplayFault.NotEnabled at)
+        → StopsAt setup opening.items steps.now at }
     ensures fresh { IfOk result (λ verdict. verdict.fresh ≡ None) }
     ensures once { IfOk result (λ verdict. verdict.once ≡ None) }
     ensures in_order { IfOk result (λ verdict. verdict.in_order ≡ None) }

@@ -6,11 +6,14 @@ ghost use Rattle.scq_core.specs.StateLists.{machine_of};
 ghost use Rattle.scq_lines.specs.Lines.{lines_of};
 ghost use Rattle.scq_law.specs.Order.{IsLinearization};
 ghost use Rattle.scq_law.specs.RunSteps.{IsFinishedRun, IsUnfinished};
-ghost use Rattle.scq_replay.specs.OrderSteps.{run_of_schedule, LeadsTo, IsScheduleOf, IsAdded, IsNumbered};
-ghost use Rattle.scq_replay.specs.OrderText.{member_words, member_line, ring_lines, IsOrderText, HasNoOrders};
+ghost use Rattle.scq_replay.specs.OrderSteps.{run_of_schedule, LeadsTo, IsScheduleOf, IsAdded};
+ghost use Rattle.scq_replay.specs.OrderSteps.{IsNumbered};
+ghost use Rattle.scq_replay.specs.OrderText.{member_words, member_line, ring_lines, IsOrderText};
+ghost use Rattle.scq_replay.specs.OrderText.{HasNoOrders};
 ghost use Rattle.scq_replay.specs.Replay.{schedule_start, HasSetup, Gives};
 ghost use Rattle.scq_replay.specs.Steps.{IsRefused};
-ghost use Rattle.scq_replay.specs.declared.replaying.ScheduleFault.TheVariants.{Unfinished as IsUnended, NoMemory as OutOfMemory};
+ghost use Rattle.scq_replay.specs.declared.replaying.ScheduleFault.TheVariants.{Unfinished as IsUnended};
+ghost use Rattle.scq_replay.specs.declared.replaying.ScheduleFault.TheVariants.{NoMemory as OutOfMemory};
 
 use crate::ScheduleFault;
 use crate::printing::{add_number, add_reply};
@@ -28,12 +31,14 @@ pub(crate) struct Schedule {
     pub(crate) state: State,
 }
 
-/// Runs a schedule in which every call ends, and writes the one-thread order of each ring: `ring R`, and then a line for each
-/// member, which is `opening J`, or a call's seat, its number and its reply. Calls that ended with Spent are left out. The
-/// first line with a fault is refused; where there is none, the lowest seat whose call has not ended.
+/// Runs a schedule in which every call ends, and writes the one-thread order of each ring: `ring
+/// R`, and then a line for each member, which is `opening J`, or a call's seat, its number and its
+/// reply. Calls that ended with Spent are left out. The first line with a fault is refused; where
+/// there is none, the lowest seat whose call has not ended.
 pub fn order_text(alloc: Global, text: &[u8]) -> Result<Bytes, ScheduleFault>
     ensures written { IfOk result (λ written. IsOrderText (lines_of text.now) written) }
-    ensures refused { IfErr result (λ fault. (fault ≡ OutOfMemory) ⊎ HasNoOrders (lines_of text.now) fault) }
+    ensures refused { IfErr result (λ fault.
+        (fault ≡ OutOfMemory) ⊎ HasNoOrders (lines_of text.now) fault) }
 {
     let schedule = schedule_of(alloc, text)?;
     let mut written = Vec::new(alloc);
@@ -47,7 +52,8 @@ pub fn order_text(alloc: Global, text: &[u8]) -> Result<Bytes, ScheduleFault>
 /// What the lines say, run to its end.
 fn schedule_of(alloc: Global, text: &[u8]) -> Result<Schedule, ScheduleFault>
     ensures schedule { IfOk result (IsScheduleOf (lines_of text.now)) }
-    ensures refused { IfErr result (λ fault. (fault ≡ OutOfMemory) ⊎ Gives (lines_of text.now) (Err fault)) }
+    ensures refused { IfErr result (λ fault.
+        (fault ≡ OutOfMemory) ⊎ Gives (lines_of text.now) (Err fault)) }
 {
     let (setup, lines) = first_line(text)?;
     let state = State::start(alloc, setup, no_contents(alloc, &setup)?)?;
@@ -55,11 +61,13 @@ fn schedule_of(alloc: Global, text: &[u8]) -> Result<Schedule, ScheduleFault>
     with_lines(alloc, Schedule { steps, state }, lines)
 }
 
-/// The steps that lines say, from the start of a setup. What they give is what a text gives that they are the rest of.
+/// The steps that lines say, from the start of a setup. What they give is what a text gives that
+/// they are the rest of.
 fn with_lines(alloc: Global, start: Schedule, lines: &[u8]) -> Result<Schedule, ScheduleFault>
     requires none { start.steps.items ≡ [] }
     requires start { machine_of start.state ≡ schedule_start start.state.setup }
-    ensures schedule { (text : List (List ℕ)) → HasSetup text start.state.setup (lines_of lines.now) → IfOk result (IsScheduleOf text) }
+    ensures schedule { (text : List (List ℕ)) → HasSetup text start.state.setup (lines_of lines.now)
+        → IfOk result (IsScheduleOf text) }
     ensures refused { (text : List (List ℕ)) → HasSetup text start.state.setup (lines_of lines.now)
         → IfErr result (λ fault. (fault ≡ OutOfMemory) ⊎ Gives text (Err fault)) }
 {
@@ -80,7 +88,8 @@ impl Schedule {
         requires { number ≤ 10001 }
         ensures setup { self.new.state.setup ≡ self.old.state.setup }
         ensures few { OnOk result (number ≤ 10000) }
-        ensures added { OnOk result (IsAdded self.old.state.setup number line.now self.old self.new) }
+        ensures added { OnOk result
+            (IsAdded self.old.state.setup number line.now self.old self.new) }
         ensures refused { IfErr result (λ fault. (fault ≡ OutOfMemory)
             ⊎ IsRefused self.old.state.setup number line.now (machine_of self.old.state) fault) }
     {
@@ -98,9 +107,11 @@ fn order_of(alloc: Global, schedule: &Schedule, ring: u32) -> Result<Vec<Ordered
     requires leads { LeadsTo schedule.now }
     requires ring { ring < schedule.now.state.setup.rings }
     ensures finished { OnOk result (IsFinishedRun (run_of_schedule schedule.now)) }
-    ensures order { IfOk result (λ order. IsLinearization (run_of_schedule schedule.now) ring order.items) }
+    ensures order { IfOk result (λ order.
+        IsLinearization (run_of_schedule schedule.now) ring order.items) }
     ensures refused { IfErr result (λ fault. (fault ≡ OutOfMemory)
-        ⊎ ((seat : ℕ) × (fault ≡ IsUnended seat) × IsUnfinished (run_of_schedule schedule.now) seat)) }
+        ⊎ ((seat : ℕ) × (fault ≡ IsUnended seat)
+        × IsUnfinished (run_of_schedule schedule.now) seat)) }
 {
     let setup = schedule.state.setup();
     let opening = no_contents(alloc, &setup)?;
@@ -120,7 +131,8 @@ fn add_ring(
     state: &State,
 ) -> Result<(), NoMemory>
     requires { All (IsNumbered state.now.setup) order.now.items }
-    ensures { OnOk result (text.new.items ≡ text.old.items ++ ring_lines (machine_of state.now) ring order.now.items) }
+    ensures { OnOk result (text.new.items
+        ≡ text.old.items ++ ring_lines (machine_of state.now) ring order.now.items) }
 {
     add_number(text, b"ring ", u64::from(ring))?;
     text.extend_from_slice(b"\n")?;
@@ -132,7 +144,8 @@ fn add_ring(
 
 fn add_member(text: &mut Vec<u8>, member: &Ordered, state: &State) -> Result<(), NoMemory>
     requires { IsNumbered state.now.setup member.now }
-    ensures { OnOk result (text.new.items ≡ text.old.items ++ member_line (machine_of state.now) member.now) }
+    ensures { OnOk result (text.new.items
+        ≡ text.old.items ++ member_line (machine_of state.now) member.now) }
 {
     add_words(text, member, state)?;
     text.extend_from_slice(b"\n")?;
@@ -141,7 +154,8 @@ fn add_member(text: &mut Vec<u8>, member: &Ordered, state: &State) -> Result<(),
 
 fn add_words(text: &mut Vec<u8>, member: &Ordered, state: &State) -> Result<(), NoMemory>
     requires { IsNumbered state.now.setup member.now }
-    ensures { OnOk result (text.new.items ≡ text.old.items ++ member_words (machine_of state.now) member.now) }
+    ensures { OnOk result (text.new.items
+        ≡ text.old.items ++ member_words (machine_of state.now) member.now) }
 {
     match member {
         Ordered::Opening { number } => add_number(text, b"opening ", u64::from(*number)),

@@ -1,13 +1,16 @@
 //! The lines that are printed of the steps of a schedule.
 
-ghost use Rattle.std.specs.Prelude.{◌≡◌, ◌+◌, ◌++◌, ◌<◌, ◌≤◌, ◌^◌, pos, codes, decimal, Some, IfSome, OnOk};
+ghost use Rattle.std.specs.Prelude.{◌≡◌, ◌+◌, ◌++◌, ◌<◌, ◌≤◌, ◌^◌, pos, codes, decimal, Some};
+ghost use Rattle.std.specs.Prelude.{IfSome, OnOk};
 ghost use Rattle.std.specs.Fmt.{signed_decimal};
 ghost use Rattle.std.specs.Option.{option_copied};
 ghost use Rattle.scq_core.specs.Reach.{IsReachable};
 ghost use Rattle.scq_core.specs.StateLists.{machine_of};
 ghost use Rattle.scq_core.specs.Table.{ring_slots};
 ghost use Rattle.scq_lines.specs.Lines.{content_text};
-ghost use Rattle.scq_replay.specs.Printed.{step_name, begun_on, call_ring, head_words, entry_words, counter_words, threshold_words, ring_words, reply_words, step_line};
+ghost use Rattle.scq_replay.specs.Printed.{step_name, begun_on, call_ring, head_words, entry_words};
+ghost use Rattle.scq_replay.specs.Printed.{counter_words, threshold_words, ring_words, reply_words};
+ghost use Rattle.scq_replay.specs.Printed.{step_line};
 
 use itoa::Buffer;
 use scq_core::{Ended, State, Step};
@@ -106,7 +109,8 @@ fn step_name(step: &Step) -> &'static [u8]
 fn add_ring(text: &mut Vec<u8>, ring: u32, slots: u32, state: &State) -> Result<(), NoMemory>
     requires ring { ring < state.now.setup.rings }
     requires slots { slots ≡ ring_slots state.now.setup }
-    ensures { OnOk result (text.new.items ≡ text.old.items ++ ring_words state.now.setup (machine_of state.now).cells ring) }
+    ensures { OnOk result (text.new.items
+        ≡ text.old.items ++ ring_words state.now.setup (machine_of state.now).cells ring) }
 {
     add_counters(text, ring, state)?;
     add_threshold(text, ring, state)?;
@@ -117,7 +121,8 @@ fn add_ring(text: &mut Vec<u8>, ring: u32, slots: u32, state: &State) -> Result<
 fn add_counters(text: &mut Vec<u8>, ring: u32, state: &State) -> Result<(), NoMemory>
     requires { ring < state.now.setup.rings }
     ensures { OnOk result (text.new.items ≡ text.old.items
-        ++ counter_words ring ((machine_of state.now).cells.head ring) ((machine_of state.now).cells.tail ring)) }
+        ++ counter_words ring ((machine_of state.now).cells.head ring)
+        ((machine_of state.now).cells.tail ring)) }
 {
     add_number(text, b" ring ", u64::from(ring))?;
     add_number(text, b" head ", state.head(ring))?;
@@ -126,7 +131,8 @@ fn add_counters(text: &mut Vec<u8>, ring: u32, state: &State) -> Result<(), NoMe
 
 fn add_threshold(text: &mut Vec<u8>, ring: u32, state: &State) -> Result<(), NoMemory>
     requires { ring < state.now.setup.rings }
-    ensures { OnOk result (text.new.items ≡ text.old.items ++ threshold_words ((machine_of state.now).cells.threshold ring)) }
+    ensures { OnOk result (text.new.items
+        ≡ text.old.items ++ threshold_words ((machine_of state.now).cells.threshold ring)) }
 {
     text.extend_from_slice(b" threshold ")?;
     add_signed(text, state.threshold(ring))
@@ -143,7 +149,8 @@ fn add_entries(text: &mut Vec<u8>, ring: u32, slots: u32, state: &State) -> Resu
     requires ring { ring < state.now.setup.rings }
     requires slots { slots ≡ ring_slots state.now.setup }
     ensures { OnOk result (text.new.items ≡ text.old.items
-        ++ entry_words ((machine_of state.now).cells.entries.word ring) (ring_slots state.now.setup)) }
+        ++ entry_words ((machine_of state.now).cells.entries.word ring)
+        (ring_slots state.now.setup)) }
 {
     for slot in 0..slots {
         add_number(text, b" ", state.entry(ring, slot))?;
@@ -152,7 +159,8 @@ fn add_entries(text: &mut Vec<u8>, ring: u32, slots: u32, state: &State) -> Resu
 }
 
 pub(crate) fn add_reply(text: &mut Vec<u8>, ended: Option<&Ended>) -> Result<(), NoMemory>
-    ensures { OnOk result (text.new.items ≡ text.old.items ++ reply_words (option_copied ended.entry)) }
+    ensures { OnOk result (text.new.items
+        ≡ text.old.items ++ reply_words (option_copied ended.entry)) }
 {
     match ended {
         Some(ended) => add_ended(text, ended),
@@ -172,7 +180,9 @@ fn add_ended(text: &mut Vec<u8>, ended: &Ended) -> Result<(), NoMemory>
 }
 
 fn add_got(text: &mut Vec<u8>, place: u64, content: &Bytes) -> Result<(), NoMemory>
-    ensures { OnOk result (text.new.items ≡ text.old.items ++ codes " got " ++ decimal place ++ codes " " ++ content_text content.now) }
+    ensures { OnOk result (text.new.items
+        ≡ text.old.items ++ codes " got " ++ decimal place ++ codes " "
+        ++ content_text content.now) }
 {
     add_number(text, b" got ", place)?;
     text.extend_from_slice(b" ")?;

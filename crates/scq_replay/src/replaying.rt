@@ -16,8 +16,8 @@ use scq_word::{Bytes, NoMemory, Setup};
 use std::alloc::Global;
 use thiserror::Error;
 
-/// Why a schedule was not run to its end: the first line with a fault, from 1. Where an order is asked for and no line has one:
-/// the lowest seat whose call has not ended. Or memory was wanted.
+/// Why a schedule was not run to its end: the first line with a fault, from 1. Where an order is
+/// asked for and no line has one: the lowest seat whose call has not ended. Or memory was wanted.
 #[derive(Clone, Copy, Debug, PartialEq, Eq, Error)]
 pub enum ScheduleFault {
     /// The line is not of the form, or is one line too many; or there is no first line.
@@ -43,12 +43,14 @@ impl From<NoMemory> for ScheduleFault {
     }
 }
 
-/// Runs a schedule and prints its steps: line 1 is `setup ORDER RINGS SEATS LIMIT`, and at most 10,000
-/// lines are a step each. A printed line has the words of the call's ring after the step, and the reply
-/// where the step ends its call. All opening contents are empty. The first line with a fault is refused.
+/// Runs a schedule and prints its steps: line 1 is `setup ORDER RINGS SEATS LIMIT`, and at most
+/// 10,000 lines are a step each. A printed line has the words of the call's ring after the step,
+/// and the reply where the step ends its call. All opening contents are empty. The first line with
+/// a fault is refused.
 pub fn schedule_text(alloc: Global, text: &[u8]) -> Result<Bytes, ScheduleFault>
     ensures printed { IfOk result (λ printed. Gives (lines_of text.now) (Ok printed)) }
-    ensures refused { IfErr result (λ fault. (fault ≡ OutOfMemory) ⊎ Gives (lines_of text.now) (Err fault)) }
+    ensures refused { IfErr result (λ fault.
+        (fault ≡ OutOfMemory) ⊎ Gives (lines_of text.now) (Err fault)) }
     ensures of_line { (seat : ℕ) → result ≡ Err (ScheduleFault.Unfinished seat) → ⊥ }
 {
     let (setup, steps) = first_line(text)?;
@@ -65,7 +67,8 @@ fn steps_text(
 ) -> Result<Bytes, ScheduleFault>
     requires setup { start.setup ≡ setup.now }
     requires reachable { IsReachable start.setup (machine_of start) }
-    ensures printed { IfOk result (λ printed. steps_from setup.now (machine_of start) 1 (lines_of text.now) ≡ Ok printed) }
+    ensures printed { IfOk result (λ printed.
+        steps_from setup.now (machine_of start) 1 (lines_of text.now) ≡ Ok printed) }
     ensures refused { IfErr result (λ fault. (fault ≡ OutOfMemory)
         ⊎ (steps_from setup.now (machine_of start) 1 (lines_of text.now) ≡ Err fault)) }
 {
@@ -96,8 +99,10 @@ fn print_step(
     ensures setup { state.new.setup ≡ setup.now }
     ensures reachable { IsReachable state.new.setup (machine_of state.new) }
     ensures few { OnOk result (number ≤ 10000) }
-    ensures made { OnOk result (IsMade setup.now number line.now (machine_of state.old) (machine_of state.new) printed.old.items printed.new.items) }
-    ensures refused { IfErr result (λ fault. (fault ≡ OutOfMemory) ⊎ IsRefused setup.now number line.now (machine_of state.old) fault) }
+    ensures made { OnOk result (IsMade setup.now number line.now (machine_of state.old)
+        (machine_of state.new) printed.old.items printed.new.items) }
+    ensures refused { IfErr result (λ fault.
+        (fault ≡ OutOfMemory) ⊎ IsRefused setup.now number line.now (machine_of state.old) fault) }
 {
     let (seat, step) = turn_of_line(alloc, setup, number, line)?;
     let ring = call_ring(state, seat, &step);

@@ -36,7 +36,8 @@ fn is_word(field: &[u8], word: &[u8]) -> bool
 
 /// The setup that a line says.
 pub(crate) fn read_setup(line: &[u8]) -> Option<Setup>
-    ensures { MatchOption result ((setup : SetupOf) → ¬ IsSetupLine line.now setup) (IsSetupLine line.now) }
+    ensures { MatchOption result ((setup : SetupOf)
+        → ¬ IsSetupLine line.now setup) (IsSetupLine line.now) }
 {
     let numbers = setup_numbers(line)?;
     let SetupNumbers {
@@ -96,7 +97,8 @@ pub(crate) fn read_turn(
 ) -> Result<Option<(u32, Step)>, NoMemory>
     ensures turn { IfOk result (λ turn. turn ≡ turn_in setup.now line.now) }
     ensures seat { IfOk result (λ turn. IfSome turn (λ turn. turn.0 < setup.now.seats)) }
-    ensures ring { IfOk result (λ turn. IfSome turn (λ turn. IfSome (begun_on turn.1) (λ ring. ring < setup.now.rings))) }
+    ensures ring { IfOk result (λ turn.
+        IfSome turn (λ turn. IfSome (begun_on turn.1) (λ ring. ring < setup.now.rings))) }
 {
     let (seat, rest) = first_field(line);
     let Some(seat) = number_below(setup.seats(), seat) else {
@@ -110,7 +112,8 @@ pub(crate) fn read_turn(
 
 fn read_step(alloc: Global, setup: &Setup, rest: &[u8]) -> Result<Option<Step>, NoMemory>
     ensures step { IfOk result (λ step. step ≡ step_said setup.now (fields_after rest.now)) }
-    ensures ring { IfOk result (λ step. IfSome step (λ step. IfSome (begun_on step) (λ ring. ring < setup.now.rings))) }
+    ensures ring { IfOk result (λ step.
+        IfSome step (λ step. IfSome (begun_on step) (λ ring. ring < setup.now.rings))) }
 {
     let Some((name, rest)) = next_field(rest) else {
         return Ok(None);
@@ -144,8 +147,10 @@ fn put(
     index: &[u8],
     rest: &[u8],
 ) -> Result<Option<Step>, NoMemory>
-    ensures step { IfOk result (λ step. step ≡ step_said setup.now (name.now ∷ ring.now ∷ index.now ∷ fields_after rest.now)) }
-    ensures ring { IfOk result (λ step. IfSome step (λ step. IfSome (begun_on step) (λ ring. ring < setup.now.rings))) }
+    ensures step { IfOk result (λ step.
+        step ≡ step_said setup.now (name.now ∷ ring.now ∷ index.now ∷ fields_after rest.now)) }
+    ensures ring { IfOk result (λ step.
+        IfSome step (λ step. IfSome (begun_on step) (λ ring. ring < setup.now.rings))) }
 {
     let Some((field, rest)) = next_field(rest) else {
         return Ok(None);

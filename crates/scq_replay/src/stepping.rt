@@ -1,6 +1,7 @@
 //! The lines of a schedule, read and made one by one.
 
-ghost use Rattle.std.specs.Prelude.{◌≡◌, ◌⊎◌, ◌+◌, ◌<◌, ◌≤◌, [], ℕ, Some, None, Err, IfOk, OnOk, IfErr, IfSome, replicate, vec_len};
+ghost use Rattle.std.specs.Prelude.{◌≡◌, ◌⊎◌, ◌+◌, ◌<◌, ◌≤◌, [], ℕ, Some, None, Err, IfOk, OnOk};
+ghost use Rattle.std.specs.Prelude.{IfErr, IfSome, replicate, vec_len};
 ghost use Rattle.scq_word.specs.Sizes.{n_of};
 ghost use Rattle.scq_core.specs.Reach.{IsReachable};
 ghost use Rattle.scq_core.specs.StateLists.{machine_of};
@@ -8,7 +9,9 @@ ghost use Rattle.scq_core.specs.Table.{step_of};
 ghost use Rattle.scq_lines.specs.Lines.{lines_of};
 ghost use Rattle.scq_replay.specs.Printed.{begun_on};
 ghost use Rattle.scq_replay.specs.Replay.{turn_of_line, HasSetup, Gives};
-ghost use Rattle.scq_replay.specs.declared.replaying.ScheduleFault.TheVariants.{BadLine, NotEnabled as IsNotEnabled, NoMemory as OutOfMemory};
+ghost use Rattle.scq_replay.specs.declared.replaying.ScheduleFault.TheVariants.{BadLine};
+ghost use Rattle.scq_replay.specs.declared.replaying.ScheduleFault.TheVariants.{NotEnabled as IsNotEnabled};
+ghost use Rattle.scq_replay.specs.declared.replaying.ScheduleFault.TheVariants.{NoMemory as OutOfMemory};
 
 use crate::ScheduleFault;
 use crate::schedule::{read_setup, read_turn};
@@ -81,11 +84,13 @@ pub(crate) fn make_step(
 ) -> Result<(), ScheduleFault>
     requires seat { seat < state.old.setup.seats }
     requires number { number ≤ 10000 }
-    ensures leads { OnOk result (step_of state.old.setup (machine_of state.old) seat step.now ≡ Some (machine_of state.new)) }
+    ensures leads { OnOk result (step_of state.old.setup (machine_of state.old) seat step.now
+        ≡ Some (machine_of state.new)) }
     ensures setup { state.new.setup ≡ state.old.setup }
     ensures reachable { IsReachable state.new.setup (machine_of state.new) }
     ensures refused { IfErr result (λ fault. (fault ≡ OutOfMemory)
-        ⊎ ((fault ≡ IsNotEnabled (number + 1)) × (step_of state.old.setup (machine_of state.old) seat step.now ≡ None))) }
+        ⊎ ((fault ≡ IsNotEnabled (number + 1))
+        × (step_of state.old.setup (machine_of state.old) seat step.now ≡ None))) }
 {
     match state.apply(seat, step) {
         Ok(()) => Ok(()),

@@ -6,7 +6,8 @@ use Rattle.scq_topics.specs.Topics.{name_of}
 
 -- the five topics, one of each kind
 abbrev pub self_topics : List (List ℕ × Kind)
-self_topics = (codes "l", Len) ∷ (codes "w", Words) ∷ (codes "s", Sum) ∷ (codes "h", Sha256) ∷ (codes "e", Echo) ∷ []
+self_topics = (codes "l", Len) ∷ (codes "w", Words) ∷ (codes "s", Sum) ∷ (codes "h", Sha256)
+    ∷ (codes "e", Echo) ∷ []
 
 -- the number after a number
 abbrev pub next_number : ℕ → ℕ
@@ -19,7 +20,8 @@ number_at seed (suc i) = next_number (number_at seed i)
 
 -- the line of this number, from 1, for a number: `topic x i`, whose topic goes by the number mod 5
 abbrev pub line_for : ℕ → ℕ → List ℕ
-line_for x i = name_of self_topics (x % 5) ++ codes " " ++ decimal x ++ codes " " ++ decimal i ++ codes "\n"
+line_for x i = name_of self_topics (x % 5) ++ codes " " ++ decimal x ++ codes " " ++ decimal i
+    ++ codes "\n"
 
 -- the first lines
 abbrev pub generated : ℕ → ℕ → List ℕ

@@ -14,4 +14,5 @@ summary_of topics lines answers =
 
 -- the summary of the file that is made from a seed
 abbrev pub self_summary : ℕ → ℕ → List ℕ
-self_summary seed lines = summary_of self_topics lines (answers_to self_topics 1 (generated seed lines ∷ []))
+self_summary seed lines =
+    summary_of self_topics lines (answers_to self_topics 1 (generated seed lines ∷ []))

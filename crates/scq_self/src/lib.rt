@@ -1,7 +1,7 @@
-//! A large input from a number: `generate` makes the file, and `summary` what is written about it. It
-//! stands on `scq_collect` for totals and the text, on `scq_topics` for the five topics, on `scq_word`,
-//! and on `itoa`, `sha2` and `hex`. The layer above uses: the file is `generated` of its seed and lines,
-//! and where the answers are those of one thread the summary is `self_summary`.
+//! A large input from a number: `generate` makes the file, and `summary` what is written about it.
+//! It stands on `scq_collect` for totals and the text, on `scq_topics` for the five topics, on
+//! `scq_word`, and on `itoa`, `sha2` and `hex`. The layer above uses: the file is `generated` of
+//! its seed and lines, and where the answers are those of one thread the summary is `self_summary`.
 #![tactic(auto)]
 
 mod generator;

@@ -11,8 +11,8 @@ use scq_word::{Bytes, NoMemory};
 use sha2::{Digest, Sha256};
 use std::alloc::Global;
 
-/// The summary of so many lines: `lines L`, the totals, and `digest D`, the SHA-256 digest (FIPS 180-4)
-/// of the whole output in lower-case hexadecimal.
+/// The summary of so many lines: `lines L`, the totals, and `digest D`, the SHA-256 digest (FIPS
+/// 180-4) of the whole output in lower-case hexadecimal.
 pub fn summary_text(
     alloc: Global,
     topics: &Topics,
@@ -20,8 +20,10 @@ pub fn summary_text(
     wholes: &[Whole],
 ) -> Result<Bytes, NoMemory>
     requires { All (λ a. a.topic ≤ length topics.now) wholes.now }
-    ensures text { IfOk result (λ bytes. bytes ≡ summary_of topics.now lines (map answer_of_whole wholes.now)) }
-    ensures of_self { (seed : ℕ) → topics.now ≡ self_topics → map answer_of_whole wholes.now ≡ answers_to self_topics 1 (generated seed lines ∷ [])
+    ensures text { IfOk result (λ bytes.
+        bytes ≡ summary_of topics.now lines (map answer_of_whole wholes.now)) }
+    ensures of_self { (seed : ℕ) → topics.now ≡ self_topics
+        → map answer_of_whole wholes.now ≡ answers_to self_topics 1 (generated seed lines ∷ [])
         → IfOk result (λ bytes. bytes ≡ self_summary seed lines) }
 {
     let whole = output(alloc, topics, wholes)?;

@@ -1,5 +1,6 @@
 -- The sum of the numbers that tokens write.
-use Rattle.std.specs.Prelude.{ℕ, Bool, ◌^◌, ◌&&◌, nat_lt, nat_le, List, length, Option, Some, None, if◌then◌else◌, sum_by}
+use Rattle.std.specs.Prelude.{ℕ, Bool, ◌^◌, ◌&&◌, nat_lt, nat_le, List, length, Option, Some, None}
+use Rattle.std.specs.Prelude.{if◌then◌else◌, sum_by}
 use Rattle.std.specs.List.{list_all}
 use Rattle.std.specs.Str.{all_ascii_digits}
 use Rattle.std.specs.Str.Parse.{digits_value}
@@ -16,4 +17,5 @@ value_sum tokens = sum_by (digits_value 10) tokens
 -- the sum of the tokens, where each is a number and the sum fits 64 bits
 abbrev pub sum_of : List (List ℕ) → Option ℕ
 sum_of tokens =
-    if list_all is_number tokens && nat_lt (value_sum tokens) (2 ^ 64) then Some (value_sum tokens) else None
+    if list_all is_number tokens && nat_lt (value_sum tokens) (2 ^ 64) then Some (value_sum tokens)
+    else None

@@ -1,14 +1,18 @@
 -- What a text of topics declares. Declared topics are the list of their names and kinds, in order.
-use Rattle.std.specs.Prelude.{ℕ, ◌+◌, ◌≤◌, Bool, not, ◌==◌, ◌&&◌, ◌||◌, nat_lt, nat_le, List, [], ◌∷◌, ◌++◌, length, map, codes, slice_index_or, Option, Some, None, unwrap_or, is_some, if◌then◌else◌}
+use Rattle.std.specs.Prelude.{ℕ, ◌+◌, ◌≤◌, Bool, not, ◌==◌, ◌&&◌, ◌||◌, nat_lt, nat_le, List, []}
+use Rattle.std.specs.Prelude.{◌∷◌, ◌++◌, length, map, codes, slice_index_or, Option, Some, None}
+use Rattle.std.specs.Prelude.{unwrap_or, is_some, if◌then◌else◌}
 use Rattle.std.specs.Char.{is_ascii_alphanumeric}
-use Rattle.std.specs.List.{All, list_all, list_any, position_or_len, before_first, after_first, slice_split}
+use Rattle.std.specs.List.{All, list_all, list_any, position_or_len, before_first, after_first}
+use Rattle.std.specs.List.{slice_split}
 use Rattle.std.specs.Option.{option_or}
 use Rattle.std.specs.Str.{bytes_eq}
 use Rattle.scq_topics.specs.Kind.{kind_named}
 use Rattle.scq_topics.specs.declared.kind.Kind.{Kind}
 use Rattle.scq_topics.specs.declared.kind.Kind.TheVariants.{Len}
 use Rattle.scq_topics.specs.declared.topics.TopicFault.{TopicFault}
-use Rattle.scq_topics.specs.declared.topics.TopicFault.TheVariants.{TooMany, BadName, BadKind, Twice}
+use Rattle.scq_topics.specs.declared.topics.TopicFault.TheVariants.{TooMany, BadName, BadKind}
+use Rattle.scq_topics.specs.declared.topics.TopicFault.TheVariants.{Twice}
 
 -- the name is this one
 abbrev pub has_name : List ℕ → List ℕ × Kind → Bool
@@ -48,7 +52,8 @@ entry_name entry = before_first (λ byte. byte == 61) entry
 
 -- an entry's kind: the one that is named after its first `=`, if it has one
 abbrev pub entry_kind : List ℕ → Option Kind
-entry_kind entry = if list_any (λ byte. byte == 61) entry then kind_named (after_first (λ byte. byte == 61) entry) else None
+entry_kind entry = if list_any (λ byte. byte == 61) entry
+    then kind_named (after_first (λ byte. byte == 61) entry) else None
 
 -- the topic that an entry declares
 abbrev pub declared_by : List ℕ → List ℕ × Kind

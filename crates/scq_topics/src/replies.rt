@@ -9,8 +9,8 @@ use scq_word::NoMemory;
 use sha2::{Digest, Sha256};
 use std::alloc::Global;
 
-/// The reply to a payload, in one pass over it and at most one allocation. It fails only for want of
-/// memory, and a reply of at most 16 bytes wants none.
+/// The reply to a payload, in one pass over it and at most one allocation. It fails only for want
+/// of memory, and a reply of at most 16 bytes wants none.
 pub fn reply(alloc: Global, kind: Kind, payload: &[u8]) -> Result<ReplyBytes, NoMemory>
     ensures value { IfOk result (λ bytes. bytes ≡ reply_of kind payload.now) }
     ensures short { length (reply_of kind payload.now) ≤ 16 → IsOk result }

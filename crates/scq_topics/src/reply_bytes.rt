@@ -8,8 +8,8 @@ use std::marker::Model;
 /// The most bytes of a short reply.
 const SHORT: usize = 16;
 
-/// The bytes of a reply, which contracts see as a list. Those of a short reply, as most numbers are, take
-/// no memory beside the value.
+/// The bytes of a reply, which contracts see as a list. Those of a short reply, as most numbers
+/// are, take no memory beside the value.
 #[derive(Debug, Drop)]
 pub struct ReplyBytes {
     bytes: SmallVec<u8, SHORT>,

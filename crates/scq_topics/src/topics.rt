@@ -83,7 +83,8 @@ impl Topic {
 }
 
 impl Topics {
-    ghost use Rattle.scq_topics.specs.Topics.{HaveShortNames, entries_of, entry_fault, first_fault, declared_by, topic_of, name_of, kind_of};
+    ghost use Rattle.scq_topics.specs.Topics.{HaveShortNames, entries_of, entry_fault, first_fault};
+    ghost use Rattle.scq_topics.specs.Topics.{declared_by, topic_of, name_of, kind_of};
 
     /// No declared topics: every message is on an undeclared one.
     pub fn none() -> Topics

@@ -1,5 +1,6 @@
 -- Entries and their words, in a ring of an order.
-use Rattle.std.specs.Prelude.{◌≡◌, ℕ, ◌+◌, ◌*◌, ◌<◌, Bool, true, false, Option, Some, None, ◌==◌, if◌then◌else◌, ◌⊎◌}
+use Rattle.std.specs.Prelude.{◌≡◌, ℕ, ◌+◌, ◌*◌, ◌<◌, Bool, true, false, Option, Some, None, ◌==◌}
+use Rattle.std.specs.Prelude.{if◌then◌else◌, ◌⊎◌}
 use Rattle.std.specs.Option.{ForSome}
 use Rattle.scq_word.specs.declared.entry.Entry.{Entry}
 use Rattle.scq_word.specs.Sizes.{n_of, slots_of}
@@ -22,7 +23,8 @@ word_of order entry =
 
 -- the index that bits stand for, if they are not the mark
 abbrev pub index_of : ℕ → ℕ → Option ℕ
-index_of order word = if is_none_in (slots_of order) word then None else Some (index_in (slots_of order) word)
+index_of order word =
+    if is_none_in (slots_of order) word then None else Some (index_in (slots_of order) word)
 
 -- the entry of a word
 abbrev pub entry_in : ℕ → ℕ → Entry
@@ -38,7 +40,8 @@ HasOwnIndex order entry = ForSome entry.index (λ index. index < n_of order)
 
 -- the bits of the index are one of the ring's indices or the mark
 abbrev pub IsIndexOrMark : ℕ → ℕ → Type 0
-IsIndexOrMark order word = (index_in (slots_of order) word < n_of order) ⊎ (index_in (slots_of order) word ≡ mark_of (slots_of order))
+IsIndexOrMark order word = (index_in (slots_of order) word < n_of order)
+    ⊎ (index_in (slots_of order) word ≡ mark_of (slots_of order))
 
 -- 0 with an index while safe, 1 with an index that was marked unsafe, 2 without an index
 abbrev pub rank_within : Option ℕ → Bool → ℕ

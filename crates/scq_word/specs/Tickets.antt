@@ -6,12 +6,14 @@ use Rattle.scq_word.specs.Sizes.{slots_of}
 unfoldable pub cycle_of : ℕ → ℕ → ℕ
 cycle_of m ticket = ticket / m
 
--- the numbers below 8w laid out in eight columns of w: those that follow one another in a column are eight apart
+-- the numbers below 8w laid out in eight columns of w: those that follow one another in a column
+-- are eight apart
 abbrev pub in_columns : ℕ → ℕ → ℕ
 in_columns w s = s % w * 8 + s / w
 
--- the slot of a ticket, in a ring of an order: what is left of it modulo the number of slots, and in a ring of at least
--- 16 slots laid out in columns, so that tickets that follow one another don't meet in one cache line
+-- the slot of a ticket, in a ring of an order: what is left of it modulo the number of slots, and
+-- in a ring of at least 16 slots laid out in columns, so that tickets that follow one another don't
+-- meet in one cache line
 unfoldable pub slot_of : ℕ → ℕ → ℕ
 slot_of order ticket =
     let r = order + 1 in

@@ -1,5 +1,5 @@
--- The word of an entry, in a ring of m slots: m is twice the number of indices, and the mark m - 1 says "no index".
--- From the lowest bit on: the index or the mark, the safe bit, the cycle.
+-- The word of an entry, in a ring of m slots: m is twice the number of indices, and the mark m - 1
+-- says "no index". From the lowest bit on: the index or the mark, the safe bit, the cycle.
 use Rattle.std.specs.Prelude.{ℕ, ◌+◌, ◌-◌, ◌*◌, ◌/◌, ◌%◌, Bool, ◌==◌, if◌then◌else◌}
 
 -- the mark "no index": all the bits of an index
@@ -26,8 +26,8 @@ cycle_in m word = word / m / 2
 abbrev pub is_none_in : ℕ → ℕ → Bool
 is_none_in m word = index_in m word == mark_of m
 
--- what every change of an entry raises: three for each cycle, and 0 with an index while safe, 1 with an index that
--- was marked unsafe, 2 without an index
+-- what every change of an entry raises: three for each cycle, and 0 with an index while safe, 1
+-- with an index that was marked unsafe, 2 without an index
 unfoldable pub rank_in : ℕ → ℕ → ℕ
 rank_in m word =
     3 * cycle_in m word + (if is_none_in m word then 2 else (if safe_in m word == 1 then 0 else 1))

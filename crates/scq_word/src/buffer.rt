@@ -19,7 +19,8 @@ pub trait Buffer: Send + Sync {
 
     ghost same_along: { (a b c : Self) → IsSameBuffer a b → IsSameBuffer b c → IsSameBuffer a c };
 
-    ghost same_length: { (a b : Self) → IsSameBuffer a b → length (contents a) ≡ length (contents b) };
+    ghost same_length: { (a b : Self) → IsSameBuffer a b
+        → length (contents a) ≡ length (contents b) };
 }
 
 /// A buffer that is written in place. A write changes its bytes, and leaves it the same buffer.
@@ -29,7 +30,8 @@ pub trait BufferMut: Buffer {
 
     /// Its bytes, lent to be written: there stay as many.
     fn bytes_mut(&mut self) -> &mut [u8]
-        ensures* writes { sem 𝓛 (Lends Self.row (Array byte 0) self.entry result (written self.old)) }
+        ensures* writes { sem 𝓛
+            (Lends Self.row (Array byte 0) self.entry result (written self.old)) }
         ensures bytes { result.now ≡ Self.contents self.old };
 
     ghost written_bytes: { (a : Self) (bytes : List ℕ) → length bytes ≡ length (Self.contents a)

@@ -1,7 +1,8 @@
-//! The words that every crate above speaks with: bytes that contracts see as a list, buffers that are
-//! written in place, setups, and the words of a ring's entries and tickets. It stands on `std` alone, and
-//! on `thiserror` for the text of a fault. The layers above use: packing and unpacking an entry are
-//! inverse, each change of an entry raises its rank, and want of memory is the one answer without a cause.
+//! The words that every crate above speaks with: bytes that contracts see as a list, buffers that
+//! are written in place, setups, and the words of a ring's entries and tickets. It stands on `std`
+//! alone, and on `thiserror` for the text of a fault. The layers above use: packing and unpacking
+//! an entry are inverse, each change of an entry raises its rank, and want of memory is the one
+//! answer without a cause.
 #![tactic(auto)]
 
 mod bounds;

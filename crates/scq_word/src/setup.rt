@@ -9,9 +9,9 @@ use crate::bounds;
 use crate::shape::Shape;
 use thiserror::Error;
 
-/// What rings are made with: `2^order` indices, so many rings, so many seats that make calls, and the limit of
-/// their tickets. Valid by its type: the order is in 1..=12, the rings in 1..=18, the seats in 1..=4096 whatever the
-/// order is, and the limit in `8n..=2^60`.
+/// What rings are made with: `2^order` indices, so many rings, so many seats that make calls, and
+/// the limit of their tickets. Valid by its type: the order is in 1..=12, the rings in 1..=18, the
+/// seats in 1..=4096 whatever the order is, and the limit in `8n..=2^60`.
 #[derive(Clone, Copy, Debug, PartialEq, Eq)]
 pub struct Setup {
     pub order: u32,
@@ -24,8 +24,8 @@ pub struct Setup {
     ghost limit_in_range: { (8 * n_of order ≤ limit) × (limit ≤ 2 ^ 60) },
 }
 
-/// Why there is no such setup. The tests are made in this order, so that each fault says that the ones before it
-/// are not there.
+/// Why there is no such setup. The tests are made in this order, so that each fault says that the
+/// ones before it are not there.
 #[derive(Clone, Copy, Debug, PartialEq, Eq, Error)]
 pub enum SetupFault {
     #[error("order is not in 1..12")]
@@ -39,19 +39,24 @@ pub enum SetupFault {
 }
 
 impl Setup {
-    /// Tests the order, the rings, the seats and the limit, in this order, and answers the first that is out of
-    /// range.
+    /// Tests the order, the rings, the seats and the limit, in this order, and answers the first
+    /// that is out of range.
     pub fn new(order: u32, rings: u32, seats: u32, limit: u64) -> Result<Setup, SetupFault>
-        ensures ok { IsOk result ↔ (IsWithin 1 12 order × IsWithin 1 18 rings × IsWithin 1 4096 seats
+        ensures ok { IsOk result
+            ↔ (IsWithin 1 12 order × IsWithin 1 18 rings × IsWithin 1 4096 seats
             × IsWithin (8 * n_of order) (2 ^ 60) limit) }
-        ensures made { IfOk result (λ setup. (setup.order ≡ order) × (setup.rings ≡ rings) × (setup.seats ≡ seats)
+        ensures made { IfOk result (λ setup.
+            (setup.order ≡ order) × (setup.rings ≡ rings) × (setup.seats ≡ seats)
             × (setup.limit ≡ limit)) }
 
         ensures bad_order { (result ≡ Err SetupFault.BadOrder) ↔ IsOutside 1 12 order }
-        ensures bad_rings { (result ≡ Err SetupFault.BadRings) ↔ (IsWithin 1 12 order × IsOutside 1 18 rings) }
-        ensures bad_seats { (result ≡ Err SetupFault.BadSeats) ↔ (IsWithin 1 12 order × IsWithin 1 18 rings
+        ensures bad_rings { (result ≡ Err SetupFault.BadRings)
+            ↔ (IsWithin 1 12 order × IsOutside 1 18 rings) }
+        ensures bad_seats { (result ≡ Err SetupFault.BadSeats)
+            ↔ (IsWithin 1 12 order × IsWithin 1 18 rings
             × IsOutside 1 4096 seats) }
-        ensures bad_limit { (result ≡ Err SetupFault.BadLimit) ↔ (IsWithin 1 12 order × IsWithin 1 18 rings
+        ensures bad_limit { (result ≡ Err SetupFault.BadLimit)
+            ↔ (IsWithin 1 12 order × IsWithin 1 18 rings
             × IsWithin 1 4096 seats × IsOutside (8 * n_of order) (2 ^ 60) limit) }
     {
         let Some(shape) = Shape::new(order) else {

@@ -1,12 +1,14 @@
 //! The order of a ring, and the sizes that it gives.
 
-ghost use Rattle.std.specs.Prelude.{◌≡◌, ℕ, ◌≤◌, ◌<◌, ◌+◌, ◌-◌, ◌*◌, ◌^◌, ◌↔◌, ◌⊎◌, IsSome, IfSome, IsNone};
+ghost use Rattle.std.specs.Prelude.{◌≡◌, ℕ, ◌≤◌, ◌<◌, ◌+◌, ◌-◌, ◌*◌, ◌^◌, ◌↔◌, ◌⊎◌, IsSome, IfSome};
+ghost use Rattle.std.specs.Prelude.{IsNone};
 ghost use Rattle.scq_word.specs.Sizes.{n_of, slots_of};
 ghost use Rattle.scq_word.specs.Words.{mark_of};
 ghost use Rattle.scq_word.specs.Ranges.{IsWithin, IsOutside};
 
-/// The order of a ring, 1 to 12 by its type: the ring queues the indices below `2^order`. With it stand numbers of it that calls
-/// need, worked out once: the bits of a slot, the mark, and how tickets are laid out in columns.
+/// The order of a ring, 1 to 12 by its type: the ring queues the indices below `2^order`. With it
+/// stand numbers of it that calls need, worked out once: the bits of a slot, the mark, and how
+/// tickets are laid out in columns.
 #[derive(Clone, Copy, Debug, PartialEq, Eq)]
 pub struct Shape {
     pub order: u32,

@@ -5,7 +5,8 @@ ghost use Rattle.std.specs.Option.{ForSome};
 ghost use Rattle.scq_word.specs.Sizes.{n_of, slots_of};
 ghost use Rattle.scq_word.specs.Words.{mark_of, rank_in};
 ghost use Rattle.scq_word.specs.Tickets.{cycle_of, slot_of, in_columns};
-ghost use Rattle.scq_word.specs.Entries.{word_of, entry_in, index_bits, HasOwnIndex, IsIndexOrMark, rank_of};
+ghost use Rattle.scq_word.specs.Entries.{word_of, entry_in, index_bits, HasOwnIndex, IsIndexOrMark};
+ghost use Rattle.scq_word.specs.Entries.{rank_of};
 
 use crate::entry::Entry;
 use crate::shape::Shape;
@@ -60,14 +61,15 @@ fn unpacked_index(shape: Shape, bits: u32) -> Option<u32>
     }
 }
 
-/// What each change of an entry raises: `3 * cycle`, plus 0 where it has an index and is safe, 1 where
-/// it has an index and is unsafe, 2 where it has no index.
+/// What each change of an entry raises: `3 * cycle`, plus 0 where it has an index and is safe, 1
+/// where it has an index and is unsafe, 2 where it has no index.
 pub fn rank(entry: Entry) -> u64
     requires { entry.cycle < 2 ^ 62 }
     ensures rank { result ≡ rank_of entry }
 
     // It is the rank of the entry's word, in a ring of any order that has its index.
-    ensures of_word { (order : ℕ) → 1 ≤ order → HasOwnIndex order entry → rank_in (slots_of order) (word_of order entry) ≡ result }
+    ensures of_word { (order : ℕ) → 1 ≤ order → HasOwnIndex order entry
+        → rank_in (slots_of order) (word_of order entry) ≡ result }
 {
     let part = match entry.index {
         None => 2,
@@ -84,9 +86,10 @@ pub fn cycle_of(shape: Shape, ticket: u64) -> u64
     ticket >> shape.bits
 }
 
-/// The slot of a ticket, below the number of slots. Two tickets have one slot exactly where they agree modulo that
-/// number. In a ring of at least 16 slots, tickets that follow one another mostly have slots that are eight apart, so that they
-/// don't meet in one cache line; only where a column ends two stand closer.
+/// The slot of a ticket, below the number of slots. Two tickets have one slot exactly where they
+/// agree modulo that number. In a ring of at least 16 slots, tickets that follow one another mostly
+/// have slots that are eight apart, so that they don't meet in one cache line; only where a column
+/// ends two stand closer.
 pub fn slot_of(shape: Shape, ticket: u64) -> u32
     ensures slot { result ≡ slot_of shape.order ticket }
     ensures small { result < slots_of shape.order }

@@ -1,5 +1,7 @@
 -- What the words of a command line ask for, or the first test that refuses them.
-use Rattle.std.specs.Prelude.{ℕ, ◌+◌, ◌^◌, ◌==◌, Bool, true, false, nat_lt, min, string_bytes, List, [], ◌∷◌, length, map, codes, Option, Some, None, option_map, unwrap_or, Result, Ok, Err, if◌then◌else◌}
+use Rattle.std.specs.Prelude.{ℕ, ◌+◌, ◌^◌, ◌==◌, Bool, true, false, nat_lt, min, string_bytes, List}
+use Rattle.std.specs.Prelude.{[], ◌∷◌, length, map, codes, Option, Some, None, option_map}
+use Rattle.std.specs.Prelude.{unwrap_or, Result, Ok, Err, if◌then◌else◌}
 use Rattle.std.specs.List.{position}
 use Rattle.std.specs.Option.{option_or}
 use Rattle.std.specs.Str.{bytes_eq}
@@ -10,7 +12,9 @@ use Rattle.scq_topics.specs.Topics.{declared_by, entries_of, first_fault}
 use Rattle.scq_words.specs.Commands.{run_app, stages_app, self_app, judge_app, text_app}
 use Rattle.scq_words.specs.Numbers.{number_or, refused_outside}
 use Rattle.scq_words.specs.declared.fault.WordsFault.{WordsFault}
-use Rattle.scq_words.specs.declared.fault.WordsFault.TheVariants.{NotUnderstood, Workers, Order, Size, Topics, TooManyFiles, NoName, Seed, Lines, Room}
+use Rattle.scq_words.specs.declared.fault.WordsFault.TheVariants.{NotUnderstood, Workers, Order}
+use Rattle.scq_words.specs.declared.fault.WordsFault.TheVariants.{Size, Topics, TooManyFiles}
+use Rattle.scq_words.specs.declared.fault.WordsFault.TheVariants.{NoName, Seed, Lines, Room}
 use Rattle.scq_words.specs.declared.request.Request.{Request}
 use Rattle.scq_words.specs.declared.request.Request.TheVariants.{Run, SelfRun, Judge, Text, Stages}
 use Rattle.scq_words.specs.declared.request.JudgeRequest.{JudgeRequest}
@@ -18,7 +22,8 @@ use Rattle.scq_words.specs.declared.request.RunRequest.{RunRequest}
 use Rattle.scq_words.specs.declared.request.SelfRequest.{SelfRequest}
 use Rattle.scq_words.specs.declared.request.StagesRequest.{StagesRequest}
 use Rattle.scq_words.specs.declared.text_request.TextCommand.{TextCommand}
-use Rattle.scq_words.specs.declared.text_request.TextCommand.TheVariants.{Check, Replay, Order as Ordering}
+use Rattle.scq_words.specs.declared.text_request.TextCommand.TheVariants.{Check, Replay}
+use Rattle.scq_words.specs.declared.text_request.TextCommand.TheVariants.{Order as Ordering}
 use Rattle.scq_words.specs.declared.text_request.TextRequest.{TextRequest}
 
 -- the first fault of a list of tests
@@ -122,28 +127,44 @@ pub record JudgeTexts : Type 0 where
   pub room : Option (List ℕ)
   pub files : List (List ℕ)
 
-abbrev pub texts_of_run : Option (List ℕ) → Option (List ℕ) → Option (List ℕ) → Option (List ℕ) → Option (List ℕ) → List (List ℕ) → RunTexts
+abbrev pub texts_of_run : Option (List ℕ) → Option (List ℕ) → Option (List ℕ) → Option (List ℕ)
+    → Option (List ℕ) → List (List ℕ) → RunTexts
 texts_of_run workers order size topics report files =
-    record { workers = workers; order = order; size = size; topics = topics; report = report; files = files }
+    record {
+      workers = workers;
+      order = order;
+      size = size;
+      topics = topics;
+      report =
+          report;
+      files = files;
+    }
 
-abbrev pub texts_of_stages : Option (List ℕ) → Option (List ℕ) → Option (List ℕ) → List (List ℕ) → StagesTexts
-texts_of_stages workers order size files = record { workers = workers; order = order; size = size; files = files }
+abbrev pub texts_of_stages : Option (List ℕ) → Option (List ℕ) → Option (List ℕ) → List (List ℕ)
+    → StagesTexts
+texts_of_stages workers order size files =
+    record { workers = workers; order = order; size = size; files = files }
 
 abbrev pub texts_of_self : Option (List ℕ) → Option (List ℕ) → Option (List ℕ) → SelfTexts
 texts_of_self seed lines workers = record { seed = seed; lines = lines; workers = workers }
 
 abbrev pub run_texts : List Row → RunTexts
 run_texts rows =
-    texts_of_run (first_of (codes "workers") rows) (first_of (codes "order") rows) (first_of (codes "size") rows)
-    (first_of (codes "topics") rows) (first_of (codes "report") rows) (unwrap_or (all_of (codes "files") rows) [])
+    texts_of_run (first_of (codes "workers") rows) (first_of (codes "order") rows)
+    (first_of (codes "size") rows)
+    (first_of (codes "topics") rows) (first_of (codes "report") rows)
+    (unwrap_or (all_of (codes "files") rows) [])
 
 abbrev pub stages_texts : List Row → StagesTexts
 stages_texts rows =
-    texts_of_stages (first_of (codes "workers") rows) (first_of (codes "order") rows) (first_of (codes "size") rows)
+    texts_of_stages (first_of (codes "workers") rows) (first_of (codes "order") rows)
+    (first_of (codes "size") rows)
     (unwrap_or (all_of (codes "files") rows) [])
 
 abbrev pub self_texts : List Row → SelfTexts
-self_texts rows = texts_of_self (first_of (codes "seed") rows) (first_of (codes "lines") rows) (first_of (codes "workers") rows)
+self_texts rows =
+    texts_of_self (first_of (codes "seed") rows) (first_of (codes "lines") rows)
+    (first_of (codes "workers") rows)
 
 -- the tests of `run`'s arguments, in order
 abbrev pub run_tests : RunTexts → List (Option WordsFault)
@@ -211,11 +232,13 @@ asked_of_run words = let t = run_texts (matches_of run_app words) in
 
 unfoldable pub asked_of_stages : List (List ℕ) → Result Asked WordsFault
 asked_of_stages words = let t = stages_texts (matches_of stages_app words) in
-    answered_by (first_of_tests (refused_by_clap stages_app words ∷ stages_tests t)) (staged (stages_asked t))
+    answered_by (first_of_tests (refused_by_clap stages_app words ∷ stages_tests t))
+    (staged (stages_asked t))
 
 unfoldable pub asked_of_self : List (List ℕ) → Result Asked WordsFault
 asked_of_self words = let t = self_texts (matches_of self_app words) in
-    answered_by (first_of_tests (refused_by_clap self_app words ∷ self_tests t)) (generated (self_asked t))
+    answered_by (first_of_tests (refused_by_clap self_app words ∷ self_tests t))
+    (generated (self_asked t))
 
 -- the name of the one file
 abbrev pub text_file : List Row → List ℕ
@@ -230,15 +253,18 @@ abbrev pub text_command : TextCommand → List Row → TextCommand
 text_command command rows = with_flag command (is_given (first_of (codes "order") rows))
 
 unfoldable pub asked_of_text : TextCommand → List (List ℕ) → Result Asked WordsFault
-asked_of_text command words = let rows = matches_of (text_app command) words in let file = text_file rows in
-    answered_by (first_of_tests (refused_by_clap (text_app command) words ∷ refused_names (file ∷ []) ∷ []))
+asked_of_text command words = let rows = matches_of (text_app command) words in let file =
+    text_file rows in
+    answered_by (first_of_tests (refused_by_clap (text_app command) words
+    ∷ refused_names (file ∷ []) ∷ []))
     (whole (record { command = text_command command rows; file = file }))
 
 abbrev pub texts_of_judge : Option (List ℕ) → List (List ℕ) → JudgeTexts
 texts_of_judge room files = record { room = room; files = files }
 
 abbrev pub judge_texts : List Row → JudgeTexts
-judge_texts rows = texts_of_judge (first_of (codes "room") rows) (unwrap_or (all_of (codes "files") rows) [])
+judge_texts rows =
+    texts_of_judge (first_of (codes "room") rows) (unwrap_or (all_of (codes "files") rows) [])
 
 -- the tests of files alone
 abbrev pub files_tests : List (List ℕ) → List (Option WordsFault)
@@ -257,7 +283,8 @@ judge_asked t = record { room = room_of t.room; files = t.files }
 
 unfoldable pub asked_of_judge : List (List ℕ) → Result Asked WordsFault
 asked_of_judge words = let t = judge_texts (matches_of judge_app words) in
-    answered_by (first_of_tests (refused_by_clap judge_app words ∷ judge_tests t)) (judged (judge_asked t))
+    answered_by (first_of_tests (refused_by_clap judge_app words ∷ judge_tests t))
+    (judged (judge_asked t))
 
 -- what the words ask for: the first is a command, and those after it are its arguments
 abbrev pub asked : List (List ℕ) → Result Asked WordsFault
@@ -274,7 +301,8 @@ asked (command ∷ words) =
 -- the same of a program that understands `run` alone
 abbrev pub asked_for_run : List (List ℕ) → Result Asked WordsFault
 asked_for_run [] = Err NotUnderstood
-asked_for_run (command ∷ words) = if bytes_eq command (codes "run") then asked_of_run words else Err NotUnderstood
+asked_for_run (command ∷ words) =
+    if bytes_eq command (codes "run") then asked_of_run words else Err NotUnderstood
 
 -- a request of the program as what is asked
 abbrev pub run_of : RunRequest → RunAsked
@@ -288,7 +316,13 @@ run_of r = record {
 }
 
 abbrev pub stages_of : StagesRequest → StagesAsked
-stages_of r = record { workers = r.workers; order = r.order; size = r.size; files = map string_bytes r.files.items }
+stages_of r = record {
+  workers = r.workers;
+  order = r.order;
+  size = r.size;
+  files =
+      map string_bytes r.files.items;
+}
 
 abbrev pub self_of : SelfRequest → SelfAsked
 self_of r = record { seed = r.seed; lines = r.lines; workers = r.workers }

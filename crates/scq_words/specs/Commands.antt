@@ -1,5 +1,6 @@
--- The commands as `clap` knows them: `run` and `stages` with options and files, `self` with options, `judge` with an option and files, `check` and `replay`
--- with one file, and `replay` with a flag besides.
+-- The commands as `clap` knows them: `run` and `stages` with options and files, `self` with
+-- options, `judge` with an option and files, `check` and `replay` with one file, and `replay` with
+-- a flag besides.
 use Rattle.std.specs.Prelude.{ℕ, List, Some, true, codes}
 use Rattle.clap.specs.Words.{App, Rule, new_app, new_rule, with_rule}
 use Rattle.scq_words.specs.declared.text_request.TextCommand.{TextCommand}
@@ -9,7 +10,14 @@ use Rattle.clap.specs.declared.builder.action.ArgAction.TheVariants.{Append, Set
 -- a command that reads the words as they are, with neither help nor version
 abbrev pub plain_app : List ℕ → App
 plain_app name = let app = new_app name in
-    record app { top = record app.top { no_binary_name = true; disable_help_flag = true; disable_version_flag = true } }
+    record app {
+      top = record app.top {
+        no_binary_name = true;
+        disable_help_flag =
+            true;
+        disable_version_flag = true;
+      };
+    }
 
 -- `--name VALUE` or `--name=VALUE`, at most once
 abbrev pub option_rule : List ℕ → Rule

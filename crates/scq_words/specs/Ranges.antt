@@ -1,10 +1,12 @@
 -- Which words `clap` takes, and in which ranges the settings are.
-use Rattle.std.specs.Prelude.{ℕ, ◌<◌, ◌≤◌, Bool, false, List, [], ◌∷◌, length, codes, IfSome, if◌then◌else◌}
+use Rattle.std.specs.Prelude.{ℕ, ◌<◌, ◌≤◌, Bool, false, List, [], ◌∷◌, length, codes, IfSome}
+use Rattle.std.specs.Prelude.{if◌then◌else◌}
 use Rattle.std.specs.List.{All}
 use Rattle.std.specs.Str.{bytes_eq}
 use Rattle.clap.specs.Words.{takes}
 use Rattle.scq_words.specs.Commands.{run_app, stages_app, self_app, judge_app, text_app}
-use Rattle.scq_words.specs.Asked.{Asked, RunAsked, StagesAsked, SelfAsked, JudgeAsked, run, generated, judged, whole, staged}
+use Rattle.scq_words.specs.Asked.{Asked, RunAsked, StagesAsked, SelfAsked, JudgeAsked, run}
+use Rattle.scq_words.specs.Asked.{generated, judged, whole, staged}
 use Rattle.scq_words.specs.declared.text_request.TextCommand.TheVariants.{Check, Replay}
 
 -- the first word is a command, and `clap` takes those after it as its arguments
@@ -22,7 +24,8 @@ is_taken (command ∷ words) =
 -- the same where the command is `run`
 abbrev pub is_taken_for_run : List (List ℕ) → Bool
 is_taken_for_run [] = false
-is_taken_for_run (command ∷ words) = if bytes_eq command (codes "run") then takes run_app words else false
+is_taken_for_run (command ∷ words) =
+    if bytes_eq command (codes "run") then takes run_app words else false
 
 -- the settings of a run are in their ranges, and each of its files has a name
 pub record IsRunInRange (a : RunAsked) : Type 0 where

@@ -6,7 +6,8 @@ use thiserror::Error;
 /// Why the words of a command line are refused. The text is the line that the program reports.
 #[derive(Clone, Copy, Debug, PartialEq, Eq, Error)]
 pub enum WordsFault {
-    /// There is no such command, or an argument is unknown, missing, given twice or without a value.
+    /// There is no such command, or an argument is unknown, missing, given twice or without a
+    /// value.
     #[error("words not understood")]
     NotUnderstood,
     #[error("workers is not in 1..4096")]

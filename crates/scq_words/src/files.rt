@@ -1,4 +1,5 @@
-ghost use Rattle.std.specs.Prelude.{◌≡◌, ◌<◌, ◌≤◌, length, map, nat_lt, string_bytes, vec_len, IfOk, OnOk};
+ghost use Rattle.std.specs.Prelude.{◌≡◌, ◌<◌, ◌≤◌, length, map, nat_lt, string_bytes, vec_len};
+ghost use Rattle.std.specs.Prelude.{IfOk, OnOk};
 ghost use Rattle.std.specs.List.{All};
 ghost use Rattle.std.specs.Result.{result_err};
 ghost use Rattle.scq_words.specs.Asked.{refused_if, refused_names};
@@ -11,7 +12,8 @@ const MOST_FILES: usize = 64;
 
 /// There are at most 64 files.
 pub fn few_files(files: &[&str]) -> Result<(), WordsFault>
-    ensures refused { result_err result ≡ refused_if (nat_lt 64 (length files.now)) WordsFault.TooManyFiles }
+    ensures refused { result_err result
+        ≡ refused_if (nat_lt 64 (length files.now)) WordsFault.TooManyFiles }
     ensures few { OnOk result (length files.now ≤ 64) }
 {
     if files.len() > MOST_FILES {
@@ -37,7 +39,8 @@ pub fn named_files(files: &[&str]) -> Result<(), WordsFault>
 /// Copies of the names.
 pub fn own_files(alloc: Global, files: &[&str]) -> Result<Vec<String>, AllocError>
     ensures len { IfOk result (λ own. vec_len own ≡ length files.now) }
-    ensures names { IfOk result (λ own. map string_bytes own.items ≡ map (λ name. name.now) files.now) }
+    ensures names { IfOk result (λ own.
+        map string_bytes own.items ≡ map (λ name. name.now) files.now) }
 {
     let mut own = Vec::with_capacity(alloc, files.len())?;
     for name in files {

@@ -1,7 +1,9 @@
-ghost use Rattle.std.specs.Prelude.{◌≡◌, ◌≤◌, Ok, Err, None, Some, false, length, map, string_bytes, IfOk, IfSome, IsErrOf};
+ghost use Rattle.std.specs.Prelude.{◌≡◌, ◌≤◌, Ok, Err, None, Some, false, length, map};
+ghost use Rattle.std.specs.Prelude.{string_bytes, IfOk, IfSome, IsErrOf};
 ghost use Rattle.clap.specs.Words.{takes};
 ghost use Rattle.scq_words.specs.declared.fault.WordsFault.{WordsFault as TheFault};
-ghost use Rattle.scq_words.specs.Asked.{asked_of_judge, first_of_tests, judge_of, judge_tests, judged, room_of, texts_of_judge};
+ghost use Rattle.scq_words.specs.Asked.{asked_of_judge, first_of_tests, judge_of, judge_tests};
+ghost use Rattle.scq_words.specs.Asked.{judged, room_of, texts_of_judge};
 ghost use Rattle.scq_words.specs.Commands.{judge_app};
 ghost use Rattle.scq_words.specs.Numbers.{number_or, text_in};
 ghost use Rattle.scq_words.specs.Ranges.{IsJudgeInRange};
@@ -15,9 +17,12 @@ use std::alloc::Global;
 
 /// What the words after `judge` ask for.
 pub(crate) fn read_judge(alloc: Global, words: &[String]) -> Result<JudgeRequest, WordsError>
-    ensures request { IfOk result (λ request. asked_of_judge (map string_bytes words.now) ≡ Ok (judged (judge_of request))) }
-    ensures refused { (fault : TheFault) → IsErrOf result (WordsError.Refused fault) → asked_of_judge (map string_bytes words.now) ≡ Err fault }
-    ensures taken { IsErrOf result (WordsError.Refused WordsFault.NotUnderstood) → takes judge_app (map string_bytes words.now) ≡ false }
+    ensures request { IfOk result (λ request.
+        asked_of_judge (map string_bytes words.now) ≡ Ok (judged (judge_of request))) }
+    ensures refused { (fault : TheFault) → IsErrOf result (WordsError.Refused fault)
+        → asked_of_judge (map string_bytes words.now) ≡ Err fault }
+    ensures taken { IsErrOf result (WordsError.Refused WordsFault.NotUnderstood)
+        → takes judge_app (map string_bytes words.now) ≡ false }
     ensures ranges { IfOk result (λ request. IsJudgeInRange (judge_of request)) }
 {
     let matches = judge_matches(alloc, words)?;
@@ -32,10 +37,15 @@ fn check_judge(
     room: Option<&str>,
     files: &[&str],
 ) -> Result<JudgeRequest, WordsError>
-    ensures request { IfOk result (λ request. (first_of_tests (judge_tests (texts_of_judge (text_in room.entry) (map (λ name. name.now) files.now))) ≡ None)
-        × (room_of (text_in room.entry) ≡ (judge_of request).room) × (map (λ name. name.now) files.now ≡ (judge_of request).files)) }
+    ensures request { IfOk result (λ request.
+        (first_of_tests (judge_tests
+        (texts_of_judge (text_in room.entry) (map (λ name. name.now) files.now))) ≡ None)
+        × (room_of (text_in room.entry) ≡ (judge_of request).room)
+        × (map (λ name. name.now) files.now ≡ (judge_of request).files)) }
     ensures refused { (fault : TheFault) → IsErrOf result (WordsError.Refused fault)
-        → first_of_tests (judge_tests (texts_of_judge (text_in room.entry) (map (λ name. name.now) files.now))) ≡ Some fault }
+        → first_of_tests
+        (judge_tests (texts_of_judge (text_in room.entry) (map (λ name. name.now) files.now)))
+        ≡ Some fault }
     ensures ranges { IfOk result (λ request. IsJudgeInRange (judge_of request)) }
 {
     let number = optional_number(room, 1, 1, u32::MAX, WordsFault::Room)?;
@@ -52,7 +62,8 @@ fn check_judge(
 fn room_given(text: Option<&str>, number: u32) -> Option<u32>
     requires { number ≡ number_or 1 (text_in text) }
     ensures room { result ≡ room_of (text_in text.entry) }
-    ensures range { (1 ≤ number) × (number ≤ 4294967295) → IfSome result (λ n. (1 ≤ n) × (n ≤ 4294967295)) }
+    ensures range { (1 ≤ number) × (number ≤ 4294967295)
+        → IfSome result (λ n. (1 ≤ n) × (n ≤ 4294967295)) }
 {
     match text {
         None => None,

@@ -1,7 +1,7 @@
-//! The words of a command line: what they ask for, or the first test that refuses them. It stands on
-//! `clap` for how words make arguments, on `scq_topics` for declared topics, and on `scq_word`. The layer
-//! above uses the contract of `read_words`: it answers exactly what `asked` says of the words, or want of
-//! memory.
+//! The words of a command line: what they ask for, or the first test that refuses them. It stands
+//! on `clap` for how words make arguments, on `scq_topics` for declared topics, and on `scq_word`.
+//! The layer above uses the contract of `read_words`: it answers exactly what `asked` says of the
+//! words, or want of memory.
 #![tactic(auto)]
 
 mod fault;

@@ -1,6 +1,9 @@
 ghost use Rattle.std.specs.Prelude.{◌≡◌, ◌≢◌, IfOk, map, string_bytes, true, false};
 ghost use Rattle.clap.specs.Words.{app_of, is_simple_and_free, kind_of, rule_of};
-ghost use Rattle.scq_words.specs.Commands.{files_rule, flag_rule, judge_app, lines_app, named_app, numbers_app, option_rule, order_app, plain_app, report_app, room_app, run_app, seed_app, self_app, stages_app, text_app, topics_app, workers_app};
+ghost use Rattle.scq_words.specs.Commands.{files_rule, flag_rule, judge_app, lines_app, named_app};
+ghost use Rattle.scq_words.specs.Commands.{numbers_app, option_rule, order_app, plain_app};
+ghost use Rattle.scq_words.specs.Commands.{report_app, room_app, run_app, seed_app, self_app};
+ghost use Rattle.scq_words.specs.Commands.{stages_app, text_app, topics_app, workers_app};
 ghost use Rattle.scq_words.specs.Parsing.{Parses};
 
 use crate::{TextCommand, WordsError, WordsFault};
@@ -185,7 +188,9 @@ fn flag<'a>(alloc: Global, name: &'a str) -> Arg<'a>
 
 /// Want of memory stays one; every other error is that the words are not understood.
 fn error_of(error: &Error) -> WordsError
-    ensures { result ≢ WordsError.NoMemory → (result ≡ WordsError.Refused WordsFault.NotUnderstood) × (kind_of error.now ≢ ErrorKind.OutOfMemory) }
+    ensures { result ≢ WordsError.NoMemory
+        → (result ≡ WordsError.Refused WordsFault.NotUnderstood)
+        × (kind_of error.now ≢ ErrorKind.OutOfMemory) }
 {
     match error.kind() {
         ErrorKind::OutOfMemory => WordsError::NoMemory,

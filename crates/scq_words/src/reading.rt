@@ -11,15 +11,18 @@ use crate::text_request::read_text;
 use crate::{Request, RunRequest, TextCommand, WordsError, WordsFault};
 use std::alloc::Global;
 
-/// What the words ask for, which are the program's arguments without its own name. They are refused by
-/// the first test that holds, in the order of `WordsFault`'s table in docs/FORMATS.md; want of memory may
-/// come at any time.
+/// What the words ask for, which are the program's arguments without its own name. They are refused
+/// by the first test that holds, in the order of `WordsFault`'s table in docs/FORMATS.md; want of
+/// memory may come at any time.
 pub fn read_words(alloc: Global, words: &[String]) -> Result<Request, WordsError>
-    ensures request { IfOk result (λ request. asked (map string_bytes words.now) ≡ Ok (asked_by request)) }
-    ensures refused { (fault : TheFault) → IsErrOf result (WordsError.Refused fault) → asked (map string_bytes words.now) ≡ Err fault }
+    ensures request { IfOk result (λ request.
+        asked (map string_bytes words.now) ≡ Ok (asked_by request)) }
+    ensures refused { (fault : TheFault) → IsErrOf result (WordsError.Refused fault)
+        → asked (map string_bytes words.now) ≡ Err fault }
 
     // `clap` refuses no words that it is said to take. What is asked is in its ranges.
-    ensures taken { IsErrOf result (WordsError.Refused WordsFault.NotUnderstood) → is_taken (map string_bytes words.now) ≡ false }
+    ensures taken { IsErrOf result (WordsError.Refused WordsFault.NotUnderstood)
+        → is_taken (map string_bytes words.now) ≡ false }
     ensures ranges { IfOk result (λ request. IsInRange (asked_by request)) }
 {
     match words {
@@ -38,9 +41,12 @@ pub fn read_words(alloc: Global, words: &[String]) -> Result<Request, WordsError
 
 /// The same for a program that understands `run` alone.
 pub fn read_run_words(alloc: Global, words: &[String]) -> Result<RunRequest, WordsError>
-    ensures request { IfOk result (λ request. asked_for_run (map string_bytes words.now) ≡ Ok (run (run_of request))) }
-    ensures refused { (fault : TheFault) → IsErrOf result (WordsError.Refused fault) → asked_for_run (map string_bytes words.now) ≡ Err fault }
-    ensures taken { IsErrOf result (WordsError.Refused WordsFault.NotUnderstood) → is_taken_for_run (map string_bytes words.now) ≡ false }
+    ensures request { IfOk result (λ request.
+        asked_for_run (map string_bytes words.now) ≡ Ok (run (run_of request))) }
+    ensures refused { (fault : TheFault) → IsErrOf result (WordsError.Refused fault)
+        → asked_for_run (map string_bytes words.now) ≡ Err fault }
+    ensures taken { IsErrOf result (WordsError.Refused WordsFault.NotUnderstood)
+        → is_taken_for_run (map string_bytes words.now) ≡ false }
     ensures ranges { IfOk result (λ request. IsRunInRange (run_of request)) }
 {
     match words {

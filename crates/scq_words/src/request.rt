@@ -4,8 +4,8 @@ use crate::TextRequest;
 use scq_topics::Topics;
 
 /// What is asked of files. Workers are in `1..=4096`, the order in `1..=12`, the
-/// most bytes of a part in `1..=65536`, and there are 1 to 64 files, each with a name. `report` asks for
-/// what each worker did.
+/// most bytes of a part in `1..=65536`, and there are 1 to 64 files, each with a name. `report`
+/// asks for what each worker did.
 #[derive(Debug, Drop)]
 pub struct RunRequest {
     pub workers: u32,
@@ -27,8 +27,8 @@ pub struct StagesRequest {
     ghost few: { vec_len files ≤ 64 },
 }
 
-/// What is asked of a generated file: the seed is in `0..=2147483647`, the lines in `1..=1000000`, the
-/// workers in `1..=4096`.
+/// What is asked of a generated file: the seed is in `0..=2147483647`, the lines in `1..=1000000`,
+/// the workers in `1..=4096`.
 #[derive(Clone, Copy, Debug, PartialEq, Eq)]
 pub struct SelfRequest {
     pub seed: u32,
@@ -37,8 +37,8 @@ pub struct SelfRequest {
     ghost seed_in_range: { seed < 2 ^ 31 },
 }
 
-/// Recordings to judge: 1 to 64 files, each with a name. Where `room` is given, each queue had room for so many values, from 1, and refused
-/// puts are judged too.
+/// Recordings to judge: 1 to 64 files, each with a name. Where `room` is given, each queue had room
+/// for so many values, from 1, and refused puts are judged too.
 #[derive(Debug, Drop)]
 pub struct JudgeRequest {
     pub room: Option<u32>,

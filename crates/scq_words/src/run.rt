@@ -1,7 +1,10 @@
-ghost use Rattle.std.specs.Prelude.{◌≡◌, ◌≤◌, Ok, Err, None, Some, false, length, map, string_bytes, IfOk, IsErrOf};
+ghost use Rattle.std.specs.Prelude.{◌≡◌, ◌≤◌, Ok, Err, None, Some, false, length, map};
+ghost use Rattle.std.specs.Prelude.{string_bytes, IfOk, IsErrOf};
 ghost use Rattle.std.specs.Result.{result_err};
 ghost use Rattle.scq_words.specs.declared.fault.WordsFault.{WordsFault as TheFault};
-ghost use Rattle.scq_words.specs.Asked.{asked_of_run, first_of_tests, is_given, refused_topics, run, run_asked, run_of, run_tests, texts_of_run, topics_or_none};
+ghost use Rattle.scq_words.specs.Asked.{asked_of_run, first_of_tests, is_given, refused_topics};
+ghost use Rattle.scq_words.specs.Asked.{run, run_asked, run_of, run_tests, texts_of_run};
+ghost use Rattle.scq_words.specs.Asked.{topics_or_none};
 ghost use Rattle.clap.specs.Words.{takes};
 ghost use Rattle.scq_words.specs.Commands.{run_app};
 ghost use Rattle.scq_words.specs.Numbers.{text_in};
@@ -17,9 +20,12 @@ use std::alloc::Global;
 
 /// What the words after `run` ask for.
 pub fn read_run(alloc: Global, words: &[String]) -> Result<RunRequest, WordsError>
-    ensures request { IfOk result (λ request. asked_of_run (map string_bytes words.now) ≡ Ok (run (run_of request))) }
-    ensures refused { (fault : TheFault) → IsErrOf result (WordsError.Refused fault) → asked_of_run (map string_bytes words.now) ≡ Err fault }
-    ensures taken { IsErrOf result (WordsError.Refused WordsFault.NotUnderstood) → takes run_app (map string_bytes words.now) ≡ false }
+    ensures request { IfOk result (λ request.
+        asked_of_run (map string_bytes words.now) ≡ Ok (run (run_of request))) }
+    ensures refused { (fault : TheFault) → IsErrOf result (WordsError.Refused fault)
+        → asked_of_run (map string_bytes words.now) ≡ Err fault }
+    ensures taken { IsErrOf result (WordsError.Refused WordsFault.NotUnderstood)
+        → takes run_app (map string_bytes words.now) ≡ false }
     ensures ranges { IfOk result (λ request. IsRunInRange (run_of request)) }
 {
     let matches = run_matches(alloc, words)?;
@@ -42,12 +48,18 @@ fn check_run(
     report: Option<&str>,
     files: &[&str],
 ) -> Result<RunRequest, WordsError>
-    ensures request { let texts = texts_of_run (text_in workers.entry) (text_in order.entry) (text_in size.entry) (text_in topics.entry)
+    ensures request { let texts =
+        texts_of_run (text_in workers.entry) (text_in order.entry) (text_in size.entry)
+        (text_in topics.entry)
         (text_in report.entry) (map (λ name. name.now) files.now) in
-        IfOk result (λ request. (first_of_tests (run_tests texts) ≡ None) × (run_asked texts ≡ run_of request)) }
-    ensures refused { let texts = texts_of_run (text_in workers.entry) (text_in order.entry) (text_in size.entry) (text_in topics.entry)
+        IfOk result (λ request.
+        (first_of_tests (run_tests texts) ≡ None) × (run_asked texts ≡ run_of request)) }
+    ensures refused { let texts =
+        texts_of_run (text_in workers.entry) (text_in order.entry) (text_in size.entry)
+        (text_in topics.entry)
         (text_in report.entry) (map (λ name. name.now) files.now) in
-        (fault : TheFault) → IsErrOf result (WordsError.Refused fault) → first_of_tests (run_tests texts) ≡ Some fault }
+        (fault : TheFault) → IsErrOf result (WordsError.Refused fault)
+        → first_of_tests (run_tests texts) ≡ Some fault }
     ensures ranges { IfOk result (λ request. IsRunInRange (run_of request)) }
 {
     let given = optional_number(workers, 0, 1, 4096, WordsFault::Workers)?;

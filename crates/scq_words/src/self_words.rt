@@ -1,7 +1,9 @@
-ghost use Rattle.std.specs.Prelude.{◌≡◌, Ok, Err, None, Some, false, map, string_bytes, IfOk, IsErrOf};
+ghost use Rattle.std.specs.Prelude.{◌≡◌, Ok, Err, None, Some, false, map, string_bytes, IfOk};
+ghost use Rattle.std.specs.Prelude.{IsErrOf};
 ghost use Rattle.std.specs.Result.{result_err};
 ghost use Rattle.scq_words.specs.declared.fault.WordsFault.{WordsFault as TheFault};
-ghost use Rattle.scq_words.specs.Asked.{asked_of_self, first_of_tests, generated, self_asked, self_of, self_tests, texts_of_self};
+ghost use Rattle.scq_words.specs.Asked.{asked_of_self, first_of_tests, generated, self_asked};
+ghost use Rattle.scq_words.specs.Asked.{self_of, self_tests, texts_of_self};
 ghost use Rattle.clap.specs.Words.{takes};
 ghost use Rattle.scq_words.specs.Commands.{self_app};
 ghost use Rattle.scq_words.specs.Numbers.{text_in};
@@ -18,9 +20,12 @@ const ORDER: u32 = 6;
 
 /// What the words after `self` ask for.
 pub fn read_self(alloc: Global, words: &[String]) -> Result<SelfRequest, WordsError>
-    ensures request { IfOk result (λ request. asked_of_self (map string_bytes words.now) ≡ Ok (generated (self_of request))) }
-    ensures refused { (fault : TheFault) → IsErrOf result (WordsError.Refused fault) → asked_of_self (map string_bytes words.now) ≡ Err fault }
-    ensures taken { IsErrOf result (WordsError.Refused WordsFault.NotUnderstood) → takes self_app (map string_bytes words.now) ≡ false }
+    ensures request { IfOk result (λ request.
+        asked_of_self (map string_bytes words.now) ≡ Ok (generated (self_of request))) }
+    ensures refused { (fault : TheFault) → IsErrOf result (WordsError.Refused fault)
+        → asked_of_self (map string_bytes words.now) ≡ Err fault }
+    ensures taken { IsErrOf result (WordsError.Refused WordsFault.NotUnderstood)
+        → takes self_app (map string_bytes words.now) ≡ false }
     ensures ranges { IfOk result (λ request. IsSelfInRange (self_of request)) }
 {
     let matches = self_matches(alloc, words)?;
@@ -39,8 +44,13 @@ fn check_self(
     lines: Option<&str>,
     workers: Option<&str>,
 ) -> Result<SelfRequest, WordsFault>
-    ensures request { IfOk result (λ request. self_asked (texts_of_self (text_in seed.entry) (text_in lines.entry) (text_in workers.entry)) ≡ self_of request) }
-    ensures refused { result_err result ≡ first_of_tests (self_tests (texts_of_self (text_in seed.entry) (text_in lines.entry) (text_in workers.entry))) }
+    ensures request { IfOk result (λ request.
+        self_asked (texts_of_self (text_in seed.entry) (text_in lines.entry)
+        (text_in workers.entry)) ≡ self_of request) }
+    ensures refused { result_err result
+        ≡ first_of_tests
+        (self_tests (texts_of_self (text_in seed.entry) (text_in lines.entry)
+        (text_in workers.entry))) }
     ensures ranges { IfOk result (λ request. IsSelfInRange (self_of request)) }
 {
     let seed = optional_number(seed, 0, 0, 2147483647, WordsFault::Seed)?;

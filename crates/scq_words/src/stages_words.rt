@@ -1,7 +1,9 @@
-ghost use Rattle.std.specs.Prelude.{◌≡◌, Ok, Err, None, Some, false, map, string_bytes, IfOk, IsErrOf};
+ghost use Rattle.std.specs.Prelude.{◌≡◌, Ok, Err, None, Some, false, map, string_bytes, IfOk};
+ghost use Rattle.std.specs.Prelude.{IsErrOf};
 ghost use Rattle.clap.specs.Words.{takes};
 ghost use Rattle.scq_words.specs.declared.fault.WordsFault.{WordsFault as TheFault};
-ghost use Rattle.scq_words.specs.Asked.{asked_of_stages, first_of_tests, staged, stages_asked, stages_of, stages_tests, texts_of_stages};
+ghost use Rattle.scq_words.specs.Asked.{asked_of_stages, first_of_tests, staged, stages_asked};
+ghost use Rattle.scq_words.specs.Asked.{stages_of, stages_tests, texts_of_stages};
 ghost use Rattle.scq_words.specs.Commands.{stages_app};
 ghost use Rattle.scq_words.specs.Numbers.{text_in};
 ghost use Rattle.scq_words.specs.Ranges.{IsStagesInRange};
@@ -15,9 +17,12 @@ use std::alloc::Global;
 
 /// What the words after `stages` ask for.
 pub fn read_stages(alloc: Global, words: &[String]) -> Result<StagesRequest, WordsError>
-    ensures request { IfOk result (λ request. asked_of_stages (map string_bytes words.now) ≡ Ok (staged (stages_of request))) }
-    ensures refused { (fault : TheFault) → IsErrOf result (WordsError.Refused fault) → asked_of_stages (map string_bytes words.now) ≡ Err fault }
-    ensures taken { IsErrOf result (WordsError.Refused WordsFault.NotUnderstood) → takes stages_app (map string_bytes words.now) ≡ false }
+    ensures request { IfOk result (λ request.
+        asked_of_stages (map string_bytes words.now) ≡ Ok (staged (stages_of request))) }
+    ensures refused { (fault : TheFault) → IsErrOf result (WordsError.Refused fault)
+        → asked_of_stages (map string_bytes words.now) ≡ Err fault }
+    ensures taken { IsErrOf result (WordsError.Refused WordsFault.NotUnderstood)
+        → takes stages_app (map string_bytes words.now) ≡ false }
     ensures ranges { IfOk result (λ request. IsStagesInRange (stages_of request)) }
 {
     let matches = stages_matches(alloc, words)?;
@@ -36,10 +41,16 @@ fn check_stages(
     size: Option<&str>,
     files: &[&str],
 ) -> Result<StagesRequest, WordsError>
-    ensures request { let texts = texts_of_stages (text_in workers.entry) (text_in order.entry) (text_in size.entry) (map (λ name. name.now) files.now) in
-        IfOk result (λ request. (first_of_tests (stages_tests texts) ≡ None) × (stages_asked texts ≡ stages_of request)) }
-    ensures refused { let texts = texts_of_stages (text_in workers.entry) (text_in order.entry) (text_in size.entry) (map (λ name. name.now) files.now) in
-        (fault : TheFault) → IsErrOf result (WordsError.Refused fault) → first_of_tests (stages_tests texts) ≡ Some fault }
+    ensures request { let texts =
+        texts_of_stages (text_in workers.entry) (text_in order.entry) (text_in size.entry)
+        (map (λ name. name.now) files.now) in
+        IfOk result (λ request. (first_of_tests (stages_tests texts) ≡ None)
+        × (stages_asked texts ≡ stages_of request)) }
+    ensures refused { let texts =
+        texts_of_stages (text_in workers.entry) (text_in order.entry) (text_in size.entry)
+        (map (λ name. name.now) files.now) in
+        (fault : TheFault) → IsErrOf result (WordsError.Refused fault)
+        → first_of_tests (stages_tests texts) ≡ Some fault }
     ensures ranges { IfOk result (λ request. IsStagesInRange (stages_of request)) }
 {
     let given = optional_number(workers, 0, 1, 4096, WordsFault::Workers)?;

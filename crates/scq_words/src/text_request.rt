@@ -1,4 +1,5 @@
-ghost use Rattle.std.specs.Prelude.{◌≡◌, ◌<◌, Ok, Err, false, length, map, string_bytes, IfOk, IsErrOf};
+ghost use Rattle.std.specs.Prelude.{◌≡◌, ◌<◌, Ok, Err, false, length, map, string_bytes, IfOk};
+ghost use Rattle.std.specs.Prelude.{IsErrOf};
 ghost use Rattle.clap.specs.Words.{takes};
 ghost use Rattle.scq_words.specs.Commands.{text_app};
 ghost use Rattle.scq_words.specs.declared.fault.WordsFault.{WordsFault as TheFault};
@@ -33,9 +34,12 @@ pub(crate) fn read_text(
     command: TextCommand,
     words: &[String],
 ) -> Result<TextRequest, WordsError>
-    ensures request { IfOk result (λ request. asked_of_text command (map string_bytes words.now) ≡ Ok (whole (text_of request))) }
-    ensures refused { (fault : TheFault) → IsErrOf result (WordsError.Refused fault) → asked_of_text command (map string_bytes words.now) ≡ Err fault }
-    ensures taken { IsErrOf result (WordsError.Refused WordsFault.NotUnderstood) → takes (text_app command) (map string_bytes words.now) ≡ false }
+    ensures request { IfOk result (λ request.
+        asked_of_text command (map string_bytes words.now) ≡ Ok (whole (text_of request))) }
+    ensures refused { (fault : TheFault) → IsErrOf result (WordsError.Refused fault)
+        → asked_of_text command (map string_bytes words.now) ≡ Err fault }
+    ensures taken { IsErrOf result (WordsError.Refused WordsFault.NotUnderstood)
+        → takes (text_app command) (map string_bytes words.now) ≡ false }
     ensures named { IfOk result (λ request. 0 < length (string_bytes request.file)) }
 {
     let matches = text_matches(alloc, command, words)?;
