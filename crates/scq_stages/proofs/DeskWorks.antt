@@ -104,16 +104,17 @@ module _ {B S : Type 0} where
       few = omega (arith, sum_by-map (λ (w : Work B). length w.messages) work_of desks, few-in-all [] size faults end_count left sources desks all-read);
     }
 
-    module _ (left_in : List ℕ) (closed : HasClosed c shared.given (passes_at desks) (held_at desks) left_in) where
-      closed-so : HasClosed c shared.given (passes_in works) (held_in works) left_in
+    module _ {contents : B → List ℕ} {IsSameBuffer : B → B → Type 0} {buffers : List B} (left_in : List ℕ)
+        (closed : HasClosed contents IsSameBuffer c shared.given (passes_at desks) (held_at desks) buffers left_in) where
+      closed-so : HasClosed contents IsSameBuffer c shared.given (passes_in works) (held_in works) buffers left_in
       closed-so =
-          subst (λ (hs : List (HeldStanding B)). HasClosed c shared.given (passes_in works) hs left_in) (sym works-held)
-          (subst (λ (ps : List (PassStanding B)). HasClosed c shared.given ps (held_at desks) left_in) (sym works-passes) closed)
+          subst (λ (hs : List (HeldStanding B)). HasClosed contents IsSameBuffer c shared.given (passes_in works) hs buffers left_in) (sym works-held)
+          (subst (λ (ps : List (PassStanding B)). HasClosed contents IsSameBuffer c shared.given ps (held_at desks) buffers left_in) (sym works-passes) closed)
 
       -- whatever the workers met
-      pub desks-shared : HaveShared KeepsStages (2 ^ 37) 2 c (passes_at desks) left_in
+      pub desks-shared : HaveShared contents IsSameBuffer KeepsStages (2 ^ 37) 2 c (passes_at desks) buffers left_in
       desks-shared =
-          subst (λ (ps : List (PassStanding B)). HaveShared KeepsStages (2 ^ 37) 2 c ps left_in) works-passes
+          subst (λ (ps : List (PassStanding B)). HaveShared contents IsSameBuffer KeepsStages (2 ^ 37) 2 c ps buffers left_in) works-passes
           (all-shared c shared works all-done left_in closed-so)
 
       -- where each file was read to its end and no worker wanted memory

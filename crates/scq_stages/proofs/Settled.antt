@@ -1,6 +1,6 @@
 -- Desks whose files were dealt or taken off have the workers that they had; and what is held at all desks together.
 use Rattle.std.proofs.Common.{◌≡◌, refl, sym, ◌∙◌, ap, subst, arith, zero, suc, ℕ, ◌+◌, ◌<◌, List, [], ◌∷◌, length, map, get_or, Option, Some, None}
-use Rattle.std.specs.Prelude.{slice_index_or, flat_map, sum_by, IfSome, IsSome, Vec}
+use Rattle.std.specs.Prelude.{slice_index_or, flat_map, sum_by, IfSome, IsSome, IsSomeAnd, Vec}
 use Rattle.std.specs.Global.{Global}
 use Rattle.std.specs.List.{All}
 use Rattle.std.specs.Option.{option_to_list}
@@ -116,3 +116,7 @@ pub record Shown {X : Type 0} (o : Option X) (P : X → Type 0) : Type 0 where
 pub some-of : {X : Type 0} (o : Option X) (P : X → Type 0) → IsSome o → IfSome o P → Shown o P
 some-of None P there so = absurd (cc)
 some-of (Some x) P there so = record { it = x; same = refl; holds = so }
+
+pub some-and : {X : Type 0} (o : Option X) (P : X → Type 0) → IsSomeAnd o P → Shown o P
+some-and None P so = absurd so
+some-and (Some x) P so = record { it = x; same = refl; holds = so }

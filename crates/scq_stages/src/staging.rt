@@ -50,8 +50,8 @@ pub fn stage_work<R: Threads + Sync, S: Source>(
 
     // Whatever the answer is, the queue was closed with each buffer free: before it retired each pass moved to second what it took from first, and
     // then found first empty; and what was sent was taken. Only where there was no memory for a queue there was none.
-    ensures left { IfSome result.left (λ left. IsSomeAnd result.passes (λ passes.
-        NothingIsStranded job.now.order job.now.workers passes.value.items left.items)) }
+    ensures left { IfSome result.left (λ left. IsSomeAnd result.passes (λ passes. IsSomeAnd result.frames (λ frames.
+        NothingIsStranded job.now.order job.now.workers passes.value.items frames.value.items left.items))) }
     ensures none { result.left ≡ None → IsErrOf result.result StageFault.NoMemory }
     ensures same { IfOk result.result (λ s. IsSomeAnd result.passes (λ passes. passes.value.items ≡ s.passes.value.items)) }
 

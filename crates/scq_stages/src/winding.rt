@@ -90,8 +90,8 @@ pub(crate) fn wind_up<S: Source>(
         HasStaged job.now.workers (messages_in [] 1 contents) s)) }
     ensures staged { IfOk result.result (λ s. (given : List (List TheMessage)) × AreGiven [] job.now.size S.left 1 laid.was.value.items given
         × HasStaged job.now.workers given s) }
-    ensures left { IfSome result.left (λ left. IsSomeAnd result.passes (λ passes.
-        NothingIsStranded job.now.order job.now.workers passes.value.items left.items)) }
+    ensures left { IfSome result.left (λ left. IsSomeAnd result.passes (λ passes. IsSomeAnd result.frames (λ frames.
+        NothingIsStranded job.now.order job.now.workers passes.value.items frames.value.items left.items))) }
     ensures passes { IfSome result.passes (λ passes. passes.value.items ≡ map (λ d. d.worker.worker.pass) desks.items) }
     ensures there { IsSome result.passes }
     ensures closed { IsSome result.left }
@@ -128,6 +128,7 @@ pub(crate) fn wind_up<S: Source>(
         saw: _,
         passes,
     } = queue.close(passes, held);
+    let frames = Snapshot::of(&buffers);
     block.merge(buffers);
     let staged = Staged {
         counts,
@@ -144,5 +145,6 @@ pub(crate) fn wind_up<S: Source>(
         result: conclude(staged, starved, wants, fault),
         left: Some(left),
         passes: Some(closing),
+        frames: Some(frames),
     }
 }

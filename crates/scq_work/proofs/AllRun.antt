@@ -110,7 +110,8 @@ module _ {B S : Type 0} where
     all-few : All (λ (w : ℕ × PassStanding B). HasFewCalls 1 w.0 w.1) works
     all-few = All-map (λ (w : ℕ × PassStanding B). HasFewCalls 1 w.0 w.1) (counted size) desks (λ k d less. (ran.run k d less).few_calls)
 
-    module _ (left_in : List ℕ) (closed : HasClosed c shared.given (passes_at desks) (held_at desks) left_in) where
+    module _ {contents : B → List ℕ} {IsSameBuffer : B → B → Type 0} {buffers : List B} (left_in : List ℕ)
+        (closed : HasClosed contents IsSameBuffer c shared.given (passes_at desks) (held_at desks) buffers left_in) where
       pub unspent : NoneSpent (passes_at desks)
       unspent =
           subst (λ (ps : List (PassStanding B)). NoneSpent ps) passes-same
@@ -181,7 +182,7 @@ module _ {B S : Type 0} where
           ]
 
       -- whatever the workers met
-      pub all-shared : HaveShared (HasHelped (length topics + 1)) (2 ^ 36) (length topics + 1) c (passes_at desks) left_in
+      pub all-shared : HaveShared contents IsSameBuffer (HasHelped (length topics + 1)) (2 ^ 36) (length topics + 1) c (passes_at desks) buffers left_in
       all-shared =
           have-shared c shared.given (passes_at desks) (held_at desks) left_in closed (HasHelped (length topics + 1)) (2 ^ 36) (length topics + 1) shared ran.setup refl
           (omega (arith, ran.rings))

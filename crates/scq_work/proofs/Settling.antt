@@ -1,6 +1,6 @@
 -- Desks with their stands, before the work and behind it; and what is told of workers that waited, where their crew closes.
 use Rattle.std.proofs.Common.{◌≡◌, ◌∙◌, ◌⊎◌, refl, sym, ap, subst, arith, inl, inr, zero, suc, ℕ, ◌+◌, ◌-◌, ◌^◌, ◌<◌, ◌≤◌, Bool, true, List, [], ◌∷◌, length, map, get_or, Option, Some, None}
-use Rattle.std.specs.Prelude.{slice_get, slice_index_or, IfSome, IsSome}
+use Rattle.std.specs.Prelude.{slice_get, slice_index_or, IfSome, IsSome, IsSomeAnd}
 use Rattle.std.specs.List.{All, AllZip}
 use Rattle.std.proofs.lemmas.Bool.{cases_lt}
 use Rattle.std.proofs.lemmas.List.{get_or-map, length-map}
@@ -234,3 +234,7 @@ pub record Shown {X : Type 0} (o : Option X) (P : X → Type 0) : Type 0 where
 pub some-of : {X : Type 0} (o : Option X) (P : X → Type 0) → IsSome o → IfSome o P → Shown o P
 some-of None P there so = absurd (cc)
 some-of (Some x) P there so = record { it = x; same = refl; holds = so }
+
+pub some-and : {X : Type 0} (o : Option X) (P : X → Type 0) → IsSomeAnd o P → Shown o P
+some-and None P so = absurd so
+some-and (Some x) P so = record { it = x; same = refl; holds = so }

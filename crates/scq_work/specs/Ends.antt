@@ -51,7 +51,8 @@ pub record EndsWork {S : Type 0} (j : Job) (faults end_count : S → ℕ) (left 
   pub told : IfOk end.result (λ w. IfSome (all_left left sources) (λ contents. HasWorked j.topics j.size j.workers (messages_in j.topics 1 contents) w))
   pub worked : IfOk end.result (λ w. (given : List (List Message)) × AreGiven j.topics j.longest left 1 sources given
       × HasWorked j.topics j.size j.workers given w)
-  pub none_stranded : IfSome end.left (λ l. IsSomeAnd end.passes (λ p. NothingIsStranded j.order (length j.topics + 1) j.workers p.value.items l.items))
+  pub none_stranded : IfSome end.left (λ l. IsSomeAnd end.passes (λ p. IsSomeAnd end.frames (λ f.
+      NothingIsStranded j.order (length j.topics + 1) j.workers p.value.items f.value.items l.items)))
   pub none : end.left ≡ None → IsErrOf end.result NoMemory
   pub same : IfOk end.result (λ w. IsSomeAnd end.passes (λ p. p.value.items ≡ w.passes.value.items))
   pub cause : IfErr end.result (HasCause j.longest faults end_count left sources end.sources.items)

@@ -130,8 +130,8 @@ pub fn work_waiting<R: Threads + Wait + Sync, S: Source, G: Gate>(
 
     // Whatever the answer is, the queue was closed with each buffer free: each pass has retired, what was sent was taken, and the block was
     // merged. Only where there was no memory for a queue there was none.
-    ensures left { IfSome result.end.left (λ left. IsSomeAnd result.end.passes (λ passes.
-        NothingIsStranded job.now.order (length job.now.topics + 1) job.now.workers passes.value.items left.items)) }
+    ensures left { IfSome result.end.left (λ left. IsSomeAnd result.end.passes (λ passes. IsSomeAnd result.end.frames (λ frames.
+        NothingIsStranded job.now.order (length job.now.topics + 1) job.now.workers passes.value.items frames.value.items left.items))) }
     ensures none { result.end.left ≡ None → IsErrOf result.end.result WorkFault.NoMemory }
     ensures same { IfOk result.end.result (λ w. IsSomeAnd result.end.passes (λ passes. passes.value.items ≡ w.passes.value.items)) }
 

@@ -93,6 +93,7 @@ pub(crate) fn wind_up<S: Source>(
         saw,
         passes: closed,
     } = queue.close(passes, held);
+    let frames = Snapshot::of(&buffers);
     block.merge(buffers);
     let Gathered {
         sources,
@@ -109,6 +110,7 @@ pub(crate) fn wind_up<S: Source>(
         result: conclude(worked, starved, wants, fault),
         left: Some(left),
         passes: Some(closing),
+        frames: Some(frames),
     };
     (end, saw)
 }

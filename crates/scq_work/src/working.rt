@@ -53,8 +53,8 @@ pub fn work<R: Threads + Sync, S: Source, G: Gate>(
 
     // Whatever the answer is, the queue was closed with each buffer free: each pass has retired, what was sent was taken, and the block was
     // merged. Only where there was no memory for a queue there was none.
-    ensures left { IfSome result.left (λ left. IsSomeAnd result.passes (λ passes.
-        NothingIsStranded job.now.order (length job.now.topics + 1) job.now.workers passes.value.items left.items)) }
+    ensures left { IfSome result.left (λ left. IsSomeAnd result.passes (λ passes. IsSomeAnd result.frames (λ frames.
+        NothingIsStranded job.now.order (length job.now.topics + 1) job.now.workers passes.value.items frames.value.items left.items))) }
     ensures none { result.left ≡ None → IsErrOf result.result WorkFault.NoMemory }
     ensures same { IfOk result.result (λ w. IsSomeAnd result.passes (λ passes. passes.value.items ≡ w.passes.value.items)) }
 

@@ -7,6 +7,7 @@ use Rattle.std.specs.Option.{option_to_list}
 use Rattle.std.proofs.lemmas.Bool.{or_parts}
 use Rattle.std.proofs.lemmas.List.Elements.{All-map}
 use Rattle.std.proofs.lemmas.Option.{slice_get-get_or}
+use Rattle.scq_block.specs.Frames.{IsSame, bytes_of}
 use Rattle.scq_block.specs.declared.frame.Frame.{Frame}
 use Rattle.scq_block.proofs.BlockFrames.{all_from_same}
 use Rattle.scq_frames.specs.declared.message.Message.{Message}
@@ -26,7 +27,7 @@ use Rattle.scq_stages.specs.declared.finished.Finished.{Finished}
 use Rattle.scq_stages.specs.declared.seating.Seated.{Seated}
 use Rattle.scq_stages.specs.declared.staged.StageFault.{StageFault}
 use Rattle.scq_stages.specs.declared.staged.Staged.{Staged}
-use Rattle.scq_stages.specs.AllStages.{HasStaged, HaveFinished}
+use Rattle.scq_stages.specs.AllStages.{HasStaged, HaveFinished, NothingIsStranded}
 use Rattle.scq_stages.specs.Output.{finished_in}
 use Rattle.scq_passes.proofs.Closed.{HasClosed}
 use Rattle.scq_stages.proofs.DeskWorks.{AllRan, all-ended, desks-gave, desks-shared, desks-staged, held_at, lists_at, messages_given, passes_at}
@@ -89,18 +90,18 @@ merge-requires g c =
 
 -- what the workers did, and how the queue was closed
 record Facts {S : Type 0} (order size workers : ℕ) (faults end_count : S → ℕ) (left : S → Option (List ℕ)) (sources : List S) (queue : Identity Frame)
-    (ran : List (Desk (Seated Frame) S)) (their_passes : List (PassStanding Frame)) (their_lists : List (Vec Finished Global)) (left_in : List ℕ) : Type 0
+    (ran : List (Desk (Seated Frame) S)) (their_passes : List (PassStanding Frame)) (their_lists : List (Vec Finished Global)) (frames : List Frame) (left_in : List ℕ) : Type 0
   where
     of_job : IsSetup order 2 workers queue.setup
     count : length ran ≡ workers
     passes : their_passes ≡ passes_at ran
     lists : their_lists ≡ lists_at ran
     all : AllRan queue.setup queue size faults end_count left sources ran
-    closed : HasClosed queue.setup queue.given (passes_at ran) (held_at ran) left_in
+    closed : HasClosed bytes_of IsSame queue.setup queue.given (passes_at ran) (held_at ran) frames left_in
 
 facts : (g : _) (c : After-conclude g) → Facts c.args.job.now.order c.args.job.now.size c.args.job.now.workers
     g.S.Source.faults g.S.Source.ends g.S.Source.left c.args.laid.was.value.items c.args.queue c.args.desks.items c.clear.new.left.passes.items
-    c.clear.new.left.lists.items c.close-buffers.result.left.items
+    c.clear.new.left.lists.items c.close-buffers.result.buffers.items c.close-buffers.result.left.items
 facts g c =
     let S = g.row.S.Denot in
     let queue = c.args.queue in
@@ -141,9 +142,12 @@ facts g c =
         seats = setup.2 ∙ sym c.requires.count;
         limit = setup.3;
       };
-      closed = subst (λ (hs : List (HeldStanding Frame)). HasClosed queue.setup queue.given (passes_at ran) hs c.close-buffers.result.left.items) held
-          (subst (λ (ps : List (PassStanding Frame)). HasClosed queue.setup queue.given ps c.clear.new.left.held.items c.close-buffers.result.left.items) passes (record {
-            run = (_, _, close.run);
+      closed = subst (λ (hs : List (HeldStanding Frame)). HasClosed bytes_of IsSame queue.setup queue.given (passes_at ran) hs c.close-buffers.result.buffers.items
+          c.close-buffers.result.left.items) held
+          (subst (λ (ps : List (PassStanding Frame)). HasClosed bytes_of IsSame queue.setup queue.given ps c.clear.new.left.held.items
+          c.close-buffers.result.buffers.items c.close-buffers.result.left.items) passes (record {
+            run = close.run;
+            back = close.buffers;
             takes = close.takes;
             sent_once = close.sent_once;
             taken_once = close.taken_once;
@@ -188,12 +192,13 @@ returns-clause-left g c =
     let at = (goal.at.returns-clause-left g c).After-conclude in
     let f = facts g at in
     let gave : c.of-closing.result.value.items ≡ passes_at c.args.desks.items = ap (λ v. v.items) c.of-closing.ensures ∙ f.passes in
-    record {
+    subst (λ (fs : List Frame). NothingIsStranded c.args.job.now.order c.args.job.now.workers c.of-closing.result.value.items fs
+    c.close-buffers.result.left.items) (sym (ap (λ v. v.items) c.of-frames.ensures)) (record {
       setup = c.args.queue.setup;
       of_job = f.of_job;
       shared = rw gave (desks-shared c.args.queue.setup c.args.queue c.args.job.now.size g.S.Source.faults g.S.Source.ends g.S.Source.left
           c.args.laid.was.value.items c.args.desks.items f.all c.close-buffers.result.left.items f.closed);
-    }
+    })
 
 pub returns-clause-same : goal.returns-clause-same
 returns-clause-same g c =

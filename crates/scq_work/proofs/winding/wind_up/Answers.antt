@@ -7,6 +7,7 @@ use Rattle.std.specs.Option.{option_to_list}
 use Rattle.std.proofs.lemmas.Bool.{or_parts}
 use Rattle.std.proofs.lemmas.List.Elements.{All-map}
 use Rattle.std.proofs.lemmas.Option.{slice_get-get_or}
+use Rattle.scq_block.specs.Frames.{IsSame, bytes_of}
 use Rattle.scq_block.specs.declared.frame.Frame.{Frame}
 use Rattle.scq_block.proofs.BlockFrames.{all_from_same}
 use Rattle.scq_topics.specs.declared.kind.Kind.{Kind}
@@ -18,7 +19,7 @@ use Rattle.scq_queue.specs.Lists.{counts_of}
 use Rattle.scq_queue.specs.Passes.{PassStanding, HeldStanding, lists_of, was_told}
 use Rattle.scq_collect.specs.Merging.{members_in}
 use Rattle.scq_passes.specs.AllPasses.{IsSetup, lengths_of}
-use Rattle.scq_work.specs.AllWorkers.{HaveAnswered, HasWorked}
+use Rattle.scq_work.specs.AllWorkers.{HaveAnswered, HasWorked, NothingIsStranded}
 use Rattle.scq_work.specs.Dealings.{AreDealt, without_files}
 use Rattle.scq_files.specs.Ends.{AreGiven, all_left}
 use Rattle.scq_files.specs.Given.{given_in}
@@ -104,17 +105,17 @@ merge-requires g c =
 record Facts {S : Type 0} (topics : List (List ℕ × Kind)) (order size longest workers : ℕ) (faults end_count : S → ℕ) (left : S → Option (List ℕ))
     (sources : List S) (queue : Identity Frame) (ran : List (Desk Frame S)) (their_passes : List (PassStanding Frame))
     (their_lists : List (Vec Answered Global))
-    (left_in : List ℕ) : Type 0 where
+    (frames : List Frame) (left_in : List ℕ) : Type 0 where
   of_job : IsSetup order (length topics + 1) workers queue.setup
   count : length ran ≡ workers
   passes : their_passes ≡ passes_at ran
   lists : their_lists ≡ lists_at ran
   all : AllRan queue.setup queue topics size longest faults end_count left sources ran
-  closed : HasClosed queue.setup queue.given (passes_at ran) (held_at ran) left_in
+  closed : HasClosed bytes_of IsSame queue.setup queue.given (passes_at ran) (held_at ran) frames left_in
 
 facts : (g : _) (c : After-conclude g) → Facts c.args.job.now.topics c.args.job.now.order c.args.job.now.size c.args.job.now.longest c.args.job.now.workers
     g.S.Source.faults g.S.Source.ends g.S.Source.left c.args.laid.was.value.items c.args.queue c.args.desks.items c.clear.new.left.passes.items
-    c.clear.new.left.lists.items c.close-buffers.result.left.items
+    c.clear.new.left.lists.items c.close-buffers.result.buffers.items c.close-buffers.result.left.items
 facts g c =
     let S = g.row.S.Denot in
     let topics = c.args.job.now.topics in
@@ -163,9 +164,12 @@ facts g c =
         limit = setup.3;
         some_size = valid.some_size;
       };
-      closed = subst (λ (hs : List (HeldStanding Frame)). HasClosed queue.setup queue.given (passes_at ran) hs c.close-buffers.result.left.items) held
-          (subst (λ (ps : List (PassStanding Frame)). HasClosed queue.setup queue.given ps c.clear.new.left.held.items c.close-buffers.result.left.items) passes (record {
-            run = (_, _, close.run);
+      closed = subst (λ (hs : List (HeldStanding Frame)). HasClosed bytes_of IsSame queue.setup queue.given (passes_at ran) hs c.close-buffers.result.buffers.items
+          c.close-buffers.result.left.items) held
+          (subst (λ (ps : List (PassStanding Frame)). HasClosed bytes_of IsSame queue.setup queue.given ps c.clear.new.left.held.items
+          c.close-buffers.result.buffers.items c.close-buffers.result.left.items) passes (record {
+            run = close.run;
+            back = close.buffers;
             takes = close.takes;
             sent_once = close.sent_once;
             taken_once = close.taken_once;
@@ -244,7 +248,9 @@ returns-clause-end g c =
       told = ok-more result Of _ worked (λ w has. told-worked topics size c.args.job.now.workers has.0 w (all_left left sources)
           (given-told topics longest left 1 sources has.0 has.1) has.2);
       worked = worked;
-      none_stranded = record { setup = queue.setup; of_job = f.of_job; shared = rw closing shared };
+      none_stranded = subst (λ (fs : List Frame). NothingIsStranded c.args.job.now.order (length topics + 1) c.args.job.now.workers
+          c.of-closing.result.value.items fs left_in) (sym (ap (λ v. v.items) c.of-frames.ensures))
+          (record { setup = queue.setup; of_job = f.of_job; shared = rw closing shared });
       none = λ e. absurd (cc);
       same = ok-more result _ _ ok (λ w is.
           ap (λ v. v.items) c.of-closing.ensures ∙ sym c.close-buffers.ensures.passes ∙ ap (λ (x : Worked). x.passes.value.items) (sym is.0));
