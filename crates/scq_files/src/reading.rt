@@ -1,7 +1,8 @@
 //! How files are read: message by message, which a handler gets.
-ghost use Rattle.std.specs.Prelude.{◌≡◌, ◌≤◌, [], length, IfOk, IfErr, OnOk, All};
+ghost use Rattle.std.specs.Prelude.{◌≡◌, ◌≤◌, [], true, false, length, IfOk, IfErr, OnOk, All};
 ghost use Rattle.scq_frames.specs.declared.message.Message.{Message as TheMessage};
 ghost use Rattle.scq_files.specs.Given.{given_in};
+ghost use Rattle.scq_files.specs.Handling.{TellsOfWant, WantsAtLast};
 ghost use Rattle.scq_files.specs.OwnFiles.{IsNew, StopsAtAFault, ids_of, all_given};
 ghost use Rattle.scq_files.specs.Reading.{IsRead};
 
@@ -41,6 +42,12 @@ fn read_messages<C, T, H: Handler<C, T>, S: Source>(
         beside.old handler.old beside.new handler.new) }
     ensures stopped { IfErr result (H.stopped with.now (given_in given.new.value)
         beside.old handler.old beside.new handler.new) }
+
+    // Behind want of memory it reads no more.
+    ensures wanted { H.wanted handler.old ≡ false → WantsAtLast H.wanted (H.handled with.now)
+        (given_in given.new.value) beside.old handler.old }
+    ensures told { IfOk result (λ end. H.wanted handler.old ≡ false → H.wanted handler.new ≡ true
+        → end ≡ FileEnd.Stopped FrameFault.NoMemory) }
 {
     let Ok(mut framer) = Framer::new(alloc, file, longest, MOST_BYTES) else {
         return Ok(FileEnd::Stopped(FrameFault::NoMemory));
@@ -82,6 +89,10 @@ fn read_file<C, T, H: Handler<C, T>, S: Source>(
         beside.old handler.old beside.new handler.new) }
     ensures stopped { IfErr result (H.stopped with.now (given_in file.new.given.value)
         beside.old handler.old beside.new handler.new) }
+    ensures wanted { H.wanted handler.old ≡ false → WantsAtLast H.wanted (H.handled with.now)
+        (given_in file.new.given.value) beside.old handler.old }
+    ensures told { H.wanted handler.old ≡ false → H.wanted handler.new ≡ true
+        → file.new.end ≡ FileEnd.Stopped FrameFault.NoMemory }
 {
     let number = file.number;
     match read_messages(
@@ -129,11 +140,24 @@ pub fn read_files<C, T, H: Handler<C, T>, S: Source>(
         beside.old handler.old beside.new handler.new) }
     ensures stopped { IfErr result (H.stopped with.now (all_given files.new)
         beside.old handler.old beside.new handler.new) }
+
+    // Behind want of memory it reads no message more, and a file tells of it.
+    ensures wanted { H.wanted handler.old ≡ false → WantsAtLast H.wanted (H.handled with.now)
+        (all_given files.new) beside.old handler.old }
+    ensures told { H.wanted handler.old ≡ false → H.wanted handler.new ≡ true → TellsOfWant files.new }
 {
     let mut at = files.len();
     'files: while at > 0 {
         at -= 1;
-        read_file(handler, with, beside, alloc, topics, longest, &mut files[at])?;
+        read_file(
+            handler,
+            with,
+            beside,
+            alloc,
+            topics,
+            longest,
+            &mut files[at],
+        )?;
         if let FileEnd::Stopped(_) = files[at].end {
             return Ok(());
         }

@@ -1,15 +1,18 @@
-use Rattle.std.proofs.Common.{rules, ◌≡◌, ◌<◌, ◌-◌, ◌∙◌, sym, ap, subst, arith, refl, inl, inr, ◌++◌, ℕ, List, length, set, get_or-set_same, get_or-set_other, Err, Result}
+use Rattle.std.proofs.Common.{rules, ◌≡◌, ◌<◌, ◌-◌, ◌∙◌, sym, ap, subst, arith, refl, inl, inr, ◌++◌, ℕ, List, length, set, true, false, get_or-set_same, get_or-set_other, Err, Result}
 use Rattle.std.specs.Prelude.{IfErr, All, slice_index_or}
-use Rattle.std.proofs.lemmas.Bool.{cases_lt}
+use Rattle.std.proofs.lemmas.Bool.{cases_Bool, cases_lt, true≢false}
 use Rattle.std.proofs.lemmas.List.{length-set}
 use Rattle.scq_files.specs.OwnFiles.{IsNew, StopsAtAFault, ids_of, all_given}
+use Rattle.scq_frames.specs.declared.fault.FrameFault.TheVariants.{NoMemory}
 use Rattle.scq_files.specs.Given.{given_in}
+use Rattle.scq_files.specs.Handling.{TellsOfWant, WantsAtLast}
 use Rattle.scq_files.specs.Reading.{IsRead}
 use Rattle.scq_files.specs.declared.own_file.FileEnd.TheVariants.{Stopped}
 use Rattle.scq_files.specs.declared.own_file.OwnFile.{OwnFile}
 use Rattle.scq_files.proofs.FileLists.{given-set, ids-set, given-none}
 use Rattle.scq_files.proofs.Lists.{set-each}
 use Rattle.scq_files.proofs.ReadLemmas.{reading-unread}
+use Rattle.scq_files.proofs.Wants.{wants-none, wants-behind}
 use Rattle.scq_files.proofs.reading.read_files.Goals as goal
 use Rattle.scq_files.proofs.reading.read_files.Goals.{After-read_file}
 
@@ -56,6 +59,35 @@ handled-after g c its =
     c.read_file.new.handler) (sym (given-after g c))
     (g.met.H.Handler.more_handled _ _ _ _ _ _ _ _ _ c.files.invariant.handled its)
 
+-- memory was wanted at the last message, if at all
+wants-after : (g : _) (c : After-read_file g) → g.H.Handler.wanted c.args.handler.now ≡ false
+    → WantsAtLast g.H.Handler.wanted (g.H.Handler.handled c.args.with.now) (all_given (set c.files.files (c.files.at - 1) c.read_file.new.file))
+    c.args.beside.now c.args.handler.now
+wants-after g c fed =
+    wants-behind (all_given c.files.files) (given_in c.read_file.new.file.given.value) _ _ _ _ _ (given-after g c)
+    (λ front u j its. g.met.H.Handler.more_handled _ _ _ _ _ _ _ _ _ c.files.invariant.handled its)
+    (c.read_file.ensures.wanted (c.files.invariant.fed fed))
+
+-- and where it was, the file that was read tells of it
+told-after : (g : _) (c : After-read_file g) → g.H.Handler.wanted c.args.handler.now ≡ false → g.H.Handler.wanted c.read_file.new.handler ≡ true
+    → TellsOfWant (set c.files.files (c.files.at - 1) c.read_file.new.file)
+told-after g c fed wants =
+    let at = c.files.at - 1 in
+    let file = c.read_file.new.file in
+    let within : at < length c.files.files = omega (arith, c.files-test.true, c.files.invariant.within) in (
+      at,
+      omega (arith, within, length-set c.files.files at file),
+      λ d. ap (λ (f : OwnFile _). f.end) (get_or-set_same c.files.files at file d within) ∙ c.read_file.ensures.told (c.files.invariant.fed fed) wants,
+    )
+
+-- one that didn't stop for that wanted none
+fed-after : (g : _) (c : After-read_file g) → g.H.Handler.wanted c.files.handler ≡ false → (c.read_file.new.file.end ≡ Stopped NoMemory → ⊥)
+    → g.H.Handler.wanted c.read_file.new.handler ≡ false
+fed-after g c fed going = elim (cases_Bool (g.H.Handler.wanted c.read_file.new.handler)) [
+  | inl wants ↦ absurd (going (c.read_file.ensures.told fed wants))
+  | inr fed' ↦ fed'
+]
+
 -- none behind the file that was read has a fault, and none in front of it was read
 stops-after : (g : _) (c : After-read_file g) → StopsAtAFault (set c.files.files (c.files.at - 1) c.read_file.new.file)
 stops-after g c at before d fault less is low =
@@ -87,6 +119,7 @@ files-init g c = record {
       subst (λ (ms : List _). g.H.Handler.handled c.args.with.now ms c.args.beside.now c.args.handler.now c.args.beside.now c.args.handler.now)
       (sym (given-none c.args.files.now (λ k d less. (c.requires.unread k d less).given)))
       (g.met.H.Handler.none_handled c.args.with.now c.args.beside.now c.args.handler.now c.requires.ready);
+  fed = λ fed. fed;
 }
 
 pub returns-in_err-read_file-clause-same : goal.returns-in_err-read_file-clause-same
@@ -158,4 +191,24 @@ files-preserved g c =
       read = read-after g (goal.at.files-preserved g c).After-read_file;
       ready = g.met.H.Handler.stays_ready _ _ _ _ _ _ inv.ready its.handled;
       handled = handled-after g (goal.at.files-preserved g c).After-read_file its.handled;
+      fed = λ fed. fed-after g (goal.at.files-preserved g c).After-read_file (inv.fed fed) (λ stopped. c.in_default.not-Stopped NoMemory
+          (ap (λ (f : OwnFile _). f.end) (get_or-set_same c.files.files at c.read_file.new.file _ within) ∙ stopped));
     }
+
+pub returns-in_err-read_file-clause-wanted : goal.returns-in_err-read_file-clause-wanted
+returns-in_err-read_file-clause-wanted g c = wants-after g (goal.at.returns-in_err-read_file-clause-wanted g c).After-read_file
+
+pub returns-in_err-read_file-clause-told : goal.returns-in_err-read_file-clause-told
+returns-in_err-read_file-clause-told g c = told-after g (goal.at.returns-in_err-read_file-clause-told g c).After-read_file
+
+pub returns-in-Stopped-clause-wanted : goal.returns-in-Stopped-clause-wanted
+returns-in-Stopped-clause-wanted g c = wants-after g (goal.at.returns-in-Stopped-clause-wanted g c).After-read_file
+
+pub returns-in-Stopped-clause-told : goal.returns-in-Stopped-clause-told
+returns-in-Stopped-clause-told g c = told-after g (goal.at.returns-in-Stopped-clause-told g c).After-read_file
+
+pub returns-clause-wanted : goal.returns-clause-wanted
+returns-clause-wanted g c fed = wants-none _ _ _ _ _ c.files.invariant.handled (c.files.invariant.fed fed)
+
+pub returns-clause-told : goal.returns-clause-told
+returns-clause-told g c fed wants = absurd (true≢false (sym wants ∙ c.files.invariant.fed fed))

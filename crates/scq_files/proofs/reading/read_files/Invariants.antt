@@ -1,4 +1,4 @@
-use Rattle.std.proofs.Common.{◌≡◌, ◌<◌, ◌≤◌, ℕ, length}
+use Rattle.std.proofs.Common.{◌≡◌, ◌<◌, ◌≤◌, ℕ, false, length}
 use Rattle.std.specs.Prelude.{All, slice_index_or}
 use Rattle.scq_files.specs.OwnFiles.{IsNew, ids_of, all_given}
 use Rattle.scq_files.specs.Given.{given_in}
@@ -17,6 +17,7 @@ invariant-files g l = record {
       f.end) l.files;
   ready : g.H.Handler.ready l.with l.beside l.handler;
   handled : g.H.Handler.handled l.with (all_given l.files) l.fn.beside l.fn.handler l.beside l.handler;
+  fed : g.H.Handler.wanted l.fn.handler ≡ false → g.H.Handler.wanted l.handler ≡ false;
 }
 
 abbrev pub decreases-files : goal.decreases-files

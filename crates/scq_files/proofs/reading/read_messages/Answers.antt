@@ -10,6 +10,7 @@ use Rattle.scq_files.specs.Reading.{IsRead}
 use Rattle.scq_frames.specs.declared.fault.FrameFault.TheVariants.{NoMemory}
 use Rattle.scq_files.specs.declared.own_file.FileEnd.TheVariants.{Stopped}
 use Rattle.scq_files.proofs.ReadLemmas.{IsReading, Answers, reading-next, reading-whole, reading-fault, reading-left}
+use Rattle.scq_files.proofs.Wants.{wants-none, wants-more}
 use Rattle.scq_files.proofs.reading.read_messages.Goals as goal
 use Rattle.scq_files.proofs.reading.read_messages.Goals.{After-next, After-handle}
 
@@ -104,6 +105,7 @@ messages-preserved g c =
       reading = reading g (goal.at.messages-preserved g c).After-handle (said g (goal.at.messages-preserved g c).After-next);
       ready = g.met.H.Handler.stays_ready _ _ _ _ _ _ c.messages.invariant.ready its.handled;
       handled = handled-next g (goal.at.messages-preserved g c).After-handle its.handled;
+      fed = λ fed. sym c.starved.ensures ∙ c.if-starved.false;
     }
 
 pub returns-in-Ok-None-clause-read : goal.returns-in-Ok-None-clause-read
@@ -135,3 +137,19 @@ returns-in-Err-clause-read g c =
     c.in-Err.ensures.found
     (λ e. its.read_fault (is ∙ ap Err e)) (λ e. its.going (is ∙ ap Err e)) (λ other. its.kept (λ e. other (cc)))
     (λ line len e. its.too_long line len (is ∙ ap Err e)) (λ n e. its.too_large n (is ∙ ap Err e))
+
+-- memory was wanted at this message, if at all
+pub returns-in_err-handle-in-Ok-Some-clause-wanted : goal.returns-in_err-handle-in-Ok-Some-clause-wanted
+returns-in_err-handle-in-Ok-Some-clause-wanted g c fed =
+    wants-more _ _ c.in-Ok-Some.message _ _ _ _ c.give.ensures c.messages.invariant.handled (c.messages.invariant.fed fed)
+
+pub returns-then-starved-clause-wanted : goal.returns-then-starved-clause-wanted
+returns-then-starved-clause-wanted g c fed =
+    wants-more _ _ c.in-Ok-Some.message _ _ _ _ c.give.ensures c.messages.invariant.handled (c.messages.invariant.fed fed)
+
+-- at none
+pub returns-in-Ok-None-clause-wanted : goal.returns-in-Ok-None-clause-wanted
+returns-in-Ok-None-clause-wanted g c fed = wants-none _ _ _ _ _ c.messages.invariant.handled (c.messages.invariant.fed fed)
+
+pub returns-in-Err-clause-wanted : goal.returns-in-Err-clause-wanted
+returns-in-Err-clause-wanted g c fed = wants-none _ _ _ _ _ c.messages.invariant.handled (c.messages.invariant.fed fed)

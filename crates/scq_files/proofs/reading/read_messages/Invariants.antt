@@ -1,4 +1,4 @@
-use Rattle.std.proofs.Common.{◌+◌, ◌-◌, ◌^◌}
+use Rattle.std.proofs.Common.{◌≡◌, ◌+◌, ◌-◌, ◌^◌, false}
 use Rattle.scq_files.specs.Given.{given_in}
 use Rattle.scq_files.proofs.ReadLemmas.{IsReading}
 use Rattle.scq_files.proofs.reading.read_messages.Given as goal
@@ -10,6 +10,7 @@ invariant-messages g l = record {
       (given_in l.given.value);
   ready : g.H.Handler.ready l.with l.beside l.handler;
   handled : g.H.Handler.handled l.with (given_in l.given.value) l.fn.beside l.fn.handler l.beside l.handler;
+  fed : g.H.Handler.wanted l.fn.handler ≡ false → g.H.Handler.wanted l.handler ≡ false;
 }
 
 -- each message adds to the weight
