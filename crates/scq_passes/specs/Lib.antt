@@ -7,3 +7,4 @@ pub mod AllPasses
 pub mod PassedOn
 pub mod Becoming
 pub mod Jobs
+pub mod Closed

@@ -47,7 +47,8 @@ use Rattle.scq_files.proofs.GivenLemmas.{of-known, given-known}
 use Rattle.scq_work.proofs.Orders.{members-whole}
 use Rattle.scq_work.proofs.PartMembers.{members-known, members-short}
 use Rattle.scq_passes.proofs.ManyLists.{stands-at}
-use Rattle.scq_passes.proofs.Closed.{HasClosed, all-taken as takes-are-sends, have-shared}
+use Rattle.scq_passes.specs.Closed.{HasClosed}
+use Rattle.scq_passes.proofs.Closed.{all-taken as takes-are-sends, have-shared}
 
 module _ {B S : Type 0} where
   abbrev work_of : ℕ → Desk B S → Work B

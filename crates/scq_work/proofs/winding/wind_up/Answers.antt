@@ -35,7 +35,7 @@ use Rattle.scq_files.proofs.GivenLemmas.{given-told}
 use Rattle.scq_work.proofs.Orders.{members-told}
 use Rattle.scq_passes.proofs.Counted.{counts-exact}
 use Rattle.scq_passes.proofs.Results.{err-then, ok-more, ok-on}
-use Rattle.scq_passes.proofs.Closed.{HasClosed}
+use Rattle.scq_passes.specs.Closed.{HasClosed}
 use Rattle.scq_work.proofs.Settled.{told-worked, same-passes, same-lists, same-held, same-fed, are-held}
 use Rattle.scq_work.proofs.winding.wind_up.Goals as goal
 use Rattle.scq_work.proofs.winding.wind_up.Goals.{After-conclude}

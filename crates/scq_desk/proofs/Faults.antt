@@ -1,20 +1,16 @@
--- The fault of several workers: its cause, and that want of memory comes first. What they finished, where there is no fault.
-use Rattle.std.proofs.Common.{◌≡◌, ◌≢◌, refl, subst, true, false, ℕ, Bool, List, [], Option, Some, None}
-use Rattle.std.specs.Prelude.{IfSome}
+-- The fault of several workers: its cause, and that want of memory comes first.
+use Rattle.std.proofs.Common.{◌≡◌, ◌≢◌, refl, subst, true, false, ℕ, Bool, List, Option, Some, None}
 use Rattle.scq_frames.specs.declared.fault.FrameFault.{FrameFault}
 use Rattle.scq_frames.specs.declared.fault.FrameFault.TheVariants as frame
-use Rattle.scq_frames.specs.declared.message.Message.{Message}
-use Rattle.scq_files.specs.Ends.{AllEndFed, StopsAt, messages_in}
-use Rattle.scq_stages.specs.AllStages.{HasStaged}
-use Rattle.scq_stages.specs.declared.staged.Staged.{Staged}
-use Rattle.scq_stages.specs.Ends.{fault_of_workers, HasCause, MemoryIsFirst}
-use Rattle.scq_stages.specs.declared.staged.StageFault.{StageFault}
-use Rattle.scq_stages.specs.declared.staged.StageFault.TheVariants.{Read, TooLong, TooLarge, NoMemory}
+use Rattle.scq_files.specs.Ends.{AllEndFed, StopsAt}
+use Rattle.scq_desk.specs.Faults.{fault_of_workers, HasCause, MemoryIsFirst}
+use Rattle.scq_desk.specs.declared.fault.EndFault.{EndFault}
+use Rattle.scq_desk.specs.declared.fault.EndFault.TheVariants.{Read, TooLong, TooLarge, NoMemory}
 
 -- a fault has the cause of the first file's
 pub caused : {S : Type 0} (size : ℕ) (faults end_count : S → ℕ) (left : S → Option (List ℕ)) (olds news : List S) (starved : Bool)
     (first : Option (ℕ × FrameFault))
-    (fault : StageFault)
+    (fault : EndFault)
     → fault_of_workers starved first ≡ Some fault
     → ((file : ℕ) (f : FrameFault) → first ≡ Some (file, f) → f ≢ frame.NoMemory → StopsAt size faults end_count left olds news file f)
     → HasCause size faults end_count left olds news fault
@@ -37,22 +33,15 @@ caused size faults end_count left olds news false (Some (file, frame.NoMemory)) 
 
 -- want of memory comes first
 pub memory-first : {S : Type 0} (size : ℕ) (faults end_count : S → ℕ) (left : S → Option (List ℕ)) (olds news : List S) (starved : Bool)
-    (first : Option (ℕ × FrameFault)) (fault : StageFault)
+    (first : Option (ℕ × FrameFault)) (fault : EndFault)
     → fault_of_workers starved first ≡ Some fault → (starved ≡ false → AllEndFed size faults end_count left olds news)
     → MemoryIsFirst size faults end_count left olds news fault
 memory-first {S} size faults end_count left olds news true first fault e fed =
     let is : NoMemory ≡ fault = cc in
     subst (λ f. MemoryIsFirst size faults end_count left olds news f) is tt
 memory-first {S} size faults end_count left olds news false first fault e fed = by fault where
-  by : (f : StageFault) → MemoryIsFirst size faults end_count left olds news f
+  by : (f : EndFault) → MemoryIsFirst size faults end_count left olds news f
   by (Read file) = fed refl
   by (TooLong file line len) = fed refl
   by (TooLarge file bytes) = fed refl
   by NoMemory = tt
-
--- where the bytes of all files are visible, what was finished is of their contents
-pub told-staged : (workers : ℕ) (given : List (List Message)) (s : Staged) (o : Option (List (List ℕ)))
-    → IfSome o (λ contents. given ≡ messages_in [] 1 contents) → HasStaged workers given s
-    → IfSome o (λ contents. HasStaged workers (messages_in [] 1 contents) s)
-told-staged workers given s None is has = tt
-told-staged workers given s (Some contents) is has = subst (λ g. HasStaged workers g s) is has
