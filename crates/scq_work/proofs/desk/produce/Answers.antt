@@ -7,30 +7,31 @@ use Rattle.scq_work.specs.declared.worker.Worker.{Worker}
 use Rattle.scq_files.proofs.Lists.{written-back}
 use Rattle.scq_work.proofs.Produced.{vain-first, produced-awake, produced-stopped}
 use Rattle.scq_work.proofs.RunLemmas.{suits-first, work-first}
-use Rattle.scq_work.proofs.desk.Desk.produce.Goals as goal
-use Rattle.scq_work.proofs.desk.Desk.produce.Goals.{After-read_files}
+use Rattle.scq_work.proofs.desk.produce.Goals as goal
+use Rattle.scq_work.proofs.desk.produce.Goals.{After-read_files}
 
 pub read_files-requires-clause-suits : goal.read_files-requires-clause-suits
 read_files-requires-clause-suits g c κs within =
-    suits-first c.args.queue.now (length c.args.job.now.topics) c.args.self.now.worker.number c.args.self.now.worker.pass c.requires.rings c.requires.pass
+    suits-first c.args.queue.now (length c.args.job.now.topics) c.args.desk.now.worker.worker.pass.number c.args.desk.now.worker.worker.pass c.requires.rings c.requires.fresh.pass
 
 -- nothing was passed on before
 begun : (g : _) (c : After-read_files g)
-    → IsAtWork c.args.job.now.topics [] c.args.self.now.worker.pass c.args.self.now.worker.members.items c.args.self.now.worker.starved
+    → IsAtWork c.args.job.now.topics [] c.args.desk.now.worker.worker.pass c.args.desk.now.worker.worker.members.items c.args.desk.now.worker.worker.starved
 begun g c =
-    let worker = c.args.self.now.worker in
-    work-first c.args.job.now.topics c.args.queue.now worker.number worker.pass worker.members.items worker.starved c.requires.pass c.requires.members
+    let worker = c.args.desk.now.worker.worker in
+    work-first c.args.job.now.topics c.args.queue.now worker.pass.number worker.pass worker.members.items worker.starved c.requires.fresh.pass
+    c.requires.fresh.members
 
 -- the files on the desk are those that were read
 whole : (g : _) (c : After-read_files g)
-    → take c.args.self.now.files.len (c.read_files.new.files ++ drop (length c.read_files.new.files) c.args.self.now.files.items) ≡ c.read_files.new.files
+    → take c.args.desk.now.files.len (c.read_files.new.files ++ drop (length c.read_files.new.files) c.args.desk.now.files.items) ≡ c.read_files.new.files
 whole g c =
-    let old = c.args.self.now.files.items in
+    let old = c.args.desk.now.files.items in
     let new = c.read_files.new.files in
     let is = c.as_mut_slice-files.ensures.value in
     let long : length new ≡ length old = c.read_files.auto.files ∙ ap length is in
-    let len : c.args.self.now.files.len ≡ length old = sym (c.as_mut_slice-files.ensures.len) ∙ ap length is in
-    written-back c.args.self.now.files.len new old (omega (arith, long, len))
+    let len : c.args.desk.now.files.len ≡ length old = sym (c.as_mut_slice-files.ensures.len) ∙ ap length is in
+    written-back c.args.desk.now.files.len new old (omega (arith, long, len))
 
 pub retire-requires-clause-bell : goal.retire-requires-clause-bell
 retire-requires-clause-bell g c κs within =
@@ -57,24 +58,21 @@ returns-in-Ok-clause-produced g c =
     let files = c.read_files.new.files in
     let was = c.read_files.new.self in
     let now = c.retire.new.self in
-    let kept = c.args.self.now.kept in
-    let first = c.args.self.now.worker in
+    let kept = c.args.desk.now.worker.kept in
+    let first = c.args.desk.now.worker.worker in
     let start = begun g (goal.at.returns-in-Ok-clause-produced g c).After-read_files in
     let its = c.in-Ok.ensures in
-    let vain = its.vain (vain-first c.args.queue.now (length job.topics + 1) first.number first.pass c.requires.pass) in
+    let vain = its.vain (vain-first c.args.queue.now (length job.topics + 1) first.pass.number first.pass c.requires.fresh.pass) in
     let files-are = whole g (goal.at.returns-in-Ok-clause-produced g c).After-read_files in
     subst (λ (fs : List (OwnFile _)). HasProduced c.args.queue.now job.topics job.size job.longest faults end_count left fs now.pass now.members.items
     now.starved kept)
     (sym files-are)
     (produced-awake c.args.queue.now job.topics job.size job.longest faults end_count left files was.pass now.pass was.members.items now.members.items
     was.starved now.starved kept its.read its.suits (its.work start) vain c.retire.ensures.pass c.retire.ensures.same.0 c.retire.ensures.same.1
-    c.requires.kept)
+    c.requires.fresh.kept)
 
 pub returns-in-Ok-clause-number : goal.returns-in-Ok-clause-number
-returns-in-Ok-clause-number g c = (
-  c.retire.ensures.same.2 ∙ c.read_files.ensures.number.0,
-  ap (λ (p : PassStanding _). p.number) c.retire.ensures.pass ∙ c.read_files.ensures.number.1 ∙ ap (λ (p : PassStanding _). p.number) c.requires.pass,
-)
+returns-in-Ok-clause-number g c = ap (λ (p : PassStanding _). p.number) c.retire.ensures.pass ∙ c.read_files.ensures.number.1
 
 pub returns-in-Err-clause-produced : goal.returns-in-Err-clause-produced
 returns-in-Err-clause-produced g c =
@@ -87,10 +85,8 @@ returns-in-Err-clause-produced g c =
     let now = c.keep.new.self in
     let start = begun g (goal.at.returns-in-Err-clause-produced g c).After-read_files in
     let its = c.in-Err.ensures in
-    let same = c.keep.ensures.same in
-    let files-are = ap (λ (v : _). v.items) same.1 ∙ whole g (goal.at.returns-in-Err-clause-produced g c).After-read_files in
     subst (λ (fs : List (OwnFile _)). HasProduced c.args.queue.now job.topics job.size job.longest faults end_count left fs now.worker.pass
-    now.worker.members.items now.worker.starved now.kept) (sym files-are)
+    now.worker.members.items now.worker.starved now.kept) (sym (whole g (goal.at.returns-in-Err-clause-produced g c).After-read_files))
     (produced-stopped c.args.queue.now job.topics job.size job.longest faults end_count left files was.pass now.worker.pass now.worker.members.items
     now.worker.starved now.kept c.in-Err.at_limit.held its.read (its.left start)
-    (ap (λ (w : Worker _). w.pass) same.0 ∙ c.retire-in-Err.ensures.pass) c.keep.ensures.kept)
+    (ap (λ (w : Worker _). w.pass) c.keep.ensures.same ∙ c.retire-in-Err.ensures.pass) c.keep.ensures.kept)
