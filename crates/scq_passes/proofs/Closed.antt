@@ -8,27 +8,13 @@ use Rattle.scq_word.specs.Sizes.{n_of}
 use Rattle.scq_band.specs.Buffers.{opening_of}
 use Rattle.scq_band.specs.Closing.{AreTheSame, IsOneRunToTheEnd}
 use Rattle.scq_band.specs.Standing.{Identity}
-use Rattle.scq_queue.specs.Closing.{EachTakeIsASend, NoPlaceIsSentTwice, NoPlaceIsTakenTwice, IsBalance, EachSendPassedIsTaken, AllFullsStand, NoneIsKeptWithinTheLimit, IsAllThere, all_held, callers_of, records_of}
+use Rattle.scq_queue.specs.Closing.{all_held, callers_of, records_of}
 use Rattle.scq_queue.specs.Passes.{PassStanding, HeldStanding}
 use Rattle.scq_passes.specs.AllPasses.{HaveShared}
+use Rattle.scq_passes.specs.Closed.{HasClosed}
 use Rattle.scq_passes.specs.Records.{HoldsNothingAtEachFull, MeetsNoSpent}
 use Rattle.scq_passes.specs.Together.{SendsAreTakes, NothingIsLeft, NoneSpent, IsBounded, HasSwept}
 use Rattle.scq_passes.proofs.SendsAndTakes.{sends-are-takes, no-place-twice, nothing-is-left}
-
--- what `close` says of the passes of a queue that was given these buffers, and gives those back
-pub record HasClosed {B : Type 0} (contents : B → List ℕ) (IsSameBuffer : B → B → Type 0) (c : Setup) (given : List B) (passes : List (PassStanding B))
-    (held : List (HeldStanding B)) (buffers : List B) (left : List ℕ) : Type 0
-  where
-    pub run : IsOneRunToTheEnd c (opening_of contents given) (callers_of passes) (records_of passes) (all_held passes) (map contents buffers)
-    pub back : AreTheSame IsSameBuffer given buffers
-    pub takes : EachTakeIsASend passes
-    pub sent_once : NoPlaceIsSentTwice passes
-    pub taken_once : NoPlaceIsTakenTwice passes
-    pub balance : IsBalance c passes left
-    pub passed : EachSendPassedIsTaken passes
-    pub fulls : AllFullsStand passes
-    pub limits : NoneIsKeptWithinTheLimit c passes
-    pub all_there : IsAllThere c held left
 
 -- numbers of which each is 0 have the sum 0, and where all others are, the first is the sum
 sum-none : (xs : List ℕ) → ((k : ℕ) → k < length xs → slice_index xs k ≡ 0) → sum xs ≡ 0

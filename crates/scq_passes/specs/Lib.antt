@@ -8,3 +8,4 @@ pub mod AllPasses
 pub mod PassedOn
 pub mod Becoming
 pub mod Jobs
+pub mod Closed

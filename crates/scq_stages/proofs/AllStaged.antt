@@ -38,7 +38,8 @@ use Rattle.scq_stages.specs.Records.{first, is_next, second}
 use Rattle.scq_stages.specs.Output.{finished_in, without_way}
 use Rattle.scq_stages.specs.Passing.{FinishesItself, IsNextOf, SendsToFirst}
 use Rattle.scq_stages.specs.Working.{HasMovedAllAndSwept, HasFewStageCalls}
-use Rattle.scq_passes.proofs.Closed.{HasClosed, all-taken, have-shared}
+use Rattle.scq_passes.specs.Closed.{HasClosed}
+use Rattle.scq_passes.proofs.Closed.{all-taken, have-shared}
 use Rattle.scq_stages.proofs.Conclusion.{Work, IsMoving, IsWork, all-finished, firsts-all, lists_in, messages_in, moved-all, passes_in, seconds-all, took-behind, was-sent}
 use Rattle.scq_stages.proofs.Ended.{follows-all, moves-so-far, nothing-behind-alone, retired-empty}
 use Rattle.scq_stages.proofs.FewTickets.{all-bounded, none-spent}

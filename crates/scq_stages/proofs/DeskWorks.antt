@@ -20,13 +20,14 @@ use Rattle.scq_files.specs.Files.{own_of}
 use Rattle.scq_files.specs.declared.desk.Desk.{Desk}
 use Rattle.scq_files.proofs.AllGave.{AllRead, all-messages, few-in-all, given, is-given, own-given, worker_messages}
 use Rattle.scq_files.proofs.Lists.{map-map}
+use Rattle.scq_desk.proofs.Settled.{held_at}
 use Rattle.scq_passes.specs.AllPasses.{HaveShared}
 use Rattle.scq_stages.specs.declared.finished.Finished.{Finished}
-use Rattle.scq_stages.specs.declared.seating.Seated.{Seated}
+use Rattle.scq_stages.specs.Seats.{Seated}
 use Rattle.scq_stages.specs.AllStages.{HaveFinished, KeepsStages}
 use Rattle.scq_stages.specs.Working.{HasRun}
 use Rattle.scq_stages.proofs.AllStaged.{AllDone, HasDone, all-shared, have-staged, held_in}
-use Rattle.scq_passes.proofs.Closed.{HasClosed}
+use Rattle.scq_passes.specs.Closed.{HasClosed}
 use Rattle.scq_stages.proofs.Conclusion.{Work, lists_in, messages_in, passes_in}
 
 module _ {B S : Type 0} where
@@ -44,9 +45,6 @@ module _ {B S : Type 0} where
 
   abbrev pub lists_at : List (Desk (Seated B) S) → List (Vec Finished Global)
   lists_at desks = map (λ (d : Desk (Seated B) S). d.worker.worker.members) desks
-
-  abbrev pub held_at : List (Desk (Seated B) S) → List (HeldStanding B)
-  held_at desks = flat_map (λ (d : Desk (Seated B) S). option_to_list d.worker.kept) desks
 
   -- the workers of a queue have left: each had its own of the files, and did what `HasRun` says, however the reading of these ended
   pub record AllRan (c : Setup) (shared : Identity B) (size : ℕ) (faults end_count : S → ℕ) (left : S → Option (List ℕ)) (sources : List S)

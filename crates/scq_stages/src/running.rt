@@ -10,8 +10,8 @@ ghost use Rattle.scq_stages.specs.Seats.{IsFresh};
 ghost use Rattle.scq_stages.specs.Working.{IsAtWork, IsDone, HasStopped, HasRun};
 
 use crate::StageJob;
-use crate::seating::Seated;
 use crate::worker::Worker;
+use scq_desk::Seat;
 use scq_files::{Desk, OwnFile};
 use scq_outside::Source;
 use scq_passes::AtLimit;
@@ -19,7 +19,6 @@ use scq_queue::Queue;
 use scq_topics::Topics;
 use scq_word::BufferMut;
 use std::alloc::Global;
-use std::mem;
 
 impl<B: BufferMut> Worker<B> {
     /// Reads files and passes their messages on, and then moves what is in first until nothing is there.
@@ -52,25 +51,10 @@ impl<B: BufferMut> Worker<B> {
     }
 }
 
-impl<B: BufferMut> Seated<B> {
-    /// Keeps the value that came back, where there is one.
-    fn keep(&mut self, at_limit: AtLimit<B>)
-        requires { self.old.kept ≡ None }
-        ensures kept { self.new.kept ≡ at_limit.held }
-        ensures same { self.new.worker ≡ self.old.worker }
-    {
-        let AtLimit { held } = at_limit;
-        match mem::replace(&mut self.kept, held) {
-            None => {}
-            Some(_) => unreachable!(),
-        }
-    }
-}
-
 /// The worker's whole work: it reads its files and passes their messages on, moves what is in first, retires, and sweeps until it leaves. Where it
 /// met a ticket past the limit, it retires at once where it hasn't yet, leaves, and keeps the value that came back.
 pub(crate) fn run<B: BufferMut, S: Source>(
-    desk: &mut Desk<Seated<B>, S>,
+    desk: &mut Desk<Seat<Worker<B>, B>, S>,
     alloc: Global,
     job: &StageJob,
     queue: &Queue<B>,

@@ -1,5 +1,5 @@
 //! The stages over all files.
-ghost use Rattle.std.specs.Prelude.{◌≡◌, ℕ, ◌<◌, ◌≤◌, List, [], None, length, map, slice_index_or, vec_len, IfOk, IfErr, IfSome, IsErrOf, IsSomeAnd, OnOk};
+ghost use Rattle.std.specs.Prelude.{◌≡◌, ℕ, ◌^◌, ◌<◌, ◌≤◌, List, [], None, length, map, slice_index_or, vec_len, IfOk, IfErr, IfSome, IsErrOf, IsSomeAnd, OnOk};
 ghost use Rattle.std.specs.List.Sorted.{IsPermutation};
 ghost use Rattle.scq_frames.specs.declared.message.Message.{Message as TheMessage};
 ghost use Rattle.std.specs.List.{All};
@@ -13,14 +13,33 @@ ghost use Rattle.scq_stages.specs.Ends.{HasCause, MemoryIsFirst};
 ghost use Rattle.scq_stages.specs.Output.{finished_in, all_handled, without_way};
 
 use crate::apart::run_all;
-use crate::laying::{lay_out, make_room, setup_of};
 use crate::winding::wind_up;
 use crate::{StageEnd, StageFault, StageJob};
+use scq_desk::{lay_out, make_room};
 use scq_outside::Source;
 use scq_passes::make_queue;
-use scq_word::NoMemory;
+use scq_word::{NoMemory, Setup};
 use std::alloc::Global;
 use std::thread::Threads;
+
+/// The limit of the queue's tickets, which no work comes near.
+const LIMIT: u64 = 1 << 60;
+
+/// A ring for the buffers that nobody holds, one for the first stage and one for the second.
+const RINGS: u32 = 3;
+
+/// The setup of the stages' queue.
+fn setup_of(job: &StageJob) -> Setup
+    ensures order { result.order ≡ job.now.order }
+    ensures rings { result.rings ≡ 3 }
+    ensures seats { result.seats ≡ job.now.workers }
+    ensures limit { result.limit ≡ 2 ^ 60 }
+{
+    match Setup::new(job.order, RINGS, job.workers, LIMIT) {
+        Ok(setup) => setup,
+        Err(_) => unreachable!(),
+    }
+}
 
 /// Takes the messages of all sources through both stages by the job's workers, each of which reads its own files: file f, from 1, is that of
 /// worker (f - 1) mod the number of workers. They share a queue of buffers. The sources come back in their order in every case.
@@ -64,12 +83,12 @@ pub fn stage_work<R: Threads + Sync, S: Source>(
     // row that took nothing.
     ensures behind { IfSome result.passes (λ passes. All (HasLeftSwept bytes_of IsGivenBack 2 64) passes.value.items) }
 {
-    let Ok(room) = make_room(alloc, job, sources.len()) else {
+    let Ok(room) = make_room(alloc, job.workers, sources.len()) else {
         return StageEnd::starved(sources);
     };
     match make_queue(alloc, setup_of(job), job.size) {
         Ok((block, queue, passes)) => {
-            let (laid, desks) = lay_out(alloc, job, &queue, passes, sources, room);
+            let (laid, desks) = lay_out(alloc, job.workers, &queue, passes, sources, room);
             let desks = run_all(rt, alloc, job, &queue, desks);
             wind_up(job, laid, block, queue, desks)
         }

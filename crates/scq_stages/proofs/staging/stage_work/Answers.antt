@@ -10,7 +10,8 @@ use Rattle.scq_passes.specs.Records.{IsGivenBack}
 use Rattle.scq_passes.specs.Together.{NoneSpent}
 use Rattle.scq_stages.specs.AllStages.{NothingIsStranded}
 use Rattle.scq_stages.proofs.DeskWorks.{passes_at}
-use Rattle.scq_stages.proofs.Settled.{all-behind, some-and, some-of}
+use Rattle.scq_desk.proofs.Settled.{all-behind, some-and, some-of}
+use Rattle.scq_stages.specs.declared.worker.Worker.{Worker}
 use Rattle.scq_stages.proofs.staging.stage_work.Goals as goal
 
 pub returns-in-Ok-make_queue-clause-moved : goal.returns-in-Ok-make_queue-clause-moved
@@ -34,4 +35,4 @@ returns-in-Ok-make_queue-clause-behind g c =
     let closed = some-and end.frames _ (subst (λ o. IsSomeAnd o (λ ps. Closed ps.value.items left.it.items)) its.same left.holds) in
     let none : NoneSpent (passes_at ran) = subst (λ (ps : List (PassStanding Frame)). NoneSpent ps) its.holds closed.holds.shared.unspent in
     subst (λ o. IfSome o (λ ps. All P ps.value.items)) (sym its.same)
-    (subst (λ (ps : List (PassStanding Frame)). All P ps) (sym its.holds) (all-behind P ran c.run_all-desks.ensures.behind none))
+    (subst (λ (ps : List (PassStanding Frame)). All P ps) (sym its.holds) (all-behind (λ (w : Worker Frame). w.pass) P ran c.run_all-desks.ensures.behind none))
