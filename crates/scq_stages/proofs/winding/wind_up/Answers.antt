@@ -14,8 +14,8 @@ use Rattle.scq_band.specs.Standing.{Identity}
 use Rattle.scq_queue.specs.Closing.{AreTheHeld}
 use Rattle.scq_queue.specs.Lists.{counts_of}
 use Rattle.scq_queue.specs.Passes.{PassStanding, HeldStanding, lists_of}
-use Rattle.scq_files.specs.Desks.{AllEnded, AllWhole, AreDealt, AreGathered, workers_at}
-use Rattle.scq_files.specs.Ends.{AreGiven, all_left}
+use Rattle.scq_files.specs.Desks.{AllEnded, AllStop, AllWhole, AreDealt, AreGathered, workers_at}
+use Rattle.scq_files.specs.Ends.{AreGiven, StopsAtFaults, all_left}
 use Rattle.scq_files.specs.declared.desk.Desk.{Desk}
 use Rattle.scq_files.proofs.GivenLemmas.{given-told}
 use Rattle.scq_files.proofs.Lists.{written-back}
@@ -250,6 +250,23 @@ returns-clause-count g c = (as-gathered g (goal.at.returns-clause-count g c).Aft
 
 pub returns-clause-moved : goal.returns-clause-moved
 returns-clause-moved g c = (as-gathered g (goal.at.returns-clause-moved g c).After-conclude).moved
+
+-- no worker read a file behind one of its own that has a fault
+pub returns-clause-stops : goal.returns-clause-stops
+returns-clause-stops g c =
+    let size = c.args.job.now.size in
+    let faults = g.S.Source.faults in
+    let end_count = g.S.Source.ends in
+    let left = g.S.Source.left in
+    let sources = c.args.laid.was.value.items in
+    let f = facts g (goal.at.returns-clause-stops g c).After-conclude in
+    let third : c.as_mut_slice.result.now ≡ c.args.desks.items = c.as_mut_slice.ensures.value in
+    let Ended : List (Desk (Seated Frame) _) → Type 0 = λ ds. AllEnded size faults end_count left ds in
+    let Stop : List (Desk (Seated Frame) _) → Type 0 = λ ds. AllStop ds in
+    subst (λ n. StopsAtFaults n size faults end_count left sources c.gather.new.gathered.sources.items) (ap length third ∙ c.requires.count)
+    (c.gather.ensures.stops size
+    (subst Ended (sym third) (all-ended c.args.queue.setup c.args.queue size faults end_count left sources c.args.desks.items f.all))
+    (subst Stop (sym third) (λ w d less. (c.requires.run w d less).stops)))
 
 pub returns-clause-whole : goal.returns-clause-whole
 returns-clause-whole g c =
