@@ -8,7 +8,8 @@ ghost use Rattle.scq_queue.specs.Lists.{counts_of};
 ghost use Rattle.scq_queue.specs.Passes.{lists_of, was_told};
 ghost use Rattle.scq_passes.specs.Calls.{index_of};
 ghost use Rattle.scq_passes.specs.Closed.{HasClosed};
-ghost use Rattle.scq_files.specs.Desks.{AllEnded, AllWhole, AreDealt, AreGathered};
+ghost use Rattle.scq_files.specs.Desks.{AllEnded, AllStop, AllWhole, AreDealt, AreGathered};
+ghost use Rattle.scq_files.specs.Ends.{StopsAtFaults};
 ghost use Rattle.scq_desk.specs.Rooms.{IsLaid};
 
 use crate::clearing::{LeftBehind, clear};
@@ -62,6 +63,8 @@ pub fn wind_up_desks<M: Drop, W: Sits<Pass<Frame>, M>, S: Source>(
     requires its { All (λ d. IfSome d.worker.kept (λ h. h.queue ≡ queue)) desks.items }
     ensures gathered { (size : ℕ) → AllEnded size S.faults S.ends S.left desks.items
         → AreGathered size S.faults S.ends S.left laid.was.value.items result.sources.items result.fault result.starved }
+    ensures stops { (size : ℕ) → AllEnded size S.faults S.ends S.left desks.items → AllStop desks.items
+        → StopsAtFaults (length desks.items) size S.faults S.ends S.left laid.was.value.items result.sources.items }
     ensures whole { result.fault ≡ None → AllWhole desks.items }
     ensures fed { result.starved ≡ false → All (λ d. W.starved_of d.worker.worker ≡ false) desks.items }
     ensures lists { result.lists.items ≡ map (λ d. W.list_of d.worker.worker) desks.items }

@@ -19,3 +19,4 @@ pub mod AtWork
 pub mod Whole
 pub mod Runs
 pub mod BehindRetiring
+pub mod Swept

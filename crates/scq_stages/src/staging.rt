@@ -6,7 +6,7 @@ ghost use Rattle.std.specs.List.{All};
 ghost use Rattle.scq_block.specs.Frames.{bytes_of};
 ghost use Rattle.scq_passes.specs.Leaving.{HasLeftSwept};
 ghost use Rattle.scq_passes.specs.Records.{IsGivenBack};
-ghost use Rattle.scq_files.specs.Ends.{AreGiven, HasMoved, all_left, messages_in};
+ghost use Rattle.scq_files.specs.Ends.{AreGiven, HasMoved, StopsAtFaults, all_left, messages_in};
 ghost use Rattle.scq_files.specs.Reading.{IsWhole};
 ghost use Rattle.scq_stages.specs.AllStages.{HasStaged, NothingIsStranded};
 ghost use Rattle.scq_stages.specs.Ends.{HasCause, MemoryIsFirst};
@@ -53,6 +53,10 @@ pub fn stage_work<R: Threads + Sync, S: Source>(
     ensures count { length result.sources.items ≡ length sources.items }
     ensures moved { (k : ℕ) (d : S) → k < length sources.items
         → HasMoved S.faults S.left (slice_index_or sources.items k d) (slice_index_or result.sources.items k d) }
+
+    // No worker read a file behind one of its own at which it stopped.
+    ensures stops { StopsAtFaults job.now.workers job.now.size S.faults S.ends S.left
+        sources.items result.sources.items }
 
     // Each source was read to its end, and where the bytes of all are visible the members are what becomes of their messages, each once.
     ensures whole { OnOk result.result ((k : ℕ) (d : S) → k < length sources.items

@@ -5,7 +5,7 @@ ghost use Rattle.std.specs.List.Sorted.{IsPermutation};
 ghost use Rattle.scq_block.specs.Blocks.{AreAllOf};
 ghost use Rattle.scq_frames.specs.declared.message.Message.{Message as TheMessage};
 ghost use Rattle.scq_files.specs.Desks.{AreDealt};
-ghost use Rattle.scq_files.specs.Ends.{AreGiven, HasMoved, all_left, messages_in};
+ghost use Rattle.scq_files.specs.Ends.{AreGiven, HasMoved, StopsAtFaults, all_left, messages_in};
 ghost use Rattle.scq_files.specs.Reading.{IsWhole};
 ghost use Rattle.scq_desk.specs.Rooms.{IsLaid};
 ghost use Rattle.scq_stages.specs.AllStages.{HasStaged, NothingIsStranded};
@@ -71,6 +71,8 @@ pub(crate) fn wind_up<S: Source>(
     ensures count { length result.sources.items ≡ length laid.was.value.items }
     ensures moved { (k : ℕ) (d : S) → k < length laid.was.value.items
         → HasMoved S.faults S.left (slice_index_or laid.was.value.items k d) (slice_index_or result.sources.items k d) }
+    ensures stops { StopsAtFaults job.now.workers job.now.size S.faults S.ends S.left
+        laid.was.value.items result.sources.items }
     ensures whole { OnOk result.result ((k : ℕ) (d : S) → k < length laid.was.value.items
         → IsWhole job.now.size S.faults S.ends S.left (slice_index_or laid.was.value.items k d) (slice_index_or result.sources.items k d)) }
     ensures handled { IfOk result.result (λ s. IfSome (all_left S.left laid.was.value.items) (λ contents.

@@ -14,7 +14,8 @@ use Rattle.scq_queue.specs.Closing.{AreTheHeld}
 use Rattle.scq_queue.specs.Lists.{counts_of}
 use Rattle.scq_queue.specs.Passes.{PassStanding, HeldStanding, lists_of, was_told}
 use Rattle.scq_passes.specs.Closed.{HasClosed}
-use Rattle.scq_files.specs.Desks.{AllEnded, AllWhole, AreDealt, workers_at}
+use Rattle.scq_files.specs.Desks.{AllEnded, AllStop, AllWhole, AreDealt, workers_at}
+use Rattle.scq_files.specs.Ends.{StopsAtFaults}
 use Rattle.scq_files.specs.declared.desk.Desk.{Desk}
 use Rattle.scq_files.proofs.Lists.{written-back}
 use Rattle.scq_desk.specs.declared.seat.Seat.{Seat}
@@ -82,6 +83,14 @@ returns-clause-gathered g c size ended =
       cause = gathered.cause;
       fed = λ none. gathered.fed (or_parts c.clear.new.left.starved c.gather.new.gathered.starved (sym c.any_wanted.ensures ∙ none)).1;
     }
+
+pub returns-clause-stops : goal.returns-clause-stops
+returns-clause-stops g c size ended stop =
+    let its = c.as_mut_slice.ensures.value in
+    let Ended : List (Desk (Seat _ Frame) _) → Type 0 = λ ds. AllEnded size g.S.Source.faults g.S.Source.ends g.S.Source.left ds in
+    let Stop : List (Desk (Seat _ Frame) _) → Type 0 = λ ds. AllStop ds in
+    subst (λ n. StopsAtFaults n size g.S.Source.faults g.S.Source.ends g.S.Source.left c.args.laid.was.value.items
+    c.gather.new.gathered.sources.items) (ap length its) (c.gather.ensures.stops size (subst Ended (sym its) ended) (subst Stop (sym its) stop))
 
 pub returns-clause-whole : goal.returns-clause-whole
 returns-clause-whole g c none =

@@ -20,6 +20,9 @@ returns-in-Ok-make_queue-clause-moved g c = rw (sym (ap (λ v. v.items) c.lay_ou
 pub returns-in-Ok-make_queue-clause-whole : goal.returns-in-Ok-make_queue-clause-whole
 returns-in-Ok-make_queue-clause-whole g c = rw (sym (ap (λ v. v.items) c.lay_out-laid.ensures.was)) c.wind_up.ensures.whole
 
+pub returns-in-Ok-make_queue-clause-stops : goal.returns-in-Ok-make_queue-clause-stops
+returns-in-Ok-make_queue-clause-stops g c = rw (sym (ap (λ v. v.items) c.lay_out-laid.ensures.was)) c.wind_up.ensures.stops
+
 -- the passes were there when the queue was closed
 pub returns-in-Ok-make_queue-clause-behind : goal.returns-in-Ok-make_queue-clause-behind
 returns-in-Ok-make_queue-clause-behind g c =

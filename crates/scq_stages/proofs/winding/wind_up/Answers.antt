@@ -7,7 +7,7 @@ use Rattle.scq_frames.specs.declared.message.Message.{Message}
 use Rattle.scq_queue.specs.Lists.{counts_of}
 use Rattle.scq_queue.specs.Passes.{PassStanding, lists_of}
 use Rattle.scq_files.specs.Desks.{AreGathered}
-use Rattle.scq_files.specs.Ends.{AreGiven, all_left}
+use Rattle.scq_files.specs.Ends.{AreGiven, StopsAtFaults, all_left}
 use Rattle.scq_files.proofs.GivenLemmas.{given-told}
 use Rattle.scq_passes.specs.AllPasses.{lengths_of}
 use Rattle.scq_passes.proofs.Counted.{counts-exact}
@@ -137,6 +137,20 @@ returns-clause-count g c = (as-gathered g (goal.at.returns-clause-count g c).Aft
 
 pub returns-clause-moved : goal.returns-clause-moved
 returns-clause-moved g c = (as-gathered g (goal.at.returns-clause-moved g c).After-conclude).moved
+
+-- no worker read a file behind one of its own that has a fault
+pub returns-clause-stops : goal.returns-clause-stops
+returns-clause-stops g c =
+    let size = c.args.job.now.size in
+    let faults = g.S.Source.faults in
+    let end_count = g.S.Source.ends in
+    let left = g.S.Source.left in
+    let sources = c.args.laid.was.value.items in
+    let wound = c.wind_up_desks-sources in
+    subst (λ n. StopsAtFaults n size faults end_count left sources wound.result.sources.items) c.requires.count
+    (wound.ensures.stops size
+    (all-ended c.args.queue.setup c.args.queue size faults end_count left sources c.args.desks.items (ran g (goal.at.returns-clause-stops g c).After-conclude))
+    (λ w d less. (c.requires.run w d less).stops))
 
 pub returns-clause-whole : goal.returns-clause-whole
 returns-clause-whole g c =
