@@ -57,7 +57,7 @@ flat-lists : {X A : Type 0} (f : X → List A) (xs : List X) → flat_map (λ l.
 flat-lists f xs = flat_map-map (λ (l : List _). l) f xs
 
 -- what is made of each of several by its number
-by-number : {X A : Type 0} (f : X → List A) (m : ℕ → List A) (xs : List X) (from : ℕ) → ((k : ℕ) (d : X) → k < length xs → f (get_or xs k d) ≡ m (from + k))
+pub by-number : {X A : Type 0} (f : X → List A) (m : ℕ → List A) (xs : List X) (from : ℕ) → ((k : ℕ) (d : X) → k < length xs → f (get_or xs k d) ≡ m (from + k))
     → flat_map f xs ≡ flat_map m (upto from (length xs))
 by-number f m [] from each = refl
 by-number f m (x ∷ xs) from each =

@@ -8,3 +8,4 @@ pub mod GivenLemmas
 pub mod DeskLemmas
 pub mod Cleared
 pub mod AllGave
+pub mod Wants

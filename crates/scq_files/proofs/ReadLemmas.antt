@@ -1,10 +1,10 @@
 -- How the answers of a framer add up to what is known of its file: the messages that it gave, and how its reading ended.
-use Rattle.std.proofs.Common.{◌≡◌, ◌≢◌, ◌∙◌, refl, sym, ap, subst, arith, Bool, true, false, ℕ, ◌+◌, ◌<◌, ◌≤◌, ◌^◌, List, [], ◌∷◌, ◌++◌, Option, Some, None, Result, Ok, Err, length, map, append_assoc}
-use Rattle.std.specs.Prelude.{IfSome, IsTrue, All, sum_by}
+use Rattle.std.proofs.Common.{◌≡◌, ◌≢◌, ◌∙◌, refl, sym, ap, subst, arith, Bool, true, false, ℕ, zero, suc, ◌+◌, ◌<◌, ◌≤◌, ◌^◌, List, [], ◌∷◌, ◌++◌, Option, Some, None, Result, Ok, Err, length, map, append_assoc}
+use Rattle.std.specs.Prelude.{IfSome, IsTrue, All, slice_index_or, sum_by}
 use Rattle.std.proofs.lemmas.List.Elements.{All-nil, All-push}
 use Rattle.std.specs.Option.{option_map}
 use Rattle.std.proofs.lemmas.Bool.{true≢false}
-use Rattle.std.proofs.lemmas.List.{append-nil, length-append}
+use Rattle.std.proofs.lemmas.List.{append-nil, length-append, length-map}
 use Rattle.std.proofs.lemmas.List.Sums.{sum_by-append}
 use Rattle.scq_outside.specs.Counts.{Rose}
 use Rattle.scq_topics.specs.declared.kind.Kind.{Kind}
@@ -18,7 +18,8 @@ use Rattle.scq_frames.specs.Framing.{EndsOnce, Framing, IsNext, NothingLeft, fre
 use Rattle.scq_frames.specs.Coming.{Found}
 use Rattle.scq_frames.proofs.FindingLemmas.{Gave, Gave-found, Found-gave}
 use Rattle.scq_frames.proofs.Judging.{if-visible, judged-end, judged-fault, judged-long, sized}
-use Rattle.scq_files.specs.Reading.{AreOf, IsRead, most_parts}
+use Rattle.scq_files.specs.Ends.{StopsAtFaults}
+use Rattle.scq_files.specs.Reading.{AreOf, EndsSo, IsRead, most_parts}
 use Rattle.scq_files.specs.OwnFiles.{IsNew}
 use Rattle.scq_files.specs.Given.{given_in}
 use Rattle.scq_files.specs.declared.own_file.OwnFile.{OwnFile}
@@ -243,3 +244,21 @@ reading-unread topics size faults end_count left f new =
     subst (λ (end : FileEnd). IsRead topics size faults end_count left f.number f.was.value f.source (given_in f.given.value) end) (sym new.end)
     (subst (λ (ms : List Message). IsRead topics size faults end_count left f.number f.was.value f.source ms Unread) (sym new.given)
     (record { ends = new.source; gave = refl; all = tt; short = All-nil (λ (m : Message). length m.payload ≤ size); few = omega arith }))
+
+-- where no source was read, none was read behind another
+unread-each : {S : Type 0} (sources : List S) (k : ℕ) (e : FileEnd) → k < length sources
+    → slice_index_or (map (λ (source : S). Unread) sources) k e ≡ Unread
+unread-each [] k e less = absurd (omega arith)
+unread-each (x ∷ xs) zero e less = refl
+unread-each (x ∷ xs) (suc k) e less = unread-each xs k e (omega arith)
+
+pub stops-unread : {S : Type 0} (workers size : ℕ) (faults end_count : S → ℕ) (left : S → Option (List ℕ)) (olds news : List S) → news ≡ olds
+    → StopsAtFaults workers size faults end_count left olds news
+stops-unread {S} workers size faults end_count left olds news same = record {
+  end_of = map (λ (source : S). Unread) olds;
+  count = length-map olds (λ (source : S). Unread);
+  ends = λ k d e less.
+      subst (EndsSo size faults end_count left (slice_index_or olds k d) (slice_index_or news k d)) (sym (unread-each olds k e less))
+      (ap (λ (xs : List S). slice_index_or xs k d) same);
+  stops = λ i j e fault before less same_worker is. unread-each olds j e less;
+}

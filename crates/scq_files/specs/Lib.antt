@@ -4,3 +4,4 @@ pub mod Reading
 pub mod Ends
 pub mod OwnFiles
 pub mod Desks
+pub mod Handling

@@ -8,12 +8,16 @@ mod dealing;
 mod desk;
 mod gathering;
 mod given;
+mod handler;
 mod own_file;
 mod own_lists;
+mod reading;
 
 pub use dealing::deal;
 pub use desk::Desk;
 pub use gathering::{Gathered, gather};
 pub use given::{Given, give};
+pub use handler::Handler;
 pub use own_file::{FileEnd, OwnFile};
 pub use own_lists::make_lists;
+pub use reading::read_files;

@@ -1,32 +1,20 @@
 -- A queue is closed: what its `close` says of the passes, and what each pass says, is what all passes shared.
-use Rattle.std.proofs.Common.{◌≡◌, refl, ◌∙◌, ap, subst, arith, zero, suc, ℕ, ◌+◌, ◌<◌, List, [], ◌∷◌, length, Some}
+use Rattle.std.proofs.Common.{◌≡◌, refl, ◌∙◌, ap, subst, arith, zero, suc, ℕ, ◌+◌, ◌<◌, List, [], ◌∷◌, length, map, Some}
 use Rattle.std.specs.Prelude.{slice_get, slice_index, sum}
 use Rattle.std.specs.List.{All}
 use Rattle.std.proofs.lemmas.List.Sums.{sum_by-cons}
 use Rattle.scq_word.specs.declared.setup.Setup.{Setup}
 use Rattle.scq_word.specs.Sizes.{n_of}
 use Rattle.scq_band.specs.Buffers.{opening_of}
-use Rattle.scq_band.specs.Closing.{IsOneRunToTheEnd}
+use Rattle.scq_band.specs.Closing.{AreTheSame, IsOneRunToTheEnd}
 use Rattle.scq_band.specs.Standing.{Identity}
-use Rattle.scq_queue.specs.Closing.{EachTakeIsASend, NoPlaceIsSentTwice, NoPlaceIsTakenTwice, IsBalance, EachSendPassedIsTaken, AllFullsStand, NoneIsKeptWithinTheLimit, IsAllThere, all_held, callers_of, records_of}
+use Rattle.scq_queue.specs.Closing.{all_held, callers_of, records_of}
 use Rattle.scq_queue.specs.Passes.{PassStanding, HeldStanding}
 use Rattle.scq_passes.specs.AllPasses.{HaveShared}
+use Rattle.scq_passes.specs.Closed.{HasClosed}
 use Rattle.scq_passes.specs.Records.{HoldsNothingAtEachFull, MeetsNoSpent}
 use Rattle.scq_passes.specs.Together.{SendsAreTakes, NothingIsLeft, NoneSpent, IsBounded, HasSwept}
 use Rattle.scq_passes.proofs.SendsAndTakes.{sends-are-takes, no-place-twice, nothing-is-left}
-
--- what `close` says of the passes of a queue that was given these buffers
-pub record HasClosed {B : Type 0} (c : Setup) (given : List B) (passes : List (PassStanding B)) (held : List (HeldStanding B)) (left : List ℕ) : Type 0 where
-  pub run : (contents : B → List ℕ) × (bytes : List (List ℕ)) × IsOneRunToTheEnd c (opening_of contents given) (callers_of passes)
-      (records_of passes) (all_held passes) bytes
-  pub takes : EachTakeIsASend passes
-  pub sent_once : NoPlaceIsSentTwice passes
-  pub taken_once : NoPlaceIsTakenTwice passes
-  pub balance : IsBalance c passes left
-  pub passed : EachSendPassedIsTaken passes
-  pub fulls : AllFullsStand passes
-  pub limits : NoneIsKeptWithinTheLimit c passes
-  pub all_there : IsAllThere c held left
 
 -- numbers of which each is 0 have the sum 0, and where all others are, the first is the sum
 sum-none : (xs : List ℕ) → ((k : ℕ) → k < length xs → slice_index xs k ≡ 0) → sum xs ≡ 0
@@ -48,8 +36,8 @@ first-alone (x ∷ xs) topics long none =
 sum-alone : {H : Type 0} (left : List ℕ) (n : ℕ) (held : List H) → held ≡ [] → sum left + length held ≡ n → sum left ≡ n
 sum-alone left n held none all = omega (arith, ap length none, all)
 
-module _ {B : Type 0} (c : Setup) (given : List B) (passes : List (PassStanding B)) (held : List (HeldStanding B)) (left : List ℕ)
-    (closed : HasClosed c given passes held left) where
+module _ {B : Type 0} {contents : B → List ℕ} {IsSameBuffer : B → B → Type 0} {buffers : List B} (c : Setup) (given : List B) (passes : List (PassStanding B))
+    (held : List (HeldStanding B)) (left : List ℕ) (closed : HasClosed contents IsSameBuffer c given passes held buffers left) where
   -- where each has swept, the takes are the sends
   pub all-taken : All HasSwept passes → SendsAreTakes passes
   all-taken swept = sends-are-takes passes closed.takes closed.taken_once closed.sent_once closed.passed swept
@@ -59,19 +47,16 @@ module _ {B : Type 0} (c : Setup) (given : List B) (passes : List (PassStanding 
       → All (λ p. p.queue ≡ shared) passes
       → ((w : ℕ) (p : PassStanding B) → slice_get passes w ≡ Some p → p.number ≡ w) → NoneSpent passes → All HasSwept passes
       → All (λ p. HoldsNothingAtEachFull p.calls) passes → All Each passes → All (λ p. MeetsNoSpent p.calls) passes → All (IsBounded most) passes → held ≡ []
-      → HaveShared Each most topics c passes left
+      → HaveShared contents IsSameBuffer Each most topics c passes buffers left
   have-shared Each most topics shared setup same_given rings queues numbers unspent swept alone each no_spent bounded none =
       let same = all-taken swept in
       let nothing : NothingIsLeft topics left = nothing-is-left c passes topics left rings closed.balance same in
       record {
         one = (shared, setup, queues);
         numbers = numbers;
-        run = (
-          closed.run.0,
-          closed.run.1,
-          subst (λ (bs : List B). IsOneRunToTheEnd c (opening_of closed.run.0 bs) (callers_of passes) (records_of passes) (all_held passes)
-              closed.run.1) same_given closed.run.2,
-        );
+        run = subst (λ (bs : List B). IsOneRunToTheEnd c (opening_of contents bs) (callers_of passes) (records_of passes) (all_held passes)
+            (map contents buffers)) same_given closed.run;
+        back = subst (λ (bs : List B). AreTheSame IsSameBuffer bs buffers) same_given closed.back;
         alone = alone;
         fulls = closed.fulls;
         each = each;

@@ -23,3 +23,4 @@ pub mod Results
 pub mod Following
 pub mod PassedOn
 pub mod Becoming
+pub mod Taking

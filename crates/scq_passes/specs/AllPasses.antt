@@ -1,11 +1,11 @@
 -- What the passes of all workers did, each and together, and what was left in their queue. A worker is told by its number, from 0: by it stand
 -- its pass among the passes, and its list among the lists.
-use Rattle.std.specs.Prelude.{◌≡◌, ℕ, ◌+◌, ◌^◌, List, length, Some, slice_get, slice_index, All, Vec}
+use Rattle.std.specs.Prelude.{◌≡◌, ℕ, ◌+◌, ◌^◌, List, length, Some, slice_get, slice_index, map, All, Vec}
 use Rattle.std.specs.Global.{Global}
 use Rattle.scq_word.specs.declared.setup.Setup.{Setup}
 use Rattle.scq_word.specs.Sizes.{n_of}
 use Rattle.scq_band.specs.Buffers.{opening_of}
-use Rattle.scq_band.specs.Closing.{IsOneRunToTheEnd}
+use Rattle.scq_band.specs.Closing.{AreTheSame, IsOneRunToTheEnd}
 use Rattle.scq_band.specs.Standing.{Identity}
 use Rattle.scq_queue.specs.Closing.{AllFullsStand, IsBalance, all_held, callers_of, records_of}
 use Rattle.scq_queue.specs.Lists.{sends_of, takes_of}
@@ -27,32 +27,36 @@ module _ {B : Type 0} where
   OfEachWorker {M} P passes lists =
       (w : ℕ) (p : PassStanding B) (list : Vec M Global) → slice_get passes w ≡ Some p → slice_get lists w ≡ Some list → P w p list.items
 
-  -- what the passes of a queue of this setup did, each and together, and what was left in its rings. It has so many topics, no pass has more
-  -- than `most` sends, takes or Full replies, and of each this holds besides.
-  pub record HaveShared (Each : PassStanding B → Type 0) (most topics : ℕ) (c : Setup) (passes : List (PassStanding B)) (left : List ℕ) : Type 0 where
-    -- they are the passes of one queue, in the order of their numbers
-    pub one : (queue : Identity B) × (queue.setup ≡ c) × All (λ p. p.queue ≡ queue) passes
-    pub numbers : (w : ℕ) (p : PassStanding B) → slice_get passes w ≡ Some p → p.number ≡ w
-    -- one run of the rings' steps stands behind all their calls, from the bytes that the buffers had when the queue was made to those
-    -- (`bytes`) that they have at the end: its history has the four aspects, and the calls of each ring stand in one order, in which
-    -- every reply is a plain queue's
-    pub run : (contents : B → List ℕ) × (bytes : List (List ℕ)) × IsOneRunToTheEnd c (opening_of contents one.0.given) (callers_of passes)
-        (records_of passes) (all_held passes) bytes
-    -- each Full stands where the pass held nothing. The record has as many Fulls as the list.
-    pub alone : All (λ p. HoldsNothingAtEachFull p.calls) passes
-    pub fulls : AllFullsStand passes
-    pub each : All Each passes
-    -- no call met a ticket past the limit
-    pub unspent : NoneSpent passes
-    pub no_spent : All (λ p. MeetsNoSpent p.calls) passes
-    -- the takes are the sends, and no place of a topic stands twice
-    pub same : SendsAreTakes passes
-    pub places : NoPlaceStandsTwice passes
-    -- on each topic the sends less the takes are what is left: nothing. The ring of free buffers has all of them.
-    pub balance : IsBalance c passes left
-    pub none_left : NothingIsLeft topics left
-    pub free : slice_index left 0 ≡ n_of c.order
-    pub bounded : All (IsBounded most) passes
+  -- what the passes of a queue of this setup did, each and together, which buffers came back, in the order of their indices, and what was left in
+  -- its rings. It has so many topics, no pass has more than `most` sends, takes or Full replies, and of each this holds besides.
+  pub record HaveShared (contents : B → List ℕ) (IsSameBuffer : B → B → Type 0) (Each : PassStanding B → Type 0) (most topics : ℕ) (c : Setup)
+      (passes : List (PassStanding B)) (buffers : List B) (left : List ℕ) : Type 0
+    where
+      -- they are the passes of one queue, in the order of their numbers
+      pub one : (queue : Identity B) × (queue.setup ≡ c) × All (λ p. p.queue ≡ queue) passes
+      pub numbers : (w : ℕ) (p : PassStanding B) → slice_get passes w ≡ Some p → p.number ≡ w
+      -- one run of the rings' steps stands behind all their calls, from the bytes that the buffers had when the queue was made to those
+      -- that they had when they came back: its history has the four aspects, and the calls of each ring stand in one order, in which
+      -- every reply is a plain queue's
+      pub run : IsOneRunToTheEnd c (opening_of contents one.0.given) (callers_of passes) (records_of passes) (all_held passes)
+          (map contents buffers)
+      -- those are the buffers that the queue was given
+      pub back : AreTheSame IsSameBuffer one.0.given buffers
+      -- each Full stands where the pass held nothing. The record has as many Fulls as the list.
+      pub alone : All (λ p. HoldsNothingAtEachFull p.calls) passes
+      pub fulls : AllFullsStand passes
+      pub each : All Each passes
+      -- no call met a ticket past the limit
+      pub unspent : NoneSpent passes
+      pub no_spent : All (λ p. MeetsNoSpent p.calls) passes
+      -- the takes are the sends, and no place of a topic stands twice
+      pub same : SendsAreTakes passes
+      pub places : NoPlaceStandsTwice passes
+      -- on each topic the sends less the takes are what is left: nothing. The ring of free buffers has all of them.
+      pub balance : IsBalance c passes left
+      pub none_left : NothingIsLeft topics left
+      pub free : slice_index left 0 ≡ n_of c.order
+      pub bounded : All (IsBounded most) passes
 
   -- how many sends, takes and Full replies a pass has. A queue's count of them stands still at the last value of 64 bits; these are few.
   abbrev pub lengths_of : PassStanding B → Counts

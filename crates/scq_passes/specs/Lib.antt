@@ -3,7 +3,9 @@ pub mod Together
 pub mod Calls
 pub mod Leaving
 pub mod Waiting
+pub mod Taking
 pub mod AllPasses
 pub mod PassedOn
 pub mod Becoming
 pub mod Jobs
+pub mod Closed

@@ -9,6 +9,10 @@
 
 mod at_limit;
 mod making;
+mod sweeping;
+mod taker;
 
 pub use at_limit::AtLimit;
 pub use making::make_queue;
+pub use sweeping::{sweep, sweep_out};
+pub use taker::Taker;

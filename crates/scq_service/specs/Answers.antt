@@ -98,7 +98,8 @@ AreAllHandled left got staged =
 
 -- nothing is stranded in the queue of the workers of stages once it was closed, by their passes as they were then
 abbrev pub StrandsNothing : ℕ → ℕ → Option Staged → Type 0
-StrandsNothing order workers staged = IfSome staged (λ s. (left : List ℕ) × staging.NothingIsStranded order workers s.passes.value.items left)
+StrandsNothing order workers staged =
+    IfSome staged (λ s. (frames : List Frame) × (left : List ℕ) × staging.NothingIsStranded order workers s.passes.value.items frames left)
 
 -- what the workers of stages finished in a run that is asked for this; another run has none
 abbrev pub StagedAs : {S : Type 0} → (S → ℕ) → (S → ℕ) → (S → Option (List ℕ)) → Result Asked WordsFault → List S → Inputs S → Option Fault → Option Staged
@@ -108,12 +109,12 @@ StagedAs faults end_count left (Ok (asks.staged a)) got r end staged =
     × StrandsNothing a.order a.workers staged
 StagedAs faults end_count left asked got r end staged = staged ≡ None
 
--- what is seen of the queue of a run's workers once it was closed: these passes, and this much left in its rings. Nothing is stranded in it. A
--- generated file is answered through 2^6 buffers.
-abbrev pub LeavesNothing : Result Asked WordsFault → List (PassStanding Frame) → List ℕ → Type 0
-LeavesNothing (Ok (asks.run a)) passes left = NothingIsStranded a.order (length a.topics + 1) a.workers passes left
-LeavesNothing (Ok (asks.generated a)) passes left = NothingIsStranded 6 (length self_topics + 1) a.workers passes left
-LeavesNothing asked passes left = ⊥
+-- what is seen of the queue of a run's workers once it was closed: these passes, these buffers that came back, and this much left in its rings.
+-- Nothing is stranded in it. A generated file is answered through 2^6 buffers.
+abbrev pub LeavesNothing : Result Asked WordsFault → List (PassStanding Frame) → List Frame → List ℕ → Type 0
+LeavesNothing (Ok (asks.run a)) passes frames left = NothingIsStranded a.order (length a.topics + 1) a.workers passes frames left
+LeavesNothing (Ok (asks.generated a)) passes frames left = NothingIsStranded 6 (length self_topics + 1) a.workers passes frames left
+LeavesNothing asked passes frames left = ⊥
 
 -- it is seen of each run that has workers, unless the run ended for want of memory, and of no other run
 abbrev pub IsSeenAt : Result Asked WordsFault → Option Fault → Bool → Type 0

@@ -33,6 +33,8 @@ pub struct Outcome<S> {
     pub left: Option<Vec<u64>>,
     /// For contracts alone, and where `left` is there, the workers' passes as they were then.
     pub passes: Option<Snapshot<Vec<Pass<Frame>>>>,
+    /// Likewise the queue's buffers as they came back, in the order of their indices.
+    pub frames: Option<Snapshot<Vec<Frame>>>,
     /// Where idle workers wait: of each worker, whether it saw that all had retired, and how often it rested and was woken. None only at
     /// status 2 and 5. Where they leave early it is None.
     pub waited: Option<Waited>,
@@ -48,7 +50,7 @@ impl<S> Outcome<S> {
         ensures read { result.read ≡ 0 }
         ensures worked { result.worked ≡ None }
         ensures staged { result.staged ≡ None }
-        ensures left { (result.left ≡ None) × (result.passes ≡ None) }
+        ensures left { (result.left ≡ None) × (result.passes ≡ None) × (result.frames ≡ None) }
         ensures waited { result.waited ≡ None }
     {
         let got = Snapshot::of(&sources);
@@ -61,6 +63,7 @@ impl<S> Outcome<S> {
             staged: None,
             left: None,
             passes: None,
+            frames: None,
             waited: None,
             got,
         }
@@ -104,7 +107,7 @@ impl<S> Outcome<S> {
         ensures read { result.read ≡ self.read }
         ensures worked { result.worked ≡ self.worked }
         ensures staged { result.staged ≡ self.staged }
-        ensures left { (result.left ≡ self.left) × (result.passes ≡ self.passes) }
+        ensures left { (result.left ≡ self.left) × (result.passes ≡ self.passes) × (result.frames ≡ self.frames) }
         ensures waited { result.waited ≡ self.waited }
         ensures got { result.got ≡ self.got }
     {
@@ -123,7 +126,7 @@ impl<S> Outcome<S> {
         ensures read { result.read ≡ 0 }
         ensures worked { result.worked ≡ None }
         ensures staged { result.staged ≡ None }
-        ensures left { (result.left ≡ self.left) × (result.passes ≡ self.passes) }
+        ensures left { (result.left ≡ self.left) × (result.passes ≡ self.passes) × (result.frames ≡ self.frames) }
         ensures waited { result.waited ≡ self.waited }
         ensures got { result.got ≡ self.got }
     {
@@ -143,6 +146,7 @@ impl<S> Outcome<S> {
         got: Snapshot<Vec<S>>,
         left: Option<Vec<u64>>,
         passes: Option<Snapshot<Vec<Pass<Frame>>>>,
+        frames: Option<Snapshot<Vec<Frame>>>,
         waited: Option<Waited>,
     ) -> Outcome<S>
         ensures status { result.status ≡ self.status }
@@ -151,13 +155,14 @@ impl<S> Outcome<S> {
         ensures read { result.read ≡ self.read }
         ensures worked { result.worked ≡ self.worked }
         ensures staged { result.staged ≡ self.staged }
-        ensures left { (result.left ≡ left) × (result.passes ≡ passes) }
+        ensures left { (result.left ≡ left) × (result.passes ≡ passes) × (result.frames ≡ frames) }
         ensures waited { result.waited ≡ waited }
         ensures got { result.got ≡ got }
     {
         Outcome {
             left,
             passes,
+            frames,
             waited,
             got,
             ..self
@@ -171,7 +176,7 @@ impl<S> Outcome<S> {
         ensures read { result.read ≡ 0 }
         ensures worked { result.worked ≡ None }
         ensures staged { result.staged ≡ None }
-        ensures left { (result.left ≡ None) × (result.passes ≡ None) }
+        ensures left { (result.left ≡ None) × (result.passes ≡ None) × (result.frames ≡ None) }
         ensures waited { result.waited ≡ None }
         ensures got { result.got.value ≡ sources }
     {
@@ -185,6 +190,7 @@ impl<S> Outcome<S> {
             staged: None,
             left: None,
             passes: None,
+            frames: None,
             waited: None,
             got,
         }

@@ -68,8 +68,8 @@ pub fn read_files<R: Threads + Sync, F: Files, G: Gate>(
     ensures told { IsWorkOf job.now.topics job.now.size job.now.workers F.Src.left result.got.value.items result.worked }
     ensures work { IsWork job.now.topics job.now.size job.now.longest job.now.workers F.Src.faults F.Src.ends F.Src.left result.got.value.items
         (inputs_of F.table F.faults files.old files.new result.sources.items result.read) result.worked }
-    ensures left { IfSome result.left (λ left. IsSomeAnd result.passes (λ passes.
-        NothingIsStranded job.now.order (length job.now.topics + 1) job.now.workers passes.value.items left.items)) }
+    ensures left { IfSome result.left (λ left. IsSomeAnd result.passes (λ passes. IsSomeAnd result.frames (λ frames.
+        NothingIsStranded job.now.order (length job.now.topics + 1) job.now.workers passes.value.items frames.value.items left.items))) }
     ensures there { OnSome result.worked (IsSome result.left) }
     ensures seen { IsNone result.left → result.fault ≡ Some Fault.NoMemory }
     ensures same { IfSome result.worked (λ w. IsSomeAnd result.passes (λ passes. passes.value.items ≡ w.passes.value.items)) }
@@ -108,8 +108,8 @@ pub fn read_files_waiting<R: Threads + Wait + Sync, F: Files, G: Gate>(
     ensures told { IsWorkOf job.now.topics job.now.size job.now.workers F.Src.left result.got.value.items result.worked }
     ensures work { IsWork job.now.topics job.now.size job.now.longest job.now.workers F.Src.faults F.Src.ends F.Src.left result.got.value.items
         (inputs_of F.table F.faults files.old files.new result.sources.items result.read) result.worked }
-    ensures left { IfSome result.left (λ left. IsSomeAnd result.passes (λ passes.
-        NothingIsStranded job.now.order (length job.now.topics + 1) job.now.workers passes.value.items left.items)) }
+    ensures left { IfSome result.left (λ left. IsSomeAnd result.passes (λ passes. IsSomeAnd result.frames (λ frames.
+        NothingIsStranded job.now.order (length job.now.topics + 1) job.now.workers passes.value.items frames.value.items left.items))) }
     ensures there { OnSome result.worked (IsSome result.left) }
     ensures seen { IsNone result.left → result.fault ≡ Some Fault.NoMemory }
     ensures same { IfSome result.worked (λ w. IsSomeAnd result.passes (λ passes. passes.value.items ≡ w.passes.value.items)) }
@@ -158,8 +158,8 @@ fn conclude<F: Files>(
         HasWorked job.now.topics job.now.size job.now.workers (messages_in job.now.topics 1 contents) w)) }
     requires worked { IfOk end.result (λ w. (given : List (List TheMessage)) × AreGiven job.now.topics job.now.longest F.Src.left 1 got.value.items given
         × HasWorked job.now.topics job.now.size job.now.workers given w) }
-    requires left { IfSome end.left (λ left. IsSomeAnd end.passes (λ passes.
-        NothingIsStranded job.now.order (length job.now.topics + 1) job.now.workers passes.value.items left.items)) }
+    requires left { IfSome end.left (λ left. IsSomeAnd end.passes (λ passes. IsSomeAnd end.frames (λ frames.
+        NothingIsStranded job.now.order (length job.now.topics + 1) job.now.workers passes.value.items frames.value.items left.items))) }
     requires none { end.left ≡ None → IsErrOf end.result WorkFault.NoMemory }
     requires same { IfOk end.result (λ w. IsSomeAnd end.passes (λ passes. passes.value.items ≡ w.passes.value.items)) }
     requires cause { IfErr end.result (λ fault. HasCause job.now.longest F.Src.faults F.Src.ends F.Src.left got.value.items end.sources.items fault) }
@@ -175,13 +175,13 @@ fn conclude<F: Files>(
     ensures told { IsWorkOf job.now.topics job.now.size job.now.workers F.Src.left result.got.value.items result.worked }
     ensures work { IsWork job.now.topics job.now.size job.now.longest job.now.workers F.Src.faults F.Src.ends F.Src.left result.got.value.items
         (inputs_of F.table F.faults was.now.value files.now result.sources.items result.read) result.worked }
-    ensures left { IfSome result.left (λ left. IsSomeAnd result.passes (λ passes.
-        NothingIsStranded job.now.order (length job.now.topics + 1) job.now.workers passes.value.items left.items)) }
+    ensures left { IfSome result.left (λ left. IsSomeAnd result.passes (λ passes. IsSomeAnd result.frames (λ frames.
+        NothingIsStranded job.now.order (length job.now.topics + 1) job.now.workers passes.value.items frames.value.items left.items))) }
     ensures there { OnSome result.worked (IsSome result.left) }
     ensures seen { IsNone result.left → result.fault ≡ Some Fault.NoMemory }
     ensures same { IfSome result.worked (λ w. IsSomeAnd result.passes (λ passes. passes.value.items ≡ w.passes.value.items)) }
     ensures waited { result.waited ≡ waited }
-    ensures closed { (result.left ≡ end.left) × (result.passes ≡ end.passes) }
+    ensures closed { (result.left ≡ end.left) × (result.passes ≡ end.passes) × (result.frames ≡ end.frames) }
     ensures wanting { IsErrOf end.result WorkFault.NoMemory → (result.fault ≡ Some Fault.NoMemory) × (result.worked ≡ None) }
 {
     let WorkEnd {
@@ -189,18 +189,19 @@ fn conclude<F: Files>(
         result,
         left,
         passes,
+        frames,
     } = end;
     match result {
         Ok(worked) => {
             if all {
-                Outcome::answered(sources, worked).behind(got, left, passes, waited)
+                Outcome::answered(sources, worked).behind(got, left, passes, frames, waited)
             } else {
                 let file = count as u32 + 1;
-                Outcome::at(sources, Fault::OpenFault { file }).behind(got, left, passes, waited)
+                Outcome::at(sources, Fault::OpenFault { file }).behind(got, left, passes, frames, waited)
             }
         }
         Err(fault) => Outcome::of_work(sources, job.longest, fault).behind(
-            got, left, passes, waited,
+            got, left, passes, frames, waited,
         ),
     }
 }

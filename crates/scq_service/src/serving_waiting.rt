@@ -47,8 +47,8 @@ pub fn serve_waiting<R: Threads + Wait + Sync, F: Files, K: Sink, G: Gate>(
 
     // Whatever the answer is, where workers were at work nothing is stranded: their queue was closed with each buffer free, what was sent was taken,
     // each pass has retired, and no call met a ticket past the limit.
-    ensures left { IfSome result.left (λ left. IsSomeAnd result.passes (λ passes.
-        LeavesNothing (asked_for_run (map string_bytes words.now)) passes.value.items left.items)) }
+    ensures left { IfSome result.left (λ left. IsSomeAnd result.passes (λ passes. IsSomeAnd result.frames (λ frames.
+        LeavesNothing (asked_for_run (map string_bytes words.now)) passes.value.items frames.value.items left.items))) }
     ensures seen { IsSeenAt (asked_for_run (map string_bytes words.now)) result.fault (is_some result.left) }
     ensures same { IfSome result.worked (λ w. IsSomeAnd result.passes (λ passes. passes.value.items ≡ w.passes.value.items)) }
 
@@ -98,8 +98,8 @@ fn run_waiting<R: Threads + Wait + Sync, F: Files, K: Sink, G: Gate>(
         (wrote_of K.written K.faults out.old out.new) result.outcome.fault }
     ensures worked { WorkedAs F.Src.faults F.Src.ends F.Src.left (asked_for_run (map string_bytes words.now)) result.outcome.got.value.items
         (inputs_of F.table F.faults files.old files.new result.outcome.sources.items result.outcome.read) result.outcome.fault result.outcome.worked }
-    ensures left { IfSome result.outcome.left (λ left. IsSomeAnd result.outcome.passes (λ passes.
-        LeavesNothing (asked_for_run (map string_bytes words.now)) passes.value.items left.items)) }
+    ensures left { IfSome result.outcome.left (λ left. IsSomeAnd result.outcome.passes (λ passes. IsSomeAnd result.outcome.frames (λ frames.
+        LeavesNothing (asked_for_run (map string_bytes words.now)) passes.value.items frames.value.items left.items))) }
     ensures seen { IsSeenAt (asked_for_run (map string_bytes words.now)) result.outcome.fault (is_some result.outcome.left) }
     ensures same { IfSome result.outcome.worked (λ w. IsSomeAnd result.outcome.passes (λ passes. passes.value.items ≡ w.passes.value.items)) }
     ensures waited { IfSome result.outcome.waited (λ waited. IsSomeAnd result.outcome.passes (λ passes.

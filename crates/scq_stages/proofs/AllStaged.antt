@@ -38,7 +38,8 @@ use Rattle.scq_stages.specs.Records.{first, is_next, second}
 use Rattle.scq_stages.specs.Output.{finished_in, without_way}
 use Rattle.scq_stages.specs.Passing.{FinishesItself, IsNextOf, SendsToFirst}
 use Rattle.scq_stages.specs.Working.{HasMovedAllAndSwept, HasFewStageCalls}
-use Rattle.scq_passes.proofs.Closed.{HasClosed, all-taken, have-shared}
+use Rattle.scq_passes.specs.Closed.{HasClosed}
+use Rattle.scq_passes.proofs.Closed.{all-taken, have-shared}
 use Rattle.scq_stages.proofs.Conclusion.{Work, IsMoving, IsWork, all-finished, firsts-all, lists_in, messages_in, moved-all, passes_in, seconds-all, took-behind, was-sent}
 use Rattle.scq_stages.proofs.Ended.{follows-all, moves-so-far, nothing-behind-alone, retired-empty}
 use Rattle.scq_stages.proofs.FewTickets.{all-bounded, none-spent}
@@ -106,8 +107,8 @@ module _ {B : Type 0} where
       ∙ ap (λ l. l ++ filter is_first (flat_map (λ (v : Work B). v.list.items) ws)) (each w (contains-first w ws))
       ∙ no-firsts ws (λ v has. each v (contains-more w v ws has))
 
-  module _ (c : Setup) (shared : Identity B) (works : List (Work B)) (done : AllDone c shared works) (left : List ℕ)
-      (closed : HasClosed c shared.given (passes_in works) (held_in works) left) where
+  module _ {contents : B → List ℕ} {IsSameBuffer : B → B → Type 0} {buffers : List B} (c : Setup) (shared : Identity B) (works : List (Work B)) (done : AllDone c shared works)
+      (left : List ℕ) (closed : HasClosed contents IsSameBuffer c shared.given (passes_in works) (held_in works) buffers left) where
     passes-same : passes_of (map counted works) ≡ passes_in works
     passes-same = map-map (λ (w : ℕ × PassStanding B). w.1) counted works
 
@@ -200,7 +201,7 @@ module _ {B : Type 0} where
         })
 
     -- whatever the workers met
-    pub all-shared : HaveShared KeepsStages (2 ^ 37) 2 c (passes_in works) left
+    pub all-shared : HaveShared contents IsSameBuffer KeepsStages (2 ^ 37) 2 c (passes_in works) buffers left
     all-shared =
         have-shared c shared.given (passes_in works) (held_in works) left closed KeepsStages (2 ^ 37) 2 shared done.setup refl done.rings
         (All-map (λ (p : PassStanding B). p.queue ≡ shared) (λ (w : Work B). w.pass) works (λ k d less. (done.each k d less).queue))

@@ -20,13 +20,14 @@ use Rattle.scq_files.specs.Files.{own_of}
 use Rattle.scq_files.specs.declared.desk.Desk.{Desk}
 use Rattle.scq_files.proofs.AllGave.{AllRead, all-messages, few-in-all, given, is-given, own-given, worker_messages}
 use Rattle.scq_files.proofs.Lists.{map-map}
+use Rattle.scq_desk.proofs.Settled.{held_at}
 use Rattle.scq_passes.specs.AllPasses.{HaveShared}
 use Rattle.scq_stages.specs.declared.finished.Finished.{Finished}
-use Rattle.scq_stages.specs.declared.seating.Seated.{Seated}
+use Rattle.scq_stages.specs.Seats.{Seated}
 use Rattle.scq_stages.specs.AllStages.{HaveFinished, KeepsStages}
 use Rattle.scq_stages.specs.Working.{HasRun}
 use Rattle.scq_stages.proofs.AllStaged.{AllDone, HasDone, all-shared, have-staged, held_in}
-use Rattle.scq_passes.proofs.Closed.{HasClosed}
+use Rattle.scq_passes.specs.Closed.{HasClosed}
 use Rattle.scq_stages.proofs.Conclusion.{Work, lists_in, messages_in, passes_in}
 
 module _ {B S : Type 0} where
@@ -44,9 +45,6 @@ module _ {B S : Type 0} where
 
   abbrev pub lists_at : List (Desk (Seated B) S) → List (Vec Finished Global)
   lists_at desks = map (λ (d : Desk (Seated B) S). d.worker.worker.members) desks
-
-  abbrev pub held_at : List (Desk (Seated B) S) → List (HeldStanding B)
-  held_at desks = flat_map (λ (d : Desk (Seated B) S). option_to_list d.worker.kept) desks
 
   -- the workers of a queue have left: each had its own of the files, and did what `HasRun` says, however the reading of these ended
   pub record AllRan (c : Setup) (shared : Identity B) (size : ℕ) (faults end_count : S → ℕ) (left : S → Option (List ℕ)) (sources : List S)
@@ -104,16 +102,17 @@ module _ {B S : Type 0} where
       few = omega (arith, sum_by-map (λ (w : Work B). length w.messages) work_of desks, few-in-all [] size faults end_count left sources desks all-read);
     }
 
-    module _ (left_in : List ℕ) (closed : HasClosed c shared.given (passes_at desks) (held_at desks) left_in) where
-      closed-so : HasClosed c shared.given (passes_in works) (held_in works) left_in
+    module _ {contents : B → List ℕ} {IsSameBuffer : B → B → Type 0} {buffers : List B} (left_in : List ℕ)
+        (closed : HasClosed contents IsSameBuffer c shared.given (passes_at desks) (held_at desks) buffers left_in) where
+      closed-so : HasClosed contents IsSameBuffer c shared.given (passes_in works) (held_in works) buffers left_in
       closed-so =
-          subst (λ (hs : List (HeldStanding B)). HasClosed c shared.given (passes_in works) hs left_in) (sym works-held)
-          (subst (λ (ps : List (PassStanding B)). HasClosed c shared.given ps (held_at desks) left_in) (sym works-passes) closed)
+          subst (λ (hs : List (HeldStanding B)). HasClosed contents IsSameBuffer c shared.given (passes_in works) hs buffers left_in) (sym works-held)
+          (subst (λ (ps : List (PassStanding B)). HasClosed contents IsSameBuffer c shared.given ps (held_at desks) buffers left_in) (sym works-passes) closed)
 
       -- whatever the workers met
-      pub desks-shared : HaveShared KeepsStages (2 ^ 37) 2 c (passes_at desks) left_in
+      pub desks-shared : HaveShared contents IsSameBuffer KeepsStages (2 ^ 37) 2 c (passes_at desks) buffers left_in
       desks-shared =
-          subst (λ (ps : List (PassStanding B)). HaveShared KeepsStages (2 ^ 37) 2 c ps left_in) works-passes
+          subst (λ (ps : List (PassStanding B)). HaveShared contents IsSameBuffer KeepsStages (2 ^ 37) 2 c ps buffers left_in) works-passes
           (all-shared c shared works all-done left_in closed-so)
 
       -- where each file was read to its end and no worker wanted memory

@@ -9,9 +9,8 @@ pub mod Conclusion
 pub mod FewTickets
 pub mod Ended
 pub mod AllStaged
-pub mod Faults
+pub mod Told
 pub mod DeskWorks
-pub mod Settled
 pub mod Moving
 pub mod FewCalls
 pub mod Finishing
@@ -20,3 +19,4 @@ pub mod AtWork
 pub mod Whole
 pub mod Runs
 pub mod BehindRetiring
+pub mod Swept

@@ -9,7 +9,7 @@ use Rattle.scq_band.proofs.Opening.{numbers_length}
 use Rattle.scq_topics.specs.declared.kind.Kind.{Kind}
 use Rattle.scq_queue.specs.Passes.{PassStanding, HeldStanding, first_pass, known_on}
 use Rattle.scq_files.specs.Given.{given_in}
-use Rattle.scq_files.specs.OwnFiles.{all_given}
+use Rattle.scq_files.specs.OwnFiles.{StopsAtAFault, all_given}
 use Rattle.scq_files.specs.Reading.{IsRead}
 use Rattle.scq_files.specs.declared.own_file.OwnFile.{OwnFile}
 use Rattle.scq_passes.specs.Becoming as becoming
@@ -73,14 +73,15 @@ module _ {B : Type 0} where
   module _ {S : Type 0} (shared : Identity B) (size : ℕ) (faults end_count : S → ℕ) (left : S → Option (List ℕ)) (files : List (OwnFile S)) where
     -- it has read its files, moved what was in first, retired, swept and left
     pub run-left : (p q : PassStanding B) (was is : List Finished) (before after : Bool) (kept : Option (HeldStanding B))
-        → AllRead [] size faults end_count left files → Suits shared 1 p → IsDone (all_given files) p was before → IsLeaving (all_given files) p q is after
+        → AllRead [] size faults end_count left files → StopsAtAFault files → Suits shared 1 p → IsDone (all_given files) p was before → IsLeaving (all_given files) p q is after
         → ((t : ℕ) → t < 2 → (known_on t q).finished < (known_on t q).head) → kept ≡ None
         → HasRun shared size faults end_count left files q is after kept
-    run-left p q was is before after kept read suits done leaving empty nothing =
+    run-left p q was is before after kept read stops suits done leaving empty nothing =
         let taken = leaving.taken in
         let long : length q.numbers ≡ 3 = taken.knows.rings ∙ suits.numbers in
         record {
           read = read;
+          stops = stops;
           few_calls = few_calls-late (length (all_given files)) q leaving.few_calls;
           queue = ap (λ (x : PassStanding B). x.queue) taken.pass ∙ suits.queue;
           retired = (length p.calls, ap (λ (x : PassStanding B). x.retired) taken.pass);
@@ -100,13 +101,14 @@ module _ {B : Type 0} where
 
     -- it met Spent in a sweep
     pub run-late : (p q : PassStanding B) (was is : List Finished) (before after : Bool) (kept held : Option (HeldStanding B))
-        → AllRead [] size faults end_count left files → Suits shared 1 p → IsDone (all_given files) p was before
+        → AllRead [] size faults end_count left files → StopsAtAFault files → Suits shared 1 p → IsDone (all_given files) p was before
         → HasLeftSo HasFewStageCalls (length (all_given files)) (length (all_given files)) (after_retire p) q held → kept ≡ held
         → HasRun shared size faults end_count left files q is after kept
-    run-late p q was is before after kept held read suits done end same =
+    run-late p q was is before after kept held read stops suits done end same =
         subst (λ k. HasRun shared size faults end_count left files q is after k) (sym same)
         (record {
           read = read;
+          stops = stops;
           few_calls = end.few_calls (few_calls-retired 0 (length (all_given files)) p done.moved.few_calls);
           queue = end.own.0 ∙ suits.queue;
           retired = (length p.calls, end.own.2);
@@ -117,13 +119,14 @@ module _ {B : Type 0} where
 
     -- it met Spent before it retired, and then retired
     pub run-stopped : (p q : PassStanding B) (is : List Finished) (after : Bool) (kept held : Option (HeldStanding B))
-        → AllRead [] size faults end_count left files → HasStopped shared (length (all_given files)) p held → q ≡ after_retire p → kept ≡ held
+        → AllRead [] size faults end_count left files → StopsAtAFault files → HasStopped shared (length (all_given files)) p held → q ≡ after_retire p → kept ≡ held
         → HasRun shared size faults end_count left files q is after kept
-    run-stopped p q is after kept held read end retired same =
+    run-stopped p q is after kept held read stops end retired same =
         subst (λ k. HasRun shared size faults end_count left files q is after k) (sym same)
         (subst (λ (x : PassStanding B). HasRun shared size faults end_count left files x is after held) (sym retired)
         (record {
           read = read;
+          stops = stops;
           few_calls = few_calls-retired 1 (length (all_given files)) p end.few_calls;
           queue = end.queue;
           retired = (length p.calls, refl);

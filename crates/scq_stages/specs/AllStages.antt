@@ -4,6 +4,8 @@ use Rattle.std.specs.Prelude.{◌≡◌, ℕ, ◌^◌, List, [], filter, flat_ma
 use Rattle.std.specs.Global.{Global}
 use Rattle.std.specs.List.Sorted.{IsPermutation}
 use Rattle.scq_word.specs.declared.setup.Setup.{Setup}
+use Rattle.scq_block.specs.declared.frame.Frame.{Frame}
+use Rattle.scq_block.specs.Frames.{IsSame, bytes_of}
 use Rattle.scq_frames.specs.declared.message.Message.{Message}
 use Rattle.scq_collect.specs.Merging.{AreApart}
 use Rattle.scq_queue.specs.Lists.{sends_of, takes_of}
@@ -53,13 +55,13 @@ module _ {B : Type 0} where
     pub moves : AreMoves (on first (takes_of (calls_before p))) (on second (sends_of p.calls))
     pub retired : HasRetired FoundFirstEmpty p
 
-  -- the queue of a job of stages is closed, and nothing is stranded in it, whatever its workers met: before each retired it moved what it took from
-  -- first, and then found first empty; what was sent was taken, and all buffers are free. No pass has more than 2 ^ 37 sends or takes: of at most
-  -- 2 ^ 36 messages each is sent and taken twice at most
-  pub record NothingIsStranded (order workers : ℕ) (passes : List (PassStanding B)) (left : List ℕ) : Type 0 where
-    pub setup : Setup
-    pub of_job : IsSetup order 2 workers setup
-    pub shared : HaveShared KeepsStages (2 ^ 37) 2 setup passes left
+-- the queue of a job of stages is closed, and nothing is stranded in it, whatever its workers met: before each retired it moved what it took from
+-- first, and then found first empty; what was sent was taken, and all buffers are free: those that came back are the frames of its block that it
+-- was given. No pass has more than 2 ^ 37 sends or takes: of at most 2 ^ 36 messages each is sent and taken twice at most
+pub record NothingIsStranded (order workers : ℕ) (passes : List (PassStanding Frame)) (frames : List Frame) (left : List ℕ) : Type 0 where
+  pub setup : Setup
+  pub of_job : IsSetup order 2 workers setup
+  pub shared : HaveShared bytes_of IsSame KeepsStages (2 ^ 37) 2 setup passes frames left
 
 -- so many workers finished the messages that files gave: what they made of them, by their passes, and the lengths of the passes' lists
 pub record HasStaged (workers : ℕ) (given : List (List Message)) (s : Staged) : Type 0 where

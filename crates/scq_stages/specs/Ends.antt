@@ -1,32 +1,22 @@
 -- How the stages over all files ended: the fault of the workers and its cause. Files are numbered from 1.
-use Rattle.std.specs.Prelude.{ℕ, Bool, true, false, List, Option, Some, None}
-use Rattle.scq_frames.specs.declared.fault.FrameFault.{FrameFault}
-use Rattle.scq_frames.specs.declared.fault.FrameFault.TheVariants as frame
-use Rattle.scq_files.specs.Ends.{AllEndFed, StopsAt}
+use Rattle.std.specs.Prelude.{ℕ, List, Option}
+use Rattle.scq_desk.specs.Faults as workers
+use Rattle.scq_desk.specs.declared.fault.EndFault.{EndFault}
+use Rattle.scq_desk.specs.declared.fault.EndFault.TheVariants as ends
 use Rattle.scq_stages.specs.declared.staged.StageFault.{StageFault}
 use Rattle.scq_stages.specs.declared.staged.StageFault.TheVariants.{Read, TooLong, TooLarge, NoMemory}
 
--- the fault of several workers: want of memory where any met it, else that of the first file, in order,
--- that has any
-abbrev pub fault_of_workers : Bool → Option (ℕ × FrameFault) → Option StageFault
-fault_of_workers true first = Some NoMemory
-fault_of_workers false None = None
-fault_of_workers false (Some (file, frame.ReadFault)) = Some (Read file)
-fault_of_workers false (Some (file, frame.TooLong line len)) = Some (TooLong file line len)
-fault_of_workers false (Some (file, frame.TooLarge bytes)) = Some (TooLarge file bytes)
-fault_of_workers false (Some (file, frame.NoMemory)) = Some NoMemory
+-- a fault as one of the workers at desks
+abbrev pub as_end : StageFault → EndFault
+as_end (Read file) = ends.Read file
+as_end (TooLong file line len) = ends.TooLong file line len
+as_end (TooLarge file bytes) = ends.TooLarge file bytes
+as_end NoMemory = ends.NoMemory
 
--- want of memory comes before any other fault: where there is another, each source is as one whose reading didn't stop for want of
--- memory. Of a source whose bytes aren't visible this says no more than `HasMoved`.
+-- want of memory comes before any other fault
 abbrev pub MemoryIsFirst : {S : Type 0} → ℕ → (S → ℕ) → (S → ℕ) → (S → Option (List ℕ)) → List S → List S → StageFault → Type 0
-MemoryIsFirst size faults end_count left olds news (Read file) = AllEndFed size faults end_count left olds news
-MemoryIsFirst size faults end_count left olds news (TooLong file line len) = AllEndFed size faults end_count left olds news
-MemoryIsFirst size faults end_count left olds news (TooLarge file bytes) = AllEndFed size faults end_count left olds news
-MemoryIsFirst size faults end_count left olds news NoMemory = Unit {0}
+MemoryIsFirst size faults end_count left olds news fault = workers.MemoryIsFirst size faults end_count left olds news (as_end fault)
 
 -- the cause of each fault
 abbrev pub HasCause : {S : Type 0} → ℕ → (S → ℕ) → (S → ℕ) → (S → Option (List ℕ)) → List S → List S → StageFault → Type 0
-HasCause size faults end_count left olds news (Read file) = StopsAt size faults end_count left olds news file frame.ReadFault
-HasCause size faults end_count left olds news (TooLong file line len) = StopsAt size faults end_count left olds news file (frame.TooLong line len)
-HasCause size faults end_count left olds news (TooLarge file bytes) = StopsAt size faults end_count left olds news file (frame.TooLarge bytes)
-HasCause size faults end_count left olds news NoMemory = Unit {0}
+HasCause size faults end_count left olds news fault = workers.HasCause size faults end_count left olds news (as_end fault)

@@ -9,3 +9,6 @@ pub mod Working
 pub mod Seats
 pub mod AllStages
 pub mod Ends
+pub mod Reading
+pub mod Sweeping
+pub mod GoingOn

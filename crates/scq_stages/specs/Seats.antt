@@ -1,11 +1,13 @@
--- Workers before they begin.
-use Rattle.std.specs.Prelude.{◌≡◌, [], None}
+-- Workers at their desks.
 use Rattle.scq_band.specs.Standing.{Identity}
-use Rattle.scq_queue.specs.Passes.{first_pass}
-use Rattle.scq_stages.specs.declared.seating.Seated.{Seated}
+use Rattle.scq_desk.specs.Seats as seats
+use Rattle.scq_desk.specs.declared.seat.Seat.{Seat}
+use Rattle.scq_stages.specs.declared.worker.Worker.{Worker}
 
--- a worker that is to begin: it has a new pass, an empty list, and keeps no value
-pub record IsFresh {B : Type 0} (shared : Identity B) (s : Seated B) : Type 0 where
-  pub pass : s.worker.pass ≡ first_pass shared s.worker.pass.number
-  pub members : s.worker.members.items ≡ []
-  pub kept : s.kept ≡ None
+-- a worker of stages, seated
+abbrev pub Seated : Type 0 → Type 0
+Seated B = Seat (Worker B) B
+
+-- it is to begin: it has a new pass, an empty list, and keeps no value
+abbrev pub IsFresh : {B : Type 0} → Identity B → Seated B → Type 0
+IsFresh shared s = seats.IsFresh (λ w. w.pass) (λ w. w.members) shared s

@@ -8,7 +8,7 @@ use Rattle.scq_band.specs.Standing.{Identity}
 use Rattle.scq_queue.specs.Lists.{Placed, sends_of, takes_of}
 use Rattle.scq_queue.specs.Passes.{PassStanding, HeldStanding, known_on}
 use Rattle.scq_files.specs.Given.{given_in}
-use Rattle.scq_files.specs.OwnFiles.{all_given}
+use Rattle.scq_files.specs.OwnFiles.{StopsAtAFault, all_given}
 use Rattle.scq_files.specs.Reading.{IsRead}
 use Rattle.scq_files.specs.declared.own_file.OwnFile.{OwnFile}
 use Rattle.scq_passes.specs.Calls.{IsBetweenParts, index_of, after_retire, calls_behind}
@@ -101,6 +101,7 @@ module _ {B : Type 0} where
   pub record HasRun {S : Type 0} (shared : Identity B) (size : ℕ) (faults end_count : S → ℕ) (left : S → Option (List ℕ)) (files : List (OwnFile S))
       (pass : PassStanding B) (members : List Finished) (starved : Bool) (kept : Option (HeldStanding B)) : Type 0 where
     pub read : All (λ f. IsRead [] size faults end_count left f.number f.was.value f.source (given_in f.given.value) f.end) files
+    pub stops : StopsAtAFault files
     pub few_calls : HasFewStageCalls 1 (length (all_given files)) pass
     pub queue : pass.queue ≡ shared
     pub retired : (calls : ℕ) × (pass.retired ≡ Some calls)

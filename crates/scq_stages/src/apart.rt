@@ -10,9 +10,8 @@ ghost use Rattle.scq_stages.specs.Working.{HasRun};
 
 use crate::StageJob;
 use crate::running::run;
-use crate::seating::Seated;
+use crate::worker::StageDesk;
 use scq_block::Frame;
-use scq_files::Desk;
 use scq_outside::Source;
 use scq_queue::Queue;
 use std::alloc::Global;
@@ -25,8 +24,8 @@ pub(crate) fn run_all<R: Threads + Sync, S: Source>(
     alloc: Global,
     job: &StageJob,
     queue: &Queue<Frame>,
-    desks: Vec<Desk<Seated<Frame>, S>>,
-) -> Vec<Desk<Seated<Frame>, S>>
+    desks: Vec<StageDesk<S>>,
+) -> Vec<StageDesk<S>>
     requires some { 0 < length desks.items }
     requires rings { queue.now.setup.rings ≡ 3 }
     requires room { All (λ b. job.now.size + 24 ≤ length b.bytes.items) queue.now.given }
@@ -54,7 +53,7 @@ fn run_each<R: Threads + Sync, S: Source>(
     alloc: Global,
     job: &StageJob,
     queue: &Queue<Frame>,
-    desks: &mut [Desk<Seated<Frame>, S>],
+    desks: &mut [StageDesk<S>],
 )
     requires some { 0 < length desks.old }
     requires rings { queue.now.setup.rings ≡ 3 }
@@ -72,7 +71,7 @@ fn run_each<R: Threads + Sync, S: Source>(
     ensures behind { All (λ d. d.worker.worker.pass.spent ≡ None → HasLeftSwept bytes_of IsGivenBack 2 64 d.worker.worker.pass) desks.new }
 {
     let threads = desks.len();
-    let run_one = |_: usize, desk: &mut Desk<Seated<Frame>, S>|
+    let run_one = |_: usize, desk: &mut StageDesk<S>|
         requires { (queue.now.setup.rings ≡ 3) × All (λ b. job.now.size + 24 ≤ length b.bytes.items) queue.now.given
             × IsFresh queue.now desk.now.worker × All IsNew desk.now.files.items }
         ensures { (ids_of desk.exit.now.files.items ≡ ids_of desk.entry.now.files.items)

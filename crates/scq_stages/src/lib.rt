@@ -11,18 +11,15 @@
 #![tactic(auto)]
 
 mod apart;
-mod clearing;
 mod finished;
 mod handling;
 mod in_place;
 mod job;
-mod laying;
 mod leaving;
 mod ordering;
 mod passing;
 mod reading;
 mod running;
-mod seating;
 mod staged;
 mod staging;
 mod taken;

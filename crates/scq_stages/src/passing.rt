@@ -1,5 +1,5 @@
-//! What a worker does with each message of its files, and with what is in first when it has read them.
-ghost use Rattle.std.specs.Prelude.{◌≡◌, ℕ, ◌+◌, ◌<◌, ◌≤◌, ◌++◌, ◌∷◌, List, [], false, length, None, IfErr, IfSome, IsSome, OnOk, All};
+//! How a worker sends a message to first, and what it does with what is in first when it has read its files.
+ghost use Rattle.std.specs.Prelude.{◌≡◌, ℕ, ◌+◌, ◌≤◌, List, length, None, IfErr, IfSome, IsSome, OnOk};
 ghost use Rattle.scq_frames.specs.declared.message.Message.{Message as TheMessage};
 ghost use Rattle.scq_queue.specs.Passes.{IsHeldBy, after_put, after_spent_put, having_seen};
 ghost use Rattle.scq_passes.specs.Calls.{Suits};
@@ -10,13 +10,12 @@ use crate::StageJob;
 use crate::worker::{FIRST, Worker};
 use scq_frames::{Message, encode};
 use scq_passes::AtLimit;
-use scq_queue::{Held, LendRefusal, Queue};
+use scq_queue::{Held, Queue};
 use scq_word::BufferMut;
-use std::alloc::Global;
 
 impl<B: BufferMut> Worker<B> {
     /// Sends a message to first in a value that it holds.
-    fn send_in(
+    pub(crate) fn send_in(
         &mut self,
         job: &StageJob,
         queue: &Queue<B>,
@@ -47,43 +46,6 @@ impl<B: BufferMut> Worker<B> {
         match queue.send(&mut self.pass, FIRST, held) {
             Ok(_) => Ok(()),
             Err((held, _)) => Err(AtLimit { held: Some(held) }),
-        }
-    }
-
-    /// Passes a message on: sends it to first in a buffer that nobody holds, or, where there is none, does both stages to it itself and helps.
-    pub(crate) fn pass_on(
-        &mut self,
-        alloc: Global,
-        job: &StageJob,
-        queue: &Queue<B>,
-        message: &Message,
-    ) -> Result<(), AtLimit<B>>
-        requires suits { Suits queue.now 1 self.old.pass }
-        requires stays { self.old.pass.retired ≡ None }
-        requires topic { message.now.topic ≡ 0 }
-        requires short { length message.now.payload ≤ job.now.size }
-        requires room { All (λ b. job.now.size + 24 ≤ length (B.contents b)) queue.now.given }
-        ensures suits { OnOk result (Suits queue.now 1 self.new.pass) }
-        ensures stays { OnOk result (self.new.pass.retired ≡ None) }
-        ensures work { OnOk result ((messages : List TheMessage) → IsAtWork messages self.old.pass self.old.members.items self.old.starved
-            → IsAtWork (messages ++ message.now ∷ []) self.new.pass self.new.members.items self.new.starved) }
-        ensures left { IfErr result (λ l. (messages : List TheMessage)
-            → IsAtWork messages self.old.pass self.old.members.items self.old.starved
-            → HasStopped queue.now (length (messages ++ message.now ∷ [])) self.new.pass l.held) }
-        ensures starved { self.new.starved ≡ false → self.old.starved ≡ false }
-        ensures number { self.new.pass.number ≡ self.old.pass.number }
-    {
-        match queue.lend(&mut self.pass) {
-            Ok(held) => {
-                self.send_in(job, queue, message, held)?;
-                Ok(())
-            }
-            Err(LendRefusal::Full { head }) => {
-                self.finish_directly(alloc, message, head);
-                self.help(alloc, queue)?;
-                Ok(())
-            }
-            Err(LendRefusal::Spent { .. }) => Err(AtLimit { held: None }),
         }
     }
 

@@ -1,159 +1,77 @@
-//! How a worker reads its files.
-ghost use Rattle.std.specs.Prelude.{◌≡◌, ◌+◌, ◌≤◌, ◌++◌, List, [], false, length, None, IfOk, IfErr, OnOk, All};
-ghost use Rattle.scq_frames.specs.declared.message.Message.{Message as TheMessage};
-ghost use Rattle.scq_files.specs.Given.{given_in};
-ghost use Rattle.scq_files.specs.OwnFiles.{IsNew, StopsAtAFault, ids_of, all_given};
-ghost use Rattle.scq_files.specs.Reading.{IsRead};
+//! How a worker reads its files: it passes each message on.
+ghost use Rattle.std.specs.Prelude.{◌≡◌, ◌+◌, ◌≤◌, length, None, All};
 ghost use Rattle.scq_passes.specs.Calls.{Suits};
-ghost use Rattle.scq_stages.specs.Working.{IsAtWork, HasStopped};
 
 use crate::StageJob;
 use crate::worker::Worker;
-use scq_files::{FileEnd, Given, OwnFile, give};
-use scq_frames::{FrameFault, Framer};
-use scq_outside::Source;
+use scq_block::Frame;
+use scq_files::Handler;
+use scq_frames::Message;
 use scq_passes::AtLimit;
-use scq_queue::Queue;
-use scq_topics::Topics;
-use scq_word::BufferMut;
+use scq_queue::{LendRefusal, Queue};
 use std::alloc::Global;
-use std::snapshot::Snapshot;
 
-/// The greatest number of bytes of a file.
-const MOST_BYTES: u64 = 1 << 30;
+/// What a worker makes its calls with while it reads its files.
+#[derive(Clone, Copy)]
+pub(crate) struct Calls<'a> {
+    pub alloc: Global,
+    pub job: &'a StageJob,
+    pub queue: &'a Queue<Frame>,
+}
 
-impl<B: BufferMut> Worker<B> {
-    /// Passes on the messages of a file one by one, and says how far it was read. One that is left at a ticket past the limit is as one whose
-    /// reading stopped for want of memory.
-    fn read_messages<S: Source>(
+impl<'a> Handler<Calls<'a>, ()> for Worker<Frame> {
+    ghost use Rattle.scq_stages.specs.Reading.{HasGoneOn, HasStoppedAt};
+    ghost use Rattle.scq_stages.specs.GoingOn.{gone-none, gone-along, gone-stopped};
+
+    type Stop = AtLimit<Frame>;
+
+    ghost ready = { λ c none w. Suits c.queue.now 1 w.pass × (w.pass.retired ≡ None)
+        × All (λ b. c.job.now.size + 24 ≤ length b.bytes.items) c.queue.now.given };
+
+    ghost takes = { λ c m. (m.topic ≡ 0) × (length m.payload ≤ c.job.now.size) };
+
+    ghost handled = { λ c ms none old nothing new. HasGoneOn c.queue.now ms old new };
+
+    ghost stopped = { λ c ms none old nothing new stop.
+        HasStoppedAt c.queue.now ms old new stop.held };
+
+    ghost wanted = { λ w. w.starved };
+
+    /// Sends a message to first in a buffer that nobody holds, or, where there is none, does both stages to it itself and helps.
+    fn handle(
         &mut self,
-        alloc: Global,
-        job: &StageJob,
-        queue: &Queue<B>,
-        topics: &Topics,
-        file: u32,
-        source: &mut S,
-        given: &mut Snapshot<Given>,
-    ) -> Result<FileEnd, AtLimit<B>>
-        requires suits { Suits queue.now 1 self.old.pass }
-        requires stays { self.old.pass.retired ≡ None }
-        requires room { All (λ b. job.now.size + 24 ≤ length (B.contents b)) queue.now.given }
-        requires topics { topics.now ≡ [] }
-        requires none { given_in given.old.value ≡ [] }
-        ensures read { IfOk result (λ end. IsRead topics.now job.now.size S.faults S.ends S.left file source.old source.new
-            (given_in given.new.value) end) }
-        ensures unended { IfErr result (λ _. IsRead topics.now job.now.size S.faults S.ends S.left file source.old source.new
-            (given_in given.new.value) (FileEnd.Stopped FrameFault.NoMemory)) }
-        ensures suits { OnOk result (Suits queue.now 1 self.new.pass) }
-        ensures stays { OnOk result (self.new.pass.retired ≡ None) }
-        ensures work { OnOk result ((messages : List TheMessage) → IsAtWork messages self.old.pass self.old.members.items self.old.starved
-            → IsAtWork (messages ++ given_in given.new.value) self.new.pass self.new.members.items self.new.starved) }
-        ensures left { IfErr result (λ l. (messages : List TheMessage) → IsAtWork messages self.old.pass self.old.members.items self.old.starved
-            → HasStopped queue.now (length (messages ++ given_in given.new.value)) self.new.pass l.held) }
-        ensures starved { self.new.starved ≡ false → self.old.starved ≡ false }
-        ensures number { self.new.pass.number ≡ self.old.pass.number }
-    {
-        let Ok(mut framer) = Framer::new(alloc, file, job.size, MOST_BYTES) else {
-            return Ok(FileEnd::Stopped(FrameFault::NoMemory));
-        };
-        'messages: loop {
-            match framer.next(topics, source) {
-                Ok(Some(message)) => {
-                    give(given, &message);
-                    self.pass_on(alloc, job, queue, &message)?;
-                    if self.starved {
-                        return Ok(FileEnd::Stopped(FrameFault::NoMemory));
-                    }
-                }
-                Ok(None) => return Ok(FileEnd::Whole),
-                Err(fault) => return Ok(FileEnd::Stopped(fault)),
-            }
-        }
-    }
-
-    /// Reads a file to its end or up to a fault.
-    fn read_file<S: Source>(
-        &mut self,
-        alloc: Global,
-        job: &StageJob,
-        queue: &Queue<B>,
-        topics: &Topics,
-        file: &mut OwnFile<S>,
-    ) -> Result<(), AtLimit<B>>
-        requires suits { Suits queue.now 1 self.old.pass }
-        requires stays { self.old.pass.retired ≡ None }
-        requires room { All (λ b. job.now.size + 24 ≤ length (B.contents b)) queue.now.given }
-        requires topics { topics.now ≡ [] }
-        requires unread { IsNew file.old }
-        ensures same { (file.new.number ≡ file.old.number) × (file.new.was.value ≡ file.old.was.value) }
-        ensures read { IsRead topics.now job.now.size S.faults S.ends S.left file.new.number file.new.was.value file.new.source
-            (given_in file.new.given.value) file.new.end }
-        ensures suits { OnOk result (Suits queue.now 1 self.new.pass) }
-        ensures stays { OnOk result (self.new.pass.retired ≡ None) }
-        ensures work { OnOk result ((messages : List TheMessage) → IsAtWork messages self.old.pass self.old.members.items self.old.starved
-            → IsAtWork (messages ++ given_in file.new.given.value) self.new.pass self.new.members.items self.new.starved) }
-        ensures left { IfErr result (λ l. (messages : List TheMessage) → IsAtWork messages self.old.pass self.old.members.items self.old.starved
-            → HasStopped queue.now (length (messages ++ given_in file.new.given.value)) self.new.pass l.held) }
-        ensures starved { self.new.starved ≡ false → self.old.starved ≡ false }
-        ensures number { self.new.pass.number ≡ self.old.pass.number }
-    {
-        let number = file.number;
-        match self.read_messages(
-            alloc,
-            job,
-            queue,
-            topics,
-            number,
-            &mut file.source,
-            &mut file.given,
-        ) {
-            Ok(end) => {
-                file.end = end;
+        with: &Calls<'a>,
+        _beside: &mut (),
+        message: &Message,
+    ) -> Result<(), AtLimit<Frame>> {
+        match with.queue.lend(&mut self.pass) {
+            Ok(held) => {
+                self.send_in(with.job, with.queue, message, held)?;
                 Ok(())
             }
-            Err(limit) => {
-                // It was left at a ticket past the limit, which `FileEnd` counts as want of memory.
-                file.end = FileEnd::Stopped(FrameFault::NoMemory);
-                Err(limit)
+            Err(LendRefusal::Full { head }) => {
+                self.finish_directly(with.alloc, message, head);
+                self.help(with.alloc, with.queue)?;
+                Ok(())
             }
+            Err(LendRefusal::Spent { .. }) => Err(AtLimit { held: None }),
         }
     }
 
-    /// Reads files from the last of the list to the first, up to the first that has a fault.
-    pub(crate) fn read_files<S: Source>(
-        &mut self,
-        alloc: Global,
-        job: &StageJob,
-        queue: &Queue<B>,
-        topics: &Topics,
-        files: &mut [OwnFile<S>],
-    ) -> Result<(), AtLimit<B>>
-        requires suits { Suits queue.now 1 self.old.pass }
-        requires stays { self.old.pass.retired ≡ None }
-        requires room { All (λ b. job.now.size + 24 ≤ length (B.contents b)) queue.now.given }
-        requires topics { topics.now ≡ [] }
-        requires unread { All IsNew files.old }
-        ensures same { ids_of files.new ≡ ids_of files.old }
-        ensures read { All (λ f. IsRead topics.now job.now.size S.faults S.ends S.left f.number f.was.value f.source (given_in f.given.value) f.end)
-            files.new }
-        ensures stops { StopsAtAFault files.new }
-        ensures suits { OnOk result (Suits queue.now 1 self.new.pass) }
-        ensures stays { OnOk result (self.new.pass.retired ≡ None) }
-        ensures work { OnOk result (IsAtWork [] self.old.pass self.old.members.items self.old.starved
-            → IsAtWork (all_given files.new) self.new.pass self.new.members.items self.new.starved) }
-        ensures left { IfErr result (λ l. IsAtWork [] self.old.pass self.old.members.items self.old.starved
-            → HasStopped queue.now (length (all_given files.new)) self.new.pass l.held) }
-        ensures starved { self.new.starved ≡ false → self.old.starved ≡ false }
-        ensures number { self.new.pass.number ≡ self.old.pass.number }
+    fn starved(&self) -> bool
+        ensures { result ≡ self.now.starved }
     {
-        let mut at = files.len();
-        'files: while at > 0 {
-            at -= 1;
-            self.read_file(alloc, job, queue, topics, &mut files[at])?;
-            if let FileEnd::Stopped(_) = files[at].end {
-                return Ok(());
-            }
-        }
-        Ok(())
+        self.starved
     }
+
+    ghost none_handled = { λ c none w ready. gone-none c.queue.now w ready.0 ready.1 };
+
+    ghost stays_ready = { λ c ms none nothing old new ready its.
+        (its.suits, its.stays, ready.2) };
+
+    ghost more_handled = { λ c ms ns t s u old mid new one more.
+        gone-along c.queue.now ms ns old mid new one more };
+
+    ghost then_stopped = { λ c ms ns t s u old mid new stop one more.
+        gone-stopped c.queue.now ms ns old mid new stop.held one more };
 }

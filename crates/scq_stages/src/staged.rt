@@ -37,6 +37,8 @@ pub struct StageEnd<S> {
     pub left: Option<Vec<u64>>,
     /// For contracts alone, and where `left` is there, the workers' passes as they were then.
     pub passes: Option<Snapshot<Vec<Pass<Frame>>>>,
+    /// Likewise the queue's buffers as they came back, in the order of their indices, before their block was merged.
+    pub frames: Option<Snapshot<Vec<Frame>>>,
 }
 
 impl<S> StageEnd<S> {
@@ -46,13 +48,14 @@ impl<S> StageEnd<S> {
     pub(crate) fn starved(sources: Vec<S>) -> StageEnd<S>
         ensures sources { result.sources ≡ sources }
         ensures fault { result.result ≡ Err StageFault.NoMemory }
-        ensures left { (result.left ≡ None) × (result.passes ≡ None) }
+        ensures left { (result.left ≡ None) × (result.passes ≡ None) × (result.frames ≡ None) }
     {
         StageEnd {
             sources,
             result: Err(StageFault::NoMemory),
             left: None,
             passes: None,
+            frames: None,
         }
     }
 }

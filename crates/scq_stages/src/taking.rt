@@ -8,8 +8,9 @@ ghost use Rattle.scq_band.specs.Buffers.{opening_of};
 ghost use Rattle.scq_band.specs.RunSeen.{IsCallInRun};
 ghost use Rattle.scq_queue.specs.Passes.{caller_of, known_on, IsHeldBy, WasGivenBack, after_put, after_spent_put, having_seen};
 ghost use Rattle.scq_passes.specs.Calls.{Suits, HasLeftSo, TookNoneBelow, since};
-ghost use Rattle.scq_passes.specs.Leaving.{FoundTopicEmpty, HasOnlyCalled, TookNothing};
-ghost use Rattle.scq_passes.specs.Waiting.{TookMore};
+ghost use Rattle.scq_passes.specs.Leaving.{HasOnlyCalled, TookNothing};
+ghost use Rattle.scq_passes.specs.Taking.{HasEmptied, HasTakenFrom};
+ghost use Rattle.scq_passes.specs.Waiting.{TookInVain};
 ghost use Rattle.scq_stages.specs.Stages.{redacted, squeezed, both};
 ghost use Rattle.scq_stages.specs.Handling.{after};
 ghost use Rattle.scq_stages.specs.Members.{finished};
@@ -119,13 +120,13 @@ impl<B: BufferMut> Worker<B> {
         ensures helped { OnOk result (self.new.starved ≡ false
             → HasFinishedOnlySeconds self.old.pass self.new.pass self.old.members.items self.new.members.items) }
         ensures below { OnOk result (TookNoneBelow first self.old.pass self.new.pass) }
-        ensures some { result ≡ Ok true → ((known_on second self.old.pass).head < (known_on second self.new.pass).head)
-            × ((known_on second self.old.pass).head < queue.now.setup.limit) }
-        ensures empty { result ≡ Ok false → (known_on second self.new.pass).finished < (known_on second self.new.pass).head }
-        ensures found { result ≡ Ok false → FoundTopicEmpty second self.old.pass self.new.pass }
-        ensures only { OnOk result (HasOnlyCalled B.contents queue.now self.old.pass self.new.pass) }
-        ensures more { result ≡ Ok true → TookMore self.old.pass self.new.pass }
-        ensures nothing { result ≡ Ok false → TookNothing self.old.pass self.new.pass }
+        ensures some { result ≡ Ok true
+            → HasTakenFrom queue.now.setup.limit second self.old.pass self.new.pass
+            × TookInVain 0 self.old.pass self.new.pass }
+        ensures none { result ≡ Ok false → HasEmptied second self.old.pass self.new.pass
+            × TookNothing self.old.pass self.new.pass }
+        ensures only { OnOk result
+            (HasOnlyCalled B.contents queue.now self.old.pass self.new.pass) }
         ensures left { IfErr result (λ l. (messages : ℕ) → HasLeftSo HasFewStageCalls messages messages self.old.pass self.new.pass l.held) }
         ensures starved { self.new.starved ≡ false → self.old.starved ≡ false }
     {
@@ -172,13 +173,13 @@ impl<B: BufferMut> Worker<B> {
         ensures finished { OnOk result (self.new.starved ≡ false
             → HasFinished self.old.pass self.new.pass self.old.members.items self.new.members.items) }
         ensures below { OnOk result (TookNoneBelow first self.old.pass self.new.pass) }
-        ensures some { result ≡ Ok true → ((known_on first self.old.pass).head < (known_on first self.new.pass).head)
-            × ((known_on first self.old.pass).head < queue.now.setup.limit) }
-        ensures empty { result ≡ Ok false → (known_on first self.new.pass).finished < (known_on first self.new.pass).head }
-        ensures found { result ≡ Ok false → FoundTopicEmpty first self.old.pass self.new.pass }
-        ensures only { OnOk result (HasOnlyCalled B.contents queue.now self.old.pass self.new.pass) }
-        ensures more { result ≡ Ok true → TookMore self.old.pass self.new.pass }
-        ensures nothing { result ≡ Ok false → TookNothing self.old.pass self.new.pass }
+        ensures some { result ≡ Ok true
+            → HasTakenFrom queue.now.setup.limit first self.old.pass self.new.pass
+            × TookInVain 0 self.old.pass self.new.pass }
+        ensures none { result ≡ Ok false → HasEmptied first self.old.pass self.new.pass
+            × TookNothing self.old.pass self.new.pass }
+        ensures only { OnOk result
+            (HasOnlyCalled B.contents queue.now self.old.pass self.new.pass) }
         ensures left { IfErr result (λ l. (messages : ℕ) → HasLeftSo HasFewStageCalls messages messages self.old.pass self.new.pass l.held) }
         ensures starved { self.new.starved ≡ false → self.old.starved ≡ false }
     {

@@ -13,6 +13,9 @@ ghost use Rattle.scq_stages.specs.Passing.{whole_of};
 use crate::finished::{Finished, StageWay};
 use crate::handling::Rest;
 use crate::in_place::{redact, squeeze};
+use scq_block::Frame;
+use scq_desk::{Seat, Sits};
+use scq_files::Desk;
 use scq_frames::Message;
 use scq_passes::AtLimit;
 use scq_queue::{Held, Pass, Queue};
@@ -50,6 +53,37 @@ fn both(alloc: Global, payload: &[u8]) -> Result<Bytes, NoMemory>
     let len = finish_bytes(bytes.as_mut_slice());
     bytes.truncate(len);
     Ok(Bytes::from(bytes))
+}
+
+/// A desk at which such a worker sits.
+pub type StageDesk<S> = Desk<Seat<Worker<Frame>, Frame>, S>;
+
+impl<B: Buffer> Sits<Pass<B>, Finished> for Worker<B> {
+    ghost pass_of = { λ w. w.pass };
+
+    ghost list_of = { λ w. w.members };
+
+    ghost starved_of = { λ w. w.starved };
+
+    fn begin(alloc: Global, _number: u32, pass: Pass<B>) -> Worker<B>
+        ensures pass { result.pass ≡ pass }
+        ensures list { result.members.items ≡ [] }
+    {
+        Worker {
+            pass,
+            members: Vec::new(alloc),
+            starved: false,
+        }
+    }
+
+    fn come_apart(self) -> (Pass<B>, Vec<Finished>, bool) {
+        let Worker {
+            pass,
+            members,
+            starved,
+        } = self;
+        (pass, members, starved)
+    }
 }
 
 impl<B: BufferMut> Worker<B> {

@@ -1,91 +1,32 @@
--- The files of all desks once their workers have left: they are those of the sources, each once. So what the workers passed on is what the
--- sources gave, and that is little, however the reading of each ended.
-use Rattle.std.proofs.Common.{◌≡◌, refl, sym, ◌∙◌, ap, subst, inl, inr, arith, zero, suc, ℕ, ◌+◌, ◌*◌, ◌^◌, ◌<◌, ◌≤◌, List, [], ◌∷◌, ◌++◌, length, map, reverse, get_or, Option, Some, None}
+-- The parts of what the files at all desks gave once their workers have left: they are those of all messages, each once, and they are few,
+-- however the reading of each file ended.
+use Rattle.std.proofs.Common.{◌≡◌, sym, ◌∙◌, ap, subst, arith, ℕ, ◌+◌, ◌^◌, ◌<◌, ◌≤◌, List, [], ◌∷◌, length, map, get_or, Option, Some}
 use Rattle.std.specs.Prelude.{slice_index_or, slice_get, flat_map, sum_by}
-use Rattle.std.specs.List.{All, AllZip}
+use Rattle.std.specs.List.{All}
 use Rattle.std.specs.List.Sorted.{IsPermutation}
-use Rattle.std.proofs.lemmas.List.{length-append, reverse-reverse}
+use Rattle.std.proofs.lemmas.List.{length-append}
+use Rattle.std.proofs.lemmas.List.Concat.{length-flat_map}
 use Rattle.std.proofs.lemmas.List.FromFn.{length-map-range_with_len}
-use Rattle.std.proofs.lemmas.List.Sums.{sum_by-append, sum_by-cons}
-use Rattle.std.proofs.lemmas.List.Sorted.{All-permutation, IsPermutation-reverse, sum_by-IsPermutation}
-use Rattle.std.proofs.lemmas.Option.{slice_get-get_or, slice_get_within, slice_get_cases}
+use Rattle.std.proofs.lemmas.List.Sums.{sum_by-cons}
+use Rattle.std.proofs.lemmas.Option.{slice_get-get_or}
 use Rattle.scq_topics.specs.declared.kind.Kind.{Kind}
 use Rattle.scq_frames.specs.declared.message.Message.{Message}
 use Rattle.scq_frames.specs.Parts.{Part, all_parts, part_of, parts_of}
 use Rattle.scq_frames.proofs.PayloadParts.{few-parts}
 use Rattle.scq_word.specs.declared.setup.Setup.{Setup}
 use Rattle.scq_band.specs.Standing.{Identity}
-use Rattle.scq_work.specs.Dealings.{AreDealt}
-use Rattle.scq_files.specs.OwnFiles.{all_given, ids_of}
+use Rattle.scq_files.specs.Desks.{AllWhole, AreDealt}
+use Rattle.scq_files.specs.Ends.{AreGiven}
+use Rattle.scq_files.specs.Files.{own_of}
+use Rattle.scq_files.specs.Reading.{most_parts}
+use Rattle.scq_files.specs.declared.desk.Desk.{Desk}
+use Rattle.scq_files.proofs.AllGave as files
+use Rattle.scq_files.proofs.AllGave.{AllRead, by-number, worker_messages}
+use Rattle.scq_files.proofs.Dealt.{all-dealt}
 use Rattle.scq_work.specs.Desks.{HasRun}
-use Rattle.scq_files.specs.Ends.{AreGiven, FileGave}
-use Rattle.scq_files.specs.Files.{files_of, own_of, OfEachFile}
-use Rattle.scq_files.specs.Given.{given_in}
 use Rattle.scq_work.specs.Passing.{parts_in}
-use Rattle.scq_files.specs.Reading.{IsRead, GaveAll, most_parts}
-use Rattle.scq_work.specs.declared.desk.Desk.{Desk}
-use Rattle.scq_files.specs.declared.own_file.OwnFile.{OwnFile}
-use Rattle.scq_work.proofs.Cleared.{IsWholeFile, AllWhole}
-use Rattle.std.proofs.lemmas.List.Folds.{flat_map-map}
-use Rattle.scq_files.proofs.Dealt.{upto, seconds, all-dealt, collected}
-use Rattle.scq_files.proofs.Lists.{map-reverse}
+use Rattle.scq_work.specs.Seats.{Seated}
 use Rattle.scq_work.proofs.MessageParts.{all-parts-in, flat-parts, own-parts}
-
--- what a file gave, and that it is not much: all of its messages where W holds, which says that all files were read to their ends
-pub record Gave {S : Type 0} (topics : List (List ℕ × Kind)) (size : ℕ) (left : S → Option (List ℕ)) (W : Type 0) (f : ℕ × S) (own : List Message) : Type 0
-  where
-    pub whole : W → FileGave topics size left f.0 f.1 own
-    pub few : sum_by most_parts own ≤ 2 ^ 30
-
-abbrev pub given_of : {S : Type 0} → OwnFile S → List Message
-given_of f = given_in f.given.value
-
--- files that were read, with what they gave
-files-gave : {S : Type 0} (topics : List (List ℕ × Kind)) (size : ℕ) (faults end_count : S → ℕ) (left : S → Option (List ℕ)) (W : Type 0)
-    (files : List (OwnFile S))
-    → All (λ f. IsRead topics size faults end_count left f.number f.was.value f.source (given_of f) f.end) files → (W → All IsWholeFile files)
-    → AllZip (Gave topics size left W) (ids_of files) (map given_of files)
-files-gave topics size faults end_count left W [] read whole = tt
-files-gave {S} topics size faults end_count left W (f ∷ files) read whole =
-    let its = read zero f (omega arith) in (
-      record {
-        whole = λ w. record {
-          of = its.all;
-          short = its.short;
-          all = subst (λ e. GaveAll topics f.number (left f.was.value) e (given_of f)) (whole w zero f (omega arith)) its.gave;
-        };
-        few = its.few;
-      },
-      files-gave topics size faults end_count left W files (λ k d less. read (suc k) d (omega arith)) (λ w k d less. whole w (suc k) d (omega arith)),
-    )
-
--- the lists of files, one behind the other
-flat-lists : {X A : Type 0} (f : X → List A) (xs : List X) → flat_map (λ l. l) (map f xs) ≡ flat_map f xs
-flat-lists f xs = flat_map-map (λ (l : List _). l) f xs
-
--- what is made of each of several by its number
-by-number : {X A : Type 0} (f : X → List A) (m : ℕ → List A) (xs : List X) (from : ℕ) → ((k : ℕ) (d : X) → k < length xs → f (get_or xs k d) ≡ m (from + k))
-    → flat_map f xs ≡ flat_map m (upto from (length xs))
-by-number f m [] from each = refl
-by-number f m (x ∷ xs) from each =
-    let at : from + zero ≡ from = omega arith in
-    let here : f x ≡ m from = each zero x (omega arith) ∙ ap m at in
-    let rest = by-number f m xs (from + 1) (λ k d less. each (suc k) d (omega arith) ∙ ap m (next k)) in
-    ap (λ l. l ++ flat_map f xs) here ∙ ap (λ l. m from ++ l) rest
-  where
-    next : (k : ℕ) → from + suc k ≡ from + 1 + k
-    next k = omega arith
-
--- few parts of each of few files are few
-few-given : {S : Type 0} (topics : List (List ℕ × Kind)) (size : ℕ) (left : S → Option (List ℕ)) (W : Type 0) (file : ℕ) (sources : List S)
-    (given : List (List Message))
-    → OfEachFile (Gave topics size left W) file sources given → sum_by most_parts (flat_map (λ own. own) given) ≤ length sources * 2 ^ 30
-few-given topics size left W file [] [] gave = omega arith
-few-given topics size left W file [] (own ∷ more) gave = absurd gave
-few-given topics size left W file (x ∷ xs) [] gave = absurd gave
-few-given topics size left W file (x ∷ xs) (own ∷ more) gave =
-    let rest = few-given topics size left W (file + 1) xs more gave.1 in
-    omega (arith, rest, gave.0.few, sum_by-append most_parts own (flat_map (λ own. own) more))
 
 -- messages have at most so many parts
 parts-spread : (size : ℕ) (ms : List Message) → 0 < size → length (parts_in size ms) ≤ sum_by most_parts ms
@@ -102,29 +43,17 @@ parts-spread size (m ∷ ms) some =
       sum_by-cons most_parts m ms,
     )
 
-all-gave : {S : Type 0} (topics : List (List ℕ × Kind)) (size : ℕ) (left : S → Option (List ℕ)) (W : Type 0) (file : ℕ) (sources : List S)
-    (given : List (List Message))
-    → OfEachFile (Gave topics size left W) file sources given → W → AreGiven topics size left file sources given
-all-gave topics size left W file [] [] gave w = tt
-all-gave topics size left W file [] (own ∷ more) gave w = absurd gave
-all-gave topics size left W file (x ∷ xs) [] gave w = absurd gave
-all-gave topics size left W file (x ∷ xs) (own ∷ more) gave w = (gave.0.whole w, all-gave topics size left W (file + 1) xs more gave.1 w)
-
 module _ {B S : Type 0} where
-  -- the messages that a worker passed on
-  abbrev pub worker_messages : Desk B S → List Message
-  worker_messages d = all_given d.files.items
-
   -- the workers of a queue have left: each had its own of the files, and did what `HasRun` says, however the reading of these ended
   pub record AllRan (c : Setup) (shared : Identity B) (topics : List (List ℕ × Kind)) (size longest : ℕ) (faults end_count : S → ℕ) (left : S → Option (List ℕ))
-      (sources : List S) (desks : List (Desk B S)) : Type 0 where
+      (sources : List S) (desks : List (Desk (Seated B) S)) : Type 0 where
     pub some : 0 < length desks
     pub few : length sources ≤ 64
     pub dealt : AreDealt 1 sources desks
-    pub run : All (λ d. HasRun shared topics size longest faults end_count left d.files.items d.worker.pass d.worker.members.items
-        d.worker.starved d.kept) desks
+    pub run : All (λ d. HasRun shared topics size longest faults end_count left d.files.items d.worker.worker.pass d.worker.worker.members.items
+        d.worker.worker.starved d.worker.kept) desks
     pub setup : shared.setup ≡ c
-    pub numbers : (w : ℕ) (d : Desk B S) → w < length desks → (slice_index_or desks w d).worker.pass.number ≡ w
+    pub numbers : (w : ℕ) (d : Desk (Seated B) S) → w < length desks → (slice_index_or desks w d).worker.worker.pass.number ≡ w
     pub order : c.order ≤ 12
     pub rings : c.rings ≡ length topics + 2
     pub seats : c.seats ≡ length desks
@@ -133,76 +62,25 @@ module _ {B S : Type 0} where
 
   module _ (c : Setup) (shared : Identity B) (topics : List (List ℕ × Kind)) (size longest : ℕ) (faults end_count : S → ℕ) (left : S → Option (List ℕ))
       (sources : List S)
-      (desks : List (Desk B S)) (ran : AllRan c shared topics size longest faults end_count left sources desks) where
-    -- of a desk: its files in their order, and what they gave
-    abbrev files_in : Option (Desk B S) → List (OwnFile S)
-    files_in None = []
-    files_in (Some d) = reverse d.files.items
-
-    abbrev files_at : ℕ → List (OwnFile S)
-    files_at w = files_in (slice_get desks w)
-
-    abbrev given_at : ℕ → List (List Message)
-    given_at w = map given_of (files_at w)
-
-    desk-gave : (w : ℕ) → w < length desks → AllZip (Gave topics longest left (AllWhole desks)) (files_of (length desks) w 1 sources) (given_at w)
-    desk-gave w less = elim (slice_get_cases desks w).1 [
-      | inl (d, within, is, here) ↦
-          let its = subst (λ (e : Desk B S).
-          HasRun shared topics size longest faults end_count left e.files.items e.worker.pass e.worker.members.items e.worker.starved e.kept)
-          here (ran.run w d less) in
-          let whole : (all : AllWhole desks) → All IsWholeFile d.files.items = λ all.
-          subst (λ (e : Desk B S). All IsWholeFile e.files.items) here (all w d less) in
-          let dealt = ap (λ (e : Desk B S). ids_of e.files.items) (sym here) ∙ ran.dealt w d less in
-          let files = d.files.items in
-          let turned = IsPermutation-reverse files in
-          let ids : ids_of (reverse files) ≡ files_of (length desks) w 1 sources =
-          map-reverse (λ (f : OwnFile S). (f.number, f.was.value)) files ∙ ap reverse dealt ∙ reverse-reverse (files_of (length desks) w 1 sources) in
-          let gave = files-gave topics longest faults end_count left (AllWhole desks) (reverse files)
-          (All-permutation (λ (f : OwnFile S). IsRead topics longest faults end_count left f.number f.was.value f.source (given_of f) f.end)
-          files (reverse files) turned its.read)
-          (λ all. All-permutation IsWholeFile files (reverse files) turned (whole all)) in
-          let mine : given_at w ≡ map given_of (reverse files) = ap (λ o. map given_of (files_in o)) is in
-          subst (λ l. AllZip (Gave topics longest left (AllWhole desks)) (files_of (length desks) w 1 sources) l) (sym mine)
-          (subst (λ l. AllZip (Gave topics longest left (AllWhole desks)) l (map given_of (reverse files))) ids gave)
-      | inr (past, none) ↦ absurd (omega arith)
-    ]
-
-    -- what the files gave, file by file
-    pub gathered : (given : List (List Message)) × OfEachFile (Gave topics longest left (AllWhole desks)) 1 sources given
-        × ((w : ℕ) → w < length desks → seconds (files_of (length desks) w 1 given) ≡ given_at w)
-    gathered = collected (Gave topics longest left (AllWhole desks)) (length desks) 1 sources given_at ran.some desk-gave
+      (desks : List (Desk (Seated B) S)) (ran : AllRan c shared topics size longest faults end_count left sources desks) where
+    pub all-read : AllRead topics longest faults end_count left sources desks
+    all-read = record { some = ran.some; few = ran.few; dealt = ran.dealt; read = λ k d less. (ran.run k d less).read }
 
     abbrev pub given : List (List Message)
-    given = gathered.0
+    given = files.given topics longest faults end_count left sources desks all-read
 
     pub is-given : AllWhole desks → AreGiven topics longest left 1 sources given
-    is-given whole = all-gave topics longest left (AllWhole desks) 1 sources given gathered.1 whole
+    is-given = files.is-given topics longest faults end_count left sources desks all-read
 
     -- a worker passed on what its files gave
-    pub own-given : (w : ℕ) (d : Desk B S) → slice_get desks w ≡ Some d → worker_messages d ≡ own_of (length desks) w 1 given
-    own-given w d is =
-        let less : w < length desks = slice_get_within desks w d is in
-        let lists : seconds (files_of (length desks) w 1 given) ≡ given_at w = gathered.2 w less in
-        let mine : given_at w ≡ map given_of (reverse d.files.items) = ap (λ o. map given_of (files_in o)) is in
-        sym (flat-lists given_of (reverse d.files.items)) ∙ ap (flat_map (λ l. l)) (sym mine) ∙ ap (flat_map (λ l. l)) (sym lists)
-        ∙ flat-lists (λ (f : ℕ × List Message). f.1) (files_of (length desks) w 1 given)
+    pub own-given : (w : ℕ) (d : Desk (Seated B) S) → slice_get desks w ≡ Some d → worker_messages d ≡ own_of (length desks) w 1 given
+    own-given = files.own-given topics longest faults end_count left sources desks all-read
 
-    -- the messages of all workers are those of all files, in some order
-    pub all-messages : IsPermutation (flat_map (λ own. own) given) (flat_map worker_messages desks)
-    all-messages =
-        let each = by-number worker_messages (λ w. own_of (length desks) w 1 given) desks 0 (λ k d less.
-        own-given k (get_or desks k d) (slice_get-get_or desks k d less) ∙ ap (λ j. own_of (length desks) j 1 given) (plain k)) in
-        subst (IsPermutation (flat_map (λ own. own) given)) (sym each) (all-dealt (length desks) 1 given ran.some)
-      where
-        plain : (k : ℕ) → k ≡ 0 + k
-        plain k = omega arith
-
-    -- and so it is of their parts
+    -- the parts of the messages of all workers are those of all files, in some order
     pub all-parts-passed : IsPermutation (parts_in size (flat_map (λ own. own) given)) (parts_in size (flat_map worker_messages desks))
     all-parts-passed =
         let parts = map (parts_in size) given in
-        let each = by-number (λ (d : Desk B S). parts_in size (worker_messages d)) (λ w. own_of (length desks) w 1 parts) desks 0 (λ k d less.
+        let each = by-number (λ (d : Desk (Seated B) S). parts_in size (worker_messages d)) (λ w. own_of (length desks) w 1 parts) desks 0 (λ k d less.
         ap (parts_in size) (own-given k (get_or desks k d) (slice_get-get_or desks k d less)) ∙ sym (own-parts size (length desks) k 1 given)
         ∙ ap (λ j. own_of (length desks) j 1 parts) (plain k)) in
         subst (λ l. IsPermutation l (parts_in size (flat_map worker_messages desks))) (all-parts-in size given)
@@ -212,25 +90,11 @@ module _ {B S : Type 0} where
         plain : (k : ℕ) → k ≡ 0 + k
         plain k = omega arith
 
-    -- and their parts are few
-    pub few-in-all : sum_by (λ (d : Desk B S). length (parts_in size (worker_messages d))) desks ≤ 2 ^ 36
+    -- and they are few
+    pub few-in-all : sum_by (λ (d : Desk (Seated B) S). length (parts_in size (worker_messages d))) desks ≤ 2 ^ 36
     few-in-all =
-        let few = few-given topics longest left (AllWhole desks) 1 sources given gathered.1 in
-        let same = sum_by-IsPermutation most_parts (flat_map (λ own. own) given) (flat_map worker_messages desks) all-messages in
-        let spread = spread-in desks in
-        let files = ran.few in
-        omega (arith, few, same, spread, files)
-      where
-        spread-in : (ds : List (Desk B S))
-            → sum_by (λ (d : Desk B S). length (parts_in size (worker_messages d))) ds ≤ sum_by most_parts (flat_map worker_messages ds)
-        spread-in [] = omega arith
-        spread-in (d ∷ ds) =
-            let rest = spread-in ds in
-            let here = parts-spread size (worker_messages d) ran.some_size in
-            omega (
-              arith,
-              rest,
-              here,
-              sum_by-cons (λ (e : Desk B S). length (parts_in size (worker_messages e))) d ds,
-              sum_by-append most_parts (worker_messages d) (flat_map worker_messages ds),
-            )
+        let few = files.few-parts-in-all topics longest faults end_count left sources desks all-read in
+        let spread = parts-spread size (flat_map worker_messages desks) ran.some_size in
+        let same = ap length (flat-parts size worker_messages desks) in
+        let all = length-flat_map (λ (d : Desk (Seated B) S). parts_in size (worker_messages d)) desks in
+        omega (arith, few, spread, same, all)

@@ -35,10 +35,13 @@ use Rattle.scq_passes.specs.Records.{HoldsNothingAtEachFull, MeetsNoSpent}
 use Rattle.scq_passes.specs.Together.{SendsAreTakes, NoneSpent, IsBounded, HasSwept}
 use Rattle.scq_passes.specs.Calls.{HasFewCalls, index_of}
 use Rattle.scq_work.specs.Working.{HasListed}
-use Rattle.scq_work.specs.declared.desk.Desk.{Desk}
+use Rattle.scq_files.specs.declared.desk.Desk.{Desk}
+use Rattle.scq_work.specs.Seats.{Seated}
 use Rattle.scq_files.specs.declared.own_file.OwnFile.{OwnFile}
-use Rattle.scq_work.proofs.Cleared.{AllWhole}
-use Rattle.scq_work.proofs.AllGave.{given_of, worker_messages, AllRan, given, is-given, own-given, all-parts-passed, few-in-all}
+use Rattle.scq_files.specs.Desks.{AllWhole}
+use Rattle.scq_files.proofs.AllGave.{given_of, worker_messages}
+use Rattle.scq_desk.proofs.Settled.{held_at}
+use Rattle.scq_work.proofs.AllGave.{AllRan, given, is-given, own-given, all-parts-passed, few-in-all}
 use Rattle.scq_work.proofs.Conclusion.{Work, IsWork, passes_in, messages_in, members_of, all-taken, all-answered}
 use Rattle.scq_files.proofs.Lists.{map-map}
 use Rattle.scq_work.proofs.MessageParts.{known-parts, flat-parts}
@@ -47,52 +50,50 @@ use Rattle.scq_files.proofs.GivenLemmas.{of-known, given-known}
 use Rattle.scq_work.proofs.Orders.{members-whole}
 use Rattle.scq_work.proofs.PartMembers.{members-known, members-short}
 use Rattle.scq_passes.proofs.ManyLists.{stands-at}
-use Rattle.scq_passes.proofs.Closed.{HasClosed, all-taken as takes-are-sends, have-shared}
+use Rattle.scq_passes.specs.Closed.{HasClosed}
+use Rattle.scq_passes.proofs.Closed.{all-taken as takes-are-sends, have-shared}
 
 module _ {B S : Type 0} where
-  abbrev work_of : ℕ → Desk B S → Work B
-  work_of size d = record { pass = d.worker.pass; members = d.worker.members.items; messages = parts_in size (worker_messages d) }
+  abbrev work_of : ℕ → Desk (Seated B) S → Work B
+  work_of size d = record { pass = d.worker.worker.pass; members = d.worker.worker.members.items; messages = parts_in size (worker_messages d) }
 
-  abbrev counted : ℕ → Desk B S → ℕ × PassStanding B
-  counted size d = (length (parts_in size (worker_messages d)), d.worker.pass)
+  abbrev counted : ℕ → Desk (Seated B) S → ℕ × PassStanding B
+  counted size d = (length (parts_in size (worker_messages d)), d.worker.worker.pass)
 
-  abbrev pub passes_at : List (Desk B S) → List (PassStanding B)
-  passes_at desks = map (λ (d : Desk B S). d.worker.pass) desks
+  abbrev pub passes_at : List (Desk (Seated B) S) → List (PassStanding B)
+  passes_at desks = map (λ (d : Desk (Seated B) S). d.worker.worker.pass) desks
 
-  abbrev pub lists_at : List (Desk B S) → List (Vec Answered Global)
-  lists_at desks = map (λ (d : Desk B S). d.worker.members) desks
-
-  abbrev pub held_at : List (Desk B S) → List (HeldStanding B)
-  held_at desks = flat_map (λ (d : Desk B S). option_to_list d.kept) desks
+  abbrev pub lists_at : List (Desk (Seated B) S) → List (Vec Answered Global)
+  lists_at desks = map (λ (d : Desk (Seated B) S). d.worker.worker.members) desks
 
   -- so it is of each worker
-  of-each : (P : ℕ → PassStanding B → List Answered → Type 0) (desks : List (Desk B S))
-      → ((w : ℕ) (d : Desk B S) → slice_get desks w ≡ Some d → P w d.worker.pass d.worker.members.items)
+  of-each : (P : ℕ → PassStanding B → List Answered → Type 0) (desks : List (Desk (Seated B) S))
+      → ((w : ℕ) (d : Desk (Seated B) S) → slice_get desks w ≡ Some d → P w d.worker.worker.pass d.worker.worker.members.items)
       → OfEachWorker P (passes_at desks) (lists_at desks)
   of-each P desks each w p list pass_is list_is = by (slice_get desks w) refl where
-    pass : Desk B S → PassStanding B
-    pass d = d.worker.pass
+    pass : Desk (Seated B) S → PassStanding B
+    pass d = d.worker.worker.pass
 
-    members : Desk B S → Vec Answered Global
-    members d = d.worker.members
+    members : Desk (Seated B) S → Vec Answered Global
+    members d = d.worker.worker.members
 
-    by : (o : Option (Desk B S)) → slice_get desks w ≡ o → P w p list.items
+    by : (o : Option (Desk (Seated B) S)) → slice_get desks w ≡ o → P w p list.items
     by None is = absurd (cc (slice_get-map pass desks w, pass_is, is))
     by (Some d) is =
-        let first : Some d.worker.pass ≡ Some p = sym (slice_get-map pass desks w ∙ ap (option_map pass) is) ∙ pass_is in
-        let second : Some d.worker.members ≡ Some list = sym (slice_get-map members desks w ∙ ap (option_map members) is) ∙ list_is in
-        let its_pass : d.worker.pass ≡ p = cc in
-        let its_list : d.worker.members ≡ list = cc in
-        subst (λ q. P w q list.items) its_pass (subst (λ (l : Vec Answered Global). P w d.worker.pass l.items) its_list (each w d is))
+        let first : Some d.worker.worker.pass ≡ Some p = sym (slice_get-map pass desks w ∙ ap (option_map pass) is) ∙ pass_is in
+        let second : Some d.worker.worker.members ≡ Some list = sym (slice_get-map members desks w ∙ ap (option_map members) is) ∙ list_is in
+        let its_pass : d.worker.worker.pass ≡ p = cc in
+        let its_list : d.worker.worker.members ≡ list = cc in
+        subst (λ q. P w q list.items) its_pass (subst (λ (l : Vec Answered Global). P w d.worker.worker.pass l.items) its_list (each w d is))
 
   module _ (c : Setup) (shared : Identity B) (topics : List (List ℕ × Kind)) (size longest : ℕ) (faults end_count : S → ℕ) (left : S → Option (List ℕ))
       (sources : List S)
-      (desks : List (Desk B S)) (ran : AllRan c shared topics size longest faults end_count left sources desks) where
+      (desks : List (Desk (Seated B) S)) (ran : AllRan c shared topics size longest faults end_count left sources desks) where
     -- what `AllGave` says of these desks, by short names
     abbrev messages_given : List (List Message)
     messages_given = given c shared topics size longest faults end_count left sources desks ran
 
-    own-gave : (w : ℕ) (d : Desk B S) → slice_get desks w ≡ Some d → worker_messages d ≡ own_of (length desks) w 1 messages_given
+    own-gave : (w : ℕ) (d : Desk (Seated B) S) → slice_get desks w ≡ Some d → worker_messages d ≡ own_of (length desks) w 1 messages_given
     own-gave = own-given c shared topics size longest faults end_count left sources desks ran
 
     abbrev works : List (ℕ × PassStanding B)
@@ -110,7 +111,8 @@ module _ {B S : Type 0} where
     all-few : All (λ (w : ℕ × PassStanding B). HasFewCalls 1 w.0 w.1) works
     all-few = All-map (λ (w : ℕ × PassStanding B). HasFewCalls 1 w.0 w.1) (counted size) desks (λ k d less. (ran.run k d less).few_calls)
 
-    module _ (left_in : List ℕ) (closed : HasClosed c shared.given (passes_at desks) (held_at desks) left_in) where
+    module _ {contents : B → List ℕ} {IsSameBuffer : B → B → Type 0} {buffers : List B} (left_in : List ℕ)
+        (closed : HasClosed contents IsSameBuffer c shared.given (passes_at desks) (held_at desks) buffers left_in) where
       pub unspent : NoneSpent (passes_at desks)
       unspent =
           subst (λ (ps : List (PassStanding B)). NoneSpent ps) passes-same
@@ -120,24 +122,24 @@ module _ {B S : Type 0} where
           (subst (λ (ps : List (PassStanding B)). NoneIsKeptWithinTheLimit c ps) (sym passes-same) closed.limits))
 
       bounded : All (IsBounded (2 ^ 36)) (passes_at desks)
-      bounded = All-map (IsBounded (2 ^ 36)) (λ (d : Desk B S). d.worker.pass) desks (λ k d less.
+      bounded = All-map (IsBounded (2 ^ 36)) (λ (d : Desk (Seated B) S). d.worker.worker.pass) desks (λ k d less.
           let long : k < length works = subst (λ n. k < n) (sym (length-map desks (counted size))) less in
           let its = all-bounded works (2 ^ 36) few-messages all-few (subst (λ (ps : List (PassStanding B)). EachTakeIsASend ps) (sym passes-same) closed.takes)
           (subst (λ (ps : List (PassStanding B)). NoPlaceIsTakenTwice ps) (sym passes-same) closed.taken_once) k (counted size d) long in
           subst (λ (w : ℕ × PassStanding B). IsBounded (2 ^ 36) w.1) (get_or-map (counted size) desks k d (counted size d) less) its)
 
-      spent-none : (k : ℕ) (d : Desk B S) → k < length desks → (get_or desks k d).worker.pass.spent ≡ None
+      spent-none : (k : ℕ) (d : Desk (Seated B) S) → k < length desks → (get_or desks k d).worker.worker.pass.spent ≡ None
       spent-none k d less =
-          subst (λ (p : PassStanding B). p.spent ≡ None) (get_or-map (λ (e : Desk B S). e.worker.pass) desks k d d.worker.pass less)
-          (unspent k d.worker.pass (omega (arith, less, length-map desks (λ (e : Desk B S). e.worker.pass))))
+          subst (λ (p : PassStanding B). p.spent ≡ None) (get_or-map (λ (e : Desk (Seated B) S). e.worker.worker.pass) desks k d d.worker.worker.pass less)
+          (unspent k d.worker.worker.pass (omega (arith, less, length-map desks (λ (e : Desk (Seated B) S). e.worker.worker.pass))))
 
       swept : All HasSwept (passes_at desks)
-      swept = All-map HasSwept (λ (d : Desk B S). d.worker.pass) desks (λ k d less. (ran.run k d less).swept (spent-none k d less))
+      swept = All-map HasSwept (λ (d : Desk (Seated B) S). d.worker.worker.pass) desks (λ k d less. (ran.run k d less).swept (spent-none k d less))
 
       pub same : SendsAreTakes (passes_at desks)
       same = takes-are-sends c shared.given (passes_at desks) (held_at desks) left_in closed swept
 
-      messages-known : (k : ℕ) (d : Desk B S) → k < length desks → All (λ m. m.topic ≤ length topics) (worker_messages (get_or desks k d))
+      messages-known : (k : ℕ) (d : Desk (Seated B) S) → k < length desks → All (λ m. m.topic ≤ length topics) (worker_messages (get_or desks k d))
       messages-known k d less =
           let files = (get_or desks k d).files.items in
           flat-known (reverse files) (All-permutation (λ (f : OwnFile S). IsRead topics longest faults end_count left f.number f.was.value f.source (given_of f)
@@ -155,59 +157,59 @@ module _ {B S : Type 0} where
 
       -- no value is kept
       none-kept : held_at desks ≡ []
-      none-kept = flat-none desks (λ k d less. none-in (get_or desks k d).kept
+      none-kept = flat-none desks (λ k d less. none-in (get_or desks k d).worker.kept
           (sym ((ran.run k d less).held) ∙ ((ran.run k d less).sweeping (spent-none k d less)).between.none))
         where
           none-in : (o : Option (HeldStanding B)) → index_of o ≡ [] → option_to_list o ≡ []
           none-in None is = refl
           none-in (Some h) is = absurd (cc)
 
-          flat-none : (ds : List (Desk B S)) → ((k : ℕ) (d : Desk B S) → k < length ds → option_to_list (get_or ds k d).kept ≡ []) → held_at ds ≡ []
+          flat-none : (ds : List (Desk (Seated B) S)) → ((k : ℕ) (d : Desk (Seated B) S) → k < length ds → option_to_list (get_or ds k d).worker.kept ≡ []) → held_at ds ≡ []
           flat-none [] each = refl
           flat-none (d ∷ ds) each =
-              let here : option_to_list d.kept ≡ [] = each zero d (omega arith) in
+              let here : option_to_list d.worker.kept ≡ [] = each zero d (omega arith) in
               rw here (flat-none ds (λ k e less. each (suc k) e (omega arith)))
 
       pass-numbers : (w : ℕ) (p : PassStanding B) → slice_get (passes_at desks) w ≡ Some p → p.number ≡ w
       pass-numbers w p is =
-          let pass : Desk B S → PassStanding B = λ d. d.worker.pass in
+          let pass : Desk (Seated B) S → PassStanding B = λ d. d.worker.worker.pass in
           let less : w < length desks = omega (arith, slice_get_within (passes_at desks) w p is, length-map desks pass) in
           elim (slice_get_cases desks w).1 [
             | inl (d, within, found, here) ↦
-                let same : Some d.worker.pass ≡ Some p = sym (slice_get-map pass desks w ∙ ap (option_map pass) found) ∙ is in
-                let its : d.worker.pass ≡ p = cc in
-                subst (λ (q : PassStanding B). q.number ≡ w) its (subst (λ (e : Desk B S). e.worker.pass.number ≡ w) here (ran.numbers w d less))
+                let same : Some d.worker.worker.pass ≡ Some p = sym (slice_get-map pass desks w ∙ ap (option_map pass) found) ∙ is in
+                let its : d.worker.worker.pass ≡ p = cc in
+                subst (λ (q : PassStanding B). q.number ≡ w) its (subst (λ (e : Desk (Seated B) S). e.worker.worker.pass.number ≡ w) here (ran.numbers w d less))
             | inr (past, none) ↦ absurd (omega arith)
           ]
 
       -- whatever the workers met
-      pub all-shared : HaveShared (HasHelped (length topics + 1)) (2 ^ 36) (length topics + 1) c (passes_at desks) left_in
+      pub all-shared : HaveShared contents IsSameBuffer (HasHelped (length topics + 1)) (2 ^ 36) (length topics + 1) c (passes_at desks) buffers left_in
       all-shared =
           have-shared c shared.given (passes_at desks) (held_at desks) left_in closed (HasHelped (length topics + 1)) (2 ^ 36) (length topics + 1) shared ran.setup refl
           (omega (arith, ran.rings))
-          (All-map (λ (p : PassStanding B). p.queue ≡ shared) (λ (d : Desk B S). d.worker.pass) desks (λ k d less. (ran.run k d less).queue))
+          (All-map (λ (p : PassStanding B). p.queue ≡ shared) (λ (d : Desk (Seated B) S). d.worker.worker.pass) desks (λ k d less. (ran.run k d less).queue))
           pass-numbers unspent swept
-          (All-map (λ (p : PassStanding B). HoldsNothingAtEachFull p.calls) (λ (d : Desk B S). d.worker.pass) desks
+          (All-map (λ (p : PassStanding B). HoldsNothingAtEachFull p.calls) (λ (d : Desk (Seated B) S). d.worker.worker.pass) desks
           (λ k d less. ((ran.run k d less).sweeping (spent-none k d less)).between.alone))
-          (All-map (HasHelped (length topics + 1)) (λ (d : Desk B S). d.worker.pass) desks (λ k d less.
+          (All-map (HasHelped (length topics + 1)) (λ (d : Desk (Seated B) S). d.worker.worker.pass) desks (λ k d less.
           record { helps = ((ran.run k d less).sweeping (spent-none k d less)).helps; retired = (ran.run k d less).ended (spent-none k d less) }))
-          (All-map (λ (p : PassStanding B). MeetsNoSpent p.calls) (λ (d : Desk B S). d.worker.pass) desks
+          (All-map (λ (p : PassStanding B). MeetsNoSpent p.calls) (λ (d : Desk (Seated B) S). d.worker.worker.pass) desks
           (λ k d less. ((ran.run k d less).sweeping (spent-none k d less)).between.unspent))
           bounded none-kept
 
       -- where each file was read to its end and no worker wanted memory
-      module _ (whole : AllWhole desks) (fed : All (λ d. d.worker.starved ≡ false) desks) where
+      module _ (whole : AllWhole desks) (fed : All (λ d. d.worker.worker.starved ≡ false) desks) where
         gave : AreGiven topics longest left 1 sources messages_given
         gave = is-given c shared topics size longest faults end_count left sources desks ran whole
 
-        listed : (k : ℕ) (d : Desk B S) → k < length desks
-            → HasListed topics (parts_in size (worker_messages (get_or desks k d))) (get_or desks k d).worker.pass (get_or desks k d).worker.members.items
+        listed : (k : ℕ) (d : Desk (Seated B) S) → k < length desks
+            → HasListed topics (parts_in size (worker_messages (get_or desks k d))) (get_or desks k d).worker.worker.pass (get_or desks k d).worker.worker.members.items
         listed k d less = (ran.run k d less).listed (spent-none k d less) (fed k d less)
 
-        listed-at : (w : ℕ) (d : Desk B S) → slice_get desks w ≡ Some d
-            → HasListed topics (parts_in size (worker_messages d)) d.worker.pass d.worker.members.items
+        listed-at : (w : ℕ) (d : Desk (Seated B) S) → slice_get desks w ≡ Some d
+            → HasListed topics (parts_in size (worker_messages d)) d.worker.worker.pass d.worker.worker.members.items
         listed-at w d is =
-            subst (λ (e : Desk B S). HasListed topics (parts_in size (worker_messages e)) e.worker.pass e.worker.members.items)
+            subst (λ (e : Desk (Seated B) S). HasListed topics (parts_in size (worker_messages e)) e.worker.worker.pass e.worker.worker.members.items)
             (get_or_from_slice_get desks w d d is)
             (listed w d (slice_get_within desks w d is))
 
@@ -227,7 +229,7 @@ module _ {B S : Type 0} where
             (subst (λ (ps : List (PassStanding B)). SendsAreTakes ps) (sym work-passes) same) in
             let members : members_of (map (work_of size) desks) ≡ members_in (lists_at desks) =
             flat_map-map (λ (w : Work B). w.members) (work_of size) desks ∙ sym
-            (flat_map-map (λ (l : Vec Answered Global). l.items) (λ (d : Desk B S). d.worker.members) desks) in
+            (flat_map-map (λ (l : Vec Answered Global). l.items) (λ (d : Desk (Seated B) S). d.worker.worker.members) desks) in
             let parts : messages_in (map (work_of size) desks) ≡ parts_in size (flat_map worker_messages desks) =
             flat_map-map (λ (w : Work B). w.messages) (work_of size) desks ∙ flat-parts size worker_messages desks in
             let passed : List Part = parts_in size (flat_map worker_messages desks) in
@@ -241,8 +243,8 @@ module _ {B S : Type 0} where
 
         pub have-answered : HaveAnswered topics size (length desks) messages_given (passes_at desks) (lists_at desks)
         have-answered = record {
-          each_pass = length-map desks (λ (d : Desk B S). d.worker.pass);
-          each_list = length-map desks (λ (d : Desk B S). d.worker.members);
+          each_pass = length-map desks (λ (d : Desk (Seated B) S). d.worker.worker.pass);
+          each_list = length-map desks (λ (d : Desk (Seated B) S). d.worker.worker.members);
           once = once;
           whole = members-whole topics size longest left sources messages_given (members_in (lists_at desks)) gave once;
           known = members-known topics size (flat_map (λ own. own) messages_given) (members_in (lists_at desks)) once
@@ -254,8 +256,8 @@ module _ {B S : Type 0} where
               (stands-at (map (work_of size) desks) (work_of size d) w (slice_get-map (work_of size) desks w ∙ ap (option_map (work_of size)) is))).0);
           fulls = of-each (λ w p list. AnswersItsFulls p.fulls list) desks (λ w d is. (listed-at w d is).fulls);
           passed = of-each (λ w p list. HasPassedOn topics (parts_in size (own_of (length desks) w 1 messages_given)) (sends_of p.calls) list) desks (λ w d is.
-              subst (λ ms. HasPassedOn topics ms (sends_of d.worker.pass.calls) d.worker.members.items) (ap (parts_in size) (own-gave w d is))
+              subst (λ ms. HasPassedOn topics ms (sends_of d.worker.worker.pass.calls) d.worker.worker.members.items) (ap (parts_in size) (own-gave w d is))
               (listed-at w d is).passed);
           follows = of-each (λ w p list. FollowsCalls (parts_in size (own_of (length desks) w 1 messages_given)) p.calls) desks (λ w d is.
-              subst (λ ms. FollowsCalls ms d.worker.pass.calls) (ap (parts_in size) (own-gave w d is)) (listed-at w d is).follows);
+              subst (λ ms. FollowsCalls ms d.worker.worker.pass.calls) (ap (parts_in size) (own-gave w d is)) (listed-at w d is).follows);
         }

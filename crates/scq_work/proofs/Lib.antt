@@ -11,11 +11,8 @@ mod WorkSent
 mod Settling
 mod AllAnswered
 mod Conclusion
-mod DeskLemmas
-mod Cleared
-mod Faults
+mod Told
 pub mod Orders
 mod AllGave
 mod AllRun
 mod PartMembers
-mod Settled

@@ -1,6 +1,6 @@
 -- Desks with their stands, before the work and behind it; and what is told of workers that waited, where their crew closes.
 use Rattle.std.proofs.Common.{◌≡◌, ◌∙◌, ◌⊎◌, refl, sym, ap, subst, arith, inl, inr, zero, suc, ℕ, ◌+◌, ◌-◌, ◌^◌, ◌<◌, ◌≤◌, Bool, true, List, [], ◌∷◌, length, map, get_or, Option, Some, None}
-use Rattle.std.specs.Prelude.{slice_get, slice_index_or, IfSome, IsSome}
+use Rattle.std.specs.Prelude.{slice_get, slice_index_or, IfSome, IsSome, IsSomeAnd}
 use Rattle.std.specs.List.{All, AllZip}
 use Rattle.std.proofs.lemmas.Bool.{cases_lt}
 use Rattle.std.proofs.lemmas.List.{get_or-map, length-map}
@@ -10,7 +10,7 @@ use Rattle.scq_block.specs.declared.frame.Frame.{Frame}
 use Rattle.scq_queue.specs.Passes.{PassStanding, was_told}
 use Rattle.scq_park.specs.declared.rested.Rested.{Rested}
 use Rattle.scq_park.specs.Crews.{Post, AreInOrder, AreAll, counted, plus, woken, ended, rested_of, no_wakes}
-use Rattle.scq_work.specs.Dealings.{IsFresh}
+use Rattle.scq_work.specs.Seats.{IsFresh, Seated}
 use Rattle.scq_files.specs.OwnFiles.{IsNew, ids_of}
 use Rattle.scq_work.specs.Resting.{AreSettled}
 use Rattle.scq_work.specs.Threads.{Task, IsGiven, HasDone}
@@ -20,7 +20,7 @@ use Rattle.scq_block.specs.Frames.{bytes_of}
 use Rattle.scq_passes.specs.Records.{IsReturn}
 use Rattle.scq_passes.specs.Waiting.{HasLeftTold}
 use Rattle.scq_work.specs.Waiting.{HasWaited, EachWaited, HaveWaited}
-use Rattle.scq_work.specs.declared.desk.Desk.{Desk}
+use Rattle.scq_files.specs.declared.desk.Desk.{Desk}
 use Rattle.scq_work.specs.declared.threads.Work.{Work}
 
 -- lists whose members go along one by one
@@ -45,38 +45,38 @@ all-shown P f xs ys is all = by xs (subst (All P) (sym is) all) where
   by (x ∷ xs) h = All-cons (λ y. P (f y)) x xs (All-head P (f x) (map f xs) h) (by xs (All-tail P (f x) (map f xs) h))
 
 module _ {S : Type 0} where
-  abbrev pub desk_of : Work S → Desk Frame S
+  abbrev pub desk_of : Work S → Desk (Seated Frame) S
   desk_of w = w.desk
 
   abbrev pub stand_of : Work S → Post
   stand_of w = w.stand
 
   -- each worker is given what it begins with
-  pub all-given : (t : Task S) (xs : List (Work S)) (desks : List (Desk Frame S)) (stands : List Post) → desks ≡ map desk_of xs → stands ≡ map stand_of xs
-      → All (IsFresh t.queue) desks → All (λ (d : Desk Frame S). All IsNew d.files.items) desks → All (λ (p : Post). p.crew ≡ t.crew) stands
+  pub all-given : (t : Task S) (xs : List (Work S)) (desks : List (Desk (Seated Frame) S)) (stands : List Post) → desks ≡ map desk_of xs → stands ≡ map stand_of xs
+      → All (λ (d : Desk (Seated Frame) S). IsFresh t.queue d.worker) desks → All (λ (d : Desk (Seated Frame) S). All IsNew d.files.items) desks → All (λ (p : Post). p.crew ≡ t.crew) stands
       → All (IsGiven t) xs
   all-given t xs desks stands desks_are stands_are fresh unread own k x less =
       record {
-        fresh = all-shown (IsFresh t.queue) desk_of xs desks (sym desks_are) fresh k x less;
-        unread = all-shown (λ (d : Desk Frame S). All IsNew d.files.items) desk_of xs desks (sym desks_are) unread k x less;
+        fresh = all-shown (λ (d : Desk (Seated Frame) S). IsFresh t.queue d.worker) desk_of xs desks (sym desks_are) fresh k x less;
+        unread = all-shown (λ (d : Desk (Seated Frame) S). All IsNew d.files.items) desk_of xs desks (sym desks_are) unread k x less;
         stand = all-shown (λ (p : Post). p.crew ≡ t.crew) stand_of xs stands (sym stands_are) own k x less;
       }
 
   -- the files and the pass's number of the desk at a place are those that it had
-  pub desks-same : (t : Task S) (xs ys : List (Work S)) (x y : Work S) (old new : List (Desk Frame S)) → AllZip (HasDone t) xs ys → old ≡ map desk_of xs
-      → new ≡ map desk_of ys → (w : ℕ) (d : Desk Frame S) → w < length old
+  pub desks-same : (t : Task S) (xs ys : List (Work S)) (x y : Work S) (old new : List (Desk (Seated Frame) S)) → AllZip (HasDone t) xs ys → old ≡ map desk_of xs
+      → new ≡ map desk_of ys → (w : ℕ) (d : Desk (Seated Frame) S) → w < length old
       → (ids_of (slice_index_or new w d).files.items ≡ ids_of (slice_index_or old w d).files.items)
-      × ((slice_index_or new w d).worker.pass.number ≡ (slice_index_or old w d).worker.pass.number)
+      × ((slice_index_or new w d).worker.worker.pass.number ≡ (slice_index_or old w d).worker.worker.pass.number)
   desks-same t xs ys x y old new z old_is new_is w d less =
       let within : w < length xs = omega (arith, less, ap length old_is, length-map xs desk_of) in
       let long = zip-length (HasDone t) xs ys z in
       let done = zip-at (HasDone t) xs ys x y w z within in
       let now : slice_index_or new w d ≡ (get_or ys w y).desk =
-      ap (λ (l : List (Desk Frame S)). slice_index_or l w d) new_is ∙ get_or-map desk_of ys w y d (omega (arith, within, long)) in
+      ap (λ (l : List (Desk (Seated Frame) S)). slice_index_or l w d) new_is ∙ get_or-map desk_of ys w y d (omega (arith, within, long)) in
       let was : slice_index_or old w d ≡ (get_or xs w x).desk =
-      ap (λ (l : List (Desk Frame S)). slice_index_or l w d) old_is ∙ get_or-map desk_of xs w x d within in (
-        ap (λ (e : Desk Frame S). ids_of e.files.items) now ∙ done.files ∙ sym (ap (λ (e : Desk Frame S). ids_of e.files.items) was),
-        ap (λ (e : Desk Frame S). e.worker.pass.number) now ∙ done.number ∙ sym (ap (λ (e : Desk Frame S). e.worker.pass.number) was),
+      ap (λ (l : List (Desk (Seated Frame) S)). slice_index_or l w d) old_is ∙ get_or-map desk_of xs w x d within in (
+        ap (λ (e : Desk (Seated Frame) S). ids_of e.files.items) now ∙ done.files ∙ sym (ap (λ (e : Desk (Seated Frame) S). ids_of e.files.items) was),
+        ap (λ (e : Desk (Seated Frame) S). e.worker.worker.pass.number) now ∙ done.number ∙ sym (ap (λ (e : Desk (Seated Frame) S). e.worker.worker.pass.number) was),
       )
 
   -- what holds of each work that is done holds of all of them
@@ -105,19 +105,19 @@ module _ {S : Type 0} where
   still-ordered t w (x ∷ xs) (y ∷ ys) z order = (z.0.worker ∙ order.0, still-ordered t (suc w) xs ys z.1 order.1)
 
   each-waited : (t : Task S) (xs ys : List (Work S)) → AllZip (HasDone t) xs ys
-      → EachWaited (length t.topics + 1) (map stand_of ys) (map (λ (d : Desk Frame S). d.worker.pass) (map desk_of ys))
+      → EachWaited (length t.topics + 1) (map stand_of ys) (map (λ (d : Desk (Seated Frame) S). d.worker.worker.pass) (map desk_of ys))
   each-waited t [] [] z w s p stands passes = absurd (cc)
   each-waited t [] (y ∷ ys) z w s p stands passes = absurd z
   each-waited t (x ∷ xs) [] z w s p stands passes = absurd z
   each-waited t (x ∷ xs) (y ∷ ys) z zero s p stands passes =
       let stand : y.stand ≡ s = cc in
-      let pass : y.desk.worker.pass ≡ p = cc in
+      let pass : y.desk.worker.worker.pass ≡ p = cc in
       subst (λ (q : PassStanding Frame). HasWaited bytes_of (length t.topics + 1) s.rests q) pass
-      (subst (λ (q : Post). HasWaited bytes_of (length t.topics + 1) q.rests y.desk.worker.pass) stand z.0.waited)
+      (subst (λ (q : Post). HasWaited bytes_of (length t.topics + 1) q.rests y.desk.worker.worker.pass) stand z.0.waited)
   each-waited t (x ∷ xs) (y ∷ ys) z (suc w) s p stands passes = each-waited t xs ys z.1 w s p stands passes
 
   pub settled : (t : Task S) (xs ys : List (Work S)) → AllZip (HasDone t) xs ys → AreAll t.crew (map stand_of xs)
-      → AreSettled t.crew (length t.topics + 1) (map stand_of ys) (map (λ (d : Desk Frame S). d.worker.pass) (map desk_of ys))
+      → AreSettled t.crew (length t.topics + 1) (map stand_of ys) (map (λ (d : Desk (Seated Frame) S). d.worker.worker.pass) (map desk_of ys))
   settled t xs ys z all =
       record {
         all = record {
@@ -125,7 +125,7 @@ module _ {S : Type 0} where
           order = still-ordered t 0 xs ys z all.order;
           many = length-map ys stand_of ∙ zip-length (HasDone t) xs ys z ∙ sym (length-map xs stand_of) ∙ all.many;
         };
-        many = length-map ys stand_of ∙ sym (length-map ys desk_of) ∙ sym (length-map (map desk_of ys) (λ (d : Desk Frame S). d.worker.pass));
+        many = length-map ys stand_of ∙ sym (length-map ys desk_of) ∙ sym (length-map (map desk_of ys) (λ (d : Desk (Seated Frame) S). d.worker.worker.pass));
         waited = each-waited t xs ys z;
       }
 
@@ -212,25 +212,3 @@ have-waited topics workers crew ps passes saw rested settled none long saw_is re
           vain-told topics ps (woken (no_wakes crew) ps) passes none settled.waited w p r pass
           (subst (λ (rs : List Rested). slice_get rs w ≡ Some r) rested_is rest);
     }
-
--- what holds of the pass of each worker that met no ticket past the limit holds of all passes, where none met one
-pub all-behind : {B S : Type 0} (P : PassStanding B → Type 0) (desks : List (Desk B S))
-    → All (λ (d : Desk B S). d.worker.pass.spent ≡ None → P d.worker.pass) desks
-    → NoneSpent (map (λ (d : Desk B S). d.worker.pass) desks) → All P (map (λ (d : Desk B S). d.worker.pass) desks)
-all-behind P [] each none = All-nil P
-all-behind {B} {S} P (d ∷ desks) each none =
-    let passes = map (λ (e : Desk B S). e.worker.pass) desks in
-    let Q : Desk B S → Type 0 = λ e. e.worker.pass.spent ≡ None → P e.worker.pass in
-    let R : PassStanding B → Type 0 = λ x. x.spent ≡ None in
-    All-cons P d.worker.pass passes (All-head Q d desks each (All-head R d.worker.pass passes none))
-    (all-behind P desks (All-tail Q d desks each) (All-tail R d.worker.pass passes none))
-
--- what is there, with what holds of it
-pub record Shown {X : Type 0} (o : Option X) (P : X → Type 0) : Type 0 where
-  pub it : X
-  pub same : o ≡ Some it
-  pub holds : P it
-
-pub some-of : {X : Type 0} (o : Option X) (P : X → Type 0) → IsSome o → IfSome o P → Shown o P
-some-of None P there so = absurd (cc)
-some-of (Some x) P there so = record { it = x; same = refl; holds = so }

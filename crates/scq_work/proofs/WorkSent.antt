@@ -20,7 +20,8 @@ use Rattle.scq_files.specs.contracts.given.Given as given
 use Rattle.scq_files.proofs.own_file.FileEnd.TheSendSync as file_ends
 use Rattle.scq_files.specs.contracts.own_file.OwnFile as own_file
 use Rattle.scq_work.specs.contracts.worker.Worker as worker
-use Rattle.scq_work.specs.contracts.desk.Desk as desk
+use Rattle.scq_files.specs.contracts.desk.Desk as desk
+use Rattle.scq_desk.specs.contracts.seat.Seat as place
 use Rattle.scq_work.specs.contracts.threads.Work as work
 use Rattle.scq_work.specs.contracts.threads.HandedBack as end
 
@@ -41,18 +42,26 @@ worker_sent B buffer sends =
     declared_send (worker.the_type B buffer)
     (u32_sent, (pass_sent B buffer sends, (vec_sent answered.the_row answers.the_send, (bool_sent, tt))))
 
-desk_sent : (B S : RattleType) (buffer : BufferGhosts B.Denot) → IsSend B → IsSend S → IsSend (desk.the_row B S buffer)
-desk_sent B S buffer sends source_sends =
-    declared_send (desk.the_type B S buffer) (
-      worker_sent B buffer sends,
-      (
-        vec_sent (own_file.the_row S) (own_file_sent S source_sends),
-        (option_sent (held.the_row B buffer) (held_sent B buffer sends), tt),
-      ),
-    )
+place_sent : (W B : RattleType) (buffer : BufferGhosts B.Denot) → IsSend W → IsSend B → IsSend (place.the_row W B buffer)
+place_sent W B buffer worker_sends sends =
+    declared_send (place.the_type W B buffer)
+    (as_row_send (row_field W) worker_sends, (option_sent (held.the_row B buffer) (held_sent B buffer sends), tt))
+
+desk_sent : (W S : RattleType) → IsSend W → IsSend S → IsSend (desk.the_row W S)
+desk_sent W S sends source_sends =
+    declared_send (desk.the_type W S) (as_row_send (row_field W) sends, (vec_sent (own_file.the_row S) (own_file_sent S source_sends), tt))
+
+-- a worker of the frames of a block, and its seat
+abbrev its_row : RattleType
+its_row = worker.the_row frame.the_row frames.ghosts
 
 pub work_sent : (S : RattleType) → IsSend S → IsSend (work.the_row S)
-work_sent S sends = declared_send (work.the_type S) (desk_sent frame.the_row S frames.ghosts frame_sent sends, (stand_sent, tt))
+work_sent S sends =
+    declared_send (work.the_type S) (
+      desk_sent (place.the_row its_row frame.the_row frames.ghosts) S
+          (place_sent its_row frame.the_row frames.ghosts (worker_sent frame.the_row frames.ghosts frame_sent) frame_sent) sends,
+      (stand_sent, tt),
+    )
 
 pub end_sent : (S : RattleType) → IsSend S → IsSend (end.the_row S)
 end_sent S sends = variants_send (end.enum S) ((work_sent S sends, tt), ((work_sent S sends, tt), tt))

@@ -9,6 +9,8 @@ use Rattle.scq_collect.specs.Joined.{AreWhole, part_answers, without_way}
 use Rattle.scq_collect.specs.Merging.{members_in}
 use Rattle.scq_collect.specs.declared.answered.Answered.{Answered}
 use Rattle.scq_word.specs.declared.setup.Setup.{Setup}
+use Rattle.scq_block.specs.declared.frame.Frame.{Frame}
+use Rattle.scq_block.specs.Frames.{IsSame, bytes_of}
 use Rattle.scq_queue.specs.Lists.{sends_of, takes_of}
 use Rattle.scq_queue.specs.Passes.{PassStanding}
 use Rattle.scq_files.specs.Files.{own_of}
@@ -47,12 +49,12 @@ module _ {B : Type 0} where
     pub helps : HelpsAfterEachFull topics p.calls
     pub retired : HasRetired (HelpsOnceAfterEachFull topics) p
 
-  -- the queue of a job with so many topics is closed, and nothing is stranded in it, whatever its workers met: they have retired and swept, and
-  -- all buffers are free
-  pub record NothingIsStranded (order topics workers : ℕ) (passes : List (PassStanding B)) (left : List ℕ) : Type 0 where
-    pub setup : Setup
-    pub of_job : IsSetup order topics workers setup
-    pub shared : HaveShared (HasHelped topics) (2 ^ 36) topics setup passes left
+-- the queue of a job with so many topics is closed, and nothing is stranded in it, whatever its workers met: they have retired and swept, and
+-- all buffers are free: those that came back are the frames of its block that it was given
+pub record NothingIsStranded (order topics workers : ℕ) (passes : List (PassStanding Frame)) (frames : List Frame) (left : List ℕ) : Type 0 where
+  pub setup : Setup
+  pub of_job : IsSetup order topics workers setup
+  pub shared : HaveShared bytes_of IsSame (HasHelped topics) (2 ^ 36) topics setup passes frames left
 
 -- so many workers answered files that gave these messages: what they answered, by their passes, and the lengths of the passes' lists
 pub record HasWorked (topics : List (List ℕ × Kind)) (size workers : ℕ) (given : List (List Message)) (w : Worked) : Type 0 where

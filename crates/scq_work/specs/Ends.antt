@@ -1,44 +1,35 @@
 -- How the work on all files ended: the fault of the workers and its cause, and what is known of each end. Files are numbered from 1.
-use Rattle.std.specs.Prelude.{◌≡◌, ℕ, ◌+◌, ◌<◌, Bool, true, false, List, length, map, slice_index_or, Option, Some, None, IfOk, IfErr, IfSome, IsErrOf, IsSomeAnd, OnOk}
+use Rattle.std.specs.Prelude.{◌≡◌, ℕ, ◌+◌, ◌<◌, List, length, map, slice_index_or, Option, Some, None, IfOk, IfErr, IfSome, IsErrOf, IsSomeAnd, OnOk}
 use Rattle.std.specs.List.Sorted.{IsPermutation}
-use Rattle.scq_frames.specs.declared.fault.FrameFault.{FrameFault}
-use Rattle.scq_frames.specs.declared.fault.FrameFault.TheVariants as frame
 use Rattle.scq_frames.specs.declared.message.Message.{Message}
 use Rattle.scq_collect.specs.Collected.{messages_to}
 use Rattle.scq_collect.specs.Joined.{part_answers, without_way}
 use Rattle.scq_collect.specs.Merging.{members_in}
-use Rattle.scq_files.specs.Ends.{AllEndFed, AreGiven, HasMoved, StopsAt, all_left, messages_in}
+use Rattle.scq_files.specs.Ends.{AreGiven, HasMoved, all_left, messages_in}
 use Rattle.scq_files.specs.Reading.{IsWhole}
 use Rattle.scq_work.specs.AllWorkers.{HasWorked, NothingIsStranded}
 use Rattle.scq_work.specs.declared.job.Job.{Job}
 use Rattle.scq_work.specs.declared.worked.WorkEnd.{WorkEnd}
+use Rattle.scq_desk.specs.Faults as workers
+use Rattle.scq_desk.specs.declared.fault.EndFault.{EndFault}
+use Rattle.scq_desk.specs.declared.fault.EndFault.TheVariants as ends
 use Rattle.scq_work.specs.declared.worked.WorkFault.{WorkFault}
 use Rattle.scq_work.specs.declared.worked.WorkFault.TheVariants.{Read, TooLong, TooLarge, NoMemory}
 
--- the fault of several workers: want of memory where any met it, else that of the first file, in order,
--- that has any
-abbrev pub fault_of_workers : Bool → Option (ℕ × FrameFault) → Option WorkFault
-fault_of_workers true first = Some NoMemory
-fault_of_workers false None = None
-fault_of_workers false (Some (file, frame.ReadFault)) = Some (Read file)
-fault_of_workers false (Some (file, frame.TooLong line len)) = Some (TooLong file line len)
-fault_of_workers false (Some (file, frame.TooLarge bytes)) = Some (TooLarge file bytes)
-fault_of_workers false (Some (file, frame.NoMemory)) = Some NoMemory
+-- a fault as one of the workers at desks
+abbrev pub as_end : WorkFault → EndFault
+as_end (Read file) = ends.Read file
+as_end (TooLong file line len) = ends.TooLong file line len
+as_end (TooLarge file bytes) = ends.TooLarge file bytes
+as_end NoMemory = ends.NoMemory
 
--- want of memory comes before any other fault: where there is another, each source is as one whose reading didn't stop for want of
--- memory. Of a source whose bytes aren't visible this says no more than `HasMoved`.
+-- want of memory comes before any other fault
 abbrev pub MemoryIsFirst : {S : Type 0} → ℕ → (S → ℕ) → (S → ℕ) → (S → Option (List ℕ)) → List S → List S → WorkFault → Type 0
-MemoryIsFirst size faults end_count left olds news (Read file) = AllEndFed size faults end_count left olds news
-MemoryIsFirst size faults end_count left olds news (TooLong file line len) = AllEndFed size faults end_count left olds news
-MemoryIsFirst size faults end_count left olds news (TooLarge file bytes) = AllEndFed size faults end_count left olds news
-MemoryIsFirst size faults end_count left olds news NoMemory = Unit {0}
+MemoryIsFirst size faults end_count left olds news fault = workers.MemoryIsFirst size faults end_count left olds news (as_end fault)
 
 -- the cause of each fault
 abbrev pub HasCause : {S : Type 0} → ℕ → (S → ℕ) → (S → ℕ) → (S → Option (List ℕ)) → List S → List S → WorkFault → Type 0
-HasCause size faults end_count left olds news (Read file) = StopsAt size faults end_count left olds news file frame.ReadFault
-HasCause size faults end_count left olds news (TooLong file line len) = StopsAt size faults end_count left olds news file (frame.TooLong line len)
-HasCause size faults end_count left olds news (TooLarge file bytes) = StopsAt size faults end_count left olds news file (frame.TooLarge bytes)
-HasCause size faults end_count left olds news NoMemory = Unit {0}
+HasCause size faults end_count left olds news fault = workers.HasCause size faults end_count left olds news (as_end fault)
 
 -- what is known of the end of a job's work on these sources, as the contract of `work` says it
 pub record EndsWork {S : Type 0} (j : Job) (faults end_count : S → ℕ) (left : S → Option (List ℕ)) (sources : List S) (end : WorkEnd S) : Type 0 where
@@ -51,7 +42,8 @@ pub record EndsWork {S : Type 0} (j : Job) (faults end_count : S → ℕ) (left 
   pub told : IfOk end.result (λ w. IfSome (all_left left sources) (λ contents. HasWorked j.topics j.size j.workers (messages_in j.topics 1 contents) w))
   pub worked : IfOk end.result (λ w. (given : List (List Message)) × AreGiven j.topics j.longest left 1 sources given
       × HasWorked j.topics j.size j.workers given w)
-  pub none_stranded : IfSome end.left (λ l. IsSomeAnd end.passes (λ p. NothingIsStranded j.order (length j.topics + 1) j.workers p.value.items l.items))
+  pub none_stranded : IfSome end.left (λ l. IsSomeAnd end.passes (λ p. IsSomeAnd end.frames (λ f.
+      NothingIsStranded j.order (length j.topics + 1) j.workers p.value.items f.value.items l.items)))
   pub none : end.left ≡ None → IsErrOf end.result NoMemory
   pub same : IfOk end.result (λ w. IsSomeAnd end.passes (λ p. p.value.items ≡ w.passes.value.items))
   pub cause : IfErr end.result (HasCause j.longest faults end_count left sources end.sources.items)

@@ -2,7 +2,7 @@ pub mod Members
 pub mod Passing
 pub mod Working
 pub mod Desks
-pub mod Dealings
+pub mod Seats
 pub mod Ends
 pub mod AllWorkers
 pub mod Waiting

@@ -5,7 +5,7 @@ use Rattle.scq_block.specs.Frames.{bytes_of}
 use Rattle.scq_block.specs.declared.frame.Frame.{Frame}
 use Rattle.scq_topics.specs.declared.kind.Kind.{Kind}
 use Rattle.scq_band.specs.Standing.{Identity}
-use Rattle.scq_work.specs.Dealings.{IsFresh}
+use Rattle.scq_work.specs.Seats.{IsFresh}
 use Rattle.scq_files.specs.OwnFiles.{IsNew, ids_of}
 use Rattle.scq_work.specs.Desks.{HasProduced, HasRun}
 use Rattle.scq_work.specs.Waiting.{HasWaited, but_wakes}
@@ -50,7 +50,7 @@ module _ {S : Type 0} where
 
   -- what a worker is given: a new pass, files that nobody read, and a stand of the crew
   pub record IsGiven (t : Task S) (w : Work S) : Type 0 where
-    pub fresh : IsFresh t.queue w.desk
+    pub fresh : IsFresh t.queue w.desk.worker
     pub unread : All IsNew w.desk.files.items
     pub stand : w.stand.crew ≡ t.crew
 
@@ -61,24 +61,24 @@ module _ {S : Type 0} where
 
   -- one that has read its files and retired
   pub record IsBegun (t : Task S) (w : Work S) : Type 0 where
-    pub produced : HasProduced t.queue t.topics t.size t.longest t.faults t.end_count t.left w.desk.files.items w.desk.worker.pass
-        w.desk.worker.members.items w.desk.worker.starved w.desk.kept
+    pub produced : HasProduced t.queue t.topics t.size t.longest t.faults t.end_count t.left w.desk.files.items w.desk.worker.worker.pass
+        w.desk.worker.worker.members.items w.desk.worker.worker.starved w.desk.worker.kept
     pub stand : w.stand.crew ≡ t.crew
 
   -- so far it made this of what it was given. Its stand is as it was, but for whom it woke
   pub record HasBegun (t : Task S) (old new : Work S) : Type 0 where
     pub begun : IsBegun t new
     pub files : ids_of new.desk.files.items ≡ ids_of old.desk.files.items
-    pub number : new.desk.worker.pass.number ≡ old.desk.worker.pass.number
+    pub number : new.desk.worker.worker.pass.number ≡ old.desk.worker.worker.pass.number
     pub stand : but_wakes new.stand ≡ but_wakes old.stand
 
   -- its whole work is done
   pub record HasDone (t : Task S) (old new : Work S) : Type 0 where
-    pub run : HasRun t.queue t.topics t.size t.longest t.faults t.end_count t.left new.desk.files.items new.desk.worker.pass
-        new.desk.worker.members.items new.desk.worker.starved new.desk.kept
-    pub waited : HasWaited bytes_of (length t.topics + 1) new.stand.rests new.desk.worker.pass
+    pub run : HasRun t.queue t.topics t.size t.longest t.faults t.end_count t.left new.desk.files.items new.desk.worker.worker.pass
+        new.desk.worker.worker.members.items new.desk.worker.worker.starved new.desk.worker.kept
+    pub waited : HasWaited bytes_of (length t.topics + 1) new.stand.rests new.desk.worker.worker.pass
     pub files : ids_of new.desk.files.items ≡ ids_of old.desk.files.items
-    pub number : new.desk.worker.pass.number ≡ old.desk.worker.pass.number
+    pub number : new.desk.worker.worker.pass.number ≡ old.desk.worker.worker.pass.number
     pub crew : new.stand.crew ≡ old.stand.crew
     pub worker : new.stand.worker ≡ old.stand.worker
 

@@ -3,13 +3,9 @@
 
 mod apart;
 mod bell;
-mod clearing;
-mod dealing;
 mod desk;
 mod gate;
-mod gathering;
 mod job;
-mod laying;
 mod places;
 mod resting;
 mod threads;

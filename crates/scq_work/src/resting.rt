@@ -2,12 +2,12 @@
 ghost use Rattle.std.specs.Prelude.{◌≡◌, ℕ, ◌+◌, ◌<◌, ◌≤◌, ◌++◌, ◌∷◌, [], length, map, reverse, slice_index_or, vec_len, vec_capacity, IfOk};
 ghost use Rattle.std.specs.List.{All};
 ghost use Rattle.scq_park.specs.Crews.{first_posts};
-ghost use Rattle.scq_work.specs.Dealings.{IsFresh};
+ghost use Rattle.scq_work.specs.Seats.{IsFresh};
 ghost use Rattle.scq_files.specs.OwnFiles.{IsNew, ids_of};
 ghost use Rattle.scq_work.specs.Desks.{HasRun};
 ghost use Rattle.scq_work.specs.Resting.{HasRoom, AreSettled};
 
-use crate::desk::Desk;
+use crate::desk::WorkDesk;
 use crate::places::{Runner, run_all};
 use crate::threads::Work;
 use crate::{Gate, Job};
@@ -67,25 +67,25 @@ pub fn run_resting<R: Threads + Wait + Sync, S: Source, G: Gate>(
     crew: &Crew,
     stands: Vec<Stand>,
     resting_room: RestingRoom<S>,
-    desks: Vec<Desk<Frame, S>>,
-) -> (Vec<Desk<Frame, S>>, Vec<Stand>)
+    desks: Vec<WorkDesk<S>>,
+) -> (Vec<WorkDesk<S>>, Vec<Stand>)
     requires workers { (length desks.items ≡ job.now.workers) × (length crew.now ≡ job.now.workers) }
     requires stands { stands.items ≡ first_posts crew.now job.now.workers }
     requires resting_room { HasRoom job.now.workers resting_room }
     requires rings { queue.now.setup.rings ≡ length job.now.topics + 2 }
     requires room { All (λ b. job.now.size + 24 ≤ length b.bytes.items) queue.now.given }
-    requires fresh { All (IsFresh queue.now) desks.items }
+    requires fresh { All (λ d. IsFresh queue.now d.worker) desks.items }
     requires unread { All (λ d. All IsNew d.files.items) desks.items }
     ensures count { length result.0.items ≡ length desks.items }
     ensures same { (w : ℕ) (d : _) → w < length desks.items
         → ids_of (slice_index_or result.0.items w d).files.items ≡ ids_of (slice_index_or desks.items w d).files.items }
     ensures numbers { (w : ℕ) (d : _) → w < length desks.items
-        → (slice_index_or result.0.items w d).worker.pass.number ≡ (slice_index_or desks.items w d).worker.pass.number }
+        → (slice_index_or result.0.items w d).worker.worker.pass.number ≡ (slice_index_or desks.items w d).worker.worker.pass.number }
     ensures run { All (λ d.
-        HasRun queue.now job.now.topics job.now.size job.now.longest S.faults S.ends S.left d.files.items d.worker.pass
-        d.worker.members.items d.worker.starved d.kept)
+        HasRun queue.now job.now.topics job.now.size job.now.longest S.faults S.ends S.left d.files.items d.worker.worker.pass
+        d.worker.worker.members.items d.worker.worker.starved d.worker.kept)
         result.0.items }
-    ensures settled { AreSettled crew.now (length job.now.topics + 1) result.1.items (map (λ d. d.worker.pass) result.0.items) }
+    ensures settled { AreSettled crew.now (length job.now.topics + 1) result.1.items (map (λ d. d.worker.worker.pass) result.0.items) }
 {
     let RestingRoom {
         flags,
@@ -117,7 +117,7 @@ pub fn run_resting<R: Threads + Wait + Sync, S: Source, G: Gate>(
 /// Puts each desk together with its stand: the first, and the others, in order, in an empty list with room. The lists of both are left empty,
 /// with their room.
 fn pair<S: Source>(
-    desks: &mut Vec<Desk<Frame, S>>,
+    desks: &mut Vec<WorkDesk<S>>,
     stands: &mut Vec<Stand>,
     given: &mut Vec<Work<S>>,
 ) -> Work<S>
@@ -138,7 +138,7 @@ fn pair<S: Source>(
 }
 
 /// The last desk with the last stand.
-fn pair_last<S: Source>(desks: &mut Vec<Desk<Frame, S>>, stands: &mut Vec<Stand>) -> Work<S>
+fn pair_last<S: Source>(desks: &mut Vec<WorkDesk<S>>, stands: &mut Vec<Stand>) -> Work<S>
     requires some { 0 < vec_len desks.old }
     requires many { vec_len stands.old ≡ vec_len desks.old }
     ensures desk { desks.old.items ≡ desks.new.items ++ result.desk ∷ [] }
@@ -157,7 +157,7 @@ fn pair_last<S: Source>(desks: &mut Vec<Desk<Frame, S>>, stands: &mut Vec<Stand>
 
 /// All desks with their stands, from the last to the first.
 fn pair_all<S: Source>(
-    desks: &mut Vec<Desk<Frame, S>>,
+    desks: &mut Vec<WorkDesk<S>>,
     stands: &mut Vec<Stand>,
     given: &mut Vec<Work<S>>,
 )
@@ -181,7 +181,7 @@ fn pair_all<S: Source>(
 fn take_apart<S: Source>(
     first: Work<S>,
     ends: Vec<Work<S>>,
-    desks: &mut Vec<Desk<Frame, S>>,
+    desks: &mut Vec<WorkDesk<S>>,
     stands: &mut Vec<Stand>,
 )
     requires empty { (desks.old.items ≡ []) × (stands.old.items ≡ []) }
@@ -194,7 +194,7 @@ fn take_apart<S: Source>(
 }
 
 /// Puts a desk and its stand behind others.
-fn put_apart<S: Source>(work: Work<S>, desks: &mut Vec<Desk<Frame, S>>, stands: &mut Vec<Stand>)
+fn put_apart<S: Source>(work: Work<S>, desks: &mut Vec<WorkDesk<S>>, stands: &mut Vec<Stand>)
     requires room { (vec_len desks.old < vec_capacity desks.old) × (vec_len stands.old < vec_capacity stands.old) }
     ensures desks { desks.new.items ≡ desks.old.items ++ work.desk ∷ [] }
     ensures stands { stands.new.items ≡ stands.old.items ++ work.stand ∷ [] }
@@ -209,7 +209,7 @@ fn put_apart<S: Source>(work: Work<S>, desks: &mut Vec<Desk<Frame, S>>, stands: 
 /// Puts all desks and their stands behind others, in order.
 fn take_all_apart<S: Source>(
     ends: Vec<Work<S>>,
-    desks: &mut Vec<Desk<Frame, S>>,
+    desks: &mut Vec<WorkDesk<S>>,
     stands: &mut Vec<Stand>,
 )
     requires room { (vec_len desks.old + vec_len ends ≤ vec_capacity desks.old) × (vec_len stands.old + vec_len ends ≤ vec_capacity stands.old) }

@@ -2,10 +2,12 @@
 ghost use Rattle.std.specs.Prelude.{◌≡◌, IfOk, IfErr};
 ghost use Rattle.scq_work.specs.Threads.{task, CanBegin, HandsBack};
 
-use crate::desk::Desk;
+use crate::desk::{WorkDesk, finish, produce};
 use crate::{Gate, Job};
 use scq_band::Lifted;
 use scq_block::Frame;
+use scq_desk::Seat;
+use scq_files::Desk;
 use scq_outside::Source;
 use scq_park::{Crew, Stand};
 use scq_queue::Queue;
@@ -17,7 +19,7 @@ use std::thread::{Promise, PromisedHandle, Scope, Threads};
 
 /// A worker's desk, with the stand by which it rests and wakes others.
 pub struct Work<S: Source> {
-    pub desk: Desk<Frame, S>,
+    pub desk: WorkDesk<S>,
     pub stand: Stand,
 }
 
@@ -29,10 +31,13 @@ impl<S: Source> Drop for Work<S> {
             stand: _stand,
         } = self;
         let Desk {
-            worker: _worker,
+            worker: seat,
             files: _files,
-            kept,
         } = desk;
+        let Seat {
+            worker: _worker,
+            kept,
+        } = seat;
         if let Some(held) = kept {
             held.into_buffer().abandon();
         }
@@ -44,7 +49,7 @@ impl<S: Source> Work<S> {
     ghost use Rattle.scq_work.specs.Threads.{task, IsReady, IsGiven, IsBegun, HasBegun, HasDone};
 
     /// Its parts.
-    pub fn into_parts(self) -> (Desk<Frame, S>, Stand)
+    pub fn into_parts(self) -> (WorkDesk<S>, Stand)
         ensures { (result.0 ≡ self.desk) × (result.1 ≡ self.stand) }
     {
         let Work { desk, stand } = self;
@@ -64,8 +69,8 @@ impl<S: Source> Work<S> {
         requires given { IsGiven (task queue.now job.now crew.now S.faults S.ends S.left) self.old }
         ensures { HasBegun (task queue.now job.now crew.now S.faults S.ends S.left) self.old self.new }
     {
-        self.desk
-            .produce(alloc, job, queue, gate, crew, &mut self.stand);
+        let desk = &mut self.desk;
+        produce(desk, alloc, job, queue, gate, crew, &mut self.stand);
     }
 
     /// It sweeps and rests until all have retired.
@@ -82,8 +87,8 @@ impl<S: Source> Work<S> {
         ensures { (given : _) → HasBegun (task queue.now job.now crew.now S.faults S.ends S.left) given self.old
             → HasDone (task queue.now job.now crew.now S.faults S.ends S.left) given self.new }
     {
-        self.desk
-            .finish(rt, alloc, job, queue, gate, crew, &mut self.stand);
+        let desk = &mut self.desk;
+        finish(desk, rt, alloc, job, queue, gate, crew, &mut self.stand);
     }
 }
 

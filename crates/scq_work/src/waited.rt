@@ -1,5 +1,5 @@
 //! The work of workers that wait in place of leaving early, as `work` else.
-ghost use Rattle.std.specs.Prelude.{◌≡◌, ℕ, ◌+◌, ◌^◌, ◌<◌, ◌≤◌, List, [], None, length, map, slice_index_or, vec_len, vec_capacity, IfOk, IfErr, IfSome, IsErrOf, IsSome, IsSomeAnd, OnOk, OnSome};
+ghost use Rattle.std.specs.Prelude.{◌≡◌, ℕ, ◌+◌, ◌^◌, ◌<◌, ◌≤◌, List, None, length, map, slice_index_or, vec_len, IfOk, IfErr, IfSome, IsErrOf, IsSome, IsSomeAnd, OnOk, OnSome};
 ghost use Rattle.std.specs.List.{All};
 ghost use Rattle.std.specs.List.Sorted.{IsPermutation};
 ghost use Rattle.scq_block.specs.Blocks.{AreAllOf};
@@ -12,15 +12,19 @@ ghost use Rattle.scq_work.specs.AllWorkers.{HasWorked, NothingIsStranded};
 ghost use Rattle.scq_files.specs.Ends.{AreGiven, HasMoved, all_left, messages_in};
 ghost use Rattle.scq_work.specs.Ends.{EndsWork, HasCause, MemoryIsFirst};
 ghost use Rattle.scq_files.specs.Reading.{IsWhole};
+ghost use Rattle.scq_desk.specs.Rooms.{IsRoomFor};
 ghost use Rattle.scq_park.specs.Crews.{first_posts};
 ghost use Rattle.scq_work.specs.Resting.{HasRoom};
 ghost use Rattle.scq_work.specs.Waiting.{HaveWaited};
 
-use crate::laying::{WorkRoom, lay_out, make_room, setup_of};
 use crate::resting::{RestingRoom, make_resting_room, run_resting};
 use crate::winding::wind_up;
+use crate::worker::Worker;
+use crate::working::setup_of;
 use crate::{Gate, Job, WorkEnd, WorkFault};
 use scq_block::{Block, Frame};
+use scq_collect::Answered;
+use scq_desk::{Room, lay_out, make_room};
 use scq_outside::Source;
 use scq_park::{Crew, Rested, Stand};
 use scq_passes::make_queue;
@@ -64,7 +68,7 @@ impl<S> WaitEnd<S> {
 /// What the work needs beside its crew: room, and a queue over the frames of one block with a pass for each worker.
 struct Made<S: Source> {
     resting_room: RestingRoom<S>,
-    room: WorkRoom<S>,
+    room: Room<Answered, Worker<Frame>, S>,
     block: Block,
     queue: Queue<Frame>,
     passes: Vec<Pass<Frame>>,
@@ -76,16 +80,11 @@ fn make_all<S: Source>(alloc: Global, job: &Job, files: usize) -> Result<Made<S>
     ensures frames { IfOk result (λ made. All (λ f. job.now.size + 24 ≤ length f.bytes.items) made.queue.given) }
     ensures all { IfOk result (λ made. AreAllOf made.block made.queue.given) }
     ensures passes { IfOk result (λ made. made.passes.items ≡ first_passes made.queue made.queue.setup.seats) }
-    ensures files { IfOk result (λ made. (vec_len made.room.files ≡ job.now.workers)
-        × All (λ list. (list.items ≡ []) × (vec_len list ≡ 0) × (files ≤ vec_capacity list)) made.room.files.items) }
-    ensures desks { IfOk result (λ made. (made.room.desks.items ≡ []) × (job.now.workers ≤ vec_capacity made.room.desks)) }
-    ensures left { IfOk result (λ made. (made.room.left.passes.items ≡ []) × (made.room.left.held.items ≡ []) × (made.room.left.lists.items ≡ [])) }
-    ensures room { IfOk result (λ made. (job.now.workers ≤ vec_capacity made.room.left.passes) × (job.now.workers ≤ vec_capacity made.room.left.held)
-        × (job.now.workers ≤ vec_capacity made.room.left.lists)) }
+    ensures work_room { IfOk result (λ made. IsRoomFor job.now.workers files made.room) }
     ensures resting_room { IfOk result (λ made. HasRoom job.now.workers made.resting_room) }
 {
     let resting_room = make_resting_room(alloc, job.workers)?;
-    let room = make_room(alloc, job, files)?;
+    let room = make_room(alloc, job.workers, files)?;
     match make_queue(alloc, setup_of(job), job.size) {
         Ok((block, queue, passes)) => Ok(Made {
             resting_room,
@@ -130,8 +129,8 @@ pub fn work_waiting<R: Threads + Wait + Sync, S: Source, G: Gate>(
 
     // Whatever the answer is, the queue was closed with each buffer free: each pass has retired, what was sent was taken, and the block was
     // merged. Only where there was no memory for a queue there was none.
-    ensures left { IfSome result.end.left (λ left. IsSomeAnd result.end.passes (λ passes.
-        NothingIsStranded job.now.order (length job.now.topics + 1) job.now.workers passes.value.items left.items)) }
+    ensures left { IfSome result.end.left (λ left. IsSomeAnd result.end.passes (λ passes. IsSomeAnd result.end.frames (λ frames.
+        NothingIsStranded job.now.order (length job.now.topics + 1) job.now.workers passes.value.items frames.value.items left.items))) }
     ensures none { result.end.left ≡ None → IsErrOf result.end.result WorkFault.NoMemory }
     ensures same { IfOk result.end.result (λ w. IsSomeAnd result.end.passes (λ passes. passes.value.items ≡ w.passes.value.items)) }
 
@@ -176,12 +175,7 @@ fn wait_in<R: Threads + Wait + Sync, S: Source, G: Gate>(
     requires frames { All (λ f. job.now.size + 24 ≤ length f.bytes.items) made.queue.given }
     requires all { AreAllOf made.block made.queue.given }
     requires passes { made.passes.items ≡ first_passes made.queue made.queue.setup.seats }
-    requires files { (vec_len made.room.files ≡ job.now.workers)
-        × All (λ list. (list.items ≡ []) × (vec_len list ≡ 0) × (vec_len sources ≤ vec_capacity list)) made.room.files.items }
-    requires desks { (made.room.desks.items ≡ []) × (job.now.workers ≤ vec_capacity made.room.desks) }
-    requires left { (made.room.left.passes.items ≡ []) × (made.room.left.held.items ≡ []) × (made.room.left.lists.items ≡ []) }
-    requires room { (job.now.workers ≤ vec_capacity made.room.left.passes) × (job.now.workers ≤ vec_capacity made.room.left.held)
-        × (job.now.workers ≤ vec_capacity made.room.left.lists) }
+    requires work_room { IsRoomFor job.now.workers (vec_len sources) made.room }
     requires resting_room { HasRoom job.now.workers made.resting_room }
     requires crew { length crew ≡ job.now.workers }
     requires stands { stands.items ≡ first_posts crew job.now.workers }
@@ -198,7 +192,7 @@ fn wait_in<R: Threads + Wait + Sync, S: Source, G: Gate>(
         queue,
         passes,
     } = made;
-    let (laid, desks) = lay_out(alloc, job, &queue, passes, sources, room);
+    let (laid, desks) = lay_out(alloc, job.workers, &queue, passes, sources, room);
     let (desks, stands) = run_resting(
         rt,
         alloc,

@@ -1,114 +1,84 @@
 //! How the work of all workers ends.
-ghost use Rattle.std.specs.Prelude.{◌≡◌, ℕ, ◌+◌, ◌^◌, ◌<◌, ◌≤◌, ◌||◌, [], None, Some, false, length, map, slice_index_or, vec_len, vec_capacity, IfOk, IfErr, IfSome, IsSome};
+ghost use Rattle.std.specs.Prelude.{◌≡◌, ℕ, ◌+◌, ◌^◌, ◌<◌, ◌≤◌, None, Some, false, length, map, slice_index_or, IfOk, IfErr, IfSome, IsSome};
 ghost use Rattle.std.specs.List.{All};
 ghost use Rattle.scq_block.specs.Blocks.{AreAllOf};
 ghost use Rattle.scq_queue.specs.Passes.{was_told};
-ghost use Rattle.scq_work.specs.Dealings.{AreDealt};
+ghost use Rattle.scq_files.specs.Desks.{AreDealt};
+ghost use Rattle.scq_desk.specs.Rooms.{IsLaid};
 ghost use Rattle.scq_work.specs.Desks.{HasRun};
-ghost use Rattle.scq_work.specs.Ends.{EndsWork, fault_of_workers};
+ghost use Rattle.scq_desk.specs.Faults.{fault_of_workers};
+ghost use Rattle.scq_work.specs.Ends.{EndsWork, as_end};
 
-use crate::clearing::{LeftBehind, clear};
-use crate::desk::Desk;
-use crate::gathering::{Gathered, gather};
-use crate::laying::LaidOut;
+use crate::desk::WorkDesk;
 use crate::{Job, WorkEnd, WorkFault, Worked};
 use scq_block::{Block, Frame};
+use scq_collect::Answered;
+use scq_desk::{EndFault, LaidOut, WoundUp, fault_of_all, wind_up_desks};
 use scq_frames::FrameFault;
 use scq_outside::Source;
-use scq_queue::{Closed, Queue};
-use std::snapshot::Snapshot;
+use scq_queue::Queue;
 
-/// The fault of the workers: want of memory where any met it, else the first one.
-fn fault_of_all(starved: bool, first: Option<(u32, FrameFault)>) -> Option<WorkFault>
-    ensures { result ≡ fault_of_workers starved first }
+/// The fault of all workers, told as one of this crate.
+fn work_fault(fault: EndFault) -> WorkFault
+    ensures { as_end result ≡ fault }
 {
-    if starved {
-        return Some(WorkFault::NoMemory);
+    match fault {
+        EndFault::Read { file } => WorkFault::Read { file },
+        EndFault::TooLong { file, line, len } => WorkFault::TooLong { file, line, len },
+        EndFault::TooLarge { file, bytes } => WorkFault::TooLarge { file, bytes },
+        EndFault::NoMemory => WorkFault::NoMemory,
     }
-    let (file, fault) = first?;
-    Some(match fault {
-        FrameFault::ReadFault => WorkFault::Read { file },
-        FrameFault::TooLong { line, len } => WorkFault::TooLong { file, line, len },
-        FrameFault::TooLarge { bytes } => WorkFault::TooLarge { file, bytes },
-        FrameFault::NoMemory => WorkFault::NoMemory,
-    })
 }
 
 /// Ends the work of all workers once each has done its own: the files are gathered, the queue is closed and its block merged, in every answer. With
 /// the end comes, of each worker, whether it saw that all had retired.
 pub(crate) fn wind_up<S: Source>(
     job: &Job,
-    laid: LaidOut<S>,
+    laid: LaidOut<Answered, S>,
     block: Block,
     queue: Queue<Frame>,
-    desks: Vec<Desk<Frame, S>>,
+    desks: Vec<WorkDesk<S>>,
 ) -> (WorkEnd<S>, Vec<bool>)
-    requires few { vec_len laid.was.value ≤ 64 }
-    requires emptied { (laid.sources.items ≡ []) × (vec_len laid.sources ≡ 0) × (laid.count ≡ vec_len laid.was.value)
-        × (vec_len laid.was.value ≤ vec_capacity laid.sources) }
-    requires left { (laid.left.passes.items ≡ []) × (laid.left.held.items ≡ []) × (laid.left.lists.items ≡ []) }
-    requires room { (job.now.workers ≤ vec_capacity laid.left.passes) × (job.now.workers ≤ vec_capacity laid.left.held)
-        × (job.now.workers ≤ vec_capacity laid.left.lists) }
+    requires laid { IsLaid job.now.workers laid }
     requires setup { (queue.setup.order ≡ job.now.order) × (queue.setup.rings ≡ length job.now.topics + 2) × (queue.setup.seats ≡ job.now.workers)
         × (queue.setup.limit ≡ 2 ^ 60) }
     requires all { AreAllOf block queue.given }
     requires count { length desks.items ≡ job.now.workers }
     requires dealt { AreDealt 1 laid.was.value.items desks.items }
-    requires numbers { (w : ℕ) (d : _) → w < length desks.items → (slice_index_or desks.items w d).worker.pass.number ≡ w }
+    requires numbers { (w : ℕ) (d : _) → w < length desks.items → (slice_index_or desks.items w d).worker.worker.pass.number ≡ w }
     requires run { All (λ d.
-        HasRun queue job.now.topics job.now.size job.now.longest S.faults S.ends S.left d.files.items d.worker.pass
-        d.worker.members.items d.worker.starved d.kept)
+        HasRun queue job.now.topics job.now.size job.now.longest S.faults S.ends S.left d.files.items d.worker.worker.pass
+        d.worker.worker.members.items d.worker.worker.starved d.worker.kept)
         desks.items }
     ensures end { EndsWork job.now S.faults S.ends S.left laid.was.value.items result.0 }
-    ensures passes { IfSome result.0.passes (λ passes. passes.value.items ≡ map (λ d. d.worker.pass) desks.items) }
+    ensures passes { IfSome result.0.passes (λ passes. passes.value.items ≡ map (λ d. d.worker.worker.pass) desks.items) }
     ensures saw { IfSome result.0.passes (λ passes. result.1.items ≡ map (λ p. was_told p.gate) passes.value.items) }
     ensures there { IsSome result.0.passes }
     ensures closed { IsSome result.0.left }
 {
-    let LaidOut {
-        was,
-        sources: emptied,
-        count,
-        left: mut behind,
-    } = laid;
-    let mut desks = desks;
-    let mut gathered = Gathered {
-        sources: emptied,
-        fault: None,
-        starved: false,
-    };
-    gather(job, &was, desks.as_mut_slice(), count, &mut gathered);
-    clear(desks, &mut behind);
-    let LeftBehind {
-        passes,
-        held,
-        lists,
-        starved,
-    } = behind;
-    let closing = Snapshot::of(&passes);
-    let Closed {
-        buffers,
-        left,
-        counts,
-        saw,
-        passes: closed,
-    } = queue.close(passes, held);
-    block.merge(buffers);
-    let Gathered {
+    let WoundUp {
         sources,
         fault,
-        starved: wants,
-    } = gathered;
+        starved,
+        lists,
+        counts,
+        left,
+        saw,
+        passes,
+        closing,
+        frames,
+    } = wind_up_desks(laid, block, queue, desks);
     let worked = Worked {
         counts,
         answered: lists,
-        passes: closed,
+        passes,
     };
     let end = WorkEnd {
         sources,
-        result: conclude(worked, starved, wants, fault),
+        result: conclude(worked, starved, fault),
         left: Some(left),
         passes: Some(closing),
+        frames: Some(frames),
     };
     (end, saw)
 }
@@ -117,14 +87,13 @@ pub(crate) fn wind_up<S: Source>(
 fn conclude(
     worked: Worked,
     starved: bool,
-    wants: bool,
     first: Option<(u32, FrameFault)>,
 ) -> Result<Worked, WorkFault>
-    ensures ok { IfOk result (λ w. (w ≡ worked) × (starved ≡ false) × (wants ≡ false) × (first ≡ None)) }
-    ensures err { IfErr result (λ f. fault_of_workers (starved || wants) first ≡ Some f) }
+    ensures ok { IfOk result (λ w. (w ≡ worked) × (starved ≡ false) × (first ≡ None)) }
+    ensures err { IfErr result (λ f. fault_of_workers starved first ≡ Some (as_end f)) }
 {
-    match fault_of_all(starved || wants, first) {
-        Some(fault) => Err(fault),
+    match fault_of_all(starved, first) {
+        Some(fault) => Err(work_fault(fault)),
         None => Ok(worked),
     }
 }

@@ -37,6 +37,8 @@ pub struct WorkEnd<S> {
     pub left: Option<Vec<u64>>,
     /// For contracts alone, and where `left` is there, the workers' passes as they were then.
     pub passes: Option<Snapshot<Vec<Pass<Frame>>>>,
+    /// Likewise the queue's buffers as they came back, in the order of their indices, before their block was merged.
+    pub frames: Option<Snapshot<Vec<Frame>>>,
 }
 
 impl<S> WorkEnd<S> {
@@ -46,13 +48,14 @@ impl<S> WorkEnd<S> {
     pub(crate) fn starved(sources: Vec<S>) -> WorkEnd<S>
         ensures sources { result.sources ≡ sources }
         ensures fault { result.result ≡ Err WorkFault.NoMemory }
-        ensures left { (result.left ≡ None) × (result.passes ≡ None) }
+        ensures left { (result.left ≡ None) × (result.passes ≡ None) × (result.frames ≡ None) }
     {
         WorkEnd {
             sources,
             result: Err(WorkFault::NoMemory),
             left: None,
             passes: None,
+            frames: None,
         }
     }
 }

@@ -20,6 +20,7 @@ mod waiting;
 use crate::bell::Bell;
 use crate::{Gate, Job, Point};
 use scq_collect::{Answered, Way};
+use scq_desk::Sits;
 use scq_frames::{Message, View, decode, encode, view_of};
 use scq_passes::AtLimit;
 use scq_queue::{Held, Pass, Queue, TakeRefusal};
@@ -34,6 +35,36 @@ pub struct Worker<B: Buffer> {
     pub pass: Pass<B>,
     pub members: Vec<Answered>,
     pub starved: bool,
+}
+
+impl<B: Buffer> Sits<Pass<B>, Answered> for Worker<B> {
+    ghost pass_of = { λ w. w.pass };
+
+    ghost list_of = { λ w. w.members };
+
+    ghost starved_of = { λ w. w.starved };
+
+    fn begin(alloc: Global, number: u32, pass: Pass<B>) -> Worker<B>
+        ensures pass { result.pass ≡ pass }
+        ensures list { result.members.items ≡ [] }
+    {
+        Worker {
+            number,
+            pass,
+            members: Vec::new(alloc),
+            starved: false,
+        }
+    }
+
+    fn come_apart(self) -> (Pass<B>, Vec<Answered>, bool) {
+        let Worker {
+            number: _,
+            pass,
+            members,
+            starved,
+        } = self;
+        (pass, members, starved)
+    }
 }
 
 /// The text of a part: the reply to it where it is its whole message, else its bytes.

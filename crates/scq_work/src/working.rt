@@ -1,5 +1,5 @@
 //! The work of all workers together.
-ghost use Rattle.std.specs.Prelude.{◌≡◌, ℕ, ◌+◌, ◌<◌, ◌≤◌, List, None, length, map, slice_index_or, vec_len, IfOk, IfErr, IfSome, IsErrOf, IsSomeAnd, OnOk};
+ghost use Rattle.std.specs.Prelude.{◌≡◌, ℕ, ◌+◌, ◌^◌, ◌<◌, ◌≤◌, List, None, length, map, slice_index_or, vec_len, IfOk, IfErr, IfSome, IsErrOf, IsSomeAnd, OnOk};
 ghost use Rattle.std.specs.List.Sorted.{IsPermutation};
 ghost use Rattle.scq_frames.specs.declared.message.Message.{Message as TheMessage};
 ghost use Rattle.scq_collect.specs.Collected.{messages_to};
@@ -15,14 +15,30 @@ ghost use Rattle.scq_work.specs.Ends.{HasCause, MemoryIsFirst};
 ghost use Rattle.scq_files.specs.Reading.{IsWhole};
 
 use crate::apart::run_apart;
-use crate::laying::{lay_out, make_room, setup_of};
 use crate::winding::wind_up;
 use crate::{Gate, Job, WorkEnd, WorkFault, Worked};
+use scq_desk::{lay_out, make_room};
 use scq_outside::Source;
 use scq_passes::make_queue;
-use scq_word::NoMemory;
+use scq_word::{NoMemory, Setup};
 use std::alloc::Global;
 use std::thread::Threads;
+
+/// The limit of the queue's tickets, which no work comes near.
+const LIMIT: u64 = 1 << 60;
+
+/// The setup of the queue of a job: a topic for each declared one, and one for all others.
+pub(crate) fn setup_of(job: &Job) -> Setup
+    ensures order { result.order ≡ job.now.order }
+    ensures rings { result.rings ≡ length job.now.topics + 2 }
+    ensures seats { result.seats ≡ job.now.workers }
+    ensures limit { result.limit ≡ 2 ^ 60 }
+{
+    match Setup::new(job.order, job.topics.len() + 2, job.workers, LIMIT) {
+        Ok(setup) => setup,
+        Err(_) => unreachable!(),
+    }
+}
 
 /// Answers the messages of all sources by the job's workers, each of which reads its own files: file f, from 1, is that of worker
 /// (f - 1) mod the number of workers. They share a queue of buffers. The sources come back in their order in every case.
@@ -53,8 +69,8 @@ pub fn work<R: Threads + Sync, S: Source, G: Gate>(
 
     // Whatever the answer is, the queue was closed with each buffer free: each pass has retired, what was sent was taken, and the block was
     // merged. Only where there was no memory for a queue there was none.
-    ensures left { IfSome result.left (λ left. IsSomeAnd result.passes (λ passes.
-        NothingIsStranded job.now.order (length job.now.topics + 1) job.now.workers passes.value.items left.items)) }
+    ensures left { IfSome result.left (λ left. IsSomeAnd result.passes (λ passes. IsSomeAnd result.frames (λ frames.
+        NothingIsStranded job.now.order (length job.now.topics + 1) job.now.workers passes.value.items frames.value.items left.items))) }
     ensures none { result.left ≡ None → IsErrOf result.result WorkFault.NoMemory }
     ensures same { IfOk result.result (λ w. IsSomeAnd result.passes (λ passes. passes.value.items ≡ w.passes.value.items)) }
 
@@ -67,12 +83,12 @@ pub fn work<R: Threads + Sync, S: Source, G: Gate>(
     // row that took nothing.
     ensures behind { IfSome result.passes (λ passes. All (HasLeftSwept bytes_of IsReturn (length job.now.topics + 1) 64) passes.value.items) }
 {
-    let Ok(room) = make_room(alloc, job, sources.len()) else {
+    let Ok(room) = make_room(alloc, job.workers, sources.len()) else {
         return WorkEnd::starved(sources);
     };
     match make_queue(alloc, setup_of(job), job.size) {
         Ok((block, queue, passes)) => {
-            let (laid, desks) = lay_out(alloc, job, &queue, passes, sources, room);
+            let (laid, desks) = lay_out(alloc, job.workers, &queue, passes, sources, room);
             let desks = run_apart(rt, alloc, job, &queue, gate, desks);
             let (end, _saw) = wind_up(job, laid, block, queue, desks);
             end

@@ -45,8 +45,8 @@ pub fn run_files<R: Threads + Sync, F: Files, K: Sink, G: Gate>(
     ensures told { IsWorkOf job.now.topics job.now.size job.now.workers F.Src.left result.got.value.items result.worked }
     ensures work { IsWork job.now.topics job.now.size job.now.longest job.now.workers F.Src.faults F.Src.ends F.Src.left result.got.value.items
         (inputs_of F.table F.faults files.old files.new result.sources.items result.read) result.worked }
-    ensures left { IfSome result.left (λ left. IsSomeAnd result.passes (λ passes.
-        NothingIsStranded job.now.order (length job.now.topics + 1) job.now.workers passes.value.items left.items)) }
+    ensures left { IfSome result.left (λ left. IsSomeAnd result.passes (λ passes. IsSomeAnd result.frames (λ frames.
+        NothingIsStranded job.now.order (length job.now.topics + 1) job.now.workers passes.value.items frames.value.items left.items))) }
     ensures there { OnSome result.worked (IsSome result.left) }
     ensures seen { IsNone result.left → result.fault ≡ Some Fault.NoMemory }
     ensures same { IfSome result.worked (λ w. IsSomeAnd result.passes (λ passes. passes.value.items ≡ w.passes.value.items)) }
@@ -89,8 +89,8 @@ pub fn run_files_waiting<R: Threads + Wait + Sync, F: Files, K: Sink, G: Gate>(
     ensures told { IsWorkOf job.now.topics job.now.size job.now.workers F.Src.left result.got.value.items result.worked }
     ensures work { IsWork job.now.topics job.now.size job.now.longest job.now.workers F.Src.faults F.Src.ends F.Src.left result.got.value.items
         (inputs_of F.table F.faults files.old files.new result.sources.items result.read) result.worked }
-    ensures left { IfSome result.left (λ left. IsSomeAnd result.passes (λ passes.
-        NothingIsStranded job.now.order (length job.now.topics + 1) job.now.workers passes.value.items left.items)) }
+    ensures left { IfSome result.left (λ left. IsSomeAnd result.passes (λ passes. IsSomeAnd result.frames (λ frames.
+        NothingIsStranded job.now.order (length job.now.topics + 1) job.now.workers passes.value.items frames.value.items left.items))) }
     ensures there { OnSome result.worked (IsSome result.left) }
     ensures seen { IsNone result.left → result.fault ≡ Some Fault.NoMemory }
     ensures same { IfSome result.worked (λ w. IsSomeAnd result.passes (λ passes. passes.value.items ≡ w.passes.value.items)) }

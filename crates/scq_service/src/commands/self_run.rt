@@ -52,8 +52,8 @@ pub fn run_self<R: Threads + Sync, S, K: Sink, G: Gate>(
     ensures worked { WorkedAt result.fault result.worked }
     ensures unstaged { result.staged ≡ None }
     ensures told { IfSome result.worked (λ w. HasWorked the_topics (2 ^ 16) workers (messages_in the_topics 1 (the_file seed lines ∷ [])) w) }
-    ensures left { IfSome result.left (λ left. IsSomeAnd result.passes (λ passes.
-        NothingIsStranded 6 (length the_topics + 1) workers passes.value.items left.items)) }
+    ensures left { IfSome result.left (λ left. IsSomeAnd result.passes (λ passes. IsSomeAnd result.frames (λ frames.
+        NothingIsStranded 6 (length the_topics + 1) workers passes.value.items frames.value.items left.items))) }
     ensures seen { IsNone result.left → result.fault ≡ Some Fault.NoMemory }
     ensures same { IfSome result.worked (λ w. IsSomeAnd result.passes (λ passes. passes.value.items ≡ w.passes.value.items)) }
     ensures leaves { result.waited ≡ None }
@@ -65,12 +65,13 @@ pub fn run_self<R: Threads + Sync, S, K: Sink, G: Gate>(
         worked,
         left,
         passes,
+        frames,
     } = answers;
     let topics = self_topics();
     let text = summary_of(alloc, &topics, lines, &worked);
     let sources = Vec::new(alloc);
     let got = Snapshot::of(&sources);
-    let outcome = Outcome::answered(sources, worked).behind(got, left, passes, None);
+    let outcome = Outcome::answered(sources, worked).behind(got, left, passes, frames, None);
     match text {
         Ok(text) => match write_all(out, text.bytes()) {
             Ok(()) => outcome,
@@ -86,6 +87,7 @@ struct Answers {
     worked: Worked,
     left: Option<Vec<u64>>,
     passes: Option<Snapshot<Vec<Pass<Frame>>>>,
+    frames: Option<Snapshot<Vec<Frame>>>,
 }
 
 /// Makes the file of the seed and answers its messages. Its lines are short and its source never fails,
@@ -105,8 +107,8 @@ fn answer_file<R: Threads + Sync, G: Gate>(
         IsPermutation (map without_way (members_in a.worked.answered.items))
         (part_answers the_topics (2 ^ 16) (messages_to the_topics 1 (the_file seed lines ∷ [])))) }
     ensures told { IfOk result (λ a. HasWorked the_topics (2 ^ 16) workers (messages_in the_topics 1 (the_file seed lines ∷ [])) a.worked) }
-    ensures left { IfOk result (λ a. IfSome a.left (λ left. IsSomeAnd a.passes (λ passes.
-        NothingIsStranded 6 (length the_topics + 1) workers passes.value.items left.items))) }
+    ensures left { IfOk result (λ a. IfSome a.left (λ left. IsSomeAnd a.passes (λ passes. IsSomeAnd a.frames (λ frames.
+        NothingIsStranded 6 (length the_topics + 1) workers passes.value.items frames.value.items left.items)))) }
     ensures seen { IfOk result (λ a. IsSome a.left) }
     ensures same { IfOk result (λ a. IsSomeAnd a.passes (λ passes. passes.value.items ≡ a.worked.passes.value.items)) }
 {
@@ -119,12 +121,14 @@ fn answer_file<R: Threads + Sync, G: Gate>(
         result,
         left,
         passes,
+        frames,
     } = work(rt, alloc, &job, sources, gate);
     match result {
         Ok(worked) => Ok(Answers {
             worked,
             left,
             passes,
+            frames,
         }),
         Err(_) => Err(NoMemory),
     }

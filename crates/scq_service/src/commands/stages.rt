@@ -133,8 +133,8 @@ fn conclude<F: Files>(
         HasStaged job.now.workers (messages_in [] 1 contents) s)) }
     requires staged { IfOk end.result (λ s. (given : List (List TheMessage)) × AreGiven [] job.now.size F.Src.left 1 got.value.items given
         × HasStaged job.now.workers given s) }
-    requires left { IfSome end.left (λ left. IsSomeAnd end.passes (λ passes.
-        NothingIsStranded job.now.order job.now.workers passes.value.items left.items)) }
+    requires left { IfSome end.left (λ left. IsSomeAnd end.passes (λ passes. IsSomeAnd end.frames (λ frames.
+        NothingIsStranded job.now.order job.now.workers passes.value.items frames.value.items left.items))) }
     requires none { end.left ≡ None → IsErrOf end.result StageFault.NoMemory }
     requires same { IfOk end.result (λ s. IsSomeAnd end.passes (λ passes. passes.value.items ≡ s.passes.value.items)) }
     requires cause { IfErr end.result (λ fault. HasCause job.now.size F.Src.faults F.Src.ends F.Src.left got.value.items end.sources.items fault) }
@@ -158,18 +158,19 @@ fn conclude<F: Files>(
         result,
         left: _,
         passes: _,
+        frames: _,
     } = end;
     match result {
         Ok(staged) => {
             if all {
-                Outcome::finished(sources, staged).behind(got, None, None, None)
+                Outcome::finished(sources, staged).behind(got, None, None, None, None)
             } else {
                 let file = count as u32 + 1;
-                Outcome::at(sources, Fault::OpenFault { file }).behind(got, None, None, None)
+                Outcome::at(sources, Fault::OpenFault { file }).behind(got, None, None, None, None)
             }
         }
         Err(fault) => {
-            Outcome::of_work(sources, job.size, work_fault(fault)).behind(got, None, None, None)
+            Outcome::of_work(sources, job.size, work_fault(fault)).behind(got, None, None, None, None)
         }
     }
 }

@@ -8,7 +8,7 @@ use Rattle.scq_passes.specs.Leaving.{HasLeftSwept}
 use Rattle.scq_passes.specs.Records.{IsGivenBack}
 use Rattle.scq_files.specs.OwnFiles.{ids_of}
 use Rattle.scq_files.specs.declared.desk.Desk.{Desk}
-use Rattle.scq_stages.specs.declared.seating.Seated.{Seated}
+use Rattle.scq_stages.specs.Seats.{Seated}
 use Rattle.scq_stages.specs.Working.{HasRun}
 use Rattle.scq_files.proofs.Lists.{written-back}
 use Rattle.scq_stages.proofs.apart.run_all.Goals as goal

@@ -6,7 +6,7 @@ use Rattle.scq_block.specs.declared.frame.Frame.{Frame}
 use Rattle.scq_passes.specs.Leaving.{HasLeftSwept}
 use Rattle.scq_passes.specs.Records.{IsGivenBack}
 use Rattle.scq_files.specs.declared.desk.Desk.{Desk}
-use Rattle.scq_stages.specs.declared.seating.Seated.{Seated}
+use Rattle.scq_stages.specs.Seats.{Seated}
 use Rattle.scq_block.proofs.FramesSent.{frame_sent, frame_shared}
 use Rattle.scq_block.specs.contracts.frame.Frame as frame
 use Rattle.scq_block.specs.contracts.frame.FrameBuffer.TheImpl as buffer

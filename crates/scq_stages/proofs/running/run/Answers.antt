@@ -1,4 +1,5 @@
 use Rattle.std.proofs.Common.{◌≡◌, ◌∙◌, ap, sym, subst, arith, ℕ, [], ◌++◌, List, length, take, drop, Option, Some, None}
+use Rattle.scq_block.specs.Frames.{bytes_of}
 use Rattle.scq_band.specs.Standing.{Identity}
 use Rattle.scq_queue.specs.Passes.{PassStanding}
 use Rattle.scq_passes.specs.Calls.{after_retire}
@@ -42,10 +43,10 @@ read g c =
     c.work.ensures.read
 
 pub retire-requires-clause-pass : goal.retire-requires-clause-pass
-retire-requires-clause-pass g c κs within = (c.in-Err.ensures.left (begun g (goal.at.retire-requires-clause-pass g c).After-work)).queue
+retire-requires-clause-pass g c κs = (c.in-Err.ensures.left (begun g (goal.at.retire-requires-clause-pass g c).After-work)).queue
 
 pub retire-requires-clause-stays : goal.retire-requires-clause-stays
-retire-requires-clause-stays g c κs within = (c.in-Err.ensures.left (begun g (goal.at.retire-requires-clause-stays g c).After-work)).stays
+retire-requires-clause-stays g c κs = (c.in-Err.ensures.left (begun g (goal.at.retire-requires-clause-stays g c).After-work)).stays
 
 -- it met Spent in a sweep
 pub returns-in-Err-leave-clause-run : goal.returns-in-Err-leave-clause-run
@@ -55,8 +56,8 @@ returns-in-Err-leave-clause-run g c =
     let end_count = g.S.Source.ends in
     let left = g.S.Source.left in
     let files = c.work.new.files in
-    let mid = c.work.new.self in
-    let now = c.leave.new.self in
+    let mid = c.work.new.worker in
+    let now = c.leave.new.worker in
     let later = c.keep.new.self in
     let at = (goal.at.returns-in-Err-leave-clause-run g c).After-work in
     subst (λ (fs : List (OwnFile _)). HasRun c.args.queue.now job.size faults end_count left fs later.worker.pass later.worker.members.items
@@ -64,7 +65,7 @@ returns-in-Err-leave-clause-run g c =
     (subst (λ (w : Worker _). HasRun c.args.queue.now job.size faults end_count left files w.pass w.members.items w.starved later.kept)
     (sym c.keep.ensures.same)
     (run-late c.args.queue.now job.size faults end_count left files mid.pass now.pass mid.members.items now.members.items mid.starved now.starved
-    later.kept c.in-Err-leave.at_limit.held (read g at) c.in-Ok.ensures.suits (c.in-Ok.ensures.done (begun g at))
+    later.kept c.in-Err-leave.at_limit.held (read g at) c.work.ensures.stops c.in-Ok.ensures.suits (c.in-Ok.ensures.done (begun g at))
     (c.in-Err-leave.ensures.left (length (all_given files))) c.keep.ensures.kept))
 
 pub returns-in-Err-leave-clause-number : goal.returns-in-Err-leave-clause-number
@@ -80,8 +81,8 @@ returns-in_default-clause-run g c =
     let end_count = g.S.Source.ends in
     let left = g.S.Source.left in
     let files = c.work.new.files in
-    let mid = c.work.new.self in
-    let now = c.leave.new.self in
+    let mid = c.work.new.worker in
+    let now = c.leave.new.worker in
     let kept = c.args.desk.now.worker.kept in
     let at = (goal.at.returns-in_default-clause-run g c).After-work in
     let done : IsDone (all_given files) mid.pass mid.members.items mid.starved = c.in-Ok.ensures.done (begun g at) in
@@ -89,7 +90,7 @@ returns-in_default-clause-run g c =
     subst (λ (fs : List (OwnFile _)). HasRun c.args.queue.now job.size faults end_count left fs now.pass now.members.items now.starved kept)
     (sym (whole g at))
     (run-left c.args.queue.now job.size faults end_count left files mid.pass now.pass mid.members.items now.members.items mid.starved now.starved kept
-    (read g at) c.in-Ok.ensures.suits done (its.leaving (all_given files) done) its.empty c.requires.fresh.kept)
+    (read g at) c.work.ensures.stops c.in-Ok.ensures.suits done (its.leaving (all_given files) done) its.empty c.requires.fresh.kept)
 
 -- it met Spent before it retired
 pub returns-in-Err-clause-run : goal.returns-in-Err-clause-run
@@ -99,22 +100,22 @@ returns-in-Err-clause-run g c =
     let end_count = g.S.Source.ends in
     let left = g.S.Source.left in
     let files = c.work.new.files in
-    let mid = c.work.new.self in
+    let mid = c.work.new.worker in
     let later = c.keep-in-Err.new.self in
     let at = (goal.at.returns-in-Err-clause-run g c).After-work in
     subst (λ (fs : List (OwnFile _)). HasRun c.args.queue.now job.size faults end_count left fs later.worker.pass later.worker.members.items
     later.worker.starved later.kept) (sym (whole g at))
     (run-stopped c.args.queue.now job.size faults end_count left files mid.pass later.worker.pass later.worker.members.items later.worker.starved
-    later.kept c.in-Err.at_limit.held (read g at) (c.in-Err.ensures.left (begun g at))
+    later.kept c.in-Err.at_limit.held (read g at) c.work.ensures.stops (c.in-Err.ensures.left (begun g at))
     (ap (λ (w : Worker _). w.pass) c.keep-in-Err.ensures.same ∙ c.retire.ensures) c.keep-in-Err.ensures.kept)
 
 -- it asked before each of its sweeps
 pub returns-in_default-clause-behind : goal.returns-in_default-clause-behind
 returns-in_default-clause-behind g c awake =
     let queue = c.args.queue.now in
-    let contents = g.B.Buffer.contents in
-    let mid = c.work.new.self in
-    let now = c.leave.new.self.pass in
+    let contents = bytes_of in
+    let mid = c.work.new.worker in
+    let now = c.leave.new.worker.pass in
     let done : IsDone (all_given c.work.new.files) mid.pass mid.members.items mid.starved =
     c.in-Ok.ensures.done (begun g (goal.at.returns-in_default-clause-behind g c).After-work) in
     let its = c.in_default.ensures in
@@ -129,11 +130,11 @@ pub returns-in-Err-leave-clause-behind : goal.returns-in-Err-leave-clause-behind
 returns-in-Err-leave-clause-behind g c awake =
     let left = c.in-Err-leave.ensures.left 0 in
     let none = ap (λ (w : Worker _). w.pass.spent) (sym c.keep.ensures.same) ∙ awake in
-    absurd (none-or c.leave.new.self.pass.spent left.spent.0 left.spent.1 none)
+    absurd (none-or c.leave.new.worker.pass.spent left.spent.0 left.spent.1 none)
 
 pub returns-in-Err-clause-behind : goal.returns-in-Err-clause-behind
 returns-in-Err-clause-behind g c awake =
     let end = c.in-Err.ensures.left (begun g (goal.at.returns-in-Err-clause-behind g c).After-work) in
     let retired = ap (λ (w : Worker _). w.pass) c.keep-in-Err.ensures.same ∙ c.retire.ensures in
     let none = sym (ap (λ (x : PassStanding _). x.spent) retired) ∙ awake in
-    absurd (none-or c.work.new.self.pass.spent end.spent.0 end.spent.1 none)
+    absurd (none-or c.work.new.worker.pass.spent end.spent.0 end.spent.1 none)

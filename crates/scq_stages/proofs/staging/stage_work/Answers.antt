@@ -1,5 +1,5 @@
 -- The sources are those that were laid out.
-use Rattle.std.proofs.Common.{◌≡◌, sym, ap, subst, List}
+use Rattle.std.proofs.Common.{◌≡◌, ℕ, sym, ap, subst, List}
 use Rattle.std.specs.Prelude.{IfSome, IsSomeAnd}
 use Rattle.std.specs.List.{All}
 use Rattle.scq_block.specs.Frames.{bytes_of}
@@ -10,7 +10,8 @@ use Rattle.scq_passes.specs.Records.{IsGivenBack}
 use Rattle.scq_passes.specs.Together.{NoneSpent}
 use Rattle.scq_stages.specs.AllStages.{NothingIsStranded}
 use Rattle.scq_stages.proofs.DeskWorks.{passes_at}
-use Rattle.scq_stages.proofs.Settled.{all-behind, some-of}
+use Rattle.scq_desk.proofs.Settled.{all-behind, some-and, some-of}
+use Rattle.scq_stages.specs.declared.worker.Worker.{Worker}
 use Rattle.scq_stages.proofs.staging.stage_work.Goals as goal
 
 pub returns-in-Ok-make_queue-clause-moved : goal.returns-in-Ok-make_queue-clause-moved
@@ -18,6 +19,9 @@ returns-in-Ok-make_queue-clause-moved g c = rw (sym (ap (λ v. v.items) c.lay_ou
 
 pub returns-in-Ok-make_queue-clause-whole : goal.returns-in-Ok-make_queue-clause-whole
 returns-in-Ok-make_queue-clause-whole g c = rw (sym (ap (λ v. v.items) c.lay_out-laid.ensures.was)) c.wind_up.ensures.whole
+
+pub returns-in-Ok-make_queue-clause-stops : goal.returns-in-Ok-make_queue-clause-stops
+returns-in-Ok-make_queue-clause-stops g c = rw (sym (ap (λ v. v.items) c.lay_out-laid.ensures.was)) c.wind_up.ensures.stops
 
 -- the passes were there when the queue was closed
 pub returns-in-Ok-make_queue-clause-behind : goal.returns-in-Ok-make_queue-clause-behind
@@ -28,9 +32,10 @@ returns-in-Ok-make_queue-clause-behind g c =
     let said = c.wind_up.ensures in
     let P : PassStanding Frame → Type 0 = HasLeftSwept bytes_of IsGivenBack 2 64 in
     let its = some-of end.passes (λ ps. ps.value.items ≡ passes_at ran) said.there said.passes in
-    let left = some-of end.left (λ l. IsSomeAnd end.passes (λ ps. NothingIsStranded job.order job.workers ps.value.items l.items)) said.closed said.left in
-    let closed : NothingIsStranded job.order job.workers its.it.value.items left.it.items =
-    subst (λ o. IsSomeAnd o (λ ps. NothingIsStranded job.order job.workers ps.value.items left.it.items)) its.same left.holds in
-    let none : NoneSpent (passes_at ran) = subst (λ (ps : List (PassStanding Frame)). NoneSpent ps) its.holds closed.shared.unspent in
+    let Closed : List (PassStanding Frame) → List ℕ → Type 0 =
+    λ ps l. IsSomeAnd end.frames (λ fs. NothingIsStranded job.order job.workers ps fs.value.items l) in
+    let left = some-of end.left (λ l. IsSomeAnd end.passes (λ ps. Closed ps.value.items l.items)) said.closed said.left in
+    let closed = some-and end.frames _ (subst (λ o. IsSomeAnd o (λ ps. Closed ps.value.items left.it.items)) its.same left.holds) in
+    let none : NoneSpent (passes_at ran) = subst (λ (ps : List (PassStanding Frame)). NoneSpent ps) its.holds closed.holds.shared.unspent in
     subst (λ o. IfSome o (λ ps. All P ps.value.items)) (sym its.same)
-    (subst (λ (ps : List (PassStanding Frame)). All P ps) (sym its.holds) (all-behind P ran c.run_all-desks.ensures.behind none))
+    (subst (λ (ps : List (PassStanding Frame)). All P ps) (sym its.holds) (all-behind (λ (w : Worker Frame). w.pass) P ran c.run_all-desks.ensures.behind none))

@@ -5,7 +5,8 @@ use Rattle.scq_block.specs.Frames.{bytes_of}
 use Rattle.scq_block.specs.declared.frame.Frame.{Frame}
 use Rattle.scq_passes.specs.Leaving.{HasLeftSwept}
 use Rattle.scq_passes.specs.Records.{IsReturn}
-use Rattle.scq_work.specs.declared.desk.Desk.{Desk}
+use Rattle.scq_files.specs.declared.desk.Desk.{Desk}
+use Rattle.scq_work.specs.Seats.{Seated}
 use Rattle.scq_block.proofs.FramesSent.{frame_sent, frame_shared}
 use Rattle.scq_block.specs.contracts.frame.Frame as frame
 use Rattle.scq_block.specs.contracts.frame.FrameBuffer.TheImpl as buffer
@@ -43,5 +44,5 @@ returns-clause-behind g c k d less awake =
     let S = g.row.S.Denot in
     let all = length c.args.job.now.topics + 1 in
     let at = (c.for_each_mut.ensures k d (omega (arith, less, c.for_each_mut.auto.s))).1 in
-    let P : Desk Frame S → Type 0 = λ e. e.worker.pass.spent ≡ None → HasLeftSwept bytes_of IsReturn all 64 e.worker.pass in
+    let P : Desk (Seated Frame) S → Type 0 = λ e. e.worker.worker.pass.spent ≡ None → HasLeftSwept bytes_of IsReturn all 64 e.worker.worker.pass in
     subst P at.left at.call.3 awake

@@ -7,12 +7,12 @@ use Rattle.atomic_table.specs.Seated.{TableId}
 use Rattle.scq_block.specs.declared.frame.Frame.{Frame}
 use Rattle.scq_park.specs.Crews.{Post, AreAll, first_posts}
 use Rattle.scq_park.proofs.Firsts.{firsts_all}
-use Rattle.scq_work.specs.Dealings.{IsFresh}
+use Rattle.scq_work.specs.Seats.{IsFresh, Seated}
 use Rattle.scq_files.specs.OwnFiles.{IsNew}
 use Rattle.scq_work.specs.Desks.{HasRun}
 use Rattle.scq_work.specs.Resting.{AreSettled}
 use Rattle.scq_work.specs.Threads.{Task, task, IsGiven, HasDone}
-use Rattle.scq_work.specs.declared.desk.Desk.{Desk}
+use Rattle.scq_files.specs.declared.desk.Desk.{Desk}
 use Rattle.scq_work.specs.declared.threads.Work.{Work}
 use Rattle.scq_work.proofs.Settling.{zip-length, desk_of, stand_of, all-given, desks-same, each-done, settled}
 use Rattle.scq_work.proofs.resting.run_resting.Goals as goal
@@ -23,14 +23,14 @@ all-of crew workers stands are long = subst (AreAll crew) (sym are) (firsts_all 
 
 module _ {S : Type 0} where
   -- each worker is given what it begins with
-  each-given : (t : Task S) (desks : List (Desk Frame S)) (stands : List Post) (first : Work S) (given : List (Work S))
-      → desks ≡ map desk_of (first ∷ given) → stands ≡ map stand_of (first ∷ given) → All (IsFresh t.queue) desks
-      → All (λ (d : Desk Frame S). All IsNew d.files.items) desks → AreAll t.crew stands → All (IsGiven t) (first ∷ given)
+  each-given : (t : Task S) (desks : List (Desk (Seated Frame) S)) (stands : List Post) (first : Work S) (given : List (Work S))
+      → desks ≡ map desk_of (first ∷ given) → stands ≡ map stand_of (first ∷ given) → All (λ (d : Desk (Seated Frame) S). IsFresh t.queue d.worker) desks
+      → All (λ (d : Desk (Seated Frame) S). All IsNew d.files.items) desks → AreAll t.crew stands → All (IsGiven t) (first ∷ given)
   each-given t desks stands first given desks_are stands_are fresh unread all =
       all-given t (first ∷ given) desks stands desks_are stands_are fresh unread all.own
 
   -- one fewer are given than there are desks
-  few-given : (desks : List (Desk Frame S)) (first : Work S) (given : List (Work S)) → desks ≡ map desk_of (first ∷ given)
+  few-given : (desks : List (Desk (Seated Frame) S)) (first : Work S) (given : List (Work S)) → desks ≡ map desk_of (first ∷ given)
       → length given + 1 ≡ length desks
   few-given desks first given are = omega (arith, ap length are, length-map (first ∷ given) desk_of)
 
@@ -121,8 +121,8 @@ returns-clause-run g c =
     let t = task c.args.queue.now job c.args.crew.now g.S.Source.faults g.S.Source.ends g.S.Source.left in
     let xs = c.pair-first.result ∷ c.pair-first.new.given.items in
     let ys = c.run_all-first.result.0 ∷ c.run_all-first.result.1.items in
-    let P : Desk Frame S → Type 0 = λ d. HasRun c.args.queue.now job.topics job.size job.longest g.S.Source.faults g.S.Source.ends g.S.Source.left
-    d.files.items d.worker.pass d.worker.members.items d.worker.starved d.kept in
+    let P : Desk (Seated Frame) S → Type 0 = λ d. HasRun c.args.queue.now job.topics job.size job.longest g.S.Source.faults g.S.Source.ends g.S.Source.left
+    d.files.items d.worker.worker.pass d.worker.worker.members.items d.worker.worker.starved d.worker.kept in
     subst (All P) (sym c.take_apart.ensures.desks)
     (All-map P desk_of ys (each-done t (λ (w : Work S). P w.desk) xs ys (c.run_all-first.ensures.first, c.run_all-first.ensures.others) (λ x y done. done.run)))
 
@@ -135,6 +135,6 @@ returns-clause-settled g c =
     let xs = c.pair-first.result ∷ c.pair-first.new.given.items in
     let ys = c.run_all-first.result.0 ∷ c.run_all-first.result.1.items in
     let all = subst (AreAll crew) c.pair-first.ensures.stands (all-of crew c.args.job.now.workers c.args.stands.items c.requires.stands c.requires.workers.1) in
-    subst (λ (ps : List Post). AreSettled crew topics ps (map (λ (d : Desk Frame S). d.worker.pass) c.take_apart.new.desks.items)) (sym c.take_apart.ensures.stands)
-    (subst (λ (ds : List (Desk Frame S)). AreSettled crew topics (map stand_of ys) (map (λ (d : Desk Frame S). d.worker.pass) ds))
+    subst (λ (ps : List Post). AreSettled crew topics ps (map (λ (d : Desk (Seated Frame) S). d.worker.worker.pass) c.take_apart.new.desks.items)) (sym c.take_apart.ensures.stands)
+    (subst (λ (ds : List (Desk (Seated Frame) S)). AreSettled crew topics (map stand_of ys) (map (λ (d : Desk (Seated Frame) S). d.worker.worker.pass) ds))
     (sym c.take_apart.ensures.desks) (settled t xs ys (c.run_all-first.ensures.first, c.run_all-first.ensures.others) all))

@@ -2,7 +2,8 @@ use Rattle.std.proofs.Common.{◌≡◌, ◌∙◌, ap, arith, List, ◌++◌, m
 use Rattle.std.proofs.lemmas.List.{reverse-reverse}
 use Rattle.scq_park.specs.Crews.{Post}
 use Rattle.scq_block.specs.declared.frame.Frame.{Frame}
-use Rattle.scq_work.specs.declared.desk.Desk.{Desk}
+use Rattle.scq_files.specs.declared.desk.Desk.{Desk}
+use Rattle.scq_work.specs.Seats.{Seated}
 use Rattle.scq_work.specs.declared.threads.Work.{Work}
 use Rattle.scq_passes.proofs.Parting.{popped}
 use Rattle.scq_work.proofs.Settling.{desk_of, stand_of}
@@ -28,7 +29,7 @@ ends-preserved g c =
     let work = c.in-Some.work in
     let put = c.put_apart.ensures in
     record {
-      desks = ap (λ (l : List (Desk Frame S)). l ++ map desk_of (reverse rest)) put.desks
+      desks = ap (λ (l : List (Desk (Seated Frame) S)). l ++ map desk_of (reverse rest)) put.desks
           ∙ popped desk_of c.ends.desks.items (c.args.desks.now.items ++ map desk_of c.args.ends.items) c.ends.ends.items rest work inv.desks
           c.in-Some.ensures.items;
       stands = ap (λ (l : List Post). l ++ map stand_of (reverse rest)) put.stands

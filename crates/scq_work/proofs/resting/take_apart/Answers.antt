@@ -1,7 +1,8 @@
 use Rattle.std.proofs.Common.{◌∙◌, ap, arith, List, ◌∷◌, ◌++◌, [], length, map}
 use Rattle.scq_park.specs.Crews.{Post}
 use Rattle.scq_block.specs.declared.frame.Frame.{Frame}
-use Rattle.scq_work.specs.declared.desk.Desk.{Desk}
+use Rattle.scq_files.specs.declared.desk.Desk.{Desk}
+use Rattle.scq_work.specs.Seats.{Seated}
 use Rattle.scq_work.proofs.Settling.{desk_of, stand_of}
 use Rattle.scq_work.proofs.resting.take_apart.Goals as goal
 
@@ -23,9 +24,9 @@ take_all_apart-requires-clause-room g c κs within =
 pub returns-clause-desks : goal.returns-clause-desks
 returns-clause-desks g c =
     let S = g.row.S.Denot in
-    let f : _ → Desk Frame S = desk_of in
+    let f : _ → Desk (Seated Frame) S = desk_of in
     c.take_all_apart.ensures.desks
-    ∙ ap (λ (l : List (Desk Frame S)). l ++ map f c.args.ends.items) (c.put_apart.ensures.desks ∙ ap (λ (l : List (Desk Frame S)). l ++ c.args.first.desk ∷ []) c.requires.empty.0)
+    ∙ ap (λ (l : List (Desk (Seated Frame) S)). l ++ map f c.args.ends.items) (c.put_apart.ensures.desks ∙ ap (λ (l : List (Desk (Seated Frame) S)). l ++ c.args.first.desk ∷ []) c.requires.empty.0)
 
 pub returns-clause-stands : goal.returns-clause-stands
 returns-clause-stands g c =

@@ -1,5 +1,5 @@
 -- The passes were there when the queue was closed, and the crew is closed with all its stands.
-use Rattle.std.proofs.Common.{◌≡◌, ◌∙◌, ◌+◌, sym, ap, subst, List, length, map}
+use Rattle.std.proofs.Common.{◌≡◌, ◌∙◌, ◌+◌, ℕ, sym, ap, subst, List, length, map}
 use Rattle.std.specs.Prelude.{IfSome, IsSomeAnd, Vec}
 use Rattle.std.specs.Global.{Global}
 use Rattle.std.proofs.lemmas.List.{length-map}
@@ -9,9 +9,11 @@ use Rattle.scq_work.specs.AllWorkers.{NothingIsStranded}
 use Rattle.scq_work.specs.Ends.{EndsWork}
 use Rattle.scq_work.specs.Resting.{AreSettled}
 use Rattle.scq_work.specs.Waiting.{HaveWaited}
-use Rattle.scq_work.specs.declared.desk.Desk.{Desk}
-use Rattle.scq_work.proofs.DeskLemmas.{still-dealt}
-use Rattle.scq_work.proofs.Settling.{have-waited, some-of}
+use Rattle.scq_files.specs.declared.desk.Desk.{Desk}
+use Rattle.scq_work.specs.Seats.{Seated}
+use Rattle.scq_files.proofs.DeskLemmas.{still-dealt}
+use Rattle.scq_desk.proofs.Settled.{some-and, some-of}
+use Rattle.scq_work.proofs.Settling.{have-waited}
 use Rattle.scq_work.proofs.waited.wait_in.Goals as goal
 
 pub wind_up-end-requires-clause-dealt : goal.wind_up-end-requires-clause-dealt
@@ -34,18 +36,19 @@ returns-clause-waited g c =
     let ran = c.run_resting-desks.result.0.items in
     let stands = c.run_resting-desks.result.1.items in
     let end = c.wind_up-end.result.0 in
-    let its = some-of end.passes (λ ps. ps.value.items ≡ map (λ (d : Desk Frame S). d.worker.pass) ran) c.wind_up-end.ensures.there c.wind_up-end.ensures.passes in
+    let its = some-of end.passes (λ ps. ps.value.items ≡ map (λ (d : Desk (Seated Frame) S). d.worker.worker.pass) ran) c.wind_up-end.ensures.there c.wind_up-end.ensures.passes in
     let passes = its.it.value.items in
-    let left = some-of end.left (λ l. IsSomeAnd end.passes (λ ps. NothingIsStranded job.order topics job.workers ps.value.items l.items))
+    let Closed : List (PassStanding Frame) → List ℕ → Type 0 =
+    λ ps l. IsSomeAnd end.frames (λ fs. NothingIsStranded job.order topics job.workers ps fs.value.items l) in
+    let left = some-of end.left (λ l. IsSomeAnd end.passes (λ ps. Closed ps.value.items l.items))
     c.wind_up-end.ensures.closed c.wind_up-end.ensures.end.none_stranded in
-    let closed : NothingIsStranded job.order topics job.workers passes left.it.items =
-    subst (λ o. IsSomeAnd o (λ ps. NothingIsStranded job.order topics job.workers ps.value.items left.it.items)) its.same left.holds in
+    let closed = some-and end.frames _ (subst (λ o. IsSomeAnd o (λ ps. Closed ps.value.items left.it.items)) its.same left.holds) in
     let seats : length passes ≡ job.workers =
-    ap length its.holds ∙ length-map ran (λ (d : Desk Frame S). d.worker.pass) ∙ c.run_resting-desks.ensures.count ∙ c.lay_out-laid.ensures.count in
+    ap length its.holds ∙ length-map ran (λ (d : Desk (Seated Frame) S). d.worker.worker.pass) ∙ c.run_resting-desks.ensures.count ∙ c.lay_out-laid.ensures.count in
     let saw : c.wind_up-end.result.1.items ≡ map (λ (p : PassStanding Frame). was_told p.gate) passes =
     subst (λ o. IfSome o (λ ps. c.wind_up-end.result.1.items ≡ map (λ (p : PassStanding Frame). was_told p.gate) ps.value.items)) its.same c.wind_up-end.ensures.saw in
     let settled : AreSettled c.args.crew topics stands passes =
     subst (λ (ps : List (PassStanding Frame)). AreSettled c.args.crew topics stands ps) (sym its.holds) c.run_resting-desks.ensures.settled in
     subst (λ o. IsSomeAnd o (λ ps. HaveWaited topics job.workers ps.value.items c.wind_up-end.result.1.items c.close-rested.result.items)) (sym its.same)
-    (have-waited topics job.workers c.args.crew stands passes c.wind_up-end.result.1.items c.close-rested.result.items settled closed.shared.unspent seats saw
+    (have-waited topics job.workers c.args.crew stands passes c.wind_up-end.result.1.items c.close-rested.result.items settled closed.holds.shared.unspent seats saw
     c.close-rested.ensures.counts c.close-rested.ensures.woken)

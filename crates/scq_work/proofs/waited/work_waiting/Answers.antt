@@ -16,7 +16,12 @@ close-rested-requires g c =
       stands = subst (AreAll c.in-Ok.crew) (sym c.in-Ok.ensures.stands) (firsts_all c.in-Ok.crew c.args.job.now.workers (sym c.in-Ok.ensures.crew));
     }
 
-pub wait_in-requires-clause-files : goal.wait_in-requires-clause-files
-wait_in-requires-clause-files g c κs within =
-    let files = c.in-Ok-make_all.ensures.files in
-    (files.0, λ k d less. let one = files.1 k d less in (one.0, one.1, omega (arith, one.2, c.len.ensures)))
+pub wait_in-requires-clause-work_room : goal.wait_in-requires-clause-work_room
+wait_in-requires-clause-work_room g c κs within =
+    let room = c.in-Ok-make_all.ensures.work_room in
+    record {
+      lists = room.lists;
+      each = λ k d less. let one = room.each k d less in (one.0, one.1, omega (arith, one.2, c.len.ensures));
+      desks = room.desks;
+      left = room.left;
+    }

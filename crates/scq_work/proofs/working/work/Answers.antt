@@ -1,5 +1,5 @@
 -- The sources are those that were laid out.
-use Rattle.std.proofs.Common.{◌≡◌, ◌+◌, sym, ap, subst, List, length, map}
+use Rattle.std.proofs.Common.{◌≡◌, ◌+◌, ℕ, sym, ap, subst, List, length, map}
 use Rattle.std.specs.Prelude.{IfSome, IsSomeAnd}
 use Rattle.std.specs.List.{All}
 use Rattle.scq_block.specs.Frames.{bytes_of}
@@ -9,8 +9,10 @@ use Rattle.scq_passes.specs.Leaving.{HasLeftSwept}
 use Rattle.scq_passes.specs.Records.{IsReturn}
 use Rattle.scq_passes.specs.Together.{NoneSpent}
 use Rattle.scq_work.specs.AllWorkers.{NothingIsStranded}
-use Rattle.scq_work.specs.declared.desk.Desk.{Desk}
-use Rattle.scq_work.proofs.Settling.{all-behind, some-of}
+use Rattle.scq_files.specs.declared.desk.Desk.{Desk}
+use Rattle.scq_work.specs.Seats.{Seated}
+use Rattle.scq_desk.proofs.Settled.{all-behind, some-and, some-of}
+use Rattle.scq_work.specs.declared.worker.Worker.{Worker}
 use Rattle.scq_work.proofs.working.work.Goals as goal
 
 pub returns-in-Ok-make_queue-clause-moved : goal.returns-in-Ok-make_queue-clause-moved
@@ -29,12 +31,12 @@ returns-in-Ok-make_queue-clause-behind g c =
     let end = c.wind_up-end.result.0 in
     let said = c.wind_up-end.ensures in
     let P : PassStanding Frame → Type 0 = HasLeftSwept bytes_of IsReturn topics 64 in
-    let its = some-of end.passes (λ ps. ps.value.items ≡ map (λ (d : Desk Frame S). d.worker.pass) ran) said.there said.passes in
-    let left = some-of end.left (λ l. IsSomeAnd end.passes (λ ps. NothingIsStranded job.order topics job.workers ps.value.items l.items)) said.closed
-    said.end.none_stranded in
-    let closed : NothingIsStranded job.order topics job.workers its.it.value.items left.it.items =
-    subst (λ o. IsSomeAnd o (λ ps. NothingIsStranded job.order topics job.workers ps.value.items left.it.items)) its.same left.holds in
-    let none : NoneSpent (map (λ (d : Desk Frame S). d.worker.pass) ran) =
-    subst (λ (ps : List (PassStanding Frame)). NoneSpent ps) its.holds closed.shared.unspent in
+    let its = some-of end.passes (λ ps. ps.value.items ≡ map (λ (d : Desk (Seated Frame) S). d.worker.worker.pass) ran) said.there said.passes in
+    let Closed : List (PassStanding Frame) → List ℕ → Type 0 =
+    λ ps l. IsSomeAnd end.frames (λ fs. NothingIsStranded job.order topics job.workers ps fs.value.items l) in
+    let left = some-of end.left (λ l. IsSomeAnd end.passes (λ ps. Closed ps.value.items l.items)) said.closed said.end.none_stranded in
+    let closed = some-and end.frames _ (subst (λ o. IsSomeAnd o (λ ps. Closed ps.value.items left.it.items)) its.same left.holds) in
+    let none : NoneSpent (map (λ (d : Desk (Seated Frame) S). d.worker.worker.pass) ran) =
+    subst (λ (ps : List (PassStanding Frame)). NoneSpent ps) its.holds closed.holds.shared.unspent in
     subst (λ o. IfSome o (λ ps. All P ps.value.items)) (sym its.same)
-    (subst (λ (ps : List (PassStanding Frame)). All P ps) (sym its.holds) (all-behind P ran c.run_apart-desks.ensures.behind none))
+    (subst (λ (ps : List (PassStanding Frame)). All P ps) (sym its.holds) (all-behind (λ (w : Worker Frame). w.pass) P ran c.run_apart-desks.ensures.behind none))

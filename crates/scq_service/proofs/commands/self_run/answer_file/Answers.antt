@@ -9,8 +9,9 @@ pub returns-in-Ok-clause-left : goal.returns-in-Ok-clause-left
 returns-in-Ok-clause-left g c =
     let job = c.job_of-job.result in
     let its = c.job_of-job.ensures in
-    let Left : ℕ → ℕ → ℕ → Type 0 = λ order topics workers. IfSome c.work-result.result.left (λ left. IsSomeAnd c.work-result.result.passes (λ passes.
-    NothingIsStranded order topics workers passes.value.items left.items)) in
+    let end = c.work-result.result in
+    let Left : ℕ → ℕ → ℕ → Type 0 = λ order topics workers. IfSome end.left (λ left. IsSomeAnd end.passes (λ passes. IsSomeAnd end.frames (λ frames.
+    NothingIsStranded order topics workers passes.value.items frames.value.items left.items))) in
     let topics : length job.topics ≡ length self_topics = ap length (its.topics ∙ c.self_topics.ensures) in
     subst (λ n. Left 6 (length self_topics + 1) n) its.workers
     (subst (λ n. Left 6 (n + 1) job.workers) topics

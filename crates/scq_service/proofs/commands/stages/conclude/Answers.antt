@@ -29,14 +29,16 @@ caused size faults end_count left olds news (TooLarge file bytes) stops = stops
 caused size faults end_count left olds news NoMemory stops = stops
 
 -- where there was a queue, nothing is stranded in it, by passes that are these
-stranded : {L P : Type 0} (order workers : ℕ) (left : Option L) (passes : Option P) (in_rings : L → List ℕ) (own : P → List (PassStanding Frame))
+stranded : {L P F : Type 0} (order workers : ℕ) (left : Option L) (passes : Option P) (frames : Option F) (in_rings : L → List ℕ)
+    (own : P → List (PassStanding Frame)) (back : F → List Frame)
     (these : List (PassStanding Frame)) → (left ≡ None → ⊥) → IsSomeAnd passes (λ p. own p ≡ these)
-    → IfSome left (λ l. IsSomeAnd passes (λ p. NothingIsStranded order workers (own p) (in_rings l)))
-    → (rings : List ℕ) × NothingIsStranded order workers these rings
-stranded order workers None passes in_rings own these gone same closed = absurd (gone refl)
-stranded order workers (Some l) None in_rings own these gone same closed = absurd same
-stranded order workers (Some l) (Some p) in_rings own these gone same closed =
-    (in_rings l, subst (λ (passes : List (PassStanding Frame)). NothingIsStranded order workers passes (in_rings l)) same closed)
+    → IfSome left (λ l. IsSomeAnd passes (λ p. IsSomeAnd frames (λ f. NothingIsStranded order workers (own p) (back f) (in_rings l))))
+    → (all : List Frame) × (rings : List ℕ) × NothingIsStranded order workers these all rings
+stranded order workers None passes frames in_rings own back these gone same closed = absurd (gone refl)
+stranded order workers (Some l) None frames in_rings own back these gone same closed = absurd same
+stranded order workers (Some l) (Some p) None in_rings own back these gone same closed = absurd closed
+stranded order workers (Some l) (Some p) (Some f) in_rings own back these gone same closed =
+    (back f, (in_rings l, subst (λ (passes : List (PassStanding Frame)). NothingIsStranded order workers passes (back f) (in_rings l)) same closed))
 
 pub returns-then-all-clause-got : goal.returns-then-all-clause-got
 returns-then-all-clause-got g c =
@@ -189,7 +191,7 @@ returns-then-all-clause-stranded g c =
     let M : Result Staged StageFault → Type 0 =
     λ r. IfOk r (λ s. IsSomeAnd end.passes (λ passes. passes.value.items ≡ s.passes.value.items)) in
     rw (c.behind.ensures.staged ∙ c.finished.ensures.staged)
-    (stranded job.order job.workers end.left end.passes (λ l. l.items) (λ p. p.value.items) _
+    (stranded job.order job.workers end.left end.passes end.frames (λ l. l.items) (λ p. p.value.items) (λ f. f.value.items) _
     (λ none. let err : end.result ≡ Err NoMemory = c.requires.none none in absurd (cc (c.in-Ok.is, err)))
     (subst M c.in-Ok.is c.requires.same) c.requires.left)
 

@@ -7,9 +7,9 @@ use Rattle.scq_queue.specs.Passes.{PassStanding}
 use Rattle.scq_passes.specs.Calls.{HasLeftSo, since}
 use Rattle.scq_passes.specs.Records.{on}
 use Rattle.scq_passes.proofs.InRun.{only-along, only-back, only-got, only-nothing}
-use Rattle.scq_passes.proofs.PassLemmas.{took-and-gave, found-none, found-past}
+use Rattle.scq_passes.proofs.PassLemmas.{took-and-gave, found-none}
 use Rattle.scq_passes.proofs.Since.{none_below-nothing}
-use Rattle.scq_passes.proofs.Sweeps.{found-now, found-takes}
+use Rattle.scq_passes.proofs.Taking.{found-nothing}
 use Rattle.scq_passes.proofs.Vain.{vain-got}
 use Rattle.scq_stages.specs.Records.{first, second, take_topic}
 use Rattle.scq_stages.specs.Working.{HasFewStageCalls}
@@ -96,20 +96,10 @@ pub returns-in-Err-Empty-clause-below : goal.returns-in-Err-Empty-clause-below
 returns-in-Err-Empty-clause-below g c =
     none_below-nothing first c.args.self.now.pass c.take.new.pass (ap (λ l. on first (takes_of l)) (found g c))
 
-pub returns-in-Err-Empty-clause-empty : goal.returns-in-Err-Empty-clause-empty
-returns-in-Err-Empty-clause-empty g c is =
+pub returns-in-Err-Empty-clause-none : goal.returns-in-Err-Empty-clause-none
+returns-in-Err-Empty-clause-none g c is =
     let low : suc second < length c.args.self.now.pass.numbers = let n = c.requires.suits.numbers in omega arith in
-    found-past second c.in-Err-Empty.field-0-0 c.args.self.now.pass c.take.new.pass low (c.in-Err-Empty.ensures.empty c.in-Err-Empty.field-0-0 (cc))
-
-pub returns-in-Err-Empty-clause-found : goal.returns-in-Err-Empty-clause-found
-returns-in-Err-Empty-clause-found g c is =
-    let empty = c.in-Err-Empty.ensures.empty c.in-Err-Empty.field-0-0 (cc) in
-    found-now second c.args.self.now.pass c.take.new.pass (ap (λ (x : PassStanding _). x.calls) empty.pass)
-
-pub returns-in-Err-Empty-clause-nothing : goal.returns-in-Err-Empty-clause-nothing
-returns-in-Err-Empty-clause-nothing g c is =
-    let empty = c.in-Err-Empty.ensures.empty c.in-Err-Empty.field-0-0 (cc) in
-    found-takes second c.args.self.now.pass c.take.new.pass (ap (λ (x : PassStanding _). x.calls) empty.pass)
+    found-nothing second c.in-Err-Empty.field-0-0 c.args.self.now.pass c.take.new.pass low (c.in-Err-Empty.ensures.empty c.in-Err-Empty.field-0-0 (cc))
 
 pub returns-in-Err-Spent-clause-left : goal.returns-in-Err-Spent-clause-left
 returns-in-Err-Spent-clause-left g c messages =
@@ -124,11 +114,12 @@ returns-in_ok-end_second-in-Ok-clause-only g c =
     (only-got (suc second) c.in-Ok.place c.args.self.now.pass c.take.new.pass c.in-Ok.held took (c.take.ensures.run c.requires.suits.spent))
     (only-back given.0 c.in-Ok.held.index c.take.new.pass c.end_second.new.self.pass given.1 c.end_second.ensures.run)
 
-pub returns-in_ok-end_second-in-Ok-clause-more : goal.returns-in_ok-end_second-in-Ok-clause-more
-returns-in_ok-end_second-in-Ok-clause-more g c is =
+pub returns-in_ok-end_second-in-Ok-clause-some : goal.returns-in_ok-end_second-in-Ok-clause-some
+returns-in_ok-end_second-in-Ok-clause-some g c is =
     let given = c.in_ok-end_second-in-Ok.ensures.given in
-    (vain-got g.B.Buffer.contents second c.in-Ok.place given.0 c.args.self.now.pass c.take.new.pass c.end_second.new.self.pass c.in-Ok.held
-    c.in-Ok.ensures.took given.1).1
+    let got = vain-got g.B.Buffer.contents second c.in-Ok.place given.0 c.args.self.now.pass c.take.new.pass c.end_second.new.self.pass c.in-Ok.held
+        c.in-Ok.ensures.took given.1 in
+    (record { rises = search rules; below = search rules; more = got.1 }, got.0)
 
 pub returns-in-Err-Empty-clause-only : goal.returns-in-Err-Empty-clause-only
 returns-in-Err-Empty-clause-only g c =

@@ -14,7 +14,7 @@ returns g c given one = record {
   run = c.finish.ensures.run;
   waited = c.finish.ensures.waited;
   files = ap ids_of c.finish.ensures.same ∙ one.files;
-  number = c.finish.ensures.number.1 ∙ one.number;
+  number = c.finish.ensures.number ∙ one.number;
   crew = c.finish.ensures.stand.0 ∙ ap (λ (p : Post). p.crew) one.stand;
   worker = c.finish.ensures.stand.1 ∙ ap (λ (p : Post). p.worker) one.stand;
 }

@@ -1,6 +1,5 @@
-use Rattle.std.proofs.Common.{◌∙◌, ap, sym}
+use Rattle.std.proofs.Common.{◌∙◌, ap}
 use Rattle.scq_park.specs.Crews.{Post}
-use Rattle.scq_queue.specs.Passes.{PassStanding}
 use Rattle.scq_work.proofs.threads.Work.produce.Goals as goal
 
 pub produce-requires-clause-rings : goal.produce-requires-clause-rings
@@ -9,14 +8,8 @@ produce-requires-clause-rings g c κs within = c.requires.ready.rings
 pub produce-requires-clause-room : goal.produce-requires-clause-room
 produce-requires-clause-room g c κs within = c.requires.ready.room
 
-pub produce-requires-clause-pass : goal.produce-requires-clause-pass
-produce-requires-clause-pass g c κs within = c.requires.given.fresh.pass
-
-pub produce-requires-clause-members : goal.produce-requires-clause-members
-produce-requires-clause-members g c κs within = c.requires.given.fresh.members
-
-pub produce-requires-clause-kept : goal.produce-requires-clause-kept
-produce-requires-clause-kept g c κs within = c.requires.given.fresh.kept
+pub produce-requires-clause-fresh : goal.produce-requires-clause-fresh
+produce-requires-clause-fresh g c κs within = c.requires.given.fresh
 
 pub produce-requires-clause-unread : goal.produce-requires-clause-unread
 produce-requires-clause-unread g c κs within = c.requires.given.unread
@@ -31,6 +24,6 @@ returns g c = record {
     stand = ap (λ (p : Post). p.crew) c.produce.ensures.bell ∙ c.requires.given.stand;
   };
   files = c.produce.ensures.same;
-  number = c.produce.ensures.number.1 ∙ sym (ap (λ (p : PassStanding _). p.number) c.requires.given.fresh.pass);
+  number = c.produce.ensures.number;
   stand = c.produce.ensures.bell;
 }

@@ -1,0 +1,155 @@
+use Rattle.std.proofs.Common.{rules, ◌≡◌, ◌≤◌, ◌∙◌, ap, sym, subst, ◌++◌, ◌∷◌, [], List, length, Some, None, Ok, Err, Result, Option}
+use Rattle.std.specs.Prelude.{IfErr, IfNone, IfSome, IsTrue}
+use Rattle.std.specs.Option.{option_map, option_to_list}
+use Rattle.scq_topics.specs.Topics.{topic_of}
+use Rattle.scq_frames.specs.Coming.{Found}
+use Rattle.scq_frames.specs.Framing.{IsNext, visible_ahead}
+use Rattle.scq_frames.specs.declared.message.Message.{Message}
+use Rattle.scq_files.specs.Given.{given_in}
+use Rattle.scq_files.specs.Reading.{IsRead}
+use Rattle.scq_frames.specs.declared.fault.FrameFault.TheVariants.{NoMemory}
+use Rattle.scq_files.specs.declared.own_file.FileEnd.TheVariants.{Stopped}
+use Rattle.scq_files.proofs.ReadLemmas.{IsReading, Answers, reading-next, reading-whole, reading-fault, reading-left}
+use Rattle.scq_files.proofs.Wants.{wants-none, wants-more}
+use Rattle.scq_files.proofs.reading.read_messages.Goals as goal
+use Rattle.scq_files.proofs.reading.read_messages.Goals.{After-next, After-handle}
+
+-- what the framer's answer says, whichever it is
+said : (g : _) (c : After-next g) → Answers g.S.Source.faults g.S.Source.ends g.S.Source.left c.messages.source c.next.new.source c.messages.framer
+    c.next.new.self
+said g c =
+    let its = c.next.ensures in
+    record {
+      file = its.limits.0;
+      payload = its.limits.1;
+      most = its.limits.2;
+      bounded = its.bounded;
+      end = its.end;
+      stays = λ h. (its.ended h).1;
+      size_same = its.size;
+      once = its.ends;
+    }
+
+-- with the message that it gave
+reading : (g : _) (c : After-handle g) → Answers g.S.Source.faults g.S.Source.ends g.S.Source.left c.messages.source c.next.new.source c.messages.framer
+    c.next.new.self
+    → IsReading c.args.topics.now c.args.longest g.S.Source.faults g.S.Source.ends g.S.Source.left c.args.file c.args.source.now c.next.new.source
+    c.next.new.self (given_in c.give.new.given.value)
+reading g c answer =
+    let m = c.in-Ok-Some.message in
+    let its = c.in-Ok-Some.ensures in
+    let is = c.in-Ok-Some.field-0-is in
+    let start = c.args.source.now in
+    let left = g.S.Source.left in
+    let topics = c.args.topics.now in
+    let ahead = visible_ahead (topic_of topics) c.messages.framer (left c.messages.source) in
+    let after = visible_ahead (topic_of topics) c.next.new.self (left c.next.new.source) in
+    let G : Option Message → Type 0 = λ given. ahead ≡ option_map (λ rest. option_to_list given ++ rest) after in
+    let X : Option Message → Type 0 = λ given. IfSome given (IsNext c.messages.framer c.next.new.self) in
+    let T : Option Message → Type 0 = λ given. IfSome given (λ x. x.topic ≤ length topics) in
+    let F : Option Message → Type 0 = λ given. Found c.messages.framer c.next.new.self (left c.messages.source) (left c.next.new.source) (Ok given) in
+    let gives : ahead ≡ option_map (λ rest. (m ∷ []) ++ rest) after = subst G is its.gives in
+    let next : IsNext c.messages.framer c.next.new.self m = subst X is its.next in
+    let S : Option Message → Type 0 = λ given. IfSome given (λ x. length x.payload ≤ c.messages.framer.size) in
+    let fits : length m.payload ≤ c.messages.framer.size = subst S is its.fits in
+    let known : m.topic ≤ length topics = subst T is its.topic in
+    let found : Found c.messages.framer c.next.new.self (left c.messages.source) (left c.next.new.source) (Ok (Some m)) = subst F is its.found in
+    reading-next c.args.topics.now c.args.longest g.S.Source.faults g.S.Source.ends g.S.Source.left c.args.file start c.messages.source
+    c.next.new.source
+    c.messages.framer c.next.new.self
+    (given_in c.messages.given.value) (given_in c.give.new.given.value) m c.messages.invariant.reading answer gives next known fits found its.failed
+    (its.kept (λ e. absurd (cc))) c.give.ensures
+
+-- it is handled behind the others
+handled-next : (g : _) (c : After-handle g)
+    → g.H.Handler.handled c.args.with.now (c.in-Ok-Some.message ∷ []) c.messages.beside c.messages.handler c.handle.new.beside c.handle.new.self
+    → g.H.Handler.handled c.args.with.now (given_in c.give.new.given.value) c.args.beside.now c.args.handler.now c.handle.new.beside c.handle.new.self
+handled-next g c its =
+    subst (λ (ms : List _). g.H.Handler.handled c.args.with.now ms c.args.beside.now c.args.handler.now c.handle.new.beside c.handle.new.self)
+    (sym c.give.ensures) (g.met.H.Handler.more_handled _ _ _ _ _ _ _ _ _ c.messages.invariant.handled its)
+
+pub returns-in_err-handle-in-Ok-Some-clause-unended : goal.returns-in_err-handle-in-Ok-Some-clause-unended
+returns-in_err-handle-in-Ok-Some-clause-unended g c =
+    let now = reading g (goal.at.returns-in_err-handle-in-Ok-Some-clause-unended g c).After-handle
+    (said g (goal.at.returns-in_err-handle-in-Ok-Some-clause-unended g c).After-next) in
+    let is : c.from_residual.result ≡ Err c.in_err-handle-in-Ok-Some.field-0.0 = search rules in
+    subst (λ (r : Result _ _). IfErr r (λ l. IsRead c.args.topics.now c.args.longest g.S.Source.faults g.S.Source.ends g.S.Source.left c.args.file
+    c.args.source.now c.next.new.source (given_in c.give.new.given.value) (Stopped NoMemory))) (sym is)
+    (reading-left c.args.topics.now c.args.longest g.S.Source.faults g.S.Source.ends g.S.Source.left c.args.file c.args.source.now
+    c.next.new.source c.next.new.self (given_in c.give.new.given.value) now)
+
+pub returns-in_err-handle-in-Ok-Some-clause-stopped : goal.returns-in_err-handle-in-Ok-Some-clause-stopped
+returns-in_err-handle-in-Ok-Some-clause-stopped g c =
+    let stop = c.in_err-handle-in-Ok-Some.field-0.0 in
+    let is : c.from_residual.result ≡ Err stop = search rules in
+    subst (λ (r : Result _ _). IfErr r (g.H.Handler.stopped c.args.with.now (given_in c.give.new.given.value) c.args.beside.now c.args.handler.now
+    c.handle.new.beside c.handle.new.self)) (sym is)
+    (subst (λ (ms : List _). g.H.Handler.stopped c.args.with.now ms c.args.beside.now c.args.handler.now c.handle.new.beside c.handle.new.self stop)
+    (sym c.give.ensures)
+    (g.met.H.Handler.then_stopped _ _ _ _ _ _ _ _ _ stop c.messages.invariant.handled c.in_err-handle-in-Ok-Some.ensures.stopped))
+
+pub returns-then-starved-clause-read : goal.returns-then-starved-clause-read
+returns-then-starved-clause-read g c =
+    let now = reading g (goal.at.returns-then-starved-clause-read g c).After-handle (said g (goal.at.returns-then-starved-clause-read g c).After-next) in
+    reading-left c.args.topics.now c.args.longest g.S.Source.faults g.S.Source.ends g.S.Source.left c.args.file c.args.source.now
+    c.next.new.source c.next.new.self (given_in c.give.new.given.value) now
+
+pub returns-then-starved-clause-handled : goal.returns-then-starved-clause-handled
+returns-then-starved-clause-handled g c =
+    handled-next g (goal.at.returns-then-starved-clause-handled g c).After-handle c.in_ok-handle-in-Ok-Some.ensures.handled
+
+pub messages-preserved : goal.messages-preserved
+messages-preserved g c =
+    let its = c.in_ok-handle-in-Ok-Some.ensures in
+    record {
+      reading = reading g (goal.at.messages-preserved g c).After-handle (said g (goal.at.messages-preserved g c).After-next);
+      ready = g.met.H.Handler.stays_ready _ _ _ _ _ _ c.messages.invariant.ready its.handled;
+      handled = handled-next g (goal.at.messages-preserved g c).After-handle its.handled;
+      fed = λ fed. sym c.starved.ensures ∙ c.if-starved.false;
+    }
+
+pub returns-in-Ok-None-clause-read : goal.returns-in-Ok-None-clause-read
+returns-in-Ok-None-clause-read g c =
+    let its = c.in-Ok-None.ensures in
+    let is = c.in-Ok-None.field-0-is in
+    let left = g.S.Source.left in
+    let ahead = visible_ahead (topic_of c.args.topics.now) c.messages.framer (left c.messages.source) in
+    let N : Option Message → Type 0 = λ given. IfNone given (ahead ≡ option_map (λ _. []) (left c.messages.source)) in
+    let O : Option Message → Type 0 = λ given. IfNone given (IsTrue c.next.new.self.ended × (c.next.new.self.held ≡ [])) in
+    let F : Option Message → Type 0 = λ given. Found c.messages.framer c.next.new.self (left c.messages.source) (left c.next.new.source) (Ok given) in
+    let none_ : ahead ≡ option_map (λ _. []) (left c.messages.source) = subst N is its.none in
+    let over : IsTrue c.next.new.self.ended × (c.next.new.self.held ≡ []) = subst O is its.over in
+    let found : Found c.messages.framer c.next.new.self (left c.messages.source) (left c.next.new.source) (Ok None) = subst F is its.found in
+    reading-whole c.args.topics.now c.args.longest g.S.Source.faults g.S.Source.ends g.S.Source.left c.args.file c.args.source.now c.messages.source
+    c.next.new.source c.messages.framer
+    c.next.new.self (given_in c.messages.given.value) c.messages.invariant.reading (said g (goal.at.returns-in-Ok-None-clause-read g c).After-next) none_
+    found over.0
+    (its.kept (λ e. absurd (cc)))
+
+pub returns-in-Err-clause-read : goal.returns-in-Err-clause-read
+returns-in-Err-clause-read g c =
+    let its = c.next.ensures in
+    let fault = c.in-Err.fault in
+    let is = c.in-Err.is in
+    reading-fault c.args.topics.now c.args.longest g.S.Source.faults g.S.Source.ends g.S.Source.left c.args.file c.args.source.now c.messages.source
+    c.next.new.source c.messages.framer
+    c.next.new.self (given_in c.messages.given.value) fault c.messages.invariant.reading (said g (goal.at.returns-in-Err-clause-read g c).After-next)
+    c.in-Err.ensures.found
+    (λ e. its.read_fault (is ∙ ap Err e)) (λ e. its.going (is ∙ ap Err e)) (λ other. its.kept (λ e. other (cc)))
+    (λ line len e. its.too_long line len (is ∙ ap Err e)) (λ n e. its.too_large n (is ∙ ap Err e))
+
+-- memory was wanted at this message, if at all
+pub returns-in_err-handle-in-Ok-Some-clause-wanted : goal.returns-in_err-handle-in-Ok-Some-clause-wanted
+returns-in_err-handle-in-Ok-Some-clause-wanted g c fed =
+    wants-more _ _ c.in-Ok-Some.message _ _ _ _ c.give.ensures c.messages.invariant.handled (c.messages.invariant.fed fed)
+
+pub returns-then-starved-clause-wanted : goal.returns-then-starved-clause-wanted
+returns-then-starved-clause-wanted g c fed =
+    wants-more _ _ c.in-Ok-Some.message _ _ _ _ c.give.ensures c.messages.invariant.handled (c.messages.invariant.fed fed)
+
+-- at none
+pub returns-in-Ok-None-clause-wanted : goal.returns-in-Ok-None-clause-wanted
+returns-in-Ok-None-clause-wanted g c fed = wants-none _ _ _ _ _ c.messages.invariant.handled (c.messages.invariant.fed fed)
+
+pub returns-in-Err-clause-wanted : goal.returns-in-Err-clause-wanted
+returns-in-Err-clause-wanted g c fed = wants-none _ _ _ _ _ c.messages.invariant.handled (c.messages.invariant.fed fed)
