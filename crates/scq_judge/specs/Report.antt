@@ -128,8 +128,8 @@ report_lines t r =
     ++ beside_line (codes "once") t r.breaches.once (codes "; named before at ") told.once
     ++ order_line (codes "in order") t r.breaches.in_order told.in_order told.overtaker
     ++ waiting_line (codes "empty") t r.breaches.empty_right told.empty_right
-    ++ beside_line (codes "refused never got") t r.breaches.accepted (codes ";
-    put refused at ") told.accepted
+    ++ beside_line (codes "refused never got") t r.breaches.accepted
+    (codes "; put refused at ") told.accepted
     ++ full_line t r.full
     ++ count_line (codes "events") r.counts.events ++ count_line (codes "queues") r.counts.queues
     ++ count_line (codes "seats") r.counts.seats ++ count_line (codes "calls") r.counts.calls
