@@ -1,17 +1,16 @@
 //! Seats whose events stand in two files.
 
 ghost use Rattle.std.specs.Prelude.{◌≡◌, ◌+◌, ◌<◌, ℕ, List, length, IfOk, OnOk, MatchOption};
-ghost use Rattle.std.specs.Prelude.{nat_eq};
-ghost use Rattle.std.specs.HashMap.{get};
-ghost use Rattle.scq_judge.specs.Seats.{seat_of, IsAt, HaveOwnFiles, HasSeatOfAnother, AreHomes};
-ghost use Rattle.scq_judge.specs.Seats.{IsAtHome, IsAway};
+ghost use Rattle.std.specs.BTreeMap.{get};
+ghost use Rattle.std.specs.Ordering.{nat_cmp};
+ghost use Rattle.scq_judge.specs.Seats.{seat_of, IsAt, HaveOwnFiles, HasSeatOfAnother, AreHomes, IsAtHome, IsAway};
 ghost use Rattle.scq_judge.specs.declared.recorded.Stamped.{Stamped as TheStamped};
 
 use crate::recorded::{Place, Stamped};
 use scq_hist::Event;
 use scq_word::NoMemory;
 use std::alloc::Global;
-use std::collections::HashMap;
+use std::collections::BTreeMap;
 
 /// Where an event stands, and where one stands of the same seat in another file.
 #[derive(Clone, Copy)]
@@ -23,7 +22,7 @@ pub(crate) struct Apart {
 /// Where the first event of each seat stands.
 #[derive(Drop)]
 pub(crate) struct Homes {
-    known: HashMap<u32, Place>,
+    known: BTreeMap<u32, Place>,
 }
 
 fn seat_of(event: &Event) -> u32
@@ -46,8 +45,7 @@ fn at(events: &[Stamped], i: usize) -> (u32, Place)
 
 // The home, if it is in another file than the place.
 fn if_elsewhere(home: Place, place: Place) -> Option<Place>
-    ensures { MatchOption result (home.file ≡ place.file) (λ other.
-        (other ≡ home) × (¬ (home.file ≡ place.file))) }
+    ensures { MatchOption result (home.file ≡ place.file) (λ other. (other ≡ home) × (¬ (home.file ≡ place.file))) }
 {
     if home.file == place.file {
         None
@@ -61,18 +59,17 @@ impl Homes {
         ensures { (events : List TheStamped) → AreHomes events 0 result }
     {
         Homes {
-            known: HashMap::new(alloc),
+            known: BTreeMap::new(alloc),
         }
     }
 
     fn get(&self, seat: u32) -> Option<Place>
-        ensures { result ≡ get nat_eq self.now.known seat }
+        ensures { result ≡ get nat_cmp self.now.known seat }
     {
         self.known.get(&seat).copied()
     }
 
-    // Where the first event stands of the seat that the event at this position is of, if that is in
-    // another file.
+    // Where the first event stands of the seat that the event at this position is of, if that is in another file.
     fn elsewhere(&self, events: &[Stamped], i: usize) -> Option<Place>
         requires within { i < length events.now }
         requires homes { AreHomes events.now i self.now }
@@ -105,9 +102,7 @@ impl Homes {
 
 /// The first event that is of a seat which has one in another file before it.
 pub(crate) fn first_apart(alloc: Global, events: &[Stamped]) -> Result<Option<Apart>, NoMemory>
-    ensures { IfOk result (λ found.
-        MatchOption found (HaveOwnFiles events.now) (λ apart.
-        HasSeatOfAnother events.now apart.place apart.other)) }
+    ensures { IfOk result (λ found. MatchOption found (HaveOwnFiles events.now) (λ apart. HasSeatOfAnother events.now apart.place apart.other)) }
 {
     let mut homes = Homes::new(alloc);
     for i in 0..events.len() {
