@@ -60,7 +60,7 @@ complete size text faults end_count left names got r w (Some (Unlawful line)) e 
 complete size text faults end_count left names got r w (Some (Unfinished seat)) e calm = absurd (e.0)
 complete size text faults end_count left names got r w (Some (BadLineOf file line)) e calm = absurd (e.0)
 complete size text faults end_count left names got r w (Some (SharedOf what file line g m)) e calm = absurd (e.0)
-complete size text faults end_count left names got r w (Some (TwoRunsOf file run g s)) e calm = absurd (e.0)
+complete size text faults end_count left names got r w (Some (TwoRunsOf file n g s)) e calm = absurd (e.0)
 complete size text faults end_count left names got r w (Some (UnlawfulOf file line)) e calm = absurd (e.0)
 
 -- a run over no file of the outside, none of whose writes failed, ends likewise
@@ -80,7 +80,7 @@ complete-alone text w (Some (Unlawful line)) e calm = absurd e
 complete-alone text w (Some (Unfinished seat)) e calm = absurd e
 complete-alone text w (Some (BadLineOf file line)) e calm = absurd e
 complete-alone text w (Some (SharedOf what file line g m)) e calm = absurd e
-complete-alone text w (Some (TwoRunsOf file run g s)) e calm = absurd e
+complete-alone text w (Some (TwoRunsOf file n g s)) e calm = absurd e
 complete-alone text w (Some (UnlawfulOf file line)) e calm = absurd e
 
 -- the count of one source isn't both 0 and 1
@@ -125,7 +125,7 @@ complete-text command faults end_count left name got r w (Some (Unlawful line)) 
 complete-text command faults end_count left name got r w (Some (Unfinished seat)) e calm = inr (inr e.0)
 complete-text command faults end_count left name got r w (Some (BadLineOf file line)) e calm = inr (inr e.0)
 complete-text command faults end_count left name got r w (Some (SharedOf what file line g m)) e calm = inr (inr e.0)
-complete-text command faults end_count left name got r w (Some (TwoRunsOf file run g s)) e calm = inr (inr e.0)
+complete-text command faults end_count left name got r w (Some (TwoRunsOf file n g s)) e calm = inr (inr e.0)
 complete-text command faults end_count left name got r w (Some (UnlawfulOf file line)) e calm = inr (inr e.0)
 complete-text command faults end_count left name got r w (Some (TooLong file line len limit)) e calm = inr (inr e.0)
 complete-text command faults end_count left name got r w (Some (Words fault)) e calm = inr (inr e.0)

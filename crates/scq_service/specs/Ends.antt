@@ -192,7 +192,7 @@ ReadsOver size faults end_count left names got r (Some (Unlawful line)) = ⊥
 ReadsOver size faults end_count left names got r (Some (Unfinished seat)) = ⊥
 ReadsOver size faults end_count left names got r (Some (BadLineOf file line)) = ⊥
 ReadsOver size faults end_count left names got r (Some (SharedOf what file line g m)) = ⊥
-ReadsOver size faults end_count left names got r (Some (TwoRunsOf file run g s)) = ⊥
+ReadsOver size faults end_count left names got r (Some (TwoRunsOf file n g s)) = ⊥
 ReadsOver size faults end_count left names got r (Some (UnlawfulOf file line)) = ⊥
 ReadsOver size faults end_count left names got r (Some (Words fault)) = ⊥
 

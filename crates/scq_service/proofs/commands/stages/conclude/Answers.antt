@@ -38,7 +38,7 @@ stranded order workers None passes frames in_rings own back these gone same clos
 stranded order workers (Some l) None frames in_rings own back these gone same closed = absurd same
 stranded order workers (Some l) (Some p) None in_rings own back these gone same closed = absurd closed
 stranded order workers (Some l) (Some p) (Some f) in_rings own back these gone same closed =
-    (back f, (in_rings l, subst (λ (passes : List (PassStanding Frame)). NothingIsStranded order workers passes (back f) (in_rings l)) same closed))
+    (back f, in_rings l, subst (λ (passes : List (PassStanding Frame)). NothingIsStranded order workers passes (back f) (in_rings l)) same closed)
 
 pub returns-then-all-clause-got : goal.returns-then-all-clause-got
 returns-then-all-clause-got g c =
