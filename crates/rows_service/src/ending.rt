@@ -131,7 +131,8 @@ fn counts_of(worked: &Option<Worked>, staged: &Option<Staged>) -> Option<[u64; 3
     Some(sums)
 }
 
-/// Whether the last line of a report tells as many taken as sent, and with those answered directly as many as the output answers.
+/// Whether the last line of a report tells as many taken as sent, and with those answered directly
+/// as many as the output answers.
 fn adds_up(output: &[u8], report: &[u8]) -> bool {
     let Ok(report) = std::str::from_utf8(report) else {
         return false;

@@ -8,7 +8,8 @@ use scq_outside::{Failed, Files, MemSink, MemSource, Source};
 use scq_word::NoMemory;
 use std::alloc::Global;
 
-/// How the calls of an object go: the greatest piece that one moves, and the number of the one that fails, from 1. None is number 0.
+/// How the calls of an object go: the greatest piece that one moves, and the number of the one that
+/// fails, from 1. None is number 0.
 #[derive(Clone, Copy, Drop)]
 pub struct Cut {
     piece: u32,
@@ -124,7 +125,8 @@ impl Source for RowSource<'_> {
     }
 }
 
-/// The files of a row, each of which is given once. Their sources are cut alike, but for those that have cuts of their own.
+/// The files of a row, each of which is given once. Their sources are cut alike, but for those that
+/// have cuts of their own.
 #[derive(Drop)]
 pub struct RowFiles<'a> {
     alloc: Global,

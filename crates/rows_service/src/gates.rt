@@ -1,5 +1,5 @@
-//! Gates by which the two workers of a row wait for one another, so that both are at work at one time. Where workers call no gate, the first
-//! reads of their files do the same.
+//! Gates by which the two workers of a row wait for one another, so that both are at work at one
+//! time. Where workers call no gate, the first reads of their files do the same.
 ghost use Rattle.std.specs.Prelude.{◌<◌};
 
 use scq_work::{Gate, Point};
@@ -17,14 +17,16 @@ pub enum RowGate {
     Handing(Handing),
 }
 
-/// Two workers wait for one another, each at its first call with a point. It counts how often a worker saw the other.
+/// Two workers wait for one another, each at its first call with a point. It counts how often a
+/// worker saw the other.
 #[derive(Drop)]
 pub struct Meeting {
     came: [AtomicU64; 6],
     saw: AtomicU64,
 }
 
-/// Worker 0 stays behind its send until worker 1 has taken, and worker 1 in front of its first take until worker 0 has sent.
+/// Worker 0 stays behind its send until worker 1 has taken, and worker 1 in front of its first take
+/// until worker 0 has sent.
 #[derive(Drop)]
 pub struct Handing {
     sent: AtomicU64,
@@ -124,7 +126,8 @@ impl FirstReads {
         }
     }
 
-    /// Waits in the first read of a file until that of the other has begun. It counts how often one saw the other.
+    /// Waits in the first read of a file until that of the other has begun. It counts how often one
+    /// saw the other.
     pub fn meet(&self, first: bool) {
         let own = if first { &self.first } else { &self.second };
         let other = if first { &self.second } else { &self.first };

@@ -1,6 +1,6 @@
-//! Runs the service over rows that stand in files: the words of a command line, the files that it names, and what
-//! is to come of it. It prints each row that ends otherwise, and how many rows of each file ran. `row.rt`
-//! has the form of a row.
+//! Runs the service over rows that stand in files: the words of a command line, the files that it
+//! names, and what is to come of it. It prints each row that ends otherwise, and how many rows of
+//! each file ran. `row.rt` has the form of a row.
 #![tactic(auto)]
 
 mod ending;

@@ -1,17 +1,21 @@
-//! A row: what the service is given, and what is to come of it. Its lines, each a mark and, after a space, a text:
+//! A row: what the service is given, and what is to come of it. Its lines, each a mark and, after a
+//! space, a text:
 //!
 //! - `$` words of the command line, with a space between them, and `+` more of the last of them;
-//! - `<` the name of a file, then for each line of its content a `|`, or `endless` where it gives lines that never end, and `cut` where
-//!   its reads alone go otherwise than `reads` says;
-//! - `>` a line of the output, `!` a line of the errors; `?` in place of these where the errors are a report,
-//!   which has to add up;
-//! - `reads`, `writes`, `errors`: the greatest piece that a read or a write moves, and which call of each object fails, 0 for none;
+//! - `<` the name of a file, then for each line of its content a `|`, or `endless` where it gives
+//!   lines that never end, and `cut` where its reads alone go otherwise than `reads` says;
+//! - `>` a line of the output, `!` a line of the errors; `?` in place of these where the errors are
+//!   a report, which has to add up;
+//! - `reads`, `writes`, `errors`: the greatest piece that a read or a write moves, and which call
+//!   of each object fails, 0 for none;
 //! - `room`: how many bytes fit the output;
 //! - `waits`: workers that find nothing to take wait in place of leaving early;
-//! - `meets`: its two workers meet at each point of the gate; `hands`: the first one's part is taken by the other; `reads_meet`: the first
-//!   reads of its two files wait for one another;
-//! - `counts`: how many messages all workers together sent, took and found no buffer for; without this line that isn't compared;
-//! - `left`: how many buffers are left in each ring of the workers' queue; without this line that isn't compared;
+//! - `meets`: its two workers meet at each point of the gate; `hands`: the first one's part is
+//!   taken by the other; `reads_meet`: the first reads of its two files wait for one another;
+//! - `counts`: how many messages all workers together sent, took and found no buffer for; without
+//!   this line that isn't compared;
+//! - `left`: how many buffers are left in each ring of the workers' queue; without this line that
+//!   isn't compared;
 //! - `=` the status, which ends the row.
 //!
 //! `rows_text` has what stands for bytes that aren't seen.

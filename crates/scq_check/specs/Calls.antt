@@ -1,5 +1,6 @@
 -- For private calls: where the calls of events started
-use Rattle.std.specs.Prelude.{◌≡◌, ℕ, ◌<◌, List, Option, Some, None, length, slice_get, slice_index, unwrap_or, nat_eq}
+use Rattle.std.specs.Prelude.{◌≡◌, ℕ, ◌<◌, List, Option, Some, None, length, slice_get, slice_index}
+use Rattle.std.specs.Prelude.{unwrap_or, nat_eq}
 use Rattle.std.specs.HashMap.{get}
 use Rattle.scq_hist.specs.Calls.{under_way}
 use Rattle.scq_hist.specs.declared.events.Call.{Call}
@@ -7,7 +8,8 @@ use Rattle.scq_hist.specs.declared.events.Event.{Event}
 use Rattle.scq_hist.specs.declared.events.Event.TheVariants.{Start, End}
 use Rattle.scq_check.specs.declared.calls.Calls.{Calls}
 
--- where the call of this event at position e started: a Start itself, and of an End what its seat has under way there
+-- where the call of this event at position e started: a Start itself, and of an End what its seat
+-- has under way there
 abbrev pub own_start : List Event → ℕ → Option Event → ℕ
 own_start events e (Some (Start _ _)) = e
 own_start events e (Some (End seat _)) = unwrap_or (under_way events seat e) e
@@ -16,7 +18,8 @@ own_start events e None = e
 -- after the first m events: where the call of each started, and what each seat has under way
 pub record IsCalls (events : List Event) (m : ℕ) (calls : Calls) : Type 0 where
   pub many : length calls.starts.items ≡ m
-  pub starts : (e : ℕ) → e < m → slice_index calls.starts.items e ≡ own_start events e (slice_get events e)
+  pub starts : (e : ℕ) → e < m
+      → slice_index calls.starts.items e ≡ own_start events e (slice_get events e)
   pub last : (seat : ℕ) → get nat_eq calls.under_way seat ≡ under_way events seat m
 
 -- the seat has this call under way at moment m

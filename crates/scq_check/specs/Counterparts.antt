@@ -13,17 +13,20 @@ use Rattle.scq_check.specs.declared.counterparts.Origin.{Origin}
 use Rattle.scq_check.specs.declared.counterparts.Origin.TheVariants.{Nobody, Token, Start}
 use Rattle.scq_check.specs.declared.waiting.Waiting.{Waiting}
 
--- where the put of this name was put: by nobody in the whole list, or it is the opening token of this number, or its Start stands there
+-- where the put of this name was put: by nobody in the whole list, or it is the opening token of
+-- this number, or its Start stands there
 abbrev pub IsOrigin : List (List ℕ) → List Event → PutName → Origin → Type 0
 IsOrigin opening events (Opening number) Nobody = length opening ≤ number
-IsOrigin opening events (Opening number) (Token token) = (token ≡ number) × (number < length opening)
+IsOrigin opening events (Opening number) (Token token) =
+    (token ≡ number) × (number < length opening)
 IsOrigin opening events (Opening number) (Start s) = ⊥
 IsOrigin opening events (Of seat number) Nobody = NoPutBefore events seat number (length events)
 IsOrigin opening events (Of seat number) (Token token) = ⊥
 IsOrigin opening events (Of seat number) (Start s) = StartsPut events seat number s
 
 -- fresh, and in order: the Got at position e names a put, and this is where that was put
-pub record IsOfOrigin (opening : List (List ℕ)) (events : List Event) (e : ℕ) (origin : Origin) : Type 0 where
+pub record IsOfOrigin (opening : List (List ℕ)) (events : List Event) (e : ℕ)
+    (origin : Origin) : Type 0 where
   pub name : PutName
   pub named : Names events e name
   pub is : IsOrigin opening events name origin
@@ -40,15 +43,19 @@ pub record IsRepeatOf (events : List Event) (e d : ℕ) : Type 0 where
   pub again : Names events e name
   pub first : IsFirstNamed events name d
 
--- in order: the get that ends at position e has got a put, and these that were finished when it started wait for gets
-pub record IsOvertaking (opening : List (List ℕ)) (events : List Event) (e : ℕ) (waiting : Waiting) : Type 0 where
+-- in order: the get that ends at position e has got a put, and these that were finished when it
+-- started wait for gets
+pub record IsOvertaking (opening : List (List ℕ)) (events : List Event) (e : ℕ)
+    (waiting : Waiting) : Type 0 where
   pub queue : ℕ
   pub start : ℕ
   pub got : IsPutGotAt events e queue start
   pub waits : AreWaiting opening events queue start e waiting
 
--- empty: the get that ends at position e has found nothing, and these that were finished by then wait for gets
-pub record IsEmptyBeside (opening : List (List ℕ)) (events : List Event) (e : ℕ) (waiting : Waiting) : Type 0 where
+-- empty: the get that ends at position e has found nothing, and these that were finished by then
+-- wait for gets
+pub record IsEmptyBeside (opening : List (List ℕ)) (events : List Event) (e : ℕ)
+    (waiting : Waiting) : Type 0 where
   pub queue : ℕ
   pub start : ℕ
   pub empty : IsEmptyAt events e queue start

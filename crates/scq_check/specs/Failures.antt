@@ -1,4 +1,5 @@
--- The events that break an aspect, which is a fact of each event: the first of them, and how many they are
+-- The events that break an aspect, which is a fact of each event: the first of them, and how many
+-- they are
 use Rattle.std.specs.Prelude.{ℕ, ◌+◌, ◌<◌, ◌≤◌, Bool, true, false, Option, Some, None}
 use Rattle.std.specs.Option.{option_or}
 use Rattle.scq_hist.specs.Counts.{IsCount}
@@ -23,4 +24,5 @@ pub record AreFailuresBefore (Holds : ℕ → Type 0) (m : ℕ) (failures : Fail
 -- with what is known of the event at position e
 abbrev pub failures_with : Failures → ℕ → Bool → Failures
 failures_with failures e true = failures
-failures_with failures e false = record { first = option_or failures.first (Some e); count = failures.count + 1 }
+failures_with failures e false =
+    record { first = option_or failures.first (Some e); count = failures.count + 1 }

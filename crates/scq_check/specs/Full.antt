@@ -1,7 +1,9 @@
--- A sixth verdict, where it is known for how many values each queue has room: a put that was refused found no place free. Places are counted
--- as tokens are: an opening token has one, a put that wasn't refused takes one at the earliest when it starts, and a get that has got a put
--- gives one back at the latest when it ends
-use Rattle.std.specs.Prelude.{◌≡◌, ℕ, ◌+◌, ◌<◌, ◌≤◌, ◌⊎◌, ◌==◌, if◌then◌else◌, List, Some, length, slice_get, unwrap_or, nat_eq, true, false, Bool}
+-- A sixth verdict, where it is known for how many values each queue has room: a put that was
+-- refused found no place free. Places are counted as tokens are: an opening token has one, a put
+-- that wasn't refused takes one at the earliest when it starts, and a get that has got a put gives
+-- one back at the latest when it ends
+use Rattle.std.specs.Prelude.{◌≡◌, ℕ, ◌+◌, ◌<◌, ◌≤◌, ◌⊎◌, ◌==◌, if◌then◌else◌, List, Some, length}
+use Rattle.std.specs.Prelude.{slice_get, unwrap_or, nat_eq, true, false, Bool}
 use Rattle.std.specs.HashMap.{get}
 use Rattle.scq_hist.specs.Calls.{IsCall, IsPut, Names}
 use Rattle.scq_hist.specs.Counts.{IsCount}
@@ -23,7 +25,8 @@ pub record IsTaking (events : List Event) (queue s : ℕ) : Type 0 where
   pub put : IsPut events seat number queue content s
   pub accepted : ¬ IsRefused events (Of seat number)
 
--- a get of this queue ends at position e and is the first to have got its put: from then on the place of that is free
+-- a get of this queue ends at position e and is the first to have got its put: from then on the
+-- place of that is free
 pub record IsFreeing (events : List Event) (queue e : ℕ) : Type 0 where
   pub seat : ℕ
   pub s : ℕ
@@ -40,9 +43,11 @@ IsBefore P m i = (i < m) × P i
 abbrev pub held_at_start : List (List ℕ) → ℕ → ℕ
 held_at_start opening queue = if queue == 0 then length opening else 0
 
--- at moment m no place of the queue is free for certain: its room, and the places that were given back by then, are at most the places that
--- were held at the start, and that may have been taken by then
-pub record IsFullAt (room : ℕ) (opening : List (List ℕ)) (events : List Event) (queue m : ℕ) : Type 0 where
+-- at moment m no place of the queue is free for certain: its room, and the places that were given
+-- back by then, are at most the places that were held at the start, and that may have been taken by
+-- then
+pub record IsFullAt (room : ℕ) (opening : List (List ℕ)) (events : List Event)
+    (queue m : ℕ) : Type 0 where
   pub taken : ℕ
   pub freed : ℕ
   pub takes : IsCount (IsBefore (IsTaking events queue) m) taken
@@ -51,7 +56,8 @@ pub record IsFullAt (room : ℕ) (opening : List (List ℕ)) (events : List Even
 
 -- so at a moment inside a call that starts at position s and ends at position e
 abbrev pub IsFullWithin : ℕ → List (List ℕ) → List Event → ℕ → ℕ → ℕ → Type 0
-IsFullWithin room opening events queue s e = (m : ℕ) × (s < m) × (m ≤ e) × IsFullAt room opening events queue m
+IsFullWithin room opening events queue s e =
+    (m : ℕ) × (s < m) × (m ≤ e) × IsFullAt room opening events queue m
 
 -- refused rightly, for the put that ends with Spent at position e
 abbrev pub IsFullRightAt : ℕ → List (List ℕ) → List Event → ℕ → Type 0
@@ -64,7 +70,8 @@ pub record IsPutAt (events : List Event) (queue s seat : ℕ) : Type 0 where
   pub starts : slice_get events s ≡ Some (Start seat (Put queue content))
 
 pub record NoPutAt (events : List Event) (queue s : ℕ) : Type 0 where
-  pub none : (seat : ℕ) (content : List ℕ) → ¬ (slice_get events s ≡ Some (Start seat (Put queue content)))
+  pub none : (seat : ℕ) (content : List ℕ)
+      → ¬ (slice_get events s ≡ Some (Start seat (Put queue content)))
 
 -- a put of this queue that starts at position s ends with Spent at position e
 pub record IsRefusalAt (events : List Event) (e queue s : ℕ) : Type 0 where
@@ -73,11 +80,13 @@ pub record IsRefusalAt (events : List Event) (e queue s : ℕ) : Type 0 where
   pub call : IsCall events seat (Put queue content) s e Spent
 
 pub record NoRefusalAt (events : List Event) (e : ℕ) : Type 0 where
-  pub none : (s seat queue : ℕ) (content : List ℕ) → ¬ IsCall events seat (Put queue content) s e Spent
+  pub none : (s seat queue : ℕ) (content : List ℕ)
+      → ¬ IsCall events seat (Put queue content) s e Spent
 
 -- by its numbers no place of the queue is free for certain
 abbrev pub IsUsedUp : ℕ → List (List ℕ) → ℕ → Places → Type 0
-IsUsedUp room opening queue places = room + places.freed ≤ held_at_start opening queue + places.taken
+IsUsedUp room opening queue places =
+    room + places.freed ≤ held_at_start opening queue + places.taken
 
 -- a number, or one more
 abbrev pub counted : ℕ → Bool → ℕ
@@ -93,19 +102,23 @@ abbrev pub places_in : AllPlaces → ℕ → Places
 places_in all queue = unwrap_or (get nat_eq all.known queue) untouched
 
 -- a moment up to m at which no place was free
-pub record IsFullBy (room : ℕ) (opening : List (List ℕ)) (events : List Event) (queue m k : ℕ) : Type 0 where
+pub record IsFullBy (room : ℕ) (opening : List (List ℕ)) (events : List Event)
+    (queue m k : ℕ) : Type 0 where
   pub by : k ≤ m
   pub full : IsFullAt room opening events queue k
 
 -- what is known of the places of the queue at moment m
-pub record ArePlacesOf (room : ℕ) (opening : List (List ℕ)) (events : List Event) (queue m : ℕ) (places : Places) : Type 0 where
+pub record ArePlacesOf (room : ℕ) (opening : List (List ℕ)) (events : List Event) (queue m : ℕ)
+    (places : Places) : Type 0 where
   pub takes : IsCount (IsBefore (IsTaking events queue) m) places.taken
   pub frees : IsCount (IsBefore (IsFreeing events queue) m) places.freed
   pub few_taken : places.taken ≤ m
   pub few_freed : places.freed ≤ m
   pub full : 0 < places.full_till → IsFullBy room opening events queue m places.full_till
-  pub last : (k : ℕ) → k ≤ m → IsFullAt room opening events queue k → (k ≤ places.full_till) ⊎ IsUsedUp room opening queue places
+  pub last : (k : ℕ) → k ≤ m → IsFullAt room opening events queue k
+      → (k ≤ places.full_till) ⊎ IsUsedUp room opening queue places
 
 -- so of each queue
-pub record ArePlacesAt (room : ℕ) (opening : List (List ℕ)) (events : List Event) (m : ℕ) (all : AllPlaces) : Type 0 where
+pub record ArePlacesAt (room : ℕ) (opening : List (List ℕ)) (events : List Event) (m : ℕ)
+    (all : AllPlaces) : Type 0 where
   pub each : (queue : ℕ) → ArePlacesOf room opening events queue m (places_in all queue)

@@ -27,7 +27,8 @@ pub record NotNamed (events : List Event) (m : ℕ) (name : PutName) : Type 0 wh
 
 -- after the first m events: the first Got that names each put
 pub record IsGots (events : List Event) (m : ℕ) (gots : Gots) : Type 0 where
-  pub first : (name : PutName) → MatchOption (found_in gots name) (NotNamed events m name) (IsFirstNamed events name)
+  pub first : (name : PutName)
+      → MatchOption (found_in gots name) (NotNamed events m name) (IsFirstNamed events name)
 
 -- the event is an End with Got of this name and content
 pub record IsGotOf (event : Event) (name : PutName) (content : List ℕ) : Type 0 where
@@ -36,4 +37,5 @@ pub record IsGotOf (event : Event) (name : PutName) (content : List ℕ) : Type 
 
 -- the event is no End with Got
 pub record IsNoGot (event : Event) : Type 0 where
-  pub none : (seat : ℕ) (name : PutName) (content : List ℕ) → ¬ (event ≡ End seat (Got name content))
+  pub none : (seat : ℕ) (name : PutName) (content : List ℕ)
+      → ¬ (event ≡ End seat (Got name content))

@@ -1,5 +1,6 @@
 -- What the lines of a text say of a history, and the first line with a fault
-use Rattle.std.specs.Prelude.{◌≡◌, ℕ, ◌+◌, Bool, true, false, ◌&&◌, ◌==◌, nat_lt, List, [], ◌∷◌, ◌++◌, Option, Some, None, length}
+use Rattle.std.specs.Prelude.{◌≡◌, ℕ, ◌+◌, Bool, true, false, ◌&&◌, ◌==◌, nat_lt, List, [], ◌∷◌}
+use Rattle.std.specs.Prelude.{◌++◌, Option, Some, None, length}
 use Rattle.std.specs.List.{filter_map}
 use Rattle.scq_hist.specs.Aspects.{IsLawful}
 use Rattle.scq_hist.specs.declared.events.Event.{Event}
@@ -23,10 +24,12 @@ tokens_in lines = filter_map (λ line. token_of (line_of line)) lines
 abbrev pub events_in : List (List ℕ) → List Event
 events_in lines = filter_map (λ line. event_of (line_of line)) lines
 
--- whether a line may follow where these tokens and events came before: it is of the form, and an opening token comes before
--- all events and has at most 4,095 others before it, an event at most 999
+-- whether a line may follow where these tokens and events came before: it is of the form, and an
+-- opening token comes before all events and has at most 4,095 others before it, an event at most
+-- 999
 abbrev pub may_follow : List (List ℕ) → List Event → Option Line → Bool
-may_follow tokens events (Some (Opening content)) = (length events == 0) && nat_lt (length tokens) 4096
+may_follow tokens events (Some (Opening content)) =
+    (length events == 0) && nat_lt (length tokens) 4096
 may_follow tokens events (Some (Happens event)) = nat_lt (length events) 1000
 may_follow tokens events None = false
 
@@ -37,10 +40,12 @@ is_next before line = may_follow (tokens_in before) (events_in before) (line_of 
 -- lines of a history: each may follow those before it, and the events up to it are lawful
 pub data IsHistory : List (List ℕ) → Type 0 where
   empty : IsHistory []
-  one_more : (before : List (List ℕ)) (line : List ℕ) → IsHistory before → is_next before line ≡ true
+  one_more : (before : List (List ℕ)) (line : List ℕ) → IsHistory before
+      → is_next before line ≡ true
       → IsLawful (events_in (before ++ line ∷ [])) → IsHistory (before ++ line ∷ [])
 
--- the lines before the one of this number, from 1, are those of a history, and it may not follow them
+-- the lines before the one of this number, from 1, are those of a history, and it may not follow
+-- them
 pub record IsBadLine (lines : List (List ℕ)) (number : ℕ) : Type 0 where
   pub before : List (List ℕ)
   pub line : List ℕ
@@ -50,7 +55,8 @@ pub record IsBadLine (lines : List (List ℕ)) (number : ℕ) : Type 0 where
   pub history : IsHistory before
   pub bad : is_next before line ≡ false
 
--- the lines before the one of this number are those of a history, it may follow them, and the events up to it aren't lawful
+-- the lines before the one of this number are those of a history, it may follow them, and the
+-- events up to it aren't lawful
 pub record IsUnlawfulLine (lines : List (List ℕ)) (number : ℕ) : Type 0 where
   pub before : List (List ℕ)
   pub line : List ℕ

@@ -1,4 +1,5 @@
--- What a line of a history's text says: an opening token, or an event. The fields of a line stand one space apart
+-- What a line of a history's text says: an opening token, or an event. The fields of a line stand
+-- one space apart
 use Rattle.std.specs.Prelude.{ℕ, ◌+◌, List, [], ◌∷◌, Option, Some, None, codes, if◌then◌else◌}
 use Rattle.std.specs.Option.{option_map}
 use Rattle.std.specs.Str.{bytes_eq}
@@ -34,7 +35,8 @@ of_seat _ _ = None
 
 abbrev pub name_of : Bounds → List ℕ → List ℕ → Option PutName
 name_of bounds by number =
-    if bytes_eq by (codes "o") then option_map name.Opening (token_in bounds number) else of_seat (seat_in bounds by) (number_of number)
+    if bytes_eq by (codes "o") then option_map name.Opening (token_in bounds number)
+    else of_seat (seat_in bounds by) (number_of number)
 
 -- the call of `put Q X` or `get Q`
 abbrev pub put_of : Option ℕ → Option (List ℕ) → Option Call
@@ -42,9 +44,11 @@ put_of (Some queue) (Some content) = Some (Put queue content)
 put_of _ _ = None
 
 abbrev pub call_of : Bounds → List (List ℕ) → Option Call
-call_of bounds (word ∷ queue ∷ []) = if bytes_eq word (codes "get") then option_map Get (queue_in bounds queue) else None
+call_of bounds (word ∷ queue ∷ []) =
+    if bytes_eq word (codes "get") then option_map Get (queue_in bounds queue) else None
 call_of bounds (word ∷ queue ∷ content ∷ []) =
-    if bytes_eq word (codes "put") then put_of (queue_in bounds queue) (content_in content) else None
+    if bytes_eq word (codes "put") then put_of (queue_in bounds queue) (content_in content)
+    else None
 call_of bounds _ = None
 
 -- the reply of `done`, `nothing`, `spent` or `got NAME X`
@@ -62,7 +66,8 @@ bare_reply word =
 abbrev pub reply_of : Bounds → List (List ℕ) → Option Reply
 reply_of bounds (word ∷ []) = bare_reply word
 reply_of bounds (word ∷ by ∷ number ∷ content ∷ []) =
-    if bytes_eq word (codes "got") then got_of (name_of bounds by number) (content_in content) else None
+    if bytes_eq word (codes "got") then got_of (name_of bounds by number) (content_in content)
+    else None
 reply_of bounds _ = None
 
 -- the event of `start S CALL` or `end S REPLY`

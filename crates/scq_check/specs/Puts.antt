@@ -1,5 +1,6 @@
 -- For private calls: the numbers of puts, and where they start
-use Rattle.std.specs.Prelude.{◌≡◌, ℕ, suc, ◌<◌, List, Option, Some, length, slice_get, slice_index, unwrap_or, nat_eq, MatchOption}
+use Rattle.std.specs.Prelude.{◌≡◌, ℕ, suc, ◌<◌, List, Option, Some, length, slice_get, slice_index}
+use Rattle.std.specs.Prelude.{unwrap_or, nat_eq, MatchOption}
 use Rattle.std.specs.HashMap.{get}
 use Rattle.scq_hist.specs.Calls.{puts_before, IsPut}
 use Rattle.scq_hist.specs.Lookups.{NoPutBefore}
@@ -30,9 +31,13 @@ pub record StartsPut (events : List Event) (seat number s : ℕ) : Type 0 where
   pub content : List ℕ
   pub put : IsPut events seat number queue content s
 
--- after the first m events: the number of each put, how many each seat began, and where the put of each name starts
+-- after the first m events: the number of each put, how many each seat began, and where the put of
+-- each name starts
 pub record IsPuts (events : List Event) (m : ℕ) (puts : Puts) : Type 0 where
   pub many : length puts.numbers.items ≡ m
-  pub numbers : (e : ℕ) → e < m → slice_index puts.numbers.items e ≡ put_number events e (slice_get events e)
+  pub numbers : (e : ℕ) → e < m
+      → slice_index puts.numbers.items e ≡ put_number events e (slice_get events e)
   pub counts : (seat : ℕ) → unwrap_or (get nat_eq puts.counts seat) 0 ≡ puts_before events seat m
-  pub starts : (seat number : ℕ) → MatchOption (place_in puts.starts seat number) (NoPutBefore events seat number m) (StartsPut events seat number)
+  pub starts : (seat number : ℕ)
+      → MatchOption (place_in puts.starts seat number) (NoPutBefore events seat number m)
+      (StartsPut events seat number)

@@ -1,5 +1,6 @@
 -- For private calls: what is known of each queue at a moment
-use Rattle.std.specs.Prelude.{◌≡◌, ℕ, ◌+◌, ◌<◌, ◌≤◌, ◌⊎◌, ◌==◌, if◌then◌else◌, List, Some, length, slice_get, unwrap_or, nat_eq}
+use Rattle.std.specs.Prelude.{◌≡◌, ℕ, ◌+◌, ◌<◌, ◌≤◌, ◌⊎◌, ◌==◌, if◌then◌else◌, List, Some, length}
+use Rattle.std.specs.Prelude.{slice_get, unwrap_or, nat_eq}
 use Rattle.std.specs.HashMap.{get}
 use Rattle.scq_hist.specs.Calls.{IsFinishedAt, IsPending}
 use Rattle.scq_hist.specs.Aspects.{AllClaimed}
@@ -38,14 +39,18 @@ pub record IsRightBy (opening : List (List ℕ)) (events : List Event) (number m
   pub right : IsRightAt opening events number k
 
 -- what is known of the queue of this number at moment m
-pub record IsQueueAt (opening : List (List ℕ)) (events : List Event) (number m : ℕ) (queue : Queue) : Type 0 where
-  pub tally : IsTally events (IsFinishedAt opening events number m) queue.tally.ungot queue.tally.claimed_from
+pub record IsQueueAt (opening : List (List ℕ)) (events : List Event) (number m : ℕ)
+    (queue : Queue) : Type 0 where
+  pub tally : IsTally events
+      (IsFinishedAt opening events number m) queue.tally.ungot queue.tally.claimed_from
   pub pending : IsCount (IsPending events number m) queue.pending
   pub right : 0 < queue.right_till → IsRightBy opening events number m queue.right_till
-  pub last : (k : ℕ) → k ≤ m → IsRightAt opening events number k → (k ≤ queue.right_till) ⊎ AreClaimed queue m
+  pub last : (k : ℕ) → k ≤ m → IsRightAt opening events number k
+      → (k ≤ queue.right_till) ⊎ AreClaimed queue m
 
 -- so of each queue
-pub record AreQueuesAt (opening : List (List ℕ)) (events : List Event) (m : ℕ) (queues : Queues) : Type 0 where
+pub record AreQueuesAt (opening : List (List ℕ)) (events : List Event) (m : ℕ)
+    (queues : Queues) : Type 0 where
   pub each : (number : ℕ) → IsQueueAt opening events number m (queue_in queues number)
 
 -- no count has outgrown the tokens and the events
@@ -53,8 +58,12 @@ pub record AreSmall (m : ℕ) (queues : Queues) : Type 0 where
   pub ungot : (number : ℕ) → (queue_in queues number).tally.ungot ≤ queues.tokens.ungot + m
   pub pending : (number : ℕ) → (queue_in queues number).pending ≤ m
 
--- for each of the first m events the tally of a queue at that moment, and where a put starts that of the put's queue
-pub record AreTallies (opening : List (List ℕ)) (events : List Event) (m : ℕ) (tallies : List Tally) : Type 0 where
+-- for each of the first m events the tally of a queue at that moment, and where a put starts that
+-- of the put's queue
+pub record AreTallies (opening : List (List ℕ)) (events : List Event) (m : ℕ)
+    (tallies : List Tally) : Type 0 where
   pub many : length tallies ≡ m
-  pub before : (e seat number : ℕ) (content : List ℕ) (tally : Tally) → slice_get events e ≡ Some (Start seat (Put number content))
-      → slice_get tallies e ≡ Some tally → IsTally events (IsFinishedAt opening events number e) tally.ungot tally.claimed_from
+  pub before : (e seat number : ℕ) (content : List ℕ) (tally : Tally)
+      → slice_get events e ≡ Some (Start seat (Put number content))
+      → slice_get tallies e ≡ Some tally
+      → IsTally events (IsFinishedAt opening events number e) tally.ungot tally.claimed_from

@@ -27,7 +27,8 @@ IsRefused events (Of seat number) = (e : ℕ) × IsSpentAt events seat number e
 abbrev pub IsAcceptedAt : List Event → ℕ → Type 0
 IsAcceptedAt events e = (name : PutName) → Names events e name → ¬ IsRefused events name
 
--- For private calls: no put ends with Spent at position e; and the seat's put of this number doesn't before position m
+-- For private calls: no put ends with Spent at position e; and the seat's put of this number
+-- doesn't before position m
 pub record NoneSpentAt (events : List Event) (e : ℕ) : Type 0 where
   pub none : (seat number : ℕ) → ¬ IsSpentAt events seat number e
 
@@ -40,4 +41,6 @@ pub record NamesNoPut (event : Event) : Type 0 where
 
 -- after the first m events: where each put that ended with Spent did
 pub record IsRefusals (events : List Event) (m : ℕ) (names : ByName) : Type 0 where
-  pub each : (seat number : ℕ) → MatchOption (place_in names seat number) (NotSpentBefore events m seat number) (IsSpentAt events seat number)
+  pub each : (seat number : ℕ)
+      → MatchOption (place_in names seat number) (NotSpentBefore events m seat number)
+      (IsSpentAt events seat number)

@@ -30,10 +30,12 @@ pub record IsCallOf (events : List Event) (e s : ℕ) (call : Call) : Type 0 whe
   pub starts : slice_get events s ≡ Some (Start seat call)
   pub own : IsOf events seat s e (slice_get events e)
 
--- the event at position e is of a call of this queue: so is a put that starts there and a get that ends there, and no put of
--- another queue ends with Done there, nor does a get of another start there that never ends
+-- the event at position e is of a call of this queue: so is a put that starts there and a get that
+-- ends there, and no put of another queue ends with Done there, nor does a get of another start
+-- there that never ends
 pub record IsQueueOf (events : List Event) (e queue : ℕ) : Type 0 where
-  pub put : (seat q : ℕ) (content : List ℕ) → slice_get events e ≡ Some (Start seat (Put q content)) → q ≡ queue
+  pub put : (seat q : ℕ) (content : List ℕ) → slice_get events e ≡ Some (Start seat (Put q content))
+      → q ≡ queue
   pub get : (seat q s : ℕ) (reply : Reply) → IsCall events seat (Get q) s e reply → q ≡ queue
   pub no_done : (q : ℕ) → ¬ (q ≡ queue) → NoDoneAt events q e
   pub no_get : (q : ℕ) → ¬ (q ≡ queue) → ¬ IsPending events q (suc e) e

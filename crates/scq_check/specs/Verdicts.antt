@@ -1,28 +1,36 @@
 -- The verdict of an aspect, and how verdicts are printed
-use Rattle.std.specs.Prelude.{◌≡◌, ℕ, ◌+◌, ◌<◌, List, ◌++◌, Option, Some, None, IfSome, codes, decimal}
+use Rattle.std.specs.Prelude.{◌≡◌, ℕ, ◌+◌, ◌<◌, List, ◌++◌, Option, Some, None, IfSome, codes}
+use Rattle.std.specs.Prelude.{decimal}
 use Rattle.std.specs.Option.{option_map}
 use Rattle.scq_hist.specs.First.{IsFirstFailing}
 use Rattle.scq_hist.specs.declared.events.Event.{Event}
-use Rattle.scq_check.specs.Counterparts.{AtFirst, IsOfOrigin, IsOriginWithin, IsRepeatOf, IsOvertaking, IsEmptyBeside, IsOfRefused}
+use Rattle.scq_check.specs.Counterparts.{AtFirst, IsOfOrigin, IsOriginWithin, IsRepeatOf}
+use Rattle.scq_check.specs.Counterparts.{IsOvertaking, IsEmptyBeside, IsOfRefused}
 use Rattle.scq_check.specs.Waiting.{IsToldWithin}
 use Rattle.scq_check.specs.declared.verdicts.Breaches.{Breaches}
 use Rattle.scq_check.specs.declared.verdicts.Verdict.{Verdict}
 
--- of an aspect that is a fact of each event: none where it holds of each, else the number, from 1, of the first event that
--- breaks it
+-- of an aspect that is a fact of each event: none where it holds of each, else the number, from 1,
+-- of the first event that breaks it
 abbrev pub IsVerdict : (ℕ → Type 0) → Option ℕ → Type 0
-IsVerdict Holds verdict = (first : Option ℕ) × (verdict ≡ option_map (λ e. e + 1) first) × IsFirstFailing Holds first
+IsVerdict Holds verdict =
+    (first : Option ℕ) × (verdict ≡ option_map (λ e. e + 1) first) × IsFirstFailing Holds first
 
 -- what the first event that breaks each aspect stands against
-pub record HaveCounterparts (opening : List (List ℕ)) (events : List Event) (breaches : Breaches) : Type 0 where
+pub record HaveCounterparts (opening : List (List ℕ)) (events : List Event)
+    (breaches : Breaches) : Type 0 where
   pub fresh : AtFirst (IsOfOrigin opening events) breaches.fresh.first breaches.counterparts.fresh
   pub once : AtFirst (IsRepeatOf events) breaches.once.first breaches.counterparts.once
-  pub in_order : AtFirst (IsOvertaking opening events) breaches.in_order.first breaches.counterparts.in_order
-  pub overtaker : AtFirst (IsOfOrigin opening events) breaches.in_order.first breaches.counterparts.overtaker
-  pub empty_right : AtFirst (IsEmptyBeside opening events) breaches.empty_right.first breaches.counterparts.empty_right
+  pub in_order : AtFirst
+      (IsOvertaking opening events) breaches.in_order.first breaches.counterparts.in_order
+  pub overtaker : AtFirst
+      (IsOfOrigin opening events) breaches.in_order.first breaches.counterparts.overtaker
+  pub empty_right : AtFirst
+      (IsEmptyBeside opening events) breaches.empty_right.first breaches.counterparts.empty_right
   pub accepted : AtFirst (IsOfRefused events) breaches.accepted.first breaches.counterparts.accepted
 
--- each first event that breaks an aspect stands below position m, and so does what is told beside it
+-- each first event that breaks an aspect stands below position m, and so does what is told beside
+-- it
 pub record AreWithin (m : ℕ) (breaches : Breaches) : Type 0 where
   pub fresh : IfSome breaches.fresh.first (λ e. e < m)
   pub once : IfSome breaches.once.first (λ e. e < m)
@@ -44,5 +52,6 @@ aspect_line name (Some number) = name ++ codes " fails at " ++ decimal number ++
 -- the four lines of a verdict
 abbrev pub verdict_lines : Verdict → List ℕ
 verdict_lines v =
-    aspect_line (codes "fresh") v.fresh ++ aspect_line (codes "once") v.once ++ aspect_line (codes "in order") v.in_order
+    aspect_line (codes "fresh") v.fresh ++ aspect_line (codes "once") v.once
+    ++ aspect_line (codes "in order") v.in_order
     ++ aspect_line (codes "empty") v.empty_right

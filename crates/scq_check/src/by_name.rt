@@ -31,7 +31,8 @@ impl ByName {
     /// Sets the position of a name.
     pub(crate) fn set(&mut self, seat: u32, number: u64, place: usize) -> Result<(), NoMemory>
         ensures { OnOk result ((k n : ℕ)
-            → place_in self.new k n ≡ (if same_name (seat, number) (k, n) then Some place else place_in self.old k n)) }
+            → place_in self.new k n
+            ≡ (if same_name (seat, number) (k, n) then Some place else place_in self.old k n)) }
     {
         self.places.insert((seat, number), place)?;
         Ok(())

@@ -1,6 +1,7 @@
 //! Of each event of a history where its call started, and what each seat has under way.
 
-ghost use Rattle.std.specs.Prelude.{◌≡◌, ◌+◌, ◌<◌, length, slice_get, None, IfOk, OnOk, MatchOption};
+ghost use Rattle.std.specs.Prelude.{◌≡◌, ◌+◌, ◌<◌, length, slice_get, None, IfOk, OnOk};
+ghost use Rattle.std.specs.Prelude.{MatchOption};
 ghost use Rattle.scq_hist.specs.Calls.{under_way};
 ghost use Rattle.scq_check.specs.Calls.{own_start, IsCalls, IsCallUnderWay};
 
@@ -9,8 +10,8 @@ use scq_word::NoMemory;
 use std::alloc::Global;
 use std::collections::HashMap;
 
-/// For each event the position of the Start of its call, and of each seat that of the call which it has
-/// under way after them.
+/// For each event the position of the Start of its call, and of each seat that of the call which it
+/// has under way after them.
 #[derive(Drop)]
 pub(crate) struct Calls {
     starts: Vec<usize>,

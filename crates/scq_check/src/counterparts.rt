@@ -1,8 +1,10 @@
 //! What the first event that breaks an aspect stands against.
 
 ghost use Rattle.std.specs.Prelude.{◌<◌, length, IfOk, IfSome};
-ghost use Rattle.scq_hist.specs.Aspects.{IsLawful, IsFreshAt, IsOnceAt, IsInOrderAt, IsEmptyRightAt};
-ghost use Rattle.scq_check.specs.Counterparts.{IsOrigin, IsOfOrigin, IsOriginWithin, IsRepeatOf, IsOvertaking, IsEmptyBeside, IsOfRefused, AtFirst};
+ghost use Rattle.scq_hist.specs.Aspects.{IsLawful, IsFreshAt, IsOnceAt, IsInOrderAt};
+ghost use Rattle.scq_hist.specs.Aspects.{IsEmptyRightAt};
+ghost use Rattle.scq_check.specs.Counterparts.{IsOrigin, IsOfOrigin, IsOriginWithin, IsRepeatOf};
+ghost use Rattle.scq_check.specs.Counterparts.{IsOvertaking, IsEmptyBeside, IsOfRefused, AtFirst};
 ghost use Rattle.scq_check.specs.Failures.{AreFailures};
 ghost use Rattle.scq_check.specs.Refused.{IsAcceptedAt};
 ghost use Rattle.scq_check.specs.Tables.{IsTables};
@@ -36,7 +38,8 @@ pub struct Counterparts {
     pub fresh: Option<Origin>,
     /// The position of the first Got that names the same put.
     pub once: Option<usize>,
-    /// The puts that were finished before the one that was got had started, and wait when its get ends.
+    /// The puts that were finished before the one that was got had started, and wait when its get
+    /// ends.
     pub in_order: Option<Waiting>,
     /// Where the put that was got, which overtakes them, was put.
     pub overtaker: Option<Origin>,
@@ -85,7 +88,8 @@ pub(crate) fn origin_first(
     Some(origin_of(tables, opening, events, name))
 }
 
-/// Of the Gots that name the put of an earlier one: the first Got that names the put of the first of them.
+/// Of the Gots that name the put of an earlier one: the first Got that names the put of the first
+/// of them.
 pub(crate) fn named_first(tables: &Tables, events: &[Event], repeated: &Failures) -> Option<usize>
     requires tables { IsTables events.now tables.now }
     requires failures { AreFailures (IsOnceAt events.now) repeated.now }

@@ -1,6 +1,7 @@
 //! The Gots that aren't fresh, and those that name the put of an earlier one.
 
-ghost use Rattle.std.specs.Prelude.{◌≡◌, ◌<◌, ◌↔◌, ℕ, IsTrue, Some, length, slice_get, IfSome, MatchOption};
+ghost use Rattle.std.specs.Prelude.{◌≡◌, ◌<◌, ◌↔◌, ℕ, IsTrue, Some, length, slice_get, IfSome};
+ghost use Rattle.std.specs.Prelude.{MatchOption};
 ghost use Rattle.scq_hist.specs.Calls.{IsPut};
 ghost use Rattle.scq_hist.specs.Aspects.{IsLawful, IsBegun, IsFreshAt, IsOnceAt};
 ghost use Rattle.scq_check.specs.Tables.{IsTables};
@@ -62,8 +63,8 @@ fn got(event: &Event) -> Option<(PutName, &Bytes)>
     }
 }
 
-// Whether the put of this name is of this queue and content, and is an opening token or starts before
-// position e.
+// Whether the put of this name is of this queue and content, and is an opening token or starts
+// before position e.
 fn is_begun(
     tables: &Tables,
     opening: &[Bytes],
@@ -98,7 +99,8 @@ fn is_fresh_at(tables: &Tables, opening: &[Bytes], events: &[Event], e: usize) -
     }
 }
 
-/// The Gots that aren't fresh. `opening` has the contents of the tokens that stand in queue 0 before the list.
+/// The Gots that aren't fresh. `opening` has the contents of the tokens that stand in queue 0
+/// before the list.
 pub(crate) fn unfresh(tables: &Tables, opening: &[Bytes], events: &[Event]) -> Failures
     requires tables { IsTables events.now tables.now }
     requires lawful { IsLawful events.now }

@@ -1,9 +1,13 @@
-//! The refused puts that had found a place, where it is known for how many values each queue has room.
+//! The refused puts that had found a place, where it is known for how many values each queue has
+//! room.
 
-ghost use Rattle.std.specs.Prelude.{◌≡◌, ◌+◌, ◌<◌, ◌≤◌, ◌^◌, ◌↔◌, ◌⊎◌, ℕ, IsTrue, MatchOption, length, IfOk, IfSome, OnOk};
+ghost use Rattle.std.specs.Prelude.{◌≡◌, ◌+◌, ◌<◌, ◌≤◌, ◌^◌, ◌↔◌, ◌⊎◌, ℕ, IsTrue, MatchOption};
+ghost use Rattle.std.specs.Prelude.{length, IfOk, IfSome, OnOk};
 ghost use Rattle.scq_hist.specs.Aspects.{IsLawful};
 ghost use Rattle.scq_check.specs.Failures.{AreFailures};
-ghost use Rattle.scq_check.specs.Full.{IsTaking, IsFreeing, IsPutAt, NoPutAt, IsRefusalAt, NoRefusalAt, IsUsedUp, counted, held_at_start, places_in, untouched, ArePlacesOf, ArePlacesAt, IsFullRightAt};
+ghost use Rattle.scq_check.specs.Full.{IsTaking, IsFreeing, IsPutAt, NoPutAt, IsRefusalAt};
+ghost use Rattle.scq_check.specs.Full.{NoRefusalAt, IsUsedUp, counted, held_at_start, places_in};
+ghost use Rattle.scq_check.specs.Full.{untouched, ArePlacesOf, ArePlacesAt, IsFullRightAt};
 ghost use Rattle.scq_check.specs.Refused.{IsRefusals};
 ghost use Rattle.scq_check.specs.Tables.{IsTables};
 
@@ -16,8 +20,9 @@ use scq_word::{Bytes, NoMemory};
 use std::alloc::Global;
 use std::collections::HashMap;
 
-/// The places of a queue at a moment: how many puts that weren't refused have started, how many gets that have got a put have ended, and the
-/// last moment found so far at which no place was free for certain, or 0.
+/// The places of a queue at a moment: how many puts that weren't refused have started, how many
+/// gets that have got a put have ended, and the last moment found so far at which no place was free
+/// for certain, or 0.
 #[derive(Clone, Copy)]
 pub(crate) struct Places {
     pub(crate) taken: usize,
@@ -76,7 +81,8 @@ fn refusal_at(tables: &Tables, events: &[Event], e: usize) -> Option<(usize, u32
     requires tables { IsTables events.now tables.now }
     requires lawful { IsLawful events.now }
     requires within { e < length events.now }
-    ensures { MatchOption result (NoRefusalAt events.now e) (λ put. IsRefusalAt events.now e put.1 put.0) }
+    ensures { MatchOption result (NoRefusalAt events.now e) (λ put.
+        IsRefusalAt events.now e put.1 put.0) }
 {
     match &events[e] {
         Event::End {
@@ -115,17 +121,20 @@ impl Places {
         room as usize + self.freed <= held_at_start(opening, queue) + self.taken
     }
 
-    // Whether now, or at a moment found before that comes after position `start`, no place was free.
+    // Whether now, or at a moment found before that comes after position `start`, no place was
+    // free.
     fn was_used_up(self, room: u32, opening: &[Bytes], queue: u32, start: usize) -> bool
         requires few_taken { self.taken < 2 ^ 63 }
         requires few_freed { self.freed < 2 ^ 63 }
-        ensures { IsTrue result ↔ (IsUsedUp room opening.now queue self ⊎ (start < self.full_till)) }
+        ensures { IsTrue result
+            ↔ (IsUsedUp room opening.now queue self ⊎ (start < self.full_till)) }
     {
         self.is_used_up(room, opening, queue) || start < self.full_till
     }
 
-    // The last moment found up to this one at which no place was free. It is asked just before each event of the queue: between two of them
-    // its numbers stay as they are, and the later moment of the two tells.
+    // The last moment found up to this one at which no place was free. It is asked just before each
+    // event of the queue: between two of them its numbers stay as they are, and the later moment of
+    // the two tells.
     fn full_till_now(self, room: u32, opening: &[Bytes], queue: u32, moment: usize) -> usize
         requires few_taken { self.taken < 2 ^ 63 }
         requires few_freed { self.freed < 2 ^ 63 }
@@ -234,9 +243,10 @@ fn is_full_right_at(
     }
 }
 
-/// The puts of a lawful history that ended with Spent although at each moment of their calls a place of their queue was free for certain.
-/// Each queue has room for so many values, and the opening tokens are in queue 0 before the history. Time grows little faster than the
-/// history's length.
+/// The puts of a lawful history that ended with Spent although at each moment of their calls a
+/// place of their queue was free for certain. Each queue has room for so many values, and the
+/// opening tokens are in queue 0 before the history. Time grows little faster than the history's
+/// length.
 pub fn find_wrong_refusals(
     alloc: Global,
     room: u32,

@@ -1,6 +1,7 @@
 //! The first Got that names each put.
 
-ghost use Rattle.std.specs.Prelude.{◌≡◌, ◌+◌, ◌<◌, ℕ, None, Some, length, IfOk, OnOk, MatchOption, if◌then◌else◌, is_some};
+ghost use Rattle.std.specs.Prelude.{◌≡◌, ◌+◌, ◌<◌, ℕ, None, Some, length, IfOk, OnOk, MatchOption};
+ghost use Rattle.std.specs.Prelude.{if◌then◌else◌, is_some};
 ghost use Rattle.scq_hist.specs.Calls.{IsGot};
 ghost use Rattle.scq_hist.specs.Lookups.{got_name, IsFirstNamed};
 ghost use Rattle.scq_hist.specs.declared.events.PutName.{PutName};
@@ -79,7 +80,8 @@ impl Gots {
 
     fn set(&mut self, name: PutName, e: usize) -> Result<(), NoMemory>
         ensures { OnOk result ((other : PutName)
-            → found_in self.new other ≡ (if is_same_put name other then Some e else found_in self.old other)) }
+            → found_in self.new other
+            ≡ (if is_same_put name other then Some e else found_in self.old other)) }
     {
         match name {
             PutName::Opening { number } => {

@@ -4,7 +4,8 @@ ghost use Rattle.std.specs.Prelude.{◌≡◌, ℕ, [], ◌∷◌, ◌++◌, tru
 ghost use Rattle.scq_hist.specs.Aspects.{IsLawful};
 ghost use Rattle.scq_lines.specs.Lines.{lines_of};
 ghost use Rattle.scq_check.specs.Line.{line_of};
-ghost use Rattle.scq_check.specs.HistoryText.{tokens_in, events_in, may_follow, IsHistory, IsBadLine, IsUnlawfulLine};
+ghost use Rattle.scq_check.specs.HistoryText.{tokens_in, events_in, may_follow, IsHistory};
+ghost use Rattle.scq_check.specs.HistoryText.{IsBadLine, IsUnlawfulLine};
 ghost use Rattle.scq_check.specs.declared.line.Line.TheVariants.{Opening, Happens};
 
 use crate::line::{Line, SMALL, read_line};
@@ -64,11 +65,14 @@ impl<T: Drop> From<AllocFailed<T>> for HistoryFault {
 /// first line with a fault is refused. The empty text is a history without events.
 pub fn read_history(alloc: Global, text: &[u8]) -> Result<History, HistoryFault>
     ensures history { OnOk result (IsHistory (lines_of text.now)) }
-    ensures opening { IfOk result (λ history. history.opening.items ≡ tokens_in (lines_of text.now)) }
+    ensures opening { IfOk result (λ history.
+        history.opening.items ≡ tokens_in (lines_of text.now)) }
     ensures events { IfOk result (λ history. history.events.items ≡ events_in (lines_of text.now)) }
     ensures lawful { IfOk result (λ history. IsLawful history.events.items) }
-    ensures bad_line { (line : ℕ) → result ≡ Err (HistoryFault.BadLine line) → IsBadLine (lines_of text.now) line }
-    ensures unlawful { (line : ℕ) → result ≡ Err (HistoryFault.Unlawful line) → IsUnlawfulLine (lines_of text.now) line }
+    ensures bad_line { (line : ℕ) → result ≡ Err (HistoryFault.BadLine line)
+        → IsBadLine (lines_of text.now) line }
+    ensures unlawful { (line : ℕ) → result ≡ Err (HistoryFault.Unlawful line)
+        → IsUnlawfulLine (lines_of text.now) line }
 {
     let mut history = History {
         opening: Vec::new(alloc),
@@ -92,14 +96,19 @@ fn add_line(
     line: &[u8],
 ) -> Result<(), HistoryFault>
     requires { IsLawful history.old.events.items }
-    ensures next { OnOk result (may_follow history.old.opening.items history.old.events.items (line_of line.now) ≡ true) }
-    ensures opening { OnOk result (history.new.opening.items ≡ history.old.opening.items ++ tokens_in (line.now ∷ [])) }
-    ensures events { OnOk result (history.new.events.items ≡ history.old.events.items ++ events_in (line.now ∷ [])) }
+    ensures next { OnOk result
+        (may_follow history.old.opening.items history.old.events.items (line_of line.now) ≡ true) }
+    ensures opening { OnOk result (history.new.opening.items
+        ≡ history.old.opening.items ++ tokens_in (line.now ∷ [])) }
+    ensures events { OnOk result (history.new.events.items
+        ≡ history.old.events.items ++ events_in (line.now ∷ [])) }
     ensures lawful { OnOk result (IsLawful history.new.events.items) }
     ensures bad_line { (at : ℕ) → result ≡ Err (HistoryFault.BadLine at)
-        → (at ≡ number) × (may_follow history.old.opening.items history.old.events.items (line_of line.now) ≡ false) }
+        → (at ≡ number) × (may_follow history.old.opening.items history.old.events.items
+        (line_of line.now) ≡ false) }
     ensures unlawful { (at : ℕ) → result ≡ Err (HistoryFault.Unlawful at)
-        → (at ≡ number) × (may_follow history.old.opening.items history.old.events.items (line_of line.now) ≡ true)
+        → (at ≡ number) ×
+        (may_follow history.old.opening.items history.old.events.items (line_of line.now) ≡ true)
         × ¬ IsLawful (history.old.events.items ++ events_in (line.now ∷ [])) }
 {
     match read_line(alloc, SMALL, line)? {
@@ -110,11 +119,14 @@ fn add_line(
 }
 
 fn add_token(history: &mut History, number: u32, content: Bytes) -> Result<(), HistoryFault>
-    ensures next { OnOk result (may_follow history.old.opening.items history.old.events.items (Some (Opening content)) ≡ true) }
-    ensures opening { OnOk result (history.new.opening.items ≡ history.old.opening.items ++ content ∷ []) }
+    ensures next { OnOk result (may_follow history.old.opening.items history.old.events.items
+        (Some (Opening content)) ≡ true) }
+    ensures opening { OnOk result (history.new.opening.items
+        ≡ history.old.opening.items ++ content ∷ []) }
     ensures events { OnOk result (history.new.events.items ≡ history.old.events.items) }
     ensures bad_line { (at : ℕ) → result ≡ Err (HistoryFault.BadLine at)
-        → (at ≡ number) × (may_follow history.old.opening.items history.old.events.items (Some (Opening content)) ≡ false) }
+        → (at ≡ number) × (may_follow history.old.opening.items history.old.events.items
+        (Some (Opening content)) ≡ false) }
     ensures never_unlawful { (at : ℕ) → ¬ (result ≡ Err (HistoryFault.Unlawful at)) }
 {
     if !history.events.is_empty() || history.opening.len() >= MOST_TOKENS {
@@ -126,14 +138,18 @@ fn add_token(history: &mut History, number: u32, content: Bytes) -> Result<(), H
 
 fn add_event(history: &mut History, number: u32, event: Event) -> Result<(), HistoryFault>
     requires { IsLawful history.old.events.items }
-    ensures next { OnOk result (may_follow history.old.opening.items history.old.events.items (Some (Happens event)) ≡ true) }
+    ensures next { OnOk result (may_follow history.old.opening.items history.old.events.items
+        (Some (Happens event)) ≡ true) }
     ensures opening { OnOk result (history.new.opening.items ≡ history.old.opening.items) }
-    ensures events { OnOk result (history.new.events.items ≡ history.old.events.items ++ event ∷ []) }
+    ensures events { OnOk result (history.new.events.items
+        ≡ history.old.events.items ++ event ∷ []) }
     ensures lawful { OnOk result (IsLawful history.new.events.items) }
     ensures bad_line { (at : ℕ) → result ≡ Err (HistoryFault.BadLine at)
-        → (at ≡ number) × (may_follow history.old.opening.items history.old.events.items (Some (Happens event)) ≡ false) }
+        → (at ≡ number) × (may_follow history.old.opening.items history.old.events.items
+        (Some (Happens event)) ≡ false) }
     ensures unlawful { (at : ℕ) → result ≡ Err (HistoryFault.Unlawful at)
-        → (at ≡ number) × (may_follow history.old.opening.items history.old.events.items (Some (Happens event)) ≡ true)
+        → (at ≡ number) × (may_follow history.old.opening.items history.old.events.items
+        (Some (Happens event)) ≡ true)
         × ¬ IsLawful (history.old.events.items ++ event ∷ []) }
 {
     let last = history.events.len();

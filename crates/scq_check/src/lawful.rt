@@ -35,11 +35,12 @@ fn is_lawful_at(calls: &Calls, events: &[Event], e: usize) -> bool
     }
 }
 
-/// The position of the first event that isn't lawful: a Start of a seat that has a call under way, or an End
-/// that doesn't suit its seat's call or has none. Where there is none the list is lawful, and can be
-/// judged. Time grows little faster than the list's length.
+/// The position of the first event that isn't lawful: a Start of a seat that has a call under way,
+/// or an End that doesn't suit its seat's call or has none. Where there is none the list is lawful,
+/// and can be judged. Time grows little faster than the list's length.
 pub fn first_unlawful(alloc: Global, events: &[Event]) -> Result<Option<usize>, NoMemory>
-    ensures first { IfOk result (IsFirstFailing (λ e. IsLawfulAt events.now e (slice_get events.now e))) }
+    ensures first { IfOk result
+        (IsFirstFailing (λ e. IsLawfulAt events.now e (slice_get events.now e))) }
     ensures within { IfOk result (λ first. IfSome first (λ e. e < length events.now)) }
 {
     let mut calls = Calls::none(alloc, events)?;

@@ -1,10 +1,10 @@
-// A judge of histories that others have recorded. A history is read from its text, and of each of the
-// four aspects is said whether it holds, or at which event it first breaks. `first_unlawful` and `judge`
-// make tables of a history, so they take memory, and time that grows little faster than the history; the
-// tests of `scq_hist` take no memory and answer the same. It stands on `scq_hist` for the events and the
-// aspects, and on `scq_lines` for lines and fields. The layers above use that `read_history` refuses
-// exactly the first line with a fault, and that a verdict is none exactly where the aspect's definition
-// holds.
+// A judge of histories that others have recorded. A history is read from its text, and of each of
+// the four aspects is said whether it holds, or at which event it first breaks. `first_unlawful`
+// and `judge` make tables of a history, so they take memory, and time that grows little faster than
+// the history; the tests of `scq_hist` take no memory and answer the same. It stands on `scq_hist`
+// for the events and the aspects, and on `scq_lines` for lines and fields. The layers above use
+// that `read_history` refuses exactly the first line with a fault, and that a verdict is none
+// exactly where the aspect's definition holds.
 #![tactic(auto)]
 
 mod by_name;

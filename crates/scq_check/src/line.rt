@@ -3,7 +3,8 @@
 ghost use Rattle.std.specs.Prelude.{◌≡◌, [], ◌∷◌, IfOk};
 ghost use Rattle.std.specs.Str.{bytes_eq};
 ghost use Rattle.scq_lines.specs.Lines.{fields_of, fields_after};
-ghost use Rattle.scq_check.specs.Line.{seat_in, content_in, name_of, call_of, bare_reply, reply_of, opened, started, ended, said};
+ghost use Rattle.scq_check.specs.Line.{seat_in, content_in, name_of, call_of, bare_reply, reply_of};
+ghost use Rattle.scq_check.specs.Line.{opened, started, ended, said};
 
 use scq_hist::{Call, Event, PutName, Reply};
 use scq_lines::{content, first_field, next_field, number, number_up_to};
@@ -56,7 +57,8 @@ pub(crate) fn read_line(
     read_fields(alloc, bounds, word, rest)
 }
 
-/// What the fields of a line say within these bounds: its first word, and what follows that, from the space on.
+/// What the fields of a line say within these bounds: its first word, and what follows that, from
+/// the space on.
 pub fn read_fields(
     alloc: Global,
     bounds: Bounds,
@@ -94,7 +96,8 @@ fn opening(alloc: Global, field: &[u8], rest: &[u8]) -> Result<Option<Line>, NoM
 
 // `start S CALL`, from S on.
 fn start(alloc: Global, bounds: Bounds, field: &[u8], rest: &[u8]) -> Result<Option<Line>, NoMemory>
-    ensures { IfOk result (λ line. line ≡ started (seat_in bounds field.now) (call_of bounds (fields_after rest.now))) }
+    ensures { IfOk result (λ line.
+        line ≡ started (seat_in bounds field.now) (call_of bounds (fields_after rest.now))) }
 {
     let Some(seat) = number_up_to(bounds.seat, field) else {
         return Ok(None);
@@ -109,7 +112,8 @@ fn start(alloc: Global, bounds: Bounds, field: &[u8], rest: &[u8]) -> Result<Opt
 
 // `end S REPLY`, from S on.
 fn end(alloc: Global, bounds: Bounds, field: &[u8], rest: &[u8]) -> Result<Option<Line>, NoMemory>
-    ensures { IfOk result (λ line. line ≡ ended (seat_in bounds field.now) (reply_of bounds (fields_after rest.now))) }
+    ensures { IfOk result (λ line.
+        line ≡ ended (seat_in bounds field.now) (reply_of bounds (fields_after rest.now))) }
 {
     let Some(seat) = number_up_to(bounds.seat, field) else {
         return Ok(None);
@@ -155,7 +159,8 @@ fn put(
     field: &[u8],
     rest: &[u8],
 ) -> Result<Option<Call>, NoMemory>
-    ensures { IfOk result (λ call. call ≡ call_of bounds (word.now ∷ queue.now ∷ field.now ∷ fields_after rest.now)) }
+    ensures { IfOk result (λ call.
+        call ≡ call_of bounds (word.now ∷ queue.now ∷ field.now ∷ fields_after rest.now)) }
 {
     if !is_word(word, b"put") || next_field(rest).is_some() {
         return Ok(None);
@@ -203,7 +208,8 @@ fn got(
     by: &[u8],
     rest: &[u8],
 ) -> Result<Option<Reply>, NoMemory>
-    ensures { IfOk result (λ reply. reply ≡ reply_of bounds (word.now ∷ by.now ∷ fields_after rest.now)) }
+    ensures { IfOk result (λ reply.
+        reply ≡ reply_of bounds (word.now ∷ by.now ∷ fields_after rest.now)) }
 {
     let Some((number, rest)) = next_field(rest) else {
         return Ok(None);

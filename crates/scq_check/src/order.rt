@@ -1,6 +1,7 @@
 //! The Gots that overtake, and the wrong Empties.
 
-ghost use Rattle.std.specs.Prelude.{◌≡◌, ◌+◌, ◌<◌, ◌≤◌, ◌^◌, ◌↔◌, ℕ, List, IsTrue, MatchOption, length, IfOk, IfSome};
+ghost use Rattle.std.specs.Prelude.{◌≡◌, ◌+◌, ◌<◌, ◌≤◌, ◌^◌, ◌↔◌, ℕ, List, IsTrue, MatchOption};
+ghost use Rattle.std.specs.Prelude.{length, IfOk, IfSome};
 ghost use Rattle.scq_hist.specs.Aspects.{IsLawful, IsInOrderAt, IsEmptyRightAt};
 ghost use Rattle.scq_hist.specs.Tallies.{IsPutGotAt, NoPutGotAt, IsEmptyAt, NoEmptyAt};
 ghost use Rattle.scq_check.specs.Failures.{AreFailures};
@@ -23,7 +24,8 @@ fn tallies_before(
 ) -> Result<Vec<Tally>, NoMemory>
     requires tables { IsTables events.now tables.now }
     requires lawful { IsLawful events.now }
-    ensures { IfOk result (λ tallies. AreTallies opening.now events.now (length events.now) tallies.items) }
+    ensures { IfOk result (λ tallies.
+        AreTallies opening.now events.now (length events.now) tallies.items) }
 {
     let mut queues = Queues::new(alloc, tables, opening, events);
     let mut tallies = Vec::with_capacity(alloc, events.len())?;
@@ -34,7 +36,8 @@ fn tallies_before(
     Ok(tallies)
 }
 
-// The seat's put that the get which ends at this position has got: the position of its Start, and its queue.
+// The seat's put that the get which ends at this position has got: the position of its Start, and
+// its queue.
 pub(crate) fn put_got_at(tables: &Tables, events: &[Event], e: usize) -> Option<(usize, u32)>
     requires tables { IsTables events.now tables.now }
     requires lawful { IsLawful events.now }
@@ -53,7 +56,8 @@ pub(crate) fn put_got_at(tables: &Tables, events: &[Event], e: usize) -> Option<
     }
 }
 
-// Whether all that precede the put which the get that ends at this position has got are claimed by then.
+// Whether all that precede the put which the get that ends at this position has got are claimed by
+// then.
 fn is_in_order_at(
     tables: &Tables,
     events: &[Event],
@@ -109,7 +113,8 @@ pub(crate) fn empty_at(tables: &Tables, events: &[Event], e: usize) -> Option<(u
     requires tables { IsTables events.now tables.now }
     requires lawful { IsLawful events.now }
     requires within { e < length events.now }
-    ensures { MatchOption result (NoEmptyAt events.now e) (λ get. IsEmptyAt events.now e get.1 get.0) }
+    ensures { MatchOption result (NoEmptyAt events.now e) (λ get.
+        IsEmptyAt events.now e get.1 get.0) }
 {
     match &events[e] {
         Event::End {

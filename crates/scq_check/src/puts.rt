@@ -10,7 +10,8 @@ use scq_word::NoMemory;
 use std::alloc::Global;
 use std::collections::HashMap;
 
-/// For each event the number of the put that starts there, how many puts each seat began, and where.
+/// For each event the number of the put that starts there, how many puts each seat began, and
+/// where.
 #[derive(Drop)]
 pub(crate) struct Puts {
     numbers: Vec<u64>,

@@ -1,12 +1,14 @@
 //! What is known of each queue at a moment, event by event.
 
-ghost use Rattle.std.specs.Prelude.{◌≡◌, ◌+◌, ◌<◌, ◌≤◌, ◌^◌, ◌↔◌, ◌⊎◌, ℕ, List, IsTrue, MatchOption, length, OnOk};
+ghost use Rattle.std.specs.Prelude.{◌≡◌, ◌+◌, ◌<◌, ◌≤◌, ◌^◌, ◌↔◌, ◌⊎◌, ℕ, List, IsTrue};
+ghost use Rattle.std.specs.Prelude.{MatchOption, length, OnOk};
 ghost use Rattle.scq_hist.specs.Aspects.{IsLawful};
 ghost use Rattle.scq_hist.specs.Calls.{IsFinishedAt, IsPending};
 ghost use Rattle.scq_hist.specs.Counts.{IsCount};
 ghost use Rattle.scq_hist.specs.Tallies.{IsTally, AddsPut, IsTokenGotAt, NoTokenGotAt};
 ghost use Rattle.scq_check.specs.Tables.{IsTables};
-ghost use Rattle.scq_check.specs.Queues.{AreClaimed, IsQueueAt, AreQueuesAt, AreSmall, queue_in, unseen};
+ghost use Rattle.scq_check.specs.Queues.{AreClaimed, IsQueueAt, AreQueuesAt, AreSmall, queue_in};
+ghost use Rattle.scq_check.specs.Queues.{unseen};
 
 use crate::tables::Tables;
 use scq_hist::{Event, PutName};
@@ -22,8 +24,8 @@ pub(crate) struct Tally {
     pub(crate) claimed_from: usize,
 }
 
-/// A queue at a moment: its finished puts, how many of its gets that started by then never end, and the
-/// last moment found so far at which all its finished puts were claimed, or 0.
+/// A queue at a moment: its finished puts, how many of its gets that started by then never end, and
+/// the last moment found so far at which all its finished puts were claimed, or 0.
 #[derive(Clone, Copy)]
 pub(crate) struct Queue {
     pub(crate) tally: Tally,
@@ -31,7 +33,8 @@ pub(crate) struct Queue {
     pub(crate) right_till: usize,
 }
 
-/// All queues at a moment: those of whose calls there was an event, and the tally of the opening tokens.
+/// All queues at a moment: those of whose calls there was an event, and the tally of the opening
+/// tokens.
 #[derive(Drop)]
 pub(crate) struct Queues {
     tokens: Tally,
@@ -43,7 +46,8 @@ fn with_put(tally: Tally, tables: &Tables, events: &[Event], name: PutName) -> T
     requires tables { IsTables events.now tables.now }
     requires lawful { IsLawful events.now }
     requires room { tally.ungot + 1 < 2 ^ 64 }
-    ensures { AddsPut events.now name tally.ungot tally.claimed_from result.ungot result.claimed_from }
+    ensures { AddsPut events.now name tally.ungot tally.claimed_from result.ungot
+        result.claimed_from }
 {
     match tables.get_of(events, name) {
         None => Tally {
@@ -57,8 +61,8 @@ fn with_put(tally: Tally, tables: &Tables, events: &[Event], name: PutName) -> T
     }
 }
 
-// From the puts of this queue that are finished just before the event at position e to those that are
-// finished just after it.
+// From the puts of this queue that are finished just before the event at position e to those that
+// are finished just after it.
 fn tally_after(tally: Tally, tables: &Tables, events: &[Event], queue: u32, e: usize) -> Tally
     requires tables { IsTables events.now tables.now }
     requires lawful { IsLawful events.now }
@@ -66,8 +70,10 @@ fn tally_after(tally: Tally, tables: &Tables, events: &[Event], queue: u32, e: u
     requires room { tally.ungot + 1 < 2 ^ 64 }
     ensures few { result.ungot ≤ tally.ungot + 1 }
     ensures tally { (opening : List (List ℕ))
-        → IsTally events.now (IsFinishedAt opening events.now queue e) tally.ungot tally.claimed_from
-        → IsTally events.now (IsFinishedAt opening events.now queue (e + 1)) result.ungot result.claimed_from }
+        → IsTally events.now
+        (IsFinishedAt opening events.now queue e) tally.ungot tally.claimed_from
+        → IsTally events.now
+        (IsFinishedAt opening events.now queue (e + 1)) result.ungot result.claimed_from }
 {
     match tables.done_put(events, queue, e) {
         None => tally,
@@ -75,8 +81,8 @@ fn tally_after(tally: Tally, tables: &Tables, events: &[Event], queue: u32, e: u
     }
 }
 
-// From the number of gets of this queue that started before position s and are under way at the end of
-// the list to that of those which started up to position s.
+// From the number of gets of this queue that started before position s and are under way at the end
+// of the list to that of those which started up to position s.
 fn pending_after(pending: usize, tables: &Tables, events: &[Event], queue: u32, s: usize) -> usize
     requires tables { IsTables events.now tables.now }
     requires within { s < length events.now }
@@ -114,7 +120,8 @@ fn opening_tally(tables: &Tables, opening: &[Bytes], events: &[Event]) -> Tally
     requires tables { IsTables events.now tables.now }
     requires lawful { IsLawful events.now }
     ensures few { result.ungot ≤ length opening.now }
-    ensures tally { IsTally events.now (IsFinishedAt opening.now events.now 0 0) result.ungot result.claimed_from }
+    ensures tally { IsTally events.now
+        (IsFinishedAt opening.now events.now 0 0) result.ungot result.claimed_from }
 {
     let mut got = 0;
     let mut claimed_from = 0usize;
@@ -156,17 +163,17 @@ impl Queue {
         self.tally.claimed_from <= moment && self.tally.ungot <= self.pending
     }
 
-    /// Whether at this moment, or at one found before that comes after position `start`, all its finished puts
-    /// were claimed.
+    /// Whether at this moment, or at one found before that comes after position `start`, all its
+    /// finished puts were claimed.
     pub(crate) fn was_claimed(self, start: usize, moment: usize) -> bool
         ensures { IsTrue result ↔ (AreClaimed self moment ⊎ (start < self.right_till)) }
     {
         self.is_claimed(moment) || start < self.right_till
     }
 
-    // The last moment found up to this one at which all its finished puts were claimed. It is asked just before
-    // each event of the queue: between two of them its numbers stay as they are, so that all are claimed from
-    // some moment on or at none, and the later moment of the two tells.
+    // The last moment found up to this one at which all its finished puts were claimed. It is asked
+    // just before each event of the queue: between two of them its numbers stay as they are, so
+    // that all are claimed from some moment on or at none, and the later moment of the two tells.
     fn right_till_now(self, moment: usize) -> usize
         ensures claimed { AreClaimed self moment → result ≡ moment }
         ensures unclaimed { ¬ (AreClaimed self moment) → result ≡ self.right_till }
@@ -187,7 +194,8 @@ impl Queue {
         requires room_for_gets { self.pending + 1 < 2 ^ 64 }
         ensures few { result.tally.ungot ≤ self.tally.ungot + 1 }
         ensures few_gets { result.pending ≤ self.pending + 1 }
-        ensures at { (opening : List (List ℕ)) → IsQueueAt opening events.now queue e self → IsQueueAt opening events.now queue (e + 1) result }
+        ensures at { (opening : List (List ℕ)) → IsQueueAt opening events.now queue e self
+            → IsQueueAt opening events.now queue (e + 1) result }
     {
         Queue {
             tally: tally_after(self.tally, tables, events, queue, e),
@@ -235,7 +243,9 @@ impl Queues {
         requires room { self.old.tokens.ungot + length events.now < 2 ^ 64 }
         ensures small { OnOk result (AreSmall (e + 1) self.new) }
         ensures tokens { self.new.tokens ≡ self.old.tokens }
-        ensures at { OnOk result ((opening : List (List ℕ)) → AreQueuesAt opening events.now e self.old → AreQueuesAt opening events.now (e + 1) self.new) }
+        ensures at { OnOk result ((opening : List (List ℕ))
+            → AreQueuesAt opening events.now e self.old
+            → AreQueuesAt opening events.now (e + 1) self.new) }
     {
         let queue = tables.queue_of(events, e);
         let after = self.get(queue).after(tables, events, queue, e);

@@ -1,12 +1,14 @@
 //! The Gots that name puts which their queues refused.
 
-ghost use Rattle.std.specs.Prelude.{◌≡◌, ◌+◌, ◌<◌, ◌↔◌, IsTrue, Some, IfOk, IfSome, OnOk, length, MatchOption, is_some};
+ghost use Rattle.std.specs.Prelude.{◌≡◌, ◌+◌, ◌<◌, ◌↔◌, IsTrue, Some, IfOk, IfSome, OnOk, length};
+ghost use Rattle.std.specs.Prelude.{MatchOption, is_some};
 ghost use Rattle.scq_hist.specs.Aspects.{IsLawful};
 ghost use Rattle.scq_hist.specs.Lookups.{got_name};
 ghost use Rattle.scq_hist.specs.declared.events.PutName.TheVariants.{Of};
 ghost use Rattle.scq_check.specs.ByName.{place_in};
 ghost use Rattle.scq_check.specs.Failures.{AreFailures};
-ghost use Rattle.scq_check.specs.Refused.{IsSpentAt, NoneSpentAt, NamesNoPut, IsRefusals, IsAcceptedAt};
+ghost use Rattle.scq_check.specs.Refused.{IsSpentAt, NoneSpentAt, NamesNoPut, IsRefusals};
+ghost use Rattle.scq_check.specs.Refused.{IsAcceptedAt};
 ghost use Rattle.scq_check.specs.Tables.{IsTables};
 
 use crate::by_name::ByName;
@@ -21,7 +23,8 @@ fn spent_at(tables: &Tables, events: &[Event], e: usize) -> Option<(u32, u64)>
     requires tables { IsTables events.now tables.now }
     requires lawful { IsLawful events.now }
     requires within { e < length events.now }
-    ensures { MatchOption result (NoneSpentAt events.now e) (λ put. IsSpentAt events.now put.0 put.1 e) }
+    ensures { MatchOption result (NoneSpentAt events.now e) (λ put.
+        IsSpentAt events.now put.0 put.1 e) }
 {
     match &events[e] {
         Event::End {
@@ -69,7 +72,8 @@ fn add_refusal(
 
 // The seat and the number of the put that a Got names.
 pub(crate) fn named_put(event: &Event) -> Option<(u32, u64)>
-    ensures { MatchOption result (NamesNoPut event.now) (λ put. got_name event.now ≡ Some (Of put.0 put.1)) }
+    ensures { MatchOption result (NamesNoPut event.now) (λ put.
+        got_name event.now ≡ Some (Of put.0 put.1)) }
 {
     match event {
         Event::End {

@@ -1,6 +1,7 @@
 //! What stands where in a history, looked up in tables that are made once.
 
-ghost use Rattle.std.specs.Prelude.{◌≡◌, ◌<◌, ◌↔◌, ℕ, suc, IsTrue, length, slice_get, IfOk, MatchOption};
+ghost use Rattle.std.specs.Prelude.{◌≡◌, ◌<◌, ◌↔◌, ℕ, suc, IsTrue, length, slice_get, IfOk};
+ghost use Rattle.std.specs.Prelude.{MatchOption};
 ghost use Rattle.scq_hist.specs.Aspects.{IsLawful};
 ghost use Rattle.scq_hist.specs.Calls.{IsPut, IsGot, IsGetOf, IsPending};
 ghost use Rattle.scq_hist.specs.Lookups.{IsFirstNamed, EndsNoGet, NoPutBefore, EndsDone, NoDoneAt};
@@ -151,13 +152,14 @@ impl Tables {
         Some(self.calls.start(events, e))
     }
 
-    /// If the call that ends at this position is the get that has got a put: that put, and the position of
-    /// the get's Start.
+    /// If the call that ends at this position is the get that has got a put: that put, and the
+    /// position of the get's Start.
     pub(crate) fn get_ending_at(&self, events: &[Event], e: usize) -> Option<(PutName, usize)>
         requires tables { IsTables events.now self.now }
         requires lawful { IsLawful events.now }
         requires within { e < length events.now }
-        ensures { MatchOption result (EndsNoGet events.now e) (λ get. IsGetOf events.now get.0 get.1 e) }
+        ensures { MatchOption result (EndsNoGet events.now e) (λ get.
+            IsGetOf events.now get.0 get.1 e) }
     {
         let name = got_name(&events[e])?;
         if self.first_named(events, name) != Some(e) {

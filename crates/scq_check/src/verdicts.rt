@@ -1,11 +1,14 @@
 //! The four aspects of a history judged, and the verdict printed.
 
-ghost use Rattle.std.specs.Prelude.{◌≡◌, ◌+◌, ◌++◌, ◌<◌, ◌^◌, ◌↔◌, None, length, IfOk, IfSome, OnOk, is_some};
+ghost use Rattle.std.specs.Prelude.{◌≡◌, ◌+◌, ◌++◌, ◌<◌, ◌^◌, ◌↔◌, None, length, IfOk, IfSome};
+ghost use Rattle.std.specs.Prelude.{OnOk, is_some};
 ghost use Rattle.std.specs.Option.{option_map};
-ghost use Rattle.scq_hist.specs.Aspects.{IsLawful, IsFreshAt, IsFresh, IsOnceAt, IsOnce, IsInOrderAt, IsInOrder, IsEmptyRightAt, IsEmptyRight};
+ghost use Rattle.scq_hist.specs.Aspects.{IsLawful, IsFreshAt, IsFresh, IsOnceAt, IsOnce};
+ghost use Rattle.scq_hist.specs.Aspects.{IsInOrderAt, IsInOrder, IsEmptyRightAt, IsEmptyRight};
 ghost use Rattle.scq_check.specs.Failures.{AreFailures};
 ghost use Rattle.scq_check.specs.Refused.{IsAcceptedAt};
-ghost use Rattle.scq_check.specs.Verdicts.{AreWithin, HaveCounterparts, IsVerdict, aspect_line, verdict_lines};
+ghost use Rattle.scq_check.specs.Verdicts.{AreWithin, HaveCounterparts, IsVerdict, aspect_line};
+ghost use Rattle.scq_check.specs.Verdicts.{verdict_lines};
 
 use crate::counterparts::{
     Counterparts, named_first, origin_first, overtaken, overtaker_first, refused_first,
@@ -21,11 +24,12 @@ use scq_hist::Event;
 use scq_word::{Bytes, NoMemory};
 use std::alloc::Global;
 
-/// What is judged of a history: for each aspect none where it holds, else the number, from 1, of the
-/// first event that breaks it.
+/// What is judged of a history: for each aspect none where it holds, else the number, from 1, of
+/// the first event that breaks it.
 #[derive(Clone, Copy, Debug, PartialEq, Eq)]
 pub struct Verdict {
-    /// The first Got that names no put of its queue and content that is an opening token or began before.
+    /// The first Got that names no put of its queue and content that is an opening token or began
+    /// before.
     pub fresh: Option<u64>,
     /// The first Got that names the put of an earlier one.
     pub once: Option<u64>,
@@ -38,7 +42,8 @@ pub struct Verdict {
 /// What breaks each aspect of a history, and the events that name refused puts.
 #[derive(Clone, Copy)]
 pub struct Breaches {
-    /// The Gots that name no put of their queue and content that is an opening token or began before.
+    /// The Gots that name no put of their queue and content that is an opening token or began
+    /// before.
     pub fresh: Failures,
     /// The Gots that name the put of an earlier one.
     pub once: Failures,
@@ -52,19 +57,23 @@ pub struct Breaches {
     pub counterparts: Counterparts,
 }
 
-/// Of a lawful history the events that break each aspect. `opening` has the contents of the tokens that stand in queue 0
-/// before it. Time grows little faster than the history's length.
+/// Of a lawful history the events that break each aspect. `opening` has the contents of the tokens
+/// that stand in queue 0 before it. Time grows little faster than the history's length.
 pub fn find_breaches(
     alloc: Global,
     opening: &[Bytes],
     events: &[Event],
 ) -> Result<Breaches, NoMemory>
     requires { IsLawful events.now }
-    ensures fresh { IfOk result (λ breaches. AreFailures (IsFreshAt opening.now events.now) breaches.fresh) }
+    ensures fresh { IfOk result (λ breaches.
+        AreFailures (IsFreshAt opening.now events.now) breaches.fresh) }
     ensures once { IfOk result (λ breaches. AreFailures (IsOnceAt events.now) breaches.once) }
-    ensures in_order { IfOk result (λ breaches. AreFailures (IsInOrderAt opening.now events.now) breaches.in_order) }
-    ensures empty_right { IfOk result (λ breaches. AreFailures (IsEmptyRightAt opening.now events.now) breaches.empty_right) }
-    ensures accepted { IfOk result (λ breaches. AreFailures (IsAcceptedAt events.now) breaches.accepted) }
+    ensures in_order { IfOk result (λ breaches.
+        AreFailures (IsInOrderAt opening.now events.now) breaches.in_order) }
+    ensures empty_right { IfOk result (λ breaches.
+        AreFailures (IsEmptyRightAt opening.now events.now) breaches.empty_right) }
+    ensures accepted { IfOk result (λ breaches.
+        AreFailures (IsAcceptedAt events.now) breaches.accepted) }
     ensures counterparts { IfOk result (HaveCounterparts opening.now events.now) }
     ensures within { IfOk result (λ breaches. AreWithin (length events.now) breaches) }
 {
@@ -93,23 +102,29 @@ pub fn find_breaches(
     })
 }
 
-/// Judges a lawful history. `opening` has the contents of the tokens that stand in queue 0 before it. It
-/// makes tables of the history, and goes over its events a few times: time grows little faster than the
-/// history's length.
+/// Judges a lawful history. `opening` has the contents of the tokens that stand in queue 0 before
+/// it. It makes tables of the history, and goes over its events a few times: time grows little
+/// faster than the history's length.
 pub fn judge(alloc: Global, opening: &[Bytes], events: &[Event]) -> Result<Verdict, NoMemory>
     requires { IsLawful events.now }
 
     // The first event that breaks the aspect.
-    ensures fresh { IfOk result (λ verdict. IsVerdict (IsFreshAt opening.now events.now) verdict.fresh) }
+    ensures fresh { IfOk result (λ verdict.
+        IsVerdict (IsFreshAt opening.now events.now) verdict.fresh) }
     ensures once { IfOk result (λ verdict. IsVerdict (IsOnceAt events.now) verdict.once) }
-    ensures in_order { IfOk result (λ verdict. IsVerdict (IsInOrderAt opening.now events.now) verdict.in_order) }
-    ensures empty_right { IfOk result (λ verdict. IsVerdict (IsEmptyRightAt opening.now events.now) verdict.empty_right) }
+    ensures in_order { IfOk result (λ verdict.
+        IsVerdict (IsInOrderAt opening.now events.now) verdict.in_order) }
+    ensures empty_right { IfOk result (λ verdict.
+        IsVerdict (IsEmptyRightAt opening.now events.now) verdict.empty_right) }
 
     // There is none exactly where the aspect holds.
-    ensures is_fresh { IfOk result (λ verdict. (verdict.fresh ≡ None) ↔ IsFresh opening.now events.now) }
+    ensures is_fresh { IfOk result (λ verdict.
+        (verdict.fresh ≡ None) ↔ IsFresh opening.now events.now) }
     ensures is_once { IfOk result (λ verdict. (verdict.once ≡ None) ↔ IsOnce events.now) }
-    ensures is_in_order { IfOk result (λ verdict. (verdict.in_order ≡ None) ↔ IsInOrder opening.now events.now) }
-    ensures is_empty_right { IfOk result (λ verdict. (verdict.empty_right ≡ None) ↔ IsEmptyRight opening.now events.now) }
+    ensures is_in_order { IfOk result (λ verdict.
+        (verdict.in_order ≡ None) ↔ IsInOrder opening.now events.now) }
+    ensures is_empty_right { IfOk result (λ verdict.
+        (verdict.empty_right ≡ None) ↔ IsEmptyRight opening.now events.now) }
 {
     let tables = Tables::new(alloc, events)?;
     let in_order = out_of_order(alloc, &tables, opening, events)?;
@@ -134,8 +149,8 @@ fn number_of(position: Option<usize>) -> Option<u64>
     }
 }
 
-/// A verdict as text: a line for each aspect, `NAME holds` or `NAME fails at E`. The names are `fresh`,
-/// `once`, `in order` and `empty`.
+/// A verdict as text: a line for each aspect, `NAME holds` or `NAME fails at E`. The names are
+/// `fresh`, `once`, `in order` and `empty`.
 pub fn verdict_text(alloc: Global, verdict: &Verdict) -> Result<Bytes, NoMemory>
     ensures { IfOk result (λ text. text ≡ verdict_lines verdict.now) }
 {

@@ -1,21 +1,23 @@
 //! The puts that wait: they were finished, and no get that had started by then has got them.
 
-ghost use Rattle.std.specs.Prelude.{◌≡◌, ◌<◌, ◌≤◌, ◌^◌, ◌↔◌, ℕ, IsTrue, IfSome, MatchOption, length};
+ghost use Rattle.std.specs.Prelude.{◌≡◌, ◌<◌, ◌≤◌, ◌^◌, ◌↔◌, ℕ, IsTrue, IfSome, MatchOption};
+ghost use Rattle.std.specs.Prelude.{length};
 ghost use Rattle.scq_hist.specs.Aspects.{IsLawful};
 ghost use Rattle.scq_hist.specs.Calls.{IsGot};
 ghost use Rattle.scq_hist.specs.Lookups.{IsFirstNamed};
 ghost use Rattle.scq_hist.specs.declared.events.PutName.{PutName as ThePutName};
 ghost use Rattle.scq_check.specs.Failures.{AreFailures};
 ghost use Rattle.scq_check.specs.Tables.{IsTables};
-ghost use Rattle.scq_check.specs.Waiting.{IsLeftOut, IsTokenLeftOut, IsPutLeftOut, IsToldPut, AreWaiting, IsToldWithin, told_of};
+ghost use Rattle.scq_check.specs.Waiting.{IsLeftOut, IsTokenLeftOut, IsPutLeftOut, IsToldPut};
+ghost use Rattle.scq_check.specs.Waiting.{AreWaiting, IsToldWithin, told_of};
 
 use crate::failures::Failures;
 use crate::tables::Tables;
 use scq_hist::{Event, PutName};
 use scq_word::Bytes;
 
-/// Finished puts that no get which had started by then has got. One of them is told: the first that a later get has got, tokens
-/// before others; where there is none, the first.
+/// Finished puts that no get which had started by then has got. One of them is told: the first that
+/// a later get has got, tokens before others; where there is none, the first.
 #[derive(Clone, Copy)]
 pub struct Waiting {
     /// The opening tokens: the number of the first, from 0, and how many they are.
@@ -38,7 +40,8 @@ pub(crate) enum Sought {
     GotLater,
 }
 
-// Whether the put isn't sought: a get that started before position e has got it, or where it is to be got later, none has.
+// Whether the put isn't sought: a get that started before position e has got it, or where it is to
+// be got later, none has.
 fn is_left_out(sought: Sought, tables: &Tables, events: &[Event], name: PutName, e: usize) -> bool
     requires tables { IsTables events.now tables.now }
     requires lawful { IsLawful events.now }
@@ -190,7 +193,8 @@ fn got_of_told(
     }
 }
 
-/// The puts of the queue that were finished at moment m and that no get which started before position e has got.
+/// The puts of the queue that were finished at moment m and that no get which started before
+/// position e has got.
 pub(crate) fn find_waiting(
     tables: &Tables,
     opening: &[Bytes],

@@ -1,5 +1,7 @@
 -- How an answer stands among bytes: its file and line as steps from those of the answer before it.
-use Rattle.std.specs.Prelude.{ℕ, ◌+◌, ◌-◌, ◌*◌, ◌/◌, ◌%◌, ◌^◌, ◌<◌, ◌==◌, ◌&&◌, Bool, nat_lt, List, [], ◌∷◌, ◌++◌, length, take, drop, Option, Some, None, option_and_then, if◌then◌else◌}
+use Rattle.std.specs.Prelude.{ℕ, ◌+◌, ◌-◌, ◌*◌, ◌/◌, ◌%◌, ◌^◌, ◌<◌, ◌==◌, ◌&&◌, Bool, nat_lt, List}
+use Rattle.std.specs.Prelude.{[], ◌∷◌, ◌++◌, length, take, drop, Option, Some, None}
+use Rattle.std.specs.Prelude.{option_and_then, if◌then◌else◌}
 use Rattle.byteorder.specs.Endian.{big_bytes, big_number}
 use Rattle.scq_collect.specs.Joined.{PartAnswer}
 
@@ -10,11 +12,13 @@ mark n = if nat_lt n (2 ^ 16) then 253 else if nat_lt n (2 ^ 32) then 254 else 2
 abbrev pub width : ℕ → ℕ
 width mark = if mark == 253 then 2 else if mark == 254 then 4 else 8
 
--- a number in 1, 3, 5 or 9 bytes: itself where it is below 253, else its mark and then it, the highest byte first
+-- a number in 1, 3, 5 or 9 bytes: itself where it is below 253, else its mark and then it, the
+-- highest byte first
 unfoldable pub number_bytes : ℕ → List ℕ
 number_bytes n = if nat_lt n 253 then n ∷ [] else mark n ∷ big_bytes (width (mark n)) n
 
--- how far a number lies behind another, and the number that lies so far behind one; both modulo 2 ^ 32
+-- how far a number lies behind another, and the number that lies so far behind one; both modulo 2 ^
+-- 32
 abbrev pub step : ℕ → ℕ → ℕ
 step from to = (to + (2 ^ 32 - from)) % 2 ^ 32
 
@@ -25,18 +29,20 @@ stepped from step = (from + step) % 2 ^ 32
 abbrev pub is_alone : PartAnswer → Bool
 is_alone a = (a.part == 1) && (a.parts == 1)
 
--- twice the topic, and 1 more where the part isn't alone: then its number and the number of parts follow
+-- twice the topic, and 1 more where the part isn't alone: then its number and the number of parts
+-- follow
 abbrev pub topic_code : PartAnswer → ℕ
 topic_code a = 2 * a.topic + (if is_alone a then 0 else 1)
 
 abbrev pub part_bytes : PartAnswer → List ℕ
 part_bytes a = if is_alone a then [] else number_bytes a.part ++ number_bytes a.parts
 
--- an answer behind one to this file and line: its file and line, its topic, its part, how many bytes the part has, and the text with its length
--- in front
+-- an answer behind one to this file and line: its file and line, its topic, its part, how many
+-- bytes the part has, and the text with its length in front
 unfoldable pub answer_bytes : ℕ × ℕ → PartAnswer → List ℕ
 answer_bytes before a =
-    number_bytes (step before.0 a.file) ++ number_bytes (step before.1 a.line) ++ number_bytes (topic_code a) ++ part_bytes a
+    number_bytes (step before.0 a.file) ++ number_bytes (step before.1 a.line)
+    ++ number_bytes (topic_code a) ++ part_bytes a
     ++ number_bytes a.bytes ++ number_bytes (length a.text) ++ a.text
 
 -- answers one behind the other, of which the first comes behind one to this file and line
@@ -64,13 +70,16 @@ number_from (first ∷ rest) =
 
 -- the same of a number of 32 bits
 unfoldable pub short_from : List ℕ → Option (ℕ × List ℕ)
-short_from bytes = option_and_then (λ found. if nat_lt found.0 (2 ^ 32) then Some found else None) (number_from bytes)
+short_from bytes = option_and_then (λ found. if nat_lt found.0 (2 ^ 32) then Some found
+    else None) (number_from bytes)
 
 -- part and parts, whose bytes come first where the topic's code is odd
 unfoldable pub parts_from : ℕ → List ℕ → Option ((ℕ × ℕ) × List ℕ)
 parts_from code bytes =
     if code % 2 == 0 then Some ((1, 1), bytes)
-    else option_and_then (λ part. option_and_then (λ parts. Some ((part.0, parts.0), parts.1)) (short_from part.1)) (short_from bytes)
+    else option_and_then (λ part.
+    option_and_then (λ parts. Some ((part.0, parts.0), parts.1)) (short_from part.1))
+    (short_from bytes)
 
 -- the answer whose bytes come first, behind one to this file and line, and the bytes behind it
 unfoldable pub answer_from : ℕ × ℕ → List ℕ → Option (PartAnswer × List ℕ)
@@ -96,4 +105,5 @@ answer_from before bytes =
       drop len.0 len.1,
     )
     else None)
-    (number_from count.1)) (number_from parts.1)) (parts_from code.0 code.1)) (number_from line.1)) (short_from file.1)) (short_from bytes)
+    (number_from count.1)) (number_from parts.1)) (parts_from code.0 code.1)) (number_from line.1))
+    (short_from file.1)) (short_from bytes)

@@ -21,4 +21,6 @@ answer_of topics m = record {
 -- all messages of files with these contents, of which the first has this number
 abbrev pub messages_to : List (List ℕ × Kind) → ℕ → List (List ℕ) → List Message
 messages_to topics file [] = []
-messages_to topics file (content ∷ more) = map (numbered file (topic_of topics)) (messages_of content) ++ messages_to topics (file + 1) more
+messages_to topics file (content ∷ more) =
+    map (numbered file (topic_of topics)) (messages_of content)
+    ++ messages_to topics (file + 1) more

@@ -14,9 +14,10 @@ abbrev pub behind : ℕ × ℕ → List PartAnswer → ℕ × ℕ
 behind before [] = before
 behind before (a ∷ more) = behind (a.file, a.line) more
 
--- each full block has the bytes of some answers, and the last block those of the rest, whose next one comes behind this file and line; these are
--- the answers, in their order
-pub record AreInBlocks (full : List (List ℕ)) (block : List ℕ) (before : ℕ × ℕ) (answers : List PartAnswer) : Type 0 where
+-- each full block has the bytes of some answers, and the last block those of the rest, whose next
+-- one comes behind this file and line; these are the answers, in their order
+pub record AreInBlocks (full : List (List ℕ)) (block : List ℕ) (before : ℕ
+    × ℕ) (answers : List PartAnswer) : Type 0 where
   pub groups : List (List PartAnswer)
   pub last : List PartAnswer
   pub coded : full ≡ map (answers_bytes (0, 0)) groups

@@ -1,4 +1,5 @@
--- What the answers to the parts of messages say of the messages: the parts of one are joined in order of their numbers, whoever answered them.
+-- What the answers to the parts of messages say of the messages: the parts of one are joined in
+-- order of their numbers, whoever answered them.
 use Rattle.std.specs.Prelude.{◌≡◌, ℕ, ◌==◌, List, [], ◌∷◌, length, map, flat_map, if◌then◌else◌}
 use denote.Ref.{Bor}
 use Rattle.std.specs.List.{All, Contains}
@@ -11,8 +12,8 @@ use Rattle.scq_collect.specs.Merging.{AreApart, IsMerged, position_of_part}
 use Rattle.scq_collect.specs.Output.{Answer}
 use Rattle.scq_collect.specs.declared.answered.Answered.{Answered}
 
--- the answer to a part: its message's file, line and topic, its number, how many parts the message has, how many bytes this one has, and its
--- text
+-- the answer to a part: its message's file, line and topic, its number, how many parts the message
+-- has, how many bytes this one has, and its text
 pub record PartAnswer : Type 0 where
   pub file : ℕ
   pub line : ℕ
@@ -24,11 +25,21 @@ pub record PartAnswer : Type 0 where
 
 -- the answer alone, without the way in which a worker came to it
 abbrev pub without_way : Answered → PartAnswer
-without_way a = record { file = a.file; line = a.line; topic = a.topic; part = a.part; parts = a.parts; bytes = a.bytes; text = a.text }
+without_way a = record {
+  file = a.file;
+  line = a.line;
+  topic = a.topic;
+  part = a.part;
+  parts =
+      a.parts;
+  bytes = a.bytes;
+  text = a.text;
+}
 
 -- the text of a part: the reply where it is the whole message, else its bytes
 abbrev pub text_of_part : List (List ℕ × Kind) → Part → List ℕ
-text_of_part topics p = if p.parts == 1 then reply_of (kind_of topics p.topic) p.payload else p.payload
+text_of_part topics p =
+    if p.parts == 1 then reply_of (kind_of topics p.topic) p.payload else p.payload
 
 abbrev pub part_answer : List (List ℕ × Kind) → Part → PartAnswer
 part_answer topics p = record {
@@ -45,12 +56,13 @@ part_answer topics p = record {
 abbrev pub part_answers : List (List ℕ × Kind) → ℕ → List Message → List PartAnswer
 part_answers topics size messages = map (part_answer topics) (flat_map (all_parts size) messages)
 
--- the members are parts of messages, and all of each message that has one: for each file and line that stands among them they are its parts 1
--- to `parts`, each once, with one topic
+-- the members are parts of messages, and all of each message that has one: for each file and line
+-- that stands among them they are its parts 1 to `parts`, each once, with one topic
 pub record AreWhole (members : List Answered) : Type 0 where
   pub apart : AreApart position_of_part members
   pub numbered : All (λ a. IsNumbered a.part a.parts) members
-  pub alike : (a b : Answered) → Contains members a → Contains members b → a.file ≡ b.file → a.line ≡ b.line → (a.topic ≡ b.topic) × (a.parts ≡ b.parts)
+  pub alike : (a b : Answered) → Contains members a → Contains members b → a.file ≡ b.file
+      → a.line ≡ b.line → (a.topic ≡ b.topic) × (a.parts ≡ b.parts)
   pub each : (a : Answered) (part : ℕ) → Contains members a → IsNumbered part a.parts
       → (b : Answered) × Contains members b × (position_of_part b ≡ (a.file, a.line, part))
 
@@ -73,7 +85,8 @@ abbrev pub messages_in_order : List PartAnswer → List (List PartAnswer)
 messages_in_order [] = []
 messages_in_order (a ∷ []) = (a ∷ []) ∷ []
 messages_in_order (a ∷ b ∷ more) =
-    if b.part == 1 then (a ∷ []) ∷ messages_in_order (b ∷ more) else in_front a (messages_in_order (b ∷ more))
+    if b.part == 1 then (a ∷ []) ∷ messages_in_order (b ∷ more)
+    else in_front a (messages_in_order (b ∷ more))
 
 -- the texts of parts, in their order
 abbrev pub text_of_parts : List PartAnswer → List ℕ
@@ -81,9 +94,11 @@ text_of_parts parts = flat_map (λ a. a.text) parts
 
 -- the answer to a message of one part
 abbrev pub answer_of_one : PartAnswer → Answer
-answer_of_one a = record { file = a.file; line = a.line; topic = a.topic; bytes = a.bytes; reply = a.text }
+answer_of_one a =
+    record { file = a.file; line = a.line; topic = a.topic; bytes = a.bytes; reply = a.text }
 
--- the answer to the message of these parts: that of its one part, or the reply to the texts of several, joined in their order
+-- the answer to the message of these parts: that of its one part, or the reply to the texts of
+-- several, joined in their order
 abbrev pub joined : List (List ℕ × Kind) → List PartAnswer → Answer
 joined topics [] = record { file = 0; line = 0; topic = 0; bytes = 0; reply = [] }
 joined topics (a ∷ []) = answer_of_one a
@@ -100,7 +115,8 @@ abbrev pub answers_of : List (List ℕ × Kind) → List PartAnswer → List Ans
 answers_of topics parts = map (joined topics) (messages_in_order parts)
 
 -- the answers to the messages of the members, in order of file and line
-pub record IsJoined (topics : List (List ℕ × Kind)) (members : List Answered) (wholes : List Answer) : Type 0 where
+pub record IsJoined (topics : List (List ℕ × Kind)) (members : List Answered)
+    (wholes : List Answer) : Type 0 where
   pub all : List Answered
   pub merged : IsMerged position_of_part members all
   pub wholes_are : wholes ≡ answers_of topics (map without_way all)

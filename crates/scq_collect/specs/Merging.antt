@@ -13,11 +13,13 @@ IsBefore p q = (p.0 < q.0) ⊎ ((p.0 ≡ q.0) × ((p.1 < q.1) ⊎ ((p.1 ≡ q.1)
 
 -- each member stands before the next: so no two have one position
 abbrev pub IsInOrder : {A : Type 0} → (A → ℕ × ℕ × ℕ) → List A → Type 0
-IsInOrder position members = AllAdjacentBelow (λ x y. IsBefore (position x) (position y)) members (length members)
+IsInOrder position members =
+    AllAdjacentBelow (λ x y. IsBefore (position x) (position y)) members (length members)
 
 -- no member stands before the one in front of it
 abbrev pub IsSorted : {A : Type 0} → (A → ℕ × ℕ × ℕ) → List A → Type 0
-IsSorted position members = AllAdjacentBelow (λ x y. ¬ IsBefore (position y) (position x)) members (length members)
+IsSorted position members =
+    AllAdjacentBelow (λ x y. ¬ IsBefore (position y) (position x)) members (length members)
 
 -- no two members have one position
 abbrev pub AreApart : {A : Type 0} → (A → ℕ × ℕ × ℕ) → List A → Type 0

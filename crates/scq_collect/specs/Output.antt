@@ -1,6 +1,8 @@
--- What one thread writes about the messages of some files, taken in order. `topics` has the names and
--- kinds of the declared topics; the number after the last of them stands for all undeclared ones.
-use Rattle.std.specs.Prelude.{ℕ, ◌+◌, ◌==◌, List, [], ◌∷◌, ◌++◌, length, map, codes, decimal, flat_map, count_by, sum_by, if◌then◌else◌}
+-- What one thread writes about the messages of some files, taken in order. `topics` has the names
+-- and kinds of the declared topics; the number after the last of them stands for all undeclared
+-- ones.
+use Rattle.std.specs.Prelude.{ℕ, ◌+◌, ◌==◌, List, [], ◌∷◌, ◌++◌, length, map, codes, decimal}
+use Rattle.std.specs.Prelude.{flat_map, count_by, sum_by, if◌then◌else◌}
 use Rattle.std.specs.List.{range_with_len}
 use Rattle.scq_topics.specs.declared.kind.Kind.{Kind}
 use Rattle.scq_topics.specs.Reply.{reply_of}
@@ -9,7 +11,8 @@ use Rattle.scq_frames.specs.Text.{Framed, messages_of}
 use Rattle.scq_collect.specs.declared.whole.AnswerView.{AnswerView}
 use Rattle.scq_collect.specs.declared.whole.Whole.{Whole}
 
--- the answer to a message: its file and line, its topic's number, how many bytes its payload has, and the reply
+-- the answer to a message: its file and line, its topic's number, how many bytes its payload has,
+-- and the reply
 pub record Answer : Type 0 where
   pub file : ℕ
   pub line : ℕ
@@ -19,10 +22,12 @@ pub record Answer : Type 0 where
 
 -- the answer that is kept whole, or whose reply stays where it is
 abbrev pub answer_of_whole : Whole → Answer
-answer_of_whole w = record { file = w.file; line = w.line; topic = w.topic; bytes = w.bytes; reply = w.reply }
+answer_of_whole w =
+    record { file = w.file; line = w.line; topic = w.topic; bytes = w.bytes; reply = w.reply }
 
 abbrev pub answer_of_view : AnswerView → Answer
-answer_of_view v = record { file = v.file; line = v.line; topic = v.topic; bytes = v.bytes; reply = v.reply.now }
+answer_of_view v =
+    record { file = v.file; line = v.line; topic = v.topic; bytes = v.bytes; reply = v.reply.now }
 
 -- the answer to a message of this file
 abbrev pub answer_to : List (List ℕ × Kind) → ℕ → Framed → Answer
@@ -43,7 +48,8 @@ answers_to topics file (content ∷ more) =
 -- the line for an answer: `file:line topic reply`
 abbrev pub reply_line : List (List ℕ × Kind) → Answer → List ℕ
 reply_line topics a =
-    decimal a.file ++ codes ":" ++ decimal a.line ++ codes " " ++ name_of topics a.topic ++ codes " " ++ a.reply ++ codes "\n"
+    decimal a.file ++ codes ":" ++ decimal a.line ++ codes " " ++ name_of topics a.topic
+    ++ codes " " ++ a.reply ++ codes "\n"
 
 -- how many answers are on the topic with this number
 abbrev pub count_on : ℕ → List Answer → ℕ
@@ -56,12 +62,14 @@ bytes_on topic answers = sum_by (λ a. if a.topic == topic then a.bytes else 0) 
 -- the line for the topic with this number: `total topic count bytes`
 abbrev pub total_line : List (List ℕ × Kind) → List Answer → ℕ → List ℕ
 total_line topics answers topic =
-    codes "total " ++ name_of topics topic ++ codes " " ++ decimal (count_on topic answers) ++ codes " "
+    codes "total " ++ name_of topics topic ++ codes " " ++ decimal (count_on topic answers)
+    ++ codes " "
     ++ decimal (bytes_on topic answers) ++ codes "\n"
 
 -- the totals: the declared topics in their order, and last those that aren't declared
 abbrev pub total_lines : List (List ℕ × Kind) → List Answer → List ℕ
-total_lines topics answers = flat_map (total_line topics answers) (range_with_len 0 (length topics + 1))
+total_lines topics answers =
+    flat_map (total_line topics answers) (range_with_len 0 (length topics + 1))
 
 -- what is written of answers
 abbrev pub text_of_answers : List (List ℕ × Kind) → List Answer → List ℕ

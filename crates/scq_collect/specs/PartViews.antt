@@ -3,4 +3,13 @@ use Rattle.scq_collect.specs.Joined.{PartAnswer}
 use Rattle.scq_collect.specs.declared.coding.PartView.{PartView}
 
 abbrev pub part_of_view : PartView → PartAnswer
-part_of_view v = record { file = v.file; line = v.line; topic = v.topic; part = v.part; parts = v.parts; bytes = v.bytes; text = v.text.now }
+part_of_view v = record {
+  file = v.file;
+  line = v.line;
+  topic = v.topic;
+  part = v.part;
+  parts =
+      v.parts;
+  bytes = v.bytes;
+  text = v.text.now;
+}

@@ -10,15 +10,15 @@ use scq_topics::ReplyBytes;
 pub enum Way {
     /// It took the part from its topic's ring, at this place.
     Taken { place: u64 },
-    /// It answered a part of a message of its own file itself, since no buffer was free: with this head of
-    /// the ring of free buffers.
+    /// It answered a part of a message of its own file itself, since no buffer was free: with this
+    /// head of the ring of free buffers.
     Direct { head: u64 },
 }
 
-/// The answer to a part of a message: the message's file and line, both numbered from 1, its topic's
-/// number, the part's number, from 1, how many parts the message has, how many bytes the part has, the
-/// text, and how a worker came to answer it. The text is the reply where the message has one part, else
-/// the bytes of the part.
+/// The answer to a part of a message: the message's file and line, both numbered from 1, its
+/// topic's number, the part's number, from 1, how many parts the message has, how many bytes the
+/// part has, the text, and how a worker came to answer it. The text is the reply where the message
+/// has one part, else the bytes of the part.
 #[derive(Debug, Drop)]
 pub struct Answered {
     pub file: u32,

@@ -8,9 +8,10 @@ use scq_word::NoMemory;
 use std::alloc::Global;
 use std::marker::Model;
 
-/// The answers that a worker gave, in their order. Contracts see them as a list, each with the way in which the worker
-/// came to it; of the way nothing is kept when the program runs. An answer takes some bytes beside its text: 5
-/// where its message stands close behind that of the answer before it, and its numbers are small.
+/// The answers that a worker gave, in their order. Contracts see them as a list, each with the way
+/// in which the worker came to it; of the way nothing is kept when the program runs. An answer
+/// takes some bytes beside its text: 5 where its message stands close behind that of the answer
+/// before it, and its numbers are small.
 #[derive(Drop)]
 pub struct Answers {
     alloc: Global,
@@ -30,7 +31,8 @@ impl Model for Answers {
 
     ghost view = { λ s. s.log.items };
 
-    ghost invariant = { λ s. AreInBlocks (contents s.full.items) s.block.items s.before (map without_way s.log.items) };
+    ghost invariant = { λ s. AreInBlocks (contents s.full.items) s.block.items s.before
+        (map without_way s.log.items) };
 }
 
 impl Answers {

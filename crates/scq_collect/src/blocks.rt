@@ -1,5 +1,6 @@
 //! Room for an answer in the last of some blocks.
-ghost use Rattle.std.specs.Prelude.{◌≡◌, ◌+◌, ◌≤◌, ◌++◌, ◌∷◌, [], List, length, vec_capacity, IfOk, OnOk, OnErr};
+ghost use Rattle.std.specs.Prelude.{◌≡◌, ◌+◌, ◌≤◌, ◌++◌, ◌∷◌, [], List, length, vec_capacity, IfOk};
+ghost use Rattle.std.specs.Prelude.{OnOk, OnErr};
 ghost use Rattle.scq_collect.specs.InBlocks.{AreInBlocks, contents};
 ghost use Rattle.scq_collect.specs.Joined.{PartAnswer};
 
@@ -12,8 +13,8 @@ const LEAST: usize = 256;
 
 const MOST: usize = 1 << 16;
 
-/// Sees to it that the last block has room for so many bytes, where need be by a new block behind it, and answers
-/// behind which file and line its next answer comes.
+/// Sees to it that the last block has room for so many bytes, where need be by a new block behind
+/// it, and answers behind which file and line its next answer comes.
 pub fn make_room(
     alloc: Global,
     full: &mut Vec<Vec<u8>>,
@@ -22,7 +23,8 @@ pub fn make_room(
     bytes: usize,
 ) -> Result<(u32, u32), NoMemory>
     ensures room { OnOk result (length block.new.items + bytes ≤ vec_capacity block.new) }
-    ensures held { (answers : List PartAnswer) → AreInBlocks (contents full.old.items) block.old.items before answers
+    ensures held { (answers : List PartAnswer)
+        → AreInBlocks (contents full.old.items) block.old.items before answers
         → IfOk result (λ now. AreInBlocks (contents full.new.items) block.new.items now answers) }
     ensures full { OnErr result (contents full.new.items ≡ contents full.old.items) }
     ensures block { OnErr result (block.new.items ≡ block.old.items) }
@@ -34,7 +36,8 @@ pub fn make_room(
     Ok((0, 0))
 }
 
-/// Begins a block with room for so many bytes: twice as large as the last, up to the most that a block has.
+/// Begins a block with room for so many bytes: twice as large as the last, up to the most that a
+/// block has.
 fn begin_block(
     alloc: Global,
     full: &mut Vec<Vec<u8>>,

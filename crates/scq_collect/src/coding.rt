@@ -1,7 +1,9 @@
 //! Answers as bytes: numbers in as few as they need, and an answer behind another.
-ghost use Rattle.std.specs.Prelude.{◌≡◌, ℕ, List, Some, ◌+◌, ◌*◌, ◌≤◌, ◌==◌, ◌&&◌, ◌++◌, ◌∷◌, [], length, vec_capacity, if◌then◌else◌};
+ghost use Rattle.std.specs.Prelude.{◌≡◌, ℕ, List, Some, ◌+◌, ◌*◌, ◌≤◌, ◌==◌, ◌&&◌, ◌++◌, ◌∷◌, []};
+ghost use Rattle.std.specs.Prelude.{length, vec_capacity, if◌then◌else◌};
 ghost use Rattle.std.specs.Option.{option_map};
-ghost use Rattle.scq_collect.specs.Coding.{IsCodable, answer_bytes, answer_from, number_bytes, number_from, parts_from, short_from};
+ghost use Rattle.scq_collect.specs.Coding.{IsCodable, answer_bytes, answer_from, number_bytes};
+ghost use Rattle.scq_collect.specs.Coding.{number_from, parts_from, short_from};
 ghost use Rattle.scq_collect.specs.Joined.{PartAnswer};
 ghost use Rattle.scq_collect.specs.PartViews.{part_of_view};
 
@@ -25,7 +27,8 @@ pub struct PartView<'a> {
 /// Adds the bytes of an answer that comes behind one to this file and line, where there is room.
 pub fn push_answer(block: &mut Vec<u8>, before: (u32, u32), answer: PartView<'_>)
     requires room { length block.old.items + 63 + length answer.text.now ≤ vec_capacity block.old }
-    ensures bytes { block.new.items ≡ block.old.items ++ answer_bytes before (part_of_view answer.entry) }
+    ensures bytes { block.new.items
+        ≡ block.old.items ++ answer_bytes before (part_of_view answer.entry) }
     ensures codable { IsCodable (part_of_view answer.entry) }
     ensures capacity { vec_capacity block.old ≤ vec_capacity block.new }
 {
@@ -57,7 +60,8 @@ fn topic_code(topic: u32, alone: bool) -> u64
 /// Adds a part's number and the number of parts, unless it is alone.
 fn push_parts(block: &mut Vec<u8>, alone: bool, part: u32, parts: u32)
     requires room { length block.old.items + 18 ≤ vec_capacity block.old }
-    ensures bytes { block.new.items ≡ block.old.items ++ (if alone then [] else number_bytes part ++ number_bytes parts) }
+    ensures bytes { block.new.items
+        ≡ block.old.items ++ (if alone then [] else number_bytes part ++ number_bytes parts) }
     ensures few { length block.new.items ≤ length block.old.items + 18 }
     ensures capacity { vec_capacity block.old ≤ vec_capacity block.new }
 {
@@ -106,18 +110,23 @@ fn push_bytes(block: &mut Vec<u8>, bytes: &[u8])
     block.extend_from_slice(bytes).unwrap();
 }
 
-/// The answer whose bytes come first, behind one to this file and line, and the bytes behind it. What `push_answer` wrote is what is read.
+/// The answer whose bytes come first, behind one to this file and line, and the bytes behind it.
+/// What `push_answer` wrote is what is read.
 pub fn read_answer(before: (u32, u32), bytes: &[u8]) -> Option<(PartView<'_>, &[u8])>
-    ensures read { option_map (λ found. (part_of_view found.0, found.1.now)) result ≡ answer_from before bytes.now }
-    ensures again { (answer : PartAnswer) (rest : List ℕ) → IsCodable answer → bytes.now ≡ answer_bytes before answer ++ rest
-        → option_map {U = PartAnswer × List ℕ} (λ found. (part_of_view found.0, found.1.now)) result ≡ Some (answer, rest) }
+    ensures read { option_map (λ found. (part_of_view found.0, found.1.now)) result
+        ≡ answer_from before bytes.now }
+    ensures again { (answer : PartAnswer) (rest : List ℕ) → IsCodable answer
+        → bytes.now ≡ answer_bytes before answer ++ rest
+        → option_map {U = PartAnswer × List ℕ} (λ found. (part_of_view found.0, found.1.now)) result
+        ≡ Some (answer, rest) }
 {
     answer_at(before, bytes)
 }
 
 #[tactic(auto, unfolding(crate::specs::Coding::answer_from))]
 fn answer_at(before: (u32, u32), bytes: &[u8]) -> Option<(PartView<'_>, &[u8])>
-    ensures { option_map (λ found. (part_of_view found.0, found.1.now)) result ≡ answer_from before bytes.now }
+    ensures { option_map (λ found. (part_of_view found.0, found.1.now)) result
+        ≡ answer_from before bytes.now }
 {
     let (file, rest) = read_short(bytes)?;
     let (line, rest) = read_short(rest)?;
@@ -142,7 +151,8 @@ fn answer_at(before: (u32, u32), bytes: &[u8]) -> Option<(PartView<'_>, &[u8])>
     Some((answer, rest))
 }
 
-/// The number of a part and the number of parts, whose bytes come first unless the code says that it is alone.
+/// The number of a part and the number of parts, whose bytes come first unless the code says that
+/// it is alone.
 #[tactic(auto, unfolding(crate::specs::Coding::parts_from))]
 fn read_parts(code: u64, bytes: &[u8]) -> Option<((u32, u32), &[u8])>
     ensures { option_map (λ found. (found.0, found.1.now)) result ≡ parts_from code bytes.now }

@@ -16,7 +16,8 @@ use std::alloc::Global;
 pub fn whole_of(alloc: Global, topics: &Topics, parts: &[&Answered]) -> Result<Whole, NoMemory>
     requires some { 0 < length parts.now }
     requires known { All (λ m. m.now.topic ≤ length topics.now) parts.now }
-    ensures whole { IfOk result (λ whole. answer_of_whole whole ≡ joined topics.now (plain parts.now)) }
+    ensures whole { IfOk result (λ whole.
+        answer_of_whole whole ≡ joined topics.now (plain parts.now)) }
     ensures known { IfOk result (λ whole. whole.topic ≤ length topics.now) }
 {
     let first = parts[0];
@@ -34,7 +35,8 @@ pub fn whole_of(alloc: Global, topics: &Topics, parts: &[&Answered]) -> Result<W
     })
 }
 
-/// How many bytes the texts of these parts have together, and the reply to them. They are joined only where the reply needs it.
+/// How many bytes the texts of these parts have together, and the reply to them. They are joined
+/// only where the reply needs it.
 fn reply_to(
     alloc: Global,
     topics: &Topics,
@@ -43,7 +45,8 @@ fn reply_to(
 ) -> Result<(u64, ReplyBytes), NoMemory>
     requires known { topic ≤ length topics.now }
     ensures bytes { IfOk result (λ r. r.0 ≡ length (text_of_parts (plain parts.now))) }
-    ensures reply { IfOk result (λ r. r.1 ≡ reply_of (kind_of topics.now topic) (text_of_parts (plain parts.now))) }
+    ensures reply { IfOk result (λ r.
+        r.1 ≡ reply_of (kind_of topics.now topic) (text_of_parts (plain parts.now))) }
 {
     let len = joined_len(parts).ok_or(NoMemory)?;
     let bytes = len as u64;

@@ -14,7 +14,8 @@ pub struct Given<'a> {
     pub way: Way,
 }
 
-/// The answers that were given, in their order. It takes no memory, and its calls do nothing when the program runs.
+/// The answers that were given, in their order. It takes no memory, and its calls do nothing when
+/// the program runs.
 #[derive(Drop)]
 pub struct Log {
     pub ghost items: { List TheAnswered },

@@ -2,7 +2,8 @@
 ghost use Rattle.std.specs.Prelude.{◌≡◌, ◌+◌, ◌*◌, ◌<◌, List, length, map, IfOk, IfSome, IsTrue};
 ghost use Rattle.std.specs.List.{All, Contains};
 ghost use Rattle.scq_collect.specs.declared.answered.Answered.{Answered as TheAnswered};
-ghost use Rattle.scq_collect.specs.Merging.{IsBefore, IsInOrder, IsMerged, members_in, position_of_part};
+ghost use Rattle.scq_collect.specs.Merging.{IsBefore, IsInOrder, IsMerged, members_in};
+ghost use Rattle.scq_collect.specs.Merging.{position_of_part};
 
 use crate::Answered;
 use scq_word::NoMemory;
@@ -14,11 +15,12 @@ const FILES: usize = 65;
 /// How many slots there may be for each member.
 const SLOTS_A_MEMBER: u64 = 4;
 
-/// The members of all lists, in order of file, line and part. They stay where they lie. Where each message
-/// has one part, and the lines that have members lie close enough, no two members are compared but
-/// neighbours.
+/// The members of all lists, in order of file, line and part. They stay where they lie. Where each
+/// message has one part, and the lines that have members lie close enough, no two members are
+/// compared but neighbours.
 pub fn ordered<'a>(alloc: Global, lists: &'a [Vec<Answered>]) -> Result<Vec<&'a Answered>, NoMemory>
-    ensures { IfOk result (λ all. IsMerged position_of_part (members_in lists.entry.now) (map (λ m. m.now) all.items)) }
+    ensures { IfOk result (λ all.
+        IsMerged position_of_part (members_in lists.entry.now) (map (λ m. m.now) all.items)) }
 {
     if let Some(count) = count_of(lists) {
         let Extent {
@@ -41,7 +43,8 @@ type Placed<'a> = (u32, u32, u32, &'a Answered);
 
 /// The members of all lists, sorted.
 fn sorted<'a>(alloc: Global, lists: &'a [Vec<Answered>]) -> Result<Vec<&'a Answered>, NoMemory>
-    ensures { IfOk result (λ all. IsMerged position_of_part (members_in lists.entry.now) (map (λ m. m.now) all.items)) }
+    ensures { IfOk result (λ all.
+        IsMerged position_of_part (members_in lists.entry.now) (map (λ m. m.now) all.items)) }
 {
     let mut members = members_of(alloc, lists)?;
     members.sort_by_key(|(file, line, part, _)| (*file, *line, *part))?;
@@ -54,8 +57,10 @@ fn sorted<'a>(alloc: Global, lists: &'a [Vec<Answered>]) -> Result<Vec<&'a Answe
 
 /// The members of all lists, one list behind the other.
 fn members_of<'a>(alloc: Global, lists: &'a [Vec<Answered>]) -> Result<Vec<Placed<'a>>, NoMemory>
-    ensures members { IfOk result (λ members. map (λ m. m.3.now) members.items ≡ members_in lists.entry.now) }
-    ensures placed { IfOk result (λ members. All (λ m. (m.0, m.1, m.2) ≡ position_of_part m.3.now) members.items) }
+    ensures members { IfOk result (λ members.
+        map (λ m. m.3.now) members.items ≡ members_in lists.entry.now) }
+    ensures placed { IfOk result (λ members.
+        All (λ m. (m.0, m.1, m.2) ≡ position_of_part m.3.now) members.items) }
 {
     let mut members = Vec::new(alloc);
     'lists: for list in lists {
@@ -77,9 +82,9 @@ fn count_of(lists: &[Vec<Answered>]) -> Option<usize>
     Some(count)
 }
 
-/// For each number of a file the slot of its line 0, how many slots there are, and whether each message
-/// has one part. Numbers past the last share one, and nothing rests on what stands here: a slot that is
-/// wrong is found.
+/// For each number of a file the slot of its line 0, how many slots there are, and whether each
+/// message has one part. Numbers past the last share one, and nothing rests on what stands here: a
+/// slot that is wrong is found.
 struct Extent {
     alone: bool,
     starts: [u64; FILES],
@@ -128,7 +133,8 @@ fn table_of<'a>(
 ) -> Result<Vec<Option<&'a Answered>>, NoMemory>
     requires few { slots < 4 * (length (members_in lists.now) + 1) }
     ensures size { IfOk result (λ table. length table.items ≡ slots) }
-    ensures members { IfOk result (λ table. All (λ slot. IfSome slot (λ m. Contains (members_in lists.entry.now) m.now)) table.items) }
+    ensures members { IfOk result (λ table.
+        All (λ slot. IfSome slot (λ m. Contains (members_in lists.entry.now) m.now)) table.items) }
 {
     let mut table = Vec::from_elem(alloc, None, slots)?;
     'lists: for list in lists {
@@ -143,7 +149,9 @@ fn table_of<'a>(
 /// Puts a member into a slot, where there is such a one.
 fn put<'a>(table: &mut Vec<Option<&'a Answered>>, at: usize, member: &'a Answered)
     ensures size { length table.new.items ≡ length table.old.items }
-    ensures members { (members : List TheAnswered) → All (λ slot. IfSome slot (λ m. Contains members m.now)) table.old.items → Contains members member.now
+    ensures members { (members : List TheAnswered)
+        → All (λ slot. IfSome slot (λ m. Contains members m.now)) table.old.items
+        → Contains members member.now
         → All (λ slot. IfSome slot (λ m. Contains members m.now)) table.new.items }
 {
     if at < table.len() {
@@ -158,9 +166,12 @@ fn collected<'a>(
     count: usize,
 ) -> Result<Option<Vec<&'a Answered>>, NoMemory>
     ensures count { IfOk result (λ found. IfSome found (λ all. length all.items ≡ count)) }
-    ensures in_order { IfOk result (λ found. IfSome found (λ all. IsInOrder position_of_part (map (λ m. m.now) all.items))) }
-    ensures from { (members : List TheAnswered) → All (λ slot. IfSome slot (λ m. Contains members m.now)) slots.now
-        → IfOk result (λ found. IfSome found (λ all. All (Contains members) (map (λ m. m.now) all.items))) }
+    ensures in_order { IfOk result (λ found.
+        IfSome found (λ all. IsInOrder position_of_part (map (λ m. m.now) all.items))) }
+    ensures from { (members : List TheAnswered)
+        → All (λ slot. IfSome slot (λ m. Contains members m.now)) slots.now
+        → IfOk result (λ found.
+        IfSome found (λ all. All (Contains members) (map (λ m. m.now) all.items))) }
 {
     let mut all = Vec::with_capacity(alloc, count)?;
     let mut last = (0, 0, 0);

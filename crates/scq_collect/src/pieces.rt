@@ -1,11 +1,15 @@
-//! The text of what several workers answered, made where the answers lie, in pieces, by several threads.
-ghost use Rattle.std.specs.Prelude.{◌≡◌, ℕ, ◌+◌, ◌<◌, ◌≤◌, ◌^◌, List, length, map, flat_map, slice_index_or, IfOk};
+//! The text of what several workers answered, made where the answers lie, in pieces, by several
+//! threads.
+ghost use Rattle.std.specs.Prelude.{◌≡◌, ℕ, ◌+◌, ◌<◌, ◌≤◌, ◌^◌, List, length, map, flat_map};
+ghost use Rattle.std.specs.Prelude.{slice_index_or, IfOk};
 ghost use Rattle.std.specs.List.{All};
 ghost use Rattle.std.specs.List.Sorted.{IsPermutation};
 ghost use Rattle.scq_collect.specs.Collected.{messages_to};
-ghost use Rattle.scq_collect.specs.Joined.{IsJoined, answers_of, messages_in_order, part_answers, plain, without_way};
+ghost use Rattle.scq_collect.specs.Joined.{IsJoined, answers_of, messages_in_order, part_answers};
+ghost use Rattle.scq_collect.specs.Joined.{plain, without_way};
 ghost use Rattle.scq_collect.specs.Merging.{members_in};
-ghost use Rattle.scq_collect.specs.Output.{Answer, answer_of_view, one_thread_output, text_of_answers};
+ghost use Rattle.scq_collect.specs.Output.{Answer, answer_of_view, one_thread_output};
+ghost use Rattle.scq_collect.specs.Output.{text_of_answers};
 ghost use Rattle.scq_collect.specs.Pieces.{ArePiecesOf, IsPieceOf, all_answers, bytes_of};
 
 use crate::Answered;
@@ -58,9 +62,10 @@ impl Text {
     }
 }
 
-/// The text that `output` makes of what `merge` gives, in pieces to be written one behind the other, by at most so many threads. No answer
-/// of one part is copied, and the texts of a message's parts are joined while its line is made, where the reply needs them so. It fails only
-/// for want of memory.
+/// The text that `output` makes of what `merge` gives, in pieces to be written one behind the
+/// other, by at most so many threads. No answer of one part is copied, and the texts of a message's
+/// parts are joined while its line is made, where the reply needs them so. It fails only for want
+/// of memory.
 pub fn output_in_pieces<R: Threads + Sync>(
     rt: &R,
     alloc: Global,
@@ -69,12 +74,15 @@ pub fn output_in_pieces<R: Threads + Sync>(
     threads: u32,
 ) -> Result<Text, NoMemory>
     requires { All (λ a. a.topic ≤ length topics.now) (members_in lists.now) }
-    ensures text { IfOk result (λ text. (answers : List Answer) × IsJoined topics.now (members_in lists.now) answers
+    ensures text { IfOk result (λ text.
+        (answers : List Answer) × IsJoined topics.now (members_in lists.now) answers
         × (text ≡ text_of_answers topics.now answers)) }
 
-    // However the answers to all parts of the messages of files are divided into lists, the pieces are the output of one thread.
+    // However the answers to all parts of the messages of files are divided into lists, the pieces
+    // are the output of one thread.
     ensures one_thread { (size : ℕ) (contents : List (List ℕ)) → 0 < size
-        → IsPermutation (map without_way (members_in lists.now)) (part_answers topics.now size (messages_to topics.now 1 contents))
+        → IsPermutation (map without_way (members_in lists.now))
+        (part_answers topics.now size (messages_to topics.now 1 contents))
         → IfOk result (λ text. text ≡ one_thread_output topics.now contents) }
 {
     let numbers = topics.len() + 1;
@@ -86,8 +94,8 @@ pub fn output_in_pieces<R: Threads + Sync>(
     Ok(Text { pieces })
 }
 
-/// How many parts a piece has at least, where there are to be at most as many pieces as threads, and each is to have parts enough, or about
-/// bytes enough.
+/// How many parts a piece has at least, where there are to be at most as many pieces as threads,
+/// and each is to have parts enough, or about bytes enough.
 fn size_of_piece(all: &[&Answered], threads: u32) -> usize
     ensures { 0 < result }
 {
@@ -116,7 +124,9 @@ fn cuts_of<'m, 'a>(
 ) -> Result<Vec<&'m [&'a Answered]>, NoMemory>
     requires { 0 < size }
     ensures all { IfOk result (λ cuts. flat_map (λ cut. cut.now) cuts.items ≡ all.now) }
-    ensures messages { IfOk result (λ cuts. flat_map (λ cut. messages_in_order (plain cut.now)) cuts.items ≡ messages_in_order (plain all.now)) }
+    ensures messages { IfOk result (λ cuts.
+        flat_map (λ cut. messages_in_order (plain cut.now)) cuts.items
+        ≡ messages_in_order (plain all.now)) }
 {
     let mut cuts = Vec::new(alloc);
     let mut at = 0;
@@ -137,12 +147,19 @@ fn pieces_of<R: Threads + Sync>(
 ) -> Result<Vec<Result<Piece, NoMemory>>, NoMemory>
     requires topics { length topics.now ≤ 16 }
     requires known { All (λ cut. All (λ m. m.now.topic ≤ length topics.now) cut.now) cuts.now }
-    requires few { length (all_answers (map (λ cut. answers_of topics.now (plain cut.now)) cuts.now)) < 2 ^ 64 }
-    ensures { IfOk result (λ pieces. ArePiecesOf topics.now (map (λ cut. answers_of topics.now (plain cut.now)) cuts.now) pieces.items) }
+    requires few { length
+        (all_answers (map (λ cut. answers_of topics.now (plain cut.now)) cuts.now)) < 2 ^ 64 }
+    ensures { IfOk result (λ pieces.
+        ArePiecesOf topics.now
+        (map (λ cut. answers_of topics.now (plain cut.now)) cuts.now) pieces.items) }
 {
     let piece = |n: usize| -> Result<Piece, NoMemory>
-        requires { (n < length cuts.now) × (length topics.now ≤ 16) × All (λ cut. All (λ m. m.now.topic ≤ length topics.now) cut.now) cuts.now }
-        ensures { (d : _) → IfOk result (λ p. IsPieceOf topics.entry.now (answers_of topics.entry.now (plain (slice_index_or cuts.entry.now n d).now)) p) }
+        requires { (n < length cuts.now) × (length topics.now ≤ 16)
+            × All (λ cut. All (λ m. m.now.topic ≤ length topics.now) cut.now) cuts.now }
+        ensures { (d : _)
+            → IfOk result (λ p.
+            IsPieceOf topics.entry.now
+            (answers_of topics.entry.now (plain (slice_index_or cuts.entry.now n d).now)) p) }
     { piece_of(alloc, topics, cuts[n]) };
     let pieces = thread::map_indices(rt, alloc, cuts.len(), &piece)?;
     Ok(pieces)
@@ -152,7 +169,8 @@ fn pieces_of<R: Threads + Sync>(
 fn piece_of(alloc: Global, topics: &Topics, members: &[&Answered]) -> Result<Piece, NoMemory>
     requires few { length topics.now ≤ 16 }
     requires known { All (λ m. m.now.topic ≤ length topics.now) members.now }
-    ensures { IfOk result (λ p. IsPieceOf topics.now (answers_of topics.now (plain members.now)) p) }
+    ensures { IfOk result (λ p.
+        IsPieceOf topics.now (answers_of topics.now (plain members.now)) p) }
 {
     let mut piece = Piece {
         text: Vec::new(alloc),
@@ -181,9 +199,11 @@ impl Piece {
         requires some { 0 < length parts.now }
         requires few { length topics.now ≤ 16 }
         requires known { All (λ m. m.now.topic ≤ length topics.now) parts.now }
-        requires room { (answers : List Answer) × IsPieceOf topics.now answers self.old × (length answers + 1 < 2 ^ 64) }
+        requires room { (answers : List Answer) × IsPieceOf topics.now answers self.old
+            × (length answers + 1 < 2 ^ 64) }
         ensures { (answers : List Answer) → IsPieceOf topics.now answers self.old
-            → OnOk result (IsPieceOf topics.now (answers ++ the_joined topics.now (plain parts.now) ∷ []) self.new) }
+            → OnOk result (IsPieceOf topics.now (answers ++ the_joined topics.now (plain parts.now)
+            ∷ []) self.new) }
     {
         if parts.len() == 1 {
             return self.push(topics, &parts[0].view());
@@ -196,9 +216,11 @@ impl Piece {
     fn push(&mut self, topics: &Topics, answer: &AnswerView<'_>) -> Result<(), NoMemory>
         requires few { length topics.now ≤ 16 }
         requires known { answer.now.topic ≤ length topics.now }
-        requires room { (answers : List Answer) × IsPieceOf topics.now answers self.old × (length answers + 1 < 2 ^ 64) }
+        requires room { (answers : List Answer) × IsPieceOf topics.now answers self.old
+            × (length answers + 1 < 2 ^ 64) }
         ensures { (answers : List Answer) → IsPieceOf topics.now answers self.old
-            → OnOk result (IsPieceOf topics.now (answers ++ answer_of_view answer.now ∷ []) self.new) }
+            → OnOk result (IsPieceOf topics.now (answers ++ answer_of_view answer.now
+            ∷ []) self.new) }
     {
         push_line(&mut self.text, topics, answer)?;
         self.totals.count(answer);
@@ -216,7 +238,8 @@ fn joined(
     requires numbers { (numbers ≡ length topics.now + 1) × (numbers ≤ 17) }
     requires pieces { (lists : List (List Answer)) × ArePiecesOf topics.now lists pieces.items }
     ensures { (lists : List (List Answer)) → ArePiecesOf topics.now lists pieces.items
-        → IfOk result (λ texts. bytes_of texts.items ≡ text_of_answers topics.now (all_answers lists)) }
+        → IfOk result (λ texts.
+        bytes_of texts.items ≡ text_of_answers topics.now (all_answers lists)) }
 {
     let mut texts = Vec::with_capacity(alloc, pieces.len())?;
     let mut totals = Totals::none();

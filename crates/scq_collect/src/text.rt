@@ -1,7 +1,11 @@
-ghost use Rattle.std.specs.Prelude.{◌≡◌, ℕ, ◌+◌, ◌<◌, ◌≤◌, ◌++◌, List, length, map, slice_index, codes, decimal, IfOk, OnOk};
+ghost use Rattle.std.specs.Prelude.{◌≡◌, ℕ, ◌+◌, ◌<◌, ◌≤◌, ◌++◌, List, length, map, slice_index};
+ghost use Rattle.std.specs.Prelude.{codes, decimal, IfOk, OnOk};
 ghost use Rattle.std.specs.List.{All};
 ghost use Rattle.scq_collect.specs.Sums.{AreTotals};
-ghost use Rattle.scq_collect.specs.Output.{Answer, answers_to, count_on, bytes_on, one_thread_output, reply_line, text_of_answers, total_line, total_lines, answer_of_view, answer_of_whole};
+ghost use Rattle.scq_collect.specs.Output.{Answer, answers_to, count_on, bytes_on};
+ghost use Rattle.scq_collect.specs.Output.{one_thread_output, reply_line, text_of_answers};
+ghost use Rattle.scq_collect.specs.Output.{total_line, total_lines, answer_of_view};
+ghost use Rattle.scq_collect.specs.Output.{answer_of_whole};
 
 use crate::Whole;
 use crate::totals::{Totals, totals_of};
@@ -18,8 +22,10 @@ const MOST_POSITION: usize = 22;
 /// declared topic and for all others together. It fails only for want of memory.
 pub fn output(alloc: Global, topics: &Topics, wholes: &[Whole]) -> Result<Bytes, NoMemory>
     requires { All (λ a. a.topic ≤ length topics.now) wholes.now }
-    ensures text { IfOk result (λ bytes. bytes ≡ text_of_answers topics.now (map answer_of_whole wholes.now)) }
-    ensures one_thread { (contents : List (List ℕ)) → map answer_of_whole wholes.now ≡ answers_to topics.now 1 contents
+    ensures text { IfOk result (λ bytes.
+        bytes ≡ text_of_answers topics.now (map answer_of_whole wholes.now)) }
+    ensures one_thread { (contents : List (List ℕ))
+        → map answer_of_whole wholes.now ≡ answers_to topics.now 1 contents
         → IfOk result (λ bytes. bytes ≡ one_thread_output topics.now contents) }
 {
     let mut text = Vec::new(alloc);
@@ -33,7 +39,8 @@ pub fn output(alloc: Global, topics: &Topics, wholes: &[Whole]) -> Result<Bytes,
 /// Adds the totals of the answers: a line for each declared topic, and one for all others together.
 pub fn push_totals(text: &mut Vec<u8>, topics: &Topics, wholes: &[Whole]) -> Result<(), NoMemory>
     requires { All (λ a. a.topic ≤ length topics.now) wholes.now }
-    ensures { OnOk result (text.new.items ≡ text.old.items ++ total_lines topics.now (map answer_of_whole wholes.now)) }
+    ensures { OnOk result (text.new.items
+        ≡ text.old.items ++ total_lines topics.now (map answer_of_whole wholes.now)) }
 {
     let numbers = topics.len() + 1;
     push_all_totals(text, topics, numbers, &totals_of(wholes))
@@ -63,7 +70,8 @@ pub fn push_line(
     answer: &AnswerView<'_>,
 ) -> Result<(), NoMemory>
     requires { answer.now.topic ≤ length topics.now }
-    ensures { OnOk result (text.new.items ≡ text.old.items ++ reply_line topics.now (answer_of_view answer.now)) }
+    ensures { OnOk result (text.new.items
+        ≡ text.old.items ++ reply_line topics.now (answer_of_view answer.now)) }
 {
     push_position(text, answer.file, answer.line)?;
     text.extend_from_slice(topics.name(answer.topic))?;
@@ -76,7 +84,8 @@ pub fn push_line(
 /// Adds where an answer's message stands: `file:line `. Its digits are written from the last to the
 /// first, so that the bytes are pushed once.
 fn push_position(text: &mut Vec<u8>, file: u32, line: u32) -> Result<(), NoMemory>
-    ensures { OnOk result (text.new.items ≡ text.old.items ++ (decimal file ++ codes ":" ++ decimal line ++ codes " ")) }
+    ensures { OnOk result (text.new.items
+        ≡ text.old.items ++ (decimal file ++ codes ":" ++ decimal line ++ codes " ")) }
 {
     let mut bytes = [b' '; MOST_POSITION];
     let from = write_digits(u64::from(line), &mut bytes, MOST_POSITION - 1);

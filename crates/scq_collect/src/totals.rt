@@ -9,8 +9,8 @@ use crate::whole::AnswerView;
 /// The most numbers that topics have: 16 declared ones, and one for all others.
 pub const MOST_NUMBERS: usize = 17;
 
-/// For each topic's number, how many answers there are and how many bytes their payloads have. Their
-/// sum may pass 64 bits, since any numbers may stand in the answers.
+/// For each topic's number, how many answers there are and how many bytes their payloads have.
+/// Their sum may pass 64 bits, since any numbers may stand in the answers.
 #[derive(Clone, Copy)]
 pub struct Totals {
     pub counts: [u64; MOST_NUMBERS],
@@ -34,8 +34,10 @@ impl Totals {
     /// Counts one answer more.
     pub fn count(&mut self, answer: &AnswerView<'_>)
         requires known { answer.now.topic < 17 }
-        requires room { (answers : List Answer) × AreTotals self.old answers × (length answers + 1 < 2 ^ 64) }
-        ensures { (answers : List Answer) → AreTotals self.old answers → AreTotals self.new (answers ++ answer_of_view answer.now ∷ []) }
+        requires room { (answers : List Answer) × AreTotals self.old answers
+            × (length answers + 1 < 2 ^ 64) }
+        ensures { (answers : List Answer) → AreTotals self.old answers
+            → AreTotals self.new (answers ++ answer_of_view answer.now ∷ []) }
     {
         let topic = answer.topic as usize;
         self.counts[topic] += 1;
@@ -44,8 +46,10 @@ impl Totals {
 
     /// Counts what others counted.
     pub fn add(&mut self, others: &Totals)
-        requires room { (answers more : List Answer) × AreTotals self.old answers × AreTotals others.now more × (length answers + length more < 2 ^ 64) }
-        ensures { (answers more : List Answer) → AreTotals self.old answers → AreTotals others.now more → AreTotals self.new (answers ++ more) }
+        requires room { (answers more : List Answer) × AreTotals self.old answers
+            × AreTotals others.now more × (length answers + length more < 2 ^ 64) }
+        ensures { (answers more : List Answer) → AreTotals self.old answers
+            → AreTotals others.now more → AreTotals self.new (answers ++ more) }
     {
         for topic in 0..MOST_NUMBERS {
             self.counts[topic] += others.counts[topic];

@@ -3,8 +3,8 @@ ghost use Rattle.scq_collect.specs.Output.{answer_of_view, answer_of_whole};
 
 use scq_topics::ReplyBytes;
 
-/// The answer to a message: its file and line, both numbered from 1, its topic's number, how many bytes
-/// its payload has, and the reply.
+/// The answer to a message: its file and line, both numbered from 1, its topic's number, how many
+/// bytes its payload has, and the reply.
 #[derive(Debug, Drop)]
 pub struct Whole {
     pub file: u32,

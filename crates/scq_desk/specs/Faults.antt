@@ -6,8 +6,8 @@ use Rattle.scq_files.specs.Ends.{AllEndFed, StopsAt}
 use Rattle.scq_desk.specs.declared.fault.EndFault.{EndFault}
 use Rattle.scq_desk.specs.declared.fault.EndFault.TheVariants.{Read, TooLong, TooLarge, NoMemory}
 
--- the fault of several workers: want of memory where any met it, else that of the first file, in order,
--- that has any
+-- the fault of several workers: want of memory where any met it, else that of the first file, in
+-- order, that has any
 abbrev pub fault_of_workers : Bool → Option (ℕ × FrameFault) → Option EndFault
 fault_of_workers true first = Some NoMemory
 fault_of_workers false None = None
@@ -16,17 +16,26 @@ fault_of_workers false (Some (file, frame.TooLong line len)) = Some (TooLong fil
 fault_of_workers false (Some (file, frame.TooLarge bytes)) = Some (TooLarge file bytes)
 fault_of_workers false (Some (file, frame.NoMemory)) = Some NoMemory
 
--- want of memory comes before any other fault: where there is another, each source is as one whose reading didn't stop for want of
--- memory. Of a source whose bytes aren't visible this says no more than `HasMoved`.
-abbrev pub MemoryIsFirst : {S : Type 0} → ℕ → (S → ℕ) → (S → ℕ) → (S → Option (List ℕ)) → List S → List S → EndFault → Type 0
-MemoryIsFirst size faults end_count left olds news (Read file) = AllEndFed size faults end_count left olds news
-MemoryIsFirst size faults end_count left olds news (TooLong file line len) = AllEndFed size faults end_count left olds news
-MemoryIsFirst size faults end_count left olds news (TooLarge file bytes) = AllEndFed size faults end_count left olds news
+-- want of memory comes before any other fault: where there is another, each source is as one whose
+-- reading didn't stop for want of memory. Of a source whose bytes aren't visible this says no more
+-- than `HasMoved`.
+abbrev pub MemoryIsFirst : {S : Type 0} → ℕ → (S → ℕ) → (S → ℕ) → (S → Option (List ℕ)) → List S
+    → List S → EndFault → Type 0
+MemoryIsFirst size faults end_count left olds news (Read file) =
+    AllEndFed size faults end_count left olds news
+MemoryIsFirst size faults end_count left olds news (TooLong file line len) =
+    AllEndFed size faults end_count left olds news
+MemoryIsFirst size faults end_count left olds news (TooLarge file bytes) =
+    AllEndFed size faults end_count left olds news
 MemoryIsFirst size faults end_count left olds news NoMemory = Unit {0}
 
 -- the cause of each fault
-abbrev pub HasCause : {S : Type 0} → ℕ → (S → ℕ) → (S → ℕ) → (S → Option (List ℕ)) → List S → List S → EndFault → Type 0
-HasCause size faults end_count left olds news (Read file) = StopsAt size faults end_count left olds news file frame.ReadFault
-HasCause size faults end_count left olds news (TooLong file line len) = StopsAt size faults end_count left olds news file (frame.TooLong line len)
-HasCause size faults end_count left olds news (TooLarge file bytes) = StopsAt size faults end_count left olds news file (frame.TooLarge bytes)
+abbrev pub HasCause : {S : Type 0} → ℕ → (S → ℕ) → (S → ℕ) → (S → Option (List ℕ)) → List S → List S
+    → EndFault → Type 0
+HasCause size faults end_count left olds news (Read file) =
+    StopsAt size faults end_count left olds news file frame.ReadFault
+HasCause size faults end_count left olds news (TooLong file line len) =
+    StopsAt size faults end_count left olds news file (frame.TooLong line len)
+HasCause size faults end_count left olds news (TooLarge file bytes) =
+    StopsAt size faults end_count left olds news file (frame.TooLarge bytes)
 HasCause size faults end_count left olds news NoMemory = Unit {0}

@@ -13,13 +13,16 @@ pub record IsClean {M : Type 0} (workers : ℕ) (left : LeftBehind M) : Type 0 w
 -- room for so many workers, each with so many files at most
 pub record IsRoomFor {M W S : Type 0} (workers files : ℕ) (room : Room M W S) : Type 0 where
   pub lists : vec_len room.files ≡ workers
-  pub each : All (λ list. (list.items ≡ []) × (vec_len list ≡ 0) × (files ≤ vec_capacity list)) room.files.items
+  pub each : All (λ list.
+      (list.items ≡ []) × (vec_len list ≡ 0) × (files ≤ vec_capacity list)) room.files.items
   pub desks : (room.desks.items ≡ []) × (workers ≤ vec_capacity room.desks)
   pub left : IsClean workers room.left
 
--- the files of so many workers are dealt: the sources' list is empty, with room for all, of which there are at most 64
+-- the files of so many workers are dealt: the sources' list is empty, with room for all, of which
+-- there are at most 64
 pub record IsLaid {M S : Type 0} (workers : ℕ) (laid : LaidOut M S) : Type 0 where
   pub few : vec_len laid.was.value ≤ 64
   pub count : laid.count ≡ vec_len laid.was.value
-  pub sources : (laid.sources.items ≡ []) × (vec_len laid.sources ≡ 0) × (vec_len laid.was.value ≤ vec_capacity laid.sources)
+  pub sources : (laid.sources.items ≡ []) × (vec_len laid.sources ≡ 0)
+      × (vec_len laid.was.value ≤ vec_capacity laid.sources)
   pub left : IsClean workers laid.left

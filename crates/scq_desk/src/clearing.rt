@@ -1,5 +1,6 @@
 //! The desks are cleared once the workers have left.
-ghost use Rattle.std.specs.Prelude.{◌≡◌, ◌≤◌, [], false, map, flat_map, vec_len, vec_capacity, IfOk};
+ghost use Rattle.std.specs.Prelude.{◌≡◌, ◌≤◌, [], false, map, flat_map, vec_len, vec_capacity};
+ghost use Rattle.std.specs.Prelude.{IfOk};
 ghost use Rattle.std.specs.List.{All};
 ghost use Rattle.std.specs.Option.{option_to_list};
 ghost use Rattle.scq_desk.specs.Rooms.{IsClean};
@@ -12,8 +13,8 @@ use scq_queue::{Held, Pass};
 use scq_word::NoMemory;
 use std::alloc::Global;
 
-/// What workers leave behind, in the order of their numbers: their passes, the values that they kept, their lists, and whether any wanted
-/// memory.
+/// What workers leave behind, in the order of their numbers: their passes, the values that they
+/// kept, their lists, and whether any wanted memory.
 pub struct LeftBehind<M> {
     pub passes: Vec<Pass<Frame>>,
     pub held: Vec<Held<Frame>>,
@@ -22,7 +23,8 @@ pub struct LeftBehind<M> {
 }
 
 impl<M: Drop> LeftBehind<M> {
-    ghost use Rattle.std.specs.Prelude.{◌≡◌, ◌+◌, ◌<◌, ◌≤◌, ◌++◌, ◌∷◌, [], false, vec_len, vec_capacity};
+    ghost use Rattle.std.specs.Prelude.{◌≡◌, ◌+◌, ◌<◌, ◌≤◌, ◌++◌, ◌∷◌, [], false, vec_len};
+    ghost use Rattle.std.specs.Prelude.{vec_capacity};
     ghost use Rattle.std.specs.Option.{option_to_list};
 
     /// Lets go of the lists, which hold no value.
@@ -43,13 +45,20 @@ impl<M: Drop> LeftBehind<M> {
         requires passes { vec_len self.old.passes < vec_capacity self.old.passes }
         requires held { vec_len self.old.held < vec_capacity self.old.held }
         requires lists { vec_len self.old.lists < vec_capacity self.old.lists }
-        ensures passes { self.new.passes.items ≡ self.old.passes.items ++ W.pass_of desk.worker.worker ∷ [] }
-        ensures held { self.new.held.items ≡ self.old.held.items ++ option_to_list desk.worker.kept }
-        ensures lists { self.new.lists.items ≡ self.old.lists.items ++ W.list_of desk.worker.worker ∷ [] }
-        ensures starved { self.new.starved ≡ false → (self.old.starved ≡ false) × (W.starved_of desk.worker.worker ≡ false) }
-        ensures passes_len { (vec_len self.new.passes ≡ vec_len self.old.passes + 1) × (vec_capacity self.new.passes ≡ vec_capacity self.old.passes) }
-        ensures held_len { (vec_len self.new.held ≤ vec_len self.old.held + 1) × (vec_capacity self.new.held ≡ vec_capacity self.old.held) }
-        ensures lists_len { (vec_len self.new.lists ≡ vec_len self.old.lists + 1) × (vec_capacity self.new.lists ≡ vec_capacity self.old.lists) }
+        ensures passes { self.new.passes.items
+            ≡ self.old.passes.items ++ W.pass_of desk.worker.worker ∷ [] }
+        ensures held { self.new.held.items
+            ≡ self.old.held.items ++ option_to_list desk.worker.kept }
+        ensures lists { self.new.lists.items
+            ≡ self.old.lists.items ++ W.list_of desk.worker.worker ∷ [] }
+        ensures starved { self.new.starved ≡ false
+            → (self.old.starved ≡ false) × (W.starved_of desk.worker.worker ≡ false) }
+        ensures passes_len { (vec_len self.new.passes ≡ vec_len self.old.passes + 1)
+            × (vec_capacity self.new.passes ≡ vec_capacity self.old.passes) }
+        ensures held_len { (vec_len self.new.held ≤ vec_len self.old.held + 1)
+            × (vec_capacity self.new.held ≡ vec_capacity self.old.held) }
+        ensures lists_len { (vec_len self.new.lists ≡ vec_len self.old.lists + 1)
+            × (vec_capacity self.new.lists ≡ vec_capacity self.old.lists) }
     {
         let Desk { worker, files: _ } = desk;
         let Seat { worker, kept } = worker;
@@ -87,7 +96,8 @@ pub(crate) fn clear<M: Drop, W: Sits<Pass<Frame>, M>, S: Source>(
     ensures passes { left.new.passes.items ≡ map (λ d. W.pass_of d.worker.worker) desks.items }
     ensures held { left.new.held.items ≡ flat_map (λ d. option_to_list d.worker.kept) desks.items }
     ensures lists { left.new.lists.items ≡ map (λ d. W.list_of d.worker.worker) desks.items }
-    ensures starved { left.new.starved ≡ false → All (λ d. W.starved_of d.worker.worker ≡ false) desks.items }
+    ensures starved { left.new.starved ≡ false
+        → All (λ d. W.starved_of d.worker.worker ≡ false) desks.items }
 {
     desks.reverse();
     'desks: while let Some(desk) = desks.pop() {

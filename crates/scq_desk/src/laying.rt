@@ -1,5 +1,6 @@
 //! What work takes room for, and how it is laid out for the workers.
-ghost use Rattle.std.specs.Prelude.{◌≡◌, ℕ, ◌<◌, ◌≤◌, [], length, slice_index_or, vec_len, vec_capacity, IfOk};
+ghost use Rattle.std.specs.Prelude.{◌≡◌, ℕ, ◌<◌, ◌≤◌, [], length, slice_index_or, vec_len};
+ghost use Rattle.std.specs.Prelude.{vec_capacity, IfOk};
 ghost use Rattle.std.specs.List.{All};
 ghost use Rattle.scq_queue.specs.Passes.{first_passes};
 ghost use Rattle.scq_files.specs.Desks.{AreDealt};
@@ -18,7 +19,8 @@ use scq_word::NoMemory;
 use std::alloc::Global;
 use std::snapshot::Snapshot;
 
-/// What the work needs room for, beside its queue: the lists of each worker's files, the desks, and what the workers leave behind.
+/// What the work needs room for, beside its queue: the lists of each worker's files, the desks, and
+/// what the workers leave behind.
 pub struct Room<M, W, S: Source> {
     pub files: Vec<Vec<OwnFile<S>>>,
     pub desks: Vec<Desk<Seat<W, Frame>, S>>,
@@ -63,8 +65,8 @@ pub fn make_room<M: Drop, W, S: Source>(
     })
 }
 
-/// What waits on the work of all workers: what the sources were, their list, now empty, how many there are, and room for what the workers
-/// leave behind.
+/// What waits on the work of all workers: what the sources were, their list, now empty, how many
+/// there are, and room for what the workers leave behind.
 pub struct LaidOut<M, S: Source> {
     pub was: Snapshot<Vec<S>>,
     pub sources: Vec<S>,
@@ -92,7 +94,8 @@ pub fn lay_out<M: Drop, W: Sits<Pass<Frame>, M>, S: Source>(
     ensures fresh { All (λ d. IsFresh W.pass_of W.list_of queue.now d.worker) result.1.items }
     ensures unread { All (λ d. All IsNew d.files.items) result.1.items }
     ensures dealt { AreDealt 1 result.0.was.value.items result.1.items }
-    ensures numbers { (w : ℕ) (d : _) → w < length result.1.items → (W.pass_of (slice_index_or result.1.items w d).worker.worker).number ≡ w }
+    ensures numbers { (w : ℕ) (d : _) → w < length result.1.items
+        → (W.pass_of (slice_index_or result.1.items w d).worker.worker).number ≡ w }
 {
     let Room {
         files,

@@ -1,7 +1,9 @@
-//! Workers at their desks, whatever a worker is. A worker sits at a desk with its files, and keeps there the value that came back where it met
-//! a ticket past the queue's limit. Room is taken before there is a queue (`make_room`), then each new pass gets a worker and each worker its
-//! files (`lay_out`), and once all have done their work the files are gathered, the desks cleared, the queue closed and its block merged
-//! (`wind_up_desks`). What a worker does at its desk, and the threads in which it does it, are the layers' above.
+//! Workers at their desks, whatever a worker is. A worker sits at a desk with its files, and keeps
+//! there the value that came back where it met a ticket past the queue's limit. Room is taken
+//! before there is a queue (`make_room`), then each new pass gets a worker and each worker its
+//! files (`lay_out`), and once all have done their work the files are gathered, the desks cleared,
+//! the queue closed and its block merged (`wind_up_desks`). What a worker does at its desk, and the
+//! threads in which it does it, are the layers' above.
 #![tactic(auto)]
 
 mod clearing;

@@ -1,5 +1,6 @@
 //! Desks are made for workers.
-ghost use Rattle.std.specs.Prelude.{◌≡◌, ◌^◌, ◌<◌, ◌≤◌, [], None, length, map, vec_len, vec_capacity};
+ghost use Rattle.std.specs.Prelude.{◌≡◌, ◌^◌, ◌<◌, ◌≤◌, [], None, length, map, vec_len};
+ghost use Rattle.std.specs.Prelude.{vec_capacity};
 ghost use Rattle.std.specs.List.{All};
 ghost use Rattle.scq_queue.specs.Passes.{first_passes};
 ghost use Rattle.scq_desk.specs.Seats.{IsFresh};
@@ -11,8 +12,8 @@ use scq_outside::Source;
 use scq_queue::{Pass, Queue};
 use std::alloc::Global;
 
-/// A desk for each of the new passes of a queue, in their order, with one of the lists for files. They are put into an empty list with
-/// room.
+/// A desk for each of the new passes of a queue, in their order, with one of the lists for files.
+/// They are put into an empty list with room.
 pub fn make_desks<M, W: Sits<Pass<Frame>, M>, S: Source>(
     alloc: Global,
     queue: &Queue<Frame>,
@@ -25,11 +26,14 @@ pub fn make_desks<M, W: Sits<Pass<Frame>, M>, S: Source>(
     requires count { (vec_len lists ≡ queue.now.setup.seats) × (queue.now.setup.seats < 2 ^ 32) }
     requires room { queue.now.setup.seats ≤ vec_capacity desks.old }
     requires none { desks.old.items ≡ [] }
-    requires empty { All (λ list. (list.items ≡ []) × (vec_len list ≡ 0) × (files ≤ vec_capacity list)) lists.items }
+    requires empty { All (λ list.
+        (list.items ≡ []) × (vec_len list ≡ 0) × (files ≤ vec_capacity list)) lists.items }
     ensures count { length desks.new.items ≡ queue.now.setup.seats }
     ensures fresh { All (λ d. IsFresh W.pass_of W.list_of queue.now d.worker) desks.new.items }
-    ensures passes { map (λ d. W.pass_of d.worker.worker) desks.new.items ≡ first_passes queue.now queue.now.setup.seats }
-    ensures empty { All (λ d. (d.files.items ≡ []) × (vec_len d.files ≡ 0) × (files ≤ vec_capacity d.files)) desks.new.items }
+    ensures passes { map (λ d. W.pass_of d.worker.worker) desks.new.items
+        ≡ first_passes queue.now queue.now.setup.seats }
+    ensures empty { All (λ d. (d.files.items ≡ []) × (vec_len d.files ≡ 0)
+        × (files ≤ vec_capacity d.files)) desks.new.items }
 {
     passes.reverse();
     'passes: while let Some(pass) = passes.pop() {

@@ -8,8 +8,8 @@ use scq_word::{Buffer, BufferMut};
 use std::alloc::Global;
 use std::mem;
 
-/// What is known of a worker that sits at a desk: the pass by which it makes its calls (of the type `P`), its list, and whether it wanted
-/// memory.
+/// What is known of a worker that sits at a desk: the pass by which it makes its calls (of the type
+/// `P`), its list, and whether it wanted memory.
 pub trait Sits<P, M> {
     ghost use Rattle.std.specs.Prelude.{◌≡◌, []};
 

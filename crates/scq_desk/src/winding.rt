@@ -1,5 +1,6 @@
 //! How the work of all workers ends.
-ghost use Rattle.std.specs.Prelude.{◌≡◌, ℕ, ◌<◌, ◌≤◌, ◌||◌, None, false, length, map, flat_map, vec_len, IfSome};
+ghost use Rattle.std.specs.Prelude.{◌≡◌, ℕ, ◌<◌, ◌≤◌, ◌||◌, None, false, length, map, flat_map};
+ghost use Rattle.std.specs.Prelude.{vec_len, IfSome};
 ghost use Rattle.std.specs.List.{All};
 ghost use Rattle.std.specs.Option.{option_to_list};
 ghost use Rattle.scq_block.specs.Blocks.{AreAllOf};
@@ -22,9 +23,11 @@ use scq_outside::Source;
 use scq_queue::{Closed, Counts, Pass, Queue};
 use std::snapshot::Snapshot;
 
-/// What is there once all have done their work: the sources in their order, the first file's fault, and whether a worker or a file wanted
-/// memory; the workers' lists and the counts of their passes, what was left in each ring, and of each worker whether it saw that all had
-/// retired. For contracts alone the passes as they were when the queue was closed, twice, and the frames that came back, in their order.
+/// What is there once all have done their work: the sources in their order, the first file's fault,
+/// and whether a worker or a file wanted memory; the workers' lists and the counts of their passes,
+/// what was left in each ring, and of each worker whether it saw that all had retired. For
+/// contracts alone the passes as they were when the queue was closed, twice, and the frames that
+/// came back, in their order.
 #[derive(Drop)]
 pub struct WoundUp<M: Drop, S> {
     pub sources: Vec<S>,
@@ -46,8 +49,8 @@ fn any_wanted(workers: bool, files: bool) -> bool
     workers || files
 }
 
-/// Ends the work of all workers once each has done its own: the files are gathered, the queue is closed and its block merged, in every
-/// answer.
+/// Ends the work of all workers once each has done its own: the files are gathered, the queue is
+/// closed and its block merged, in every answer.
 pub fn wind_up_desks<M: Drop, W: Sits<Pass<Frame>, M>, S: Source>(
     laid: LaidOut<M, S>,
     block: Block,
@@ -59,21 +62,29 @@ pub fn wind_up_desks<M: Drop, W: Sits<Pass<Frame>, M>, S: Source>(
     requires all { AreAllOf block queue.given }
     requires dealt { AreDealt 1 laid.was.value.items desks.items }
     requires own { All (λ d. (W.pass_of d.worker.worker).queue ≡ queue) desks.items }
-    requires held { All (λ d. (W.pass_of d.worker.worker).held ≡ index_of d.worker.kept) desks.items }
+    requires held { All (λ d.
+        (W.pass_of d.worker.worker).held ≡ index_of d.worker.kept) desks.items }
     requires its { All (λ d. IfSome d.worker.kept (λ h. h.queue ≡ queue)) desks.items }
     ensures gathered { (size : ℕ) → AllEnded size S.faults S.ends S.left desks.items
-        → AreGathered size S.faults S.ends S.left laid.was.value.items result.sources.items result.fault result.starved }
-    ensures stops { (size : ℕ) → AllEnded size S.faults S.ends S.left desks.items → AllStop desks.items
-        → StopsAtFaults (length desks.items) size S.faults S.ends S.left laid.was.value.items result.sources.items }
+        → AreGathered size S.faults S.ends S.left laid.was.value.items result.sources.items
+        result.fault result.starved }
+    ensures stops { (size : ℕ) → AllEnded size S.faults S.ends S.left desks.items
+        → AllStop desks.items
+        → StopsAtFaults (length desks.items) size S.faults S.ends S.left laid.was.value.items
+        result.sources.items }
     ensures whole { result.fault ≡ None → AllWhole desks.items }
-    ensures fed { result.starved ≡ false → All (λ d. W.starved_of d.worker.worker ≡ false) desks.items }
+    ensures fed { result.starved ≡ false
+        → All (λ d. W.starved_of d.worker.worker ≡ false) desks.items }
     ensures lists { result.lists.items ≡ map (λ d. W.list_of d.worker.worker) desks.items }
     ensures passes { (result.passes.value.items ≡ map (λ d. W.pass_of d.worker.worker) desks.items)
         × (result.closing.value.items ≡ map (λ d. W.pass_of d.worker.worker) desks.items) }
-    ensures counts { result.counts.items ≡ map (λ p. counts_of (lists_of p)) result.passes.value.items }
+    ensures counts { result.counts.items
+        ≡ map (λ p. counts_of (lists_of p)) result.passes.value.items }
     ensures saw { result.saw.items ≡ map (λ p. was_told p.gate) result.closing.value.items }
-    ensures closed { HasClosed bytes_of IsSame queue.setup queue.given (map (λ d. W.pass_of d.worker.worker) desks.items)
-        (flat_map (λ d. option_to_list d.worker.kept) desks.items) result.frames.value.items result.left.items }
+    ensures closed { HasClosed bytes_of IsSame queue.setup queue.given
+        (map (λ d. W.pass_of d.worker.worker) desks.items)
+        (flat_map (λ d. option_to_list d.worker.kept) desks.items) result.frames.value.items
+        result.left.items }
 {
     let LaidOut {
         was,

@@ -1,5 +1,6 @@
 -- Desks: workers with their files, whatever a worker is. Each has its own of the files.
-use Rattle.std.specs.Prelude.{◌≡◌, ◌≢◌, ℕ, ◌<◌, Bool, false, List, Option, Some, None, length, map, reverse, slice_index_or, All}
+use Rattle.std.specs.Prelude.{◌≡◌, ◌≢◌, ℕ, ◌<◌, Bool, false, List, Option, Some, None, length, map}
+use Rattle.std.specs.Prelude.{reverse, slice_index_or, All}
 use Rattle.scq_frames.specs.declared.fault.FrameFault.{FrameFault}
 use Rattle.scq_frames.specs.declared.fault.FrameFault.TheVariants as frame
 use Rattle.scq_files.specs.Ends.{AllEndFed, HasMoved, StopsAt}
@@ -9,13 +10,18 @@ use Rattle.scq_files.specs.Reading.{EndsSo, IsWhole}
 use Rattle.scq_files.specs.declared.desk.Desk.{Desk}
 use Rattle.scq_files.specs.declared.own_file.FileEnd.TheVariants.{Whole}
 
--- how the reading of all files ended, by what is gathered of them: their sources, the first fault, and whether memory was wanted
-pub record AreGathered {S : Type 0} (size : ℕ) (faults end_count : S → ℕ) (left : S → Option (List ℕ)) (was news : List S)
+-- how the reading of all files ended, by what is gathered of them: their sources, the first fault,
+-- and whether memory was wanted
+pub record AreGathered {S : Type 0} (size : ℕ) (faults end_count : S → ℕ) (left : S
+    → Option (List ℕ)) (was news : List S)
     (fault : Option (ℕ × FrameFault)) (starved : Bool) : Type 0 where
   pub count : length news ≡ length was
-  pub moved : (k : ℕ) (d : S) → k < length was → HasMoved faults left (slice_index_or was k d) (slice_index_or news k d)
-  pub sound : fault ≡ None → (k : ℕ) (d : S) → k < length was → IsWhole size faults end_count left (slice_index_or was k d) (slice_index_or news k d)
-  pub cause : (file : ℕ) (f : FrameFault) → fault ≡ Some (file, f) → f ≢ frame.NoMemory → StopsAt size faults end_count left was news file f
+  pub moved : (k : ℕ) (d : S) → k < length was
+      → HasMoved faults left (slice_index_or was k d) (slice_index_or news k d)
+  pub sound : fault ≡ None → (k : ℕ) (d : S) → k < length was
+      → IsWhole size faults end_count left (slice_index_or was k d) (slice_index_or news k d)
+  pub cause : (file : ℕ) (f : FrameFault) → fault ≡ Some (file, f) → f ≢ frame.NoMemory
+      → StopsAt size faults end_count left was news file f
   pub fed : starved ≡ false → AllEndFed size faults end_count left was news
 
 module _ {W S : Type 0} where
@@ -23,10 +29,13 @@ module _ {W S : Type 0} where
   abbrev pub workers_at : List (Desk W S) → List W
   workers_at desks = map (λ d. d.worker) desks
 
-  -- each worker has its own of the files from this number on, which have these sources, from the last to the first
+  -- each worker has its own of the files from this number on, which have these sources, from the
+  -- last to the first
   abbrev pub AreDealt : ℕ → List S → List (Desk W S) → Type 0
   AreDealt file sources desks =
-      (w : ℕ) (d : Desk W S) → w < length desks → ids_of (slice_index_or desks w d).files.items ≡ reverse (files_of (length desks) w file sources)
+      (w : ℕ) (d : Desk W S) → w < length desks
+      → ids_of (slice_index_or desks w d).files.items
+      ≡ reverse (files_of (length desks) w file sources)
 
   -- each file was read to its end
   abbrev pub AllWhole : List (Desk W S) → Type 0
@@ -38,4 +47,6 @@ module _ {W S : Type 0} where
 
   -- the reading of each file ended as its desk has it
   abbrev pub AllEnded : ℕ → (S → ℕ) → (S → ℕ) → (S → Option (List ℕ)) → List (Desk W S) → Type 0
-  AllEnded size faults end_count left desks = All (λ d. All (λ f. EndsSo size faults end_count left f.was.value f.source f.end) d.files.items) desks
+  AllEnded size faults end_count left desks =
+      All (λ d. All (λ f.
+      EndsSo size faults end_count left f.was.value f.source f.end) d.files.items) desks

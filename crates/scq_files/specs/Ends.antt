@@ -1,5 +1,8 @@
--- How the reading of all files ended: the fault of each, where it stopped, and the messages that they gave. Files are numbered from 1.
-use Rattle.std.specs.Prelude.{◌≡◌, ◌⊎◌, ℕ, ◌+◌, ◌-◌, ◌%◌, ◌<◌, ◌≤◌, Bool, true, false, List, [], ◌∷◌, ◌++◌, Option, Some, None, IfSome, option_and_then, length, map, slice_index_or, All}
+-- How the reading of all files ended: the fault of each, where it stopped, and the messages that
+-- they gave. Files are numbered from 1.
+use Rattle.std.specs.Prelude.{◌≡◌, ◌⊎◌, ℕ, ◌+◌, ◌-◌, ◌%◌, ◌<◌, ◌≤◌, Bool, true, false, List, []}
+use Rattle.std.specs.Prelude.{◌∷◌, ◌++◌, Option, Some, None, IfSome, option_and_then, length, map}
+use Rattle.std.specs.Prelude.{slice_index_or, All}
 use Rattle.std.specs.Option.{option_map}
 use Rattle.scq_outside.specs.Counts.{Rose}
 use Rattle.scq_topics.specs.declared.kind.Kind.{Kind}
@@ -14,14 +17,15 @@ use Rattle.scq_files.specs.Reading.{AreOf, EndsSo, IsWhole, IsStopped}
 use Rattle.scq_files.specs.declared.own_file.FileEnd.{FileEnd}
 use Rattle.scq_files.specs.declared.own_file.FileEnd.TheVariants.{Unread, Whole, Stopped}
 
--- the fault of a file by how its reading ended. One that nobody read counts as want of memory: its worker left it.
+-- the fault of a file by how its reading ended. One that nobody read counts as want of memory: its
+-- worker left it.
 abbrev pub end_fault : ℕ → FileEnd → Option (ℕ × FrameFault)
 end_fault file Unread = Some (file, frame.NoMemory)
 end_fault file Whole = None
 end_fault file (Stopped fault) = Some (file, fault)
 
--- whether the reading of a file stopped for want of memory, or because its worker met a ticket past the limit, which counts as that.
--- One that nobody read did not begin.
+-- whether the reading of a file stopped for want of memory, or because its worker met a ticket past
+-- the limit, which counts as that. One that nobody read did not begin.
 abbrev pub wanted_memory : FileEnd → Bool
 wanted_memory Unread = false
 wanted_memory Whole = false
@@ -30,30 +34,40 @@ wanted_memory (Stopped (frame.TooLong line len)) = false
 wanted_memory (Stopped (frame.TooLarge bytes)) = false
 wanted_memory (Stopped frame.NoMemory) = true
 
--- a source gave some bytes, and has the others left. At most one of its reads failed, and its count of faults says so
-pub record HasMoved {S : Type 0} (faults : S → ℕ) (left : S → Option (List ℕ)) (old new : S) : Type 0 where
+-- a source gave some bytes, and has the others left. At most one of its reads failed, and its count
+-- of faults says so
+pub record HasMoved {S : Type 0} (faults : S → ℕ) (left : S
+    → Option (List ℕ)) (old new : S) : Type 0 where
   pub bytes : List ℕ
   pub moved : left old ≡ option_map (λ rest. bytes ++ rest) (left new)
   pub counted : (faults new ≡ faults old) ⊎ Rose (faults old) (faults new)
 
--- the files before this one were read to their ends, and the reading of this one stopped at the fault
-pub record StopsAt {S : Type 0} (size : ℕ) (faults end_count : S → ℕ) (left : S → Option (List ℕ)) (olds news : List S) (file : ℕ) (fault : FrameFault)
+-- the files before this one were read to their ends, and the reading of this one stopped at the
+-- fault
+pub record StopsAt {S : Type 0} (size : ℕ) (faults end_count : S → ℕ) (left : S
+    → Option (List ℕ)) (olds news : List S) (file : ℕ) (fault : FrameFault)
     : Type 0 where
   pub first : 0 < file
   pub last : file ≤ length olds
-  pub before : (k : ℕ) (d : S) → k + 1 < file → IsWhole size faults end_count left (slice_index_or olds k d) (slice_index_or news k d)
-  pub cause : (d : S) → IsStopped size faults left (slice_index_or olds (file - 1) d) (slice_index_or news (file - 1) d) fault
+  pub before : (k : ℕ) (d : S) → k + 1 < file
+      → IsWhole size faults end_count left (slice_index_or olds k d) (slice_index_or news k d)
+  pub cause : (d : S)
+      → IsStopped size faults left (slice_index_or olds (file - 1) d)
+      (slice_index_or news (file - 1) d) fault
 
 -- the source is as an unread one, or as one whose reading ended otherwise than for want of memory
-pub record EndsFed {S : Type 0} (size : ℕ) (faults end_count : S → ℕ) (left : S → Option (List ℕ)) (old new : S) : Type 0 where
+pub record EndsFed {S : Type 0} (size : ℕ) (faults end_count : S → ℕ) (left : S
+    → Option (List ℕ)) (old new : S) : Type 0 where
   pub end : FileEnd
   pub ends : EndsSo size faults end_count left old new end
   pub fed : wanted_memory end ≡ false
 
 -- so it is of each source
-abbrev pub AllEndFed : {S : Type 0} → ℕ → (S → ℕ) → (S → ℕ) → (S → Option (List ℕ)) → List S → List S → Type 0
+abbrev pub AllEndFed : {S : Type 0} → ℕ → (S → ℕ) → (S → ℕ) → (S → Option (List ℕ)) → List S
+    → List S → Type 0
 AllEndFed {S} size faults end_count left olds news =
-    (k : ℕ) (d : S) → k < length olds → EndsFed size faults end_count left (slice_index_or olds k d) (slice_index_or news k d)
+    (k : ℕ) (d : S) → k < length olds
+    → EndsFed size faults end_count left (slice_index_or olds k d) (slice_index_or news k d)
 
 -- each worker read its files in turn, and none behind one at which it stopped. How the reading of
 -- each file ended stands in the order of the files. File k, from 0, is that of worker k mod their
@@ -72,21 +86,27 @@ pub record StopsAtFaults {S : Type 0} (workers size : ℕ) (faults end_count : S
 -- what all sources have left, where that of each is visible
 abbrev pub all_left : {S : Type 0} → (S → Option (List ℕ)) → List S → Option (List (List ℕ))
 all_left left [] = Some []
-all_left left (source ∷ sources) = option_and_then (λ content. option_map (λ more. content ∷ more) (all_left left sources)) (left source)
+all_left left (source ∷ sources) =
+    option_and_then (λ content.
+    option_map (λ more. content ∷ more) (all_left left sources)) (left source)
 
--- the messages that a file gave: on known topics, in order, with payloads of at most `size` bytes, and all of its messages where its bytes
--- are visible
+-- the messages that a file gave: on known topics, in order, with payloads of at most `size` bytes,
+-- and all of its messages where its bytes are visible
 pub record FileGave {S : Type 0} (topics : List (List ℕ × Kind)) (size : ℕ)
     (left : S → Option (List ℕ)) (file : ℕ) (source : S) (given : List Message) : Type 0 where
   pub of : AreOf (length topics) file 0 given
   pub short : All (λ m. length m.payload ≤ size) given
-  pub all : IfSome (left source) (λ bytes. given ≡ map (numbered file (topic_of topics)) (messages_of bytes))
+  pub all : IfSome (left source) (λ bytes.
+      given ≡ map (numbered file (topic_of topics)) (messages_of bytes))
 
 -- the messages of each of the files with these sources, of which the first has this number
-abbrev pub AreGiven : {S : Type 0} → List (List ℕ × Kind) → ℕ → (S → Option (List ℕ)) → ℕ → List S → List (List Message) → Type 0
-AreGiven topics size left file sources given = OfEachFile (λ f own. FileGave topics size left f.0 f.1 own) file sources given
+abbrev pub AreGiven : {S : Type 0} → List (List ℕ × Kind) → ℕ → (S → Option (List ℕ)) → ℕ → List S
+    → List (List Message) → Type 0
+AreGiven topics size left file sources given =
+    OfEachFile (λ f own. FileGave topics size left f.0 f.1 own) file sources given
 
 -- the messages of each file where these are the files' contents
 abbrev pub messages_in : List (List ℕ × Kind) → ℕ → List (List ℕ) → List (List Message)
 messages_in topics file [] = []
-messages_in topics file (content ∷ more) = map (numbered file (topic_of topics)) (messages_of content) ∷ messages_in topics (file + 1) more
+messages_in topics file (content ∷ more) =
+    map (numbered file (topic_of topics)) (messages_of content) ∷ messages_in topics (file + 1) more

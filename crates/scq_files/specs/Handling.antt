@@ -8,7 +8,8 @@ use Rattle.scq_files.specs.declared.own_file.OwnFile.{OwnFile}
 -- a handler wanted memory at the last of these messages, if at all: it wanted none when it had
 -- handled those in front of that. `Handled` says what messages made of it, and of what it changes
 -- beside itself
-pub record WantsAtLast {T H : Type 0} (wanted : H → Bool) (Handled : List Message → T → H → T → H → Type 0)
+pub record WantsAtLast {T H : Type 0} (wanted : H → Bool) (Handled : List Message → T → H → T → H
+    → Type 0)
     (messages : List Message) (beside : T) (was : H) : Type 0 where
   pub front : List Message
   pub last : List Message
@@ -22,4 +23,5 @@ pub record WantsAtLast {T H : Type 0} (wanted : H → Bool) (Handled : List Mess
 -- the end of one of these files tells of want of memory
 abbrev pub TellsOfWant : {S : Type 0} → List (OwnFile S) → Type 0
 TellsOfWant {S} files =
-    (at : ℕ) × (at < length files) × ((d : OwnFile S) → (slice_index_or files at d).end ≡ Stopped NoMemory)
+    (at : ℕ) × (at < length files)
+    × ((d : OwnFile S) → (slice_index_or files at d).end ≡ Stopped NoMemory)

@@ -19,9 +19,11 @@ pub record IsNew {S : Type 0} (f : OwnFile S) : Type 0 where
 -- of files that lie from the last to the first none was read behind one that has a fault
 abbrev pub StopsAtAFault : {S : Type 0} → List (OwnFile S) → Type 0
 StopsAtAFault {S} files =
-    (at before : ℕ) (d : OwnFile S) (fault : FrameFault) → at < length files → (slice_index_or files at d).end ≡ Stopped fault → before < at
+    (at before : ℕ) (d : OwnFile S) (fault : FrameFault) → at < length files
+    → (slice_index_or files at d).end ≡ Stopped fault → before < at
     → IsNew (slice_index_or files before d)
 
--- the messages that files gave, which lie on the desk from the last to the first: in the order in which they were read
+-- the messages that files gave, which lie on the desk from the last to the first: in the order in
+-- which they were read
 abbrev pub all_given : {S : Type 0} → List (OwnFile S) → List Message
 all_given files = flat_map (λ f. given_in f.given.value) (reverse files)

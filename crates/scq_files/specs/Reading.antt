@@ -1,6 +1,8 @@
--- How the reading of a file ended, by its source before and after. Sources have a count of faults and one of the ends that they answered, and
--- what they have left may be visible. A payload may have `size` bytes.
-use Rattle.std.specs.Prelude.{◌≡◌, ◌≢◌, ℕ, ◌+◌, ◌^◌, ◌<◌, ◌≤◌, List, [], ◌∷◌, Option, Some, None, IfSome, length, map, max, sum_by, All}
+-- How the reading of a file ended, by its source before and after. Sources have a count of faults
+-- and one of the ends that they answered, and what they have left may be visible. A payload may
+-- have `size` bytes.
+use Rattle.std.specs.Prelude.{◌≡◌, ◌≢◌, ℕ, ◌+◌, ◌^◌, ◌<◌, ◌≤◌, List, [], ◌∷◌, Option, Some, None}
+use Rattle.std.specs.Prelude.{IfSome, length, map, max, sum_by, All}
 use Rattle.std.specs.Option.{option_map}
 use Rattle.scq_outside.specs.Counts.{Rose}
 use Rattle.scq_topics.specs.declared.kind.Kind.{Kind}
@@ -16,46 +18,54 @@ use Rattle.scq_files.specs.declared.own_file.FileEnd.{FileEnd}
 use Rattle.scq_files.specs.declared.own_file.FileEnd.TheVariants.{Unread, Whole, Stopped}
 
 -- it was read to its end, which it answered just once, and nothing is wrong with it
-pub record IsWhole {S : Type 0} (size : ℕ) (faults end_count : S → ℕ) (left : S → Option (List ℕ)) (old new : S) : Type 0 where
+pub record IsWhole {S : Type 0} (size : ℕ) (faults end_count : S → ℕ) (left : S
+    → Option (List ℕ)) (old new : S) : Type 0 where
   pub judged : Judged size (left old) (left new) None
   pub ended : NothingLeft (left new)
   pub once : Rose (end_count old) (end_count new)
   pub kept : faults new ≡ faults old
 
 -- the reading stopped at this fault
-pub record IsStopped {S : Type 0} (size : ℕ) (faults : S → ℕ) (left : S → Option (List ℕ)) (old new : S) (fault : FrameFault) : Type 0 where
+pub record IsStopped {S : Type 0} (size : ℕ) (faults : S → ℕ) (left : S
+    → Option (List ℕ)) (old new : S) (fault : FrameFault) : Type 0 where
   pub judged : Judged size (left old) (left new) (Some fault)
   pub rose : fault ≡ ReadFault → Rose (faults old) (faults new)
   pub kept : fault ≢ ReadFault → faults new ≡ faults old
   pub long : (line len : ℕ) → fault ≡ TooLong line len → (0 < line) × (size < len)
   pub large : (bytes : ℕ) → fault ≡ TooLarge bytes
-      → (bytes ≡ 2 ^ 30 + 1) × (option_map length (left old) ≡ option_map (λ rest. bytes + length rest) (left new))
+      → (bytes ≡ 2 ^ 30 + 1)
+      × (option_map length (left old) ≡ option_map (λ rest. bytes + length rest) (left new))
 
 -- it ended so
-abbrev pub EndsSo : {S : Type 0} → ℕ → (S → ℕ) → (S → ℕ) → (S → Option (List ℕ)) → S → S → FileEnd → Type 0
+abbrev pub EndsSo : {S : Type 0} → ℕ → (S → ℕ) → (S → ℕ) → (S → Option (List ℕ)) → S → S → FileEnd
+    → Type 0
 EndsSo size faults end_count left old new Unread = new ≡ old
 EndsSo size faults end_count left old new Whole = IsWhole size faults end_count left old new
 EndsSo size faults end_count left old new (Stopped fault) = IsStopped size faults left old new fault
 
--- the messages that were given of a file with this number: none of an unread one, and where its bytes are visible and all were read, all
--- of them
+-- the messages that were given of a file with this number: none of an unread one, and where its
+-- bytes are visible and all were read, all of them
 abbrev pub GaveAll : List (List ℕ × Kind) → ℕ → Option (List ℕ) → FileEnd → List Message → Type 0
-GaveAll topics file content Whole given = IfSome content (λ bytes. given ≡ map (numbered file (topic_of topics)) (messages_of bytes))
+GaveAll topics file content Whole given =
+    IfSome content (λ bytes. given ≡ map (numbered file (topic_of topics)) (messages_of bytes))
 GaveAll topics file content Unread given = given ≡ []
 GaveAll topics file content (Stopped fault) given = Unit {0}
 
 -- messages of this file on known topics, whose lines rise from above this one
 abbrev pub AreOf : ℕ → ℕ → ℕ → List Message → Type 0
 AreOf known file line [] = Unit {0}
-AreOf known file line (m ∷ ms) = (m.file ≡ file) × (line < m.line) × (m.topic ≤ known) × AreOf known file m.line ms
+AreOf known file line (m ∷ ms) =
+    (m.file ≡ file) × (line < m.line) × (m.topic ≤ known) × AreOf known file m.line ms
 
 -- how many parts a message may have at most
 abbrev pub most_parts : Message → ℕ
 most_parts m = max 1 (length m.payload)
 
--- what is known of a file by how it ended: its source before and after, and the messages that it gave. Together they have at most 2 ^ 30
--- parts: each message adds one more than the parts that it may have to its framer's sum, which is at most 2 ^ 30 + 1.
-pub record IsRead {S : Type 0} (topics : List (List ℕ × Kind)) (size : ℕ) (faults end_count : S → ℕ) (left : S → Option (List ℕ)) (file : ℕ) (old new : S)
+-- what is known of a file by how it ended: its source before and after, and the messages that it
+-- gave. Together they have at most 2 ^ 30 parts: each message adds one more than the parts that it
+-- may have to its framer's sum, which is at most 2 ^ 30 + 1.
+pub record IsRead {S : Type 0} (topics : List (List ℕ × Kind)) (size : ℕ) (faults end_count : S
+    → ℕ) (left : S → Option (List ℕ)) (file : ℕ) (old new : S)
     (given : List Message) (end : FileEnd) : Type 0 where
   pub ends : EndsSo size faults end_count left old new end
   pub gave : GaveAll topics file (left old) end given

@@ -13,7 +13,8 @@ pub fn deal<W, S>(was: &Snapshot<Vec<S>>, sources: &mut Vec<S>, desks: &mut [Des
     requires whole { was.now.value.items ≡ sources.old.items }
     requires few { vec_len sources.old ≤ 64 }
     requires some { 0 < length desks.old }
-    requires empty { All (λ d. (d.files.items ≡ []) × (vec_len d.files ≡ 0) × (vec_len sources.old ≤ vec_capacity d.files)) desks.old }
+    requires empty { All (λ d. (d.files.items ≡ []) × (vec_len d.files ≡ 0)
+        × (vec_len sources.old ≤ vec_capacity d.files)) desks.old }
     ensures emptied { (sources.new.items ≡ []) × (vec_len sources.new ≡ 0) }
     ensures capacity { vec_capacity sources.new ≡ vec_capacity sources.old }
     ensures dealt { AreDealt 1 was.now.value.items desks.new }

@@ -8,7 +8,8 @@ pub struct Desk<W, S> {
 }
 
 impl<W, S> Desk<W, S> {
-    ghost use Rattle.std.specs.Prelude.{◌≡◌, ◌<◌, ◌+◌, ◌++◌, ◌∷◌, [], vec_len, vec_capacity, IfSome, IfNone};
+    ghost use Rattle.std.specs.Prelude.{◌≡◌, ◌<◌, ◌+◌, ◌++◌, ◌∷◌, [], vec_len, vec_capacity};
+    ghost use Rattle.std.specs.Prelude.{IfSome, IfNone};
 
     /// Lays a file on the desk.
     pub fn lay(&mut self, file: OwnFile<S>)
@@ -23,7 +24,8 @@ impl<W, S> Desk<W, S> {
 
     /// Takes the last file off the desk.
     pub fn lift(&mut self) -> Option<OwnFile<S>>
-        ensures some { IfSome result (λ file. self.old.files.items ≡ self.new.files.items ++ file ∷ []) }
+        ensures some { IfSome result (λ file.
+            self.old.files.items ≡ self.new.files.items ++ file ∷ []) }
         ensures none { IfNone result (self.old.files.items ≡ []) }
         ensures same { self.new.worker ≡ self.old.worker }
     {

@@ -1,6 +1,7 @@
 //! What is gathered of the files of all workers once they have left.
 ghost use Rattle.std.specs.Prelude.{◌≡◌, ℕ, ◌^◌, ◌<◌, ◌≤◌, [], None, length, vec_len, vec_capacity};
-ghost use Rattle.scq_files.specs.Desks.{AllEnded, AllStop, AllWhole, AreDealt, AreGathered, workers_at};
+ghost use Rattle.scq_files.specs.Desks.{AllEnded, AllStop, AllWhole, AreDealt, AreGathered};
+ghost use Rattle.scq_files.specs.Desks.{workers_at};
 ghost use Rattle.scq_files.specs.Ends.{StopsAtFaults, end_fault, wanted_memory};
 
 use crate::desk::Desk;
@@ -9,7 +10,8 @@ use scq_frames::FrameFault;
 use scq_outside::Source;
 use std::snapshot::Snapshot;
 
-/// What is gathered of files in their order: their sources, the first fault with its file's number, and whether memory was wanted.
+/// What is gathered of files in their order: their sources, the first fault with its file's number,
+/// and whether memory was wanted.
 #[derive(Drop)]
 pub struct Gathered<S> {
     pub sources: Vec<S>,
@@ -57,7 +59,8 @@ impl<S> Gathered<S> {
     }
 }
 
-/// Gathers the files of all desks in their order. How the reading of each ended is told for payloads of at most so many bytes, however many.
+/// Gathers the files of all desks in their order. How the reading of each ended is told for
+/// payloads of at most so many bytes, however many.
 pub fn gather<W, S: Source>(
     was: &Snapshot<Vec<S>>,
     desks: &mut [Desk<W, S>],
@@ -67,10 +70,12 @@ pub fn gather<W, S: Source>(
     requires count { (count ≡ vec_len was.now.value) × (count < 2 ^ 32) }
     requires some { 0 < length desks.old }
     requires dealt { AreDealt 1 was.now.value.items desks.old }
-    requires empty { (gathered.old.sources.items ≡ []) × (vec_len gathered.old.sources ≡ 0) × (count ≤ vec_capacity gathered.old.sources)
+    requires empty { (gathered.old.sources.items ≡ []) × (vec_len gathered.old.sources ≡ 0)
+        × (count ≤ vec_capacity gathered.old.sources)
         × (gathered.old.fault ≡ None) }
     ensures gathered { (size : ℕ) → AllEnded size S.faults S.ends S.left desks.old
-        → AreGathered size S.faults S.ends S.left was.now.value.items gathered.new.sources.items gathered.new.fault gathered.new.starved }
+        → AreGathered size S.faults S.ends S.left was.now.value.items gathered.new.sources.items
+        gathered.new.fault gathered.new.starved }
     ensures stops { (size : ℕ) → AllEnded size S.faults S.ends S.left desks.old → AllStop desks.old
         → StopsAtFaults (length desks.old) size S.faults S.ends S.left
         was.now.value.items gathered.new.sources.items }

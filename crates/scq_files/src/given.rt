@@ -6,7 +6,8 @@ use scq_frames::Message;
 use std::mem;
 use std::snapshot::Snapshot;
 
-/// No message was given, or one more after these. A file keeps a snapshot of it, which has no bytes when the program runs.
+/// No message was given, or one more after these. A file keeps a snapshot of it, which has no bytes
+/// when the program runs.
 #[derive(Drop)]
 pub enum Given {
     Nothing,

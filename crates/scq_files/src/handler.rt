@@ -45,6 +45,7 @@ pub trait Handler<C, T> {
     ghost more_handled: { (c : C) (ms ns : List TheMessage) (t s u : T) (h i j : Self)
         → handled c ms t h s i → handled c ns s i u j → handled c (ms ++ ns) t h u j };
 
-    ghost then_stopped: { (c : C) (ms ns : List TheMessage) (t s u : T) (h i j : Self) (stop : Self.Stop)
+    ghost then_stopped: { (c : C) (ms ns : List TheMessage) (t s u : T) (h i j : Self)
+        (stop : Self.Stop)
         → handled c ms t h s i → stopped c ns s i u j stop → stopped c (ms ++ ns) t h u j stop };
 }

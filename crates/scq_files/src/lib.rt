@@ -1,7 +1,9 @@
-//! The files of workers. A file is a source with its number, read message by message; what it gave and how its reading ended is told by
-//! `IsRead` (`specs/Reading`), and what that says of all files by `specs/Ends`. Which files are a worker's is `specs/Files`. A worker has its
-//! files on a desk, whatever else it has there: `deal` lays them on the desks, and `gather` takes them off in their order and says how the
-//! reading of all ended (`specs/Desks`). It stands on `scq_frames`, whose messages these are. What is done with the messages isn't said here.
+//! The files of workers. A file is a source with its number, read message by message; what it gave
+//! and how its reading ended is told by `IsRead` (`specs/Reading`), and what that says of all files
+//! by `specs/Ends`. Which files are a worker's is `specs/Files`. A worker has its files on a desk,
+//! whatever else it has there: `deal` lays them on the desks, and `gather` takes them off in their
+//! order and says how the reading of all ended (`specs/Desks`). It stands on `scq_frames`, whose
+//! messages these are. What is done with the messages isn't said here.
 #![tactic(auto)]
 
 mod dealing;

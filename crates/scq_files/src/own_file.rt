@@ -12,13 +12,13 @@ pub enum FileEnd {
     Unread,
     /// To its end.
     Whole,
-    /// Up to this fault. Where its worker leaves a file for want of memory, or since it met a ticket past the limit, that counts as
-    /// want of memory.
+    /// Up to this fault. Where its worker leaves a file for want of memory, or since it met a
+    /// ticket past the limit, that counts as want of memory.
     Stopped(FrameFault),
 }
 
-/// A file of a worker: its number from 1, its source, and how far it was read. For contracts alone it has what the source was before
-/// it was read, and the messages that it gave.
+/// A file of a worker: its number from 1, its source, and how far it was read. For contracts alone
+/// it has what the source was before it was read, and the messages that it gave.
 #[derive(Drop)]
 pub struct OwnFile<S> {
     pub number: u32,

@@ -14,7 +14,8 @@ pub fn make_lists<S: Source>(
     files: usize,
 ) -> Result<Vec<Vec<OwnFile<S>>>, NoMemory>
     ensures { IfOk result (λ lists. (vec_len lists ≡ workers)
-        × All (λ list. (list.items ≡ []) × (vec_len list ≡ 0) × (files ≤ vec_capacity list)) lists.items) }
+        × All (λ list. (list.items ≡ []) × (vec_len list ≡ 0)
+        × (files ≤ vec_capacity list)) lists.items) }
 {
     let mut lists = Vec::with_capacity(alloc, workers as usize)?;
     'lists: for _number in 0..workers {

@@ -144,7 +144,8 @@ pub fn read_files<C, T, H: Handler<C, T>, S: Source>(
     // Behind want of memory it reads no message more, and a file tells of it.
     ensures wanted { H.wanted handler.old ≡ false → WantsAtLast H.wanted (H.handled with.now)
         (all_given files.new) beside.old handler.old }
-    ensures told { H.wanted handler.old ≡ false → H.wanted handler.new ≡ true → TellsOfWant files.new }
+    ensures told { H.wanted handler.old ≡ false → H.wanted handler.new ≡ true
+        → TellsOfWant files.new }
 {
     let mut at = files.len();
     'files: while at > 0 {

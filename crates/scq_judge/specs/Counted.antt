@@ -1,5 +1,6 @@
 -- What a report counts of a history
-use Rattle.std.specs.Prelude.{◌≡◌, ℕ, ◌+◌, ◌<◌, ◌≤◌, ◌⊎◌, ◌↔◌, Bool, IsTrue, List, Option, Some, None, is_some, slice_get, nat_eq}
+use Rattle.std.specs.Prelude.{◌≡◌, ℕ, ◌+◌, ◌<◌, ◌≤◌, ◌⊎◌, ◌↔◌, Bool, IsTrue, List, Option, Some}
+use Rattle.std.specs.Prelude.{None, is_some, slice_get, nat_eq}
 use Rattle.std.specs.HashMap.{get}
 use Rattle.scq_hist.specs.Calls.{under_way}
 use Rattle.scq_hist.specs.Counts.{IsCount}
@@ -35,8 +36,8 @@ pub record IsBusy (events : List Event) (m seat : ℕ) : Type 0 where
   pub s : ℕ
   pub is : under_way events seat m ≡ Some s
 
--- the call that starts at position s overlaps another: one is under way when it starts, or starts next. (Where neither is so, the
--- next event is its own End.)
+-- the call that starts at position s overlaps another: one is under way when it starts, or starts
+-- next. (Where neither is so, the next event is its own End.)
 pub record Overlaps (events : List Event) (s : ℕ) : Type 0 where
   pub start : IsStart events s
   pub another : ((seat : ℕ) × IsBusy events s seat) ⊎ IsStart events (s + 1)
@@ -54,7 +55,8 @@ pub record IsNamedBefore (named : Named) (events : List Event) (m number : ℕ) 
 abbrev pub is_in : Seen → ℕ → Bool
 is_in seen number = is_some (get nat_eq seen.numbers number)
 
-pub record AreSeen (named : Named) (events : List Event) (m : ℕ) (seen : Seen) (c : ℕ) : Type 0 where
+pub record AreSeen (named : Named) (events : List Event) (m : ℕ) (seen : Seen)
+    (c : ℕ) : Type 0 where
   pub each : (number : ℕ) → IsTrue (is_in seen number) ↔ IsNamedBefore named events m number
   pub count : IsCount (IsNamedBefore named events m) c
   pub few : c ≤ m

@@ -1,5 +1,7 @@
--- What a line of a recording says: the number of the run, an opening token, or an event with its stamp in front, or with none
-use Rattle.std.specs.Prelude.{ℕ, ◌-◌, ◌^◌, nat_le, List, [], ◌∷◌, Option, Some, None, length, codes, if◌then◌else◌}
+-- What a line of a recording says: the number of the run, an opening token, or an event with its
+-- stamp in front, or with none
+use Rattle.std.specs.Prelude.{ℕ, ◌-◌, ◌^◌, nat_le, List, [], ◌∷◌, Option, Some, None, length, codes}
+use Rattle.std.specs.Prelude.{if◌then◌else◌}
 use Rattle.std.specs.Option.{option_map}
 use Rattle.std.specs.Str.{bytes_eq}
 use Rattle.scq_lines.specs.Lines.{fields_of, number_of}
@@ -31,7 +33,8 @@ run_in _ = None
 
 -- a first field that is a number is a stamp
 abbrev pub entry_in : Option ℕ → List ℕ → List (List ℕ) → Option Entry
-entry_in None field more = if bytes_eq field (codes "run") then run_in more else bare (said wide (field ∷ more))
+entry_in None field more =
+    if bytes_eq field (codes "run") then run_in more else bare (said wide (field ∷ more))
 entry_in (Some stamp) field more = stamped stamp (said wide more)
 
 abbrev pub entry_of : List (List ℕ) → Option Entry

@@ -1,10 +1,13 @@
 -- The contents of files, as far as they are visible
-use Rattle.std.specs.Prelude.{◌≡◌, ℕ, ◌-◌, ◌^◌, ◌<◌, ◌≤◌, List, Option, Some, length, slice_get, IsSomeAnd, All}
+use Rattle.std.specs.Prelude.{◌≡◌, ℕ, ◌-◌, ◌^◌, ◌<◌, ◌≤◌, List, Option, Some, length, slice_get}
+use Rattle.std.specs.Prelude.{IsSomeAnd, All}
 
 -- each of these sources has the content left that stands at its position
-pub record HaveContents {S : Type 0} (left : S → Option (List ℕ)) (sources : List S) (contents : List (List ℕ)) : Type 0 where
+pub record HaveContents {S : Type 0} (left : S
+    → Option (List ℕ)) (sources : List S) (contents : List (List ℕ)) : Type 0 where
   pub many : length contents ≡ length sources
-  pub each : (i : ℕ) (source : S) → slice_get sources i ≡ Some source → left source ≡ slice_get contents i
+  pub each : (i : ℕ) (source : S) → slice_get sources i ≡ Some source
+      → left source ≡ slice_get contents i
 
 -- a file of this number is there, from 1 to their count
 pub record IsFile (count file : ℕ) : Type 0 where

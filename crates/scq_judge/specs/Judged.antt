@@ -1,5 +1,7 @@
--- What recordings with visible contents tell: the report of the merged history, or the cause of a fault
-use Rattle.std.specs.Prelude.{◌≡◌, ◌⊎◌, ℕ, ◌-◌, ◌==◌, List, Ok, Err, Option, Some, length, take, slice_get}
+-- What recordings with visible contents tell: the report of the merged history, or the cause of a
+-- fault
+use Rattle.std.specs.Prelude.{◌≡◌, ◌⊎◌, ℕ, ◌-◌, ◌==◌, List, Ok, Err, Option, Some, length, take}
+use Rattle.std.specs.Prelude.{slice_get}
 use Rattle.scq_hist.specs.Aspects.{IsLawful, IsLawfulAt}
 use Rattle.scq_hist.specs.First.{IsFirstFailing}
 use Rattle.scq_hist.specs.declared.events.Event.{Event}
@@ -10,7 +12,9 @@ use Rattle.scq_judge.specs.Runs.{AreOfOneRun, IsOfAnotherRun}
 use Rattle.scq_judge.specs.Seats.{HaveOwnFiles, HasSeatOfAnother}
 use Rattle.scq_judge.specs.Report.{IsReport, report_lines}
 use Rattle.scq_judge.specs.declared.judging.JudgeFault.{JudgeFault}
-use Rattle.scq_judge.specs.declared.judging.JudgeFault.TheVariants.{BadLine, Shared as SharedBy, TwoRuns, Unlawful, ReadFault, TooLarge, NoMemory}
+use Rattle.scq_judge.specs.declared.judging.JudgeFault.TheVariants.{BadLine, Shared as SharedBy}
+use Rattle.scq_judge.specs.declared.judging.JudgeFault.TheVariants.{TwoRuns, Unlawful, ReadFault}
+use Rattle.scq_judge.specs.declared.judging.JudgeFault.TheVariants.{TooLarge, NoMemory}
 use Rattle.scq_judge.specs.declared.judging.Report.{Report}
 use Rattle.scq_judge.specs.declared.judging.Shared.{Shared}
 use Rattle.scq_judge.specs.declared.judging.Shared.TheVariants.{Stamp, Seat}
@@ -22,20 +26,24 @@ use Rattle.scq_judge.specs.declared.recorded.Place.{Place}
 use Rattle.scq_judge.specs.declared.recorded.Stamped.{Stamped}
 
 -- the history that what was read is merged to
-pub record IsHistoryOf (recorded : Recording) (opening : List (List ℕ)) (events : List Event) (places : List Place) : Type 0 where
+pub record IsHistoryOf (recorded : Recording) (opening : List (List ℕ)) (events : List Event)
+    (places : List Place) : Type 0 where
   pub opens : opening ≡ recorded.opening
   pub merged : IsMergeOf recorded.events events places
 
--- the history is lawful, and the text is that of its report, which tells of files by these names, and of refusals where it is known for how
--- many values each queue has room
-pub record IsReportOf (names : List (List ℕ)) (room : Option ℕ) (opening : List (List ℕ)) (events : List Event) (places : List Place) (text : List ℕ) : Type 0 where
+-- the history is lawful, and the text is that of its report, which tells of files by these names,
+-- and of refusals where it is known for how many values each queue has room
+pub record IsReportOf (names : List (List ℕ)) (room : Option ℕ) (opening : List (List ℕ))
+    (events : List Event) (places : List Place) (text : List ℕ) : Type 0 where
   pub lawful : IsLawful events
   pub report : Report
   pub is_report : IsReport room opening events report
   pub said : text ≡ report_lines (record { names = names; places = places; events = events }) report
 
--- so of the history that what was read is merged to, which is that of one run, and of which each seat's events stand in one file
-pub record IsReported (names : List (List ℕ)) (room : Option ℕ) (recorded : Recording) (text : List ℕ) : Type 0 where
+-- so of the history that what was read is merged to, which is that of one run, and of which each
+-- seat's events stand in one file
+pub record IsReported (names : List (List ℕ)) (room : Option ℕ) (recorded : Recording)
+    (text : List ℕ) : Type 0 where
   pub runs : AreOfOneRun recorded.runs
   pub seats : HaveOwnFiles recorded.events
   pub opening : List (List ℕ)
@@ -65,15 +73,20 @@ shared_by what place other = SharedBy what place.file place.line other.file othe
 -- what is at fault in what was read
 abbrev pub IsCauseIn : Recording → JudgeFault → Type 0
 IsCauseIn recorded (SharedBy what file line other_file other_line) =
-    IsSharing recorded.events what (record { file = file; line = line }) (record { file = other_file; line = other_line })
+    IsSharing recorded.events what (record { file = file; line = line })
+    (record { file = other_file; line = other_line })
 IsCauseIn recorded (TwoRuns file run other_file other_run) =
-    IsOfAnotherRun recorded.runs (record { file = file; number = run }) (record { file = other_file; number = other_run })
-IsCauseIn recorded (Unlawful file line) = IsOutOfPlace recorded (record { file = file; line = line })
+    IsOfAnotherRun recorded.runs (record { file = file; number = run })
+    (record { file = other_file; number = other_run })
+IsCauseIn recorded (Unlawful file line) =
+    IsOutOfPlace recorded (record { file = file; line = line })
 IsCauseIn recorded NoMemory = Unit {0}
 IsCauseIn recorded _ = ⊥
 
--- recordings of files with these names and contents, of which none has too many bytes, are read, and tell this report
-pub record IsJudged (names : List (List ℕ)) (room : Option ℕ) (contents : List (List ℕ)) (text : List ℕ) : Type 0 where
+-- recordings of files with these names and contents, of which none has too many bytes, are read,
+-- and tell this report
+pub record IsJudged (names : List (List ℕ)) (room : Option ℕ) (contents : List (List ℕ))
+    (text : List ℕ) : Type 0 where
   pub small : AreSmall contents
   pub recorded : Recording
   pub read : recording_of contents ≡ Ok recorded
@@ -86,7 +99,8 @@ pub record IsCaused (contents : List (List ℕ)) (fault : JudgeFault) : Type 0 w
   pub read : recording_of contents ≡ Ok recorded
   pub cause : IsCauseIn recorded fault
 
--- nothing is at fault in the files before this one: none has too many bytes, and each line is understood
+-- nothing is at fault in the files before this one: none has too many bytes, and each line is
+-- understood
 pub record AreSoundBefore (contents : List (List ℕ)) (file : ℕ) : Type 0 where
   pub small : AreSmall (take (file - 1) contents)
   pub recorded : Recording
@@ -97,11 +111,14 @@ pub record IsFirstBad (contents : List (List ℕ)) (file line : ℕ) : Type 0 wh
   pub small : AreSmall (take (file - 1) contents)
   pub bad : recording_of contents ≡ Err (record { file = file; line = line })
 
--- what is at fault in the contents, and that nothing is in the files before; a read that fails and want of memory aren't
+-- what is at fault in the contents, and that nothing is in the files before; a read that fails and
+-- want of memory aren't
 abbrev pub IsCause : List (List ℕ) → JudgeFault → Type 0
 IsCause contents (BadLine file line) = IsFirstBad contents file line
-IsCause contents (SharedBy what file line other_file other_line) = IsCaused contents (SharedBy what file line other_file other_line)
-IsCause contents (TwoRuns file run other_file other_run) = IsCaused contents (TwoRuns file run other_file other_run)
+IsCause contents (SharedBy what file line other_file other_line) =
+    IsCaused contents (SharedBy what file line other_file other_line)
+IsCause contents (TwoRuns file run other_file other_run) =
+    IsCaused contents (TwoRuns file run other_file other_run)
 IsCause contents (Unlawful file line) = IsCaused contents (Unlawful file line)
 IsCause contents (TooLarge file) = IsLarge contents file × AreSoundBefore contents file
 IsCause contents (ReadFault file) = AreSoundBefore contents file
@@ -110,7 +127,8 @@ IsCause contents NoMemory = Unit {0}
 -- For private calls: the fault tells the place of the first event that isn't lawful
 abbrev pub IsUnlawfulAt : List Event → List Place → JudgeFault → Type 0
 IsUnlawfulAt events places (Unlawful file line) =
-    (e : ℕ) × IsFirstFailing (λ d. IsLawfulAt events d (slice_get events d)) (Some e) × (slice_get places e ≡ Some (record { file = file; line = line }))
+    (e : ℕ) × IsFirstFailing (λ d. IsLawfulAt events d (slice_get events d)) (Some e)
+    × (slice_get places e ≡ Some (record { file = file; line = line }))
 IsUnlawfulAt events places _ = ⊥
 
 -- the faults of reading and of merging

@@ -7,7 +7,8 @@ use Rattle.scq_judge.specs.declared.recorded.Stamped.{Stamped}
 
 -- the stamps of the first n events rise
 pub record RiseBelow (merged : List Stamped) (n : ℕ) : Type 0 where
-  pub rises : (i : ℕ) (d : Stamped) → i + 1 < n → (slice_index_or merged i d).stamp < (slice_index_or merged (i + 1) d).stamp
+  pub rises : (i : ℕ) (d : Stamped) → i + 1 < n
+      → (slice_index_or merged i d).stamp < (slice_index_or merged (i + 1) d).stamp
 
 -- the same events, each once, in the order of their stamps, which are all different
 pub record IsMerged (events merged : List Stamped) : Type 0 where
@@ -15,7 +16,8 @@ pub record IsMerged (events merged : List Stamped) : Type 0 where
   pub rise : RiseBelow merged (length merged)
 
 -- these are the merged events, and their places
-pub record IsMergeOf (stamped : List Stamped) (events : List Event) (places : List Place) : Type 0 where
+pub record IsMergeOf (stamped : List Stamped) (events : List Event)
+    (places : List Place) : Type 0 where
   pub merged : List Stamped
   pub is_merged : IsMerged stamped merged
   pub events_are : events ≡ map (λ s. s.event) merged
@@ -25,13 +27,15 @@ pub record IsMergeOf (stamped : List Stamped) (events : List Event) (places : Li
 pub record HasEqual (merged : List Stamped) (place other : Place) : Type 0 where
   pub i : ℕ
   pub within : i + 1 < length merged
-  pub equal : (d : Stamped) → (slice_index_or merged i d).stamp ≡ (slice_index_or merged (i + 1) d).stamp
+  pub equal : (d : Stamped)
+      → (slice_index_or merged i d).stamp ≡ (slice_index_or merged (i + 1) d).stamp
   pub stands : (d : Stamped) → (slice_index_or merged (i + 1) d).place ≡ place
   pub before : (d : Stamped) → (slice_index_or merged i d).place ≡ other
 
 -- For private calls: the stamp at position i is above the one before it; and the place there
 abbrev pub IsAbove : List Stamped → ℕ → Type 0
-IsAbove merged i = (d : Stamped) → (slice_index_or merged (i - 1) d).stamp < (slice_index_or merged i d).stamp
+IsAbove merged i =
+    (d : Stamped) → (slice_index_or merged (i - 1) d).stamp < (slice_index_or merged i d).stamp
 
 abbrev pub IsPlaceAt : List Stamped → ℕ → Place → Type 0
 IsPlaceAt merged i place = (d : Stamped) → (slice_index_or merged i d).place ≡ place

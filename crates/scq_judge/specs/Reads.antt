@@ -1,33 +1,42 @@
--- How the sources of recordings were read. They have a count of faults and one of the ends that they answered, and what they have left
--- may be visible
-use Rattle.std.specs.Prelude.{◌≡◌, ◌⊎◌, ℕ, ◌-◌, ◌<◌, List, Option, IfSome, [], length, slice_index_or}
+-- How the sources of recordings were read. They have a count of faults and one of the ends that
+-- they answered, and what they have left may be visible
+use Rattle.std.specs.Prelude.{◌≡◌, ◌⊎◌, ℕ, ◌-◌, ◌<◌, List, Option, IfSome, [], length}
+use Rattle.std.specs.Prelude.{slice_index_or}
 use Rattle.scq_outside.specs.Counts.{Rose}
 use Rattle.scq_outside.specs.Taking.{Took}
 use Rattle.scq_judge.specs.Files.{IsFile}
 use Rattle.scq_judge.specs.declared.judging.JudgeFault.{JudgeFault}
-use Rattle.scq_judge.specs.declared.judging.JudgeFault.TheVariants.{BadLine, Shared, TwoRuns, Unlawful, ReadFault, TooLarge, NoMemory}
+use Rattle.scq_judge.specs.declared.judging.JudgeFault.TheVariants.{BadLine, Shared, TwoRuns}
+use Rattle.scq_judge.specs.declared.judging.JudgeFault.TheVariants.{Unlawful, ReadFault, TooLarge}
+use Rattle.scq_judge.specs.declared.judging.JudgeFault.TheVariants.{NoMemory}
 use Rattle.scq_judge.specs.declared.reading.ReadingFault.{ReadingFault}
 use Rattle.scq_judge.specs.declared.reading.ReadingFault.TheVariants as reading
 
--- a source gave some bytes, and has the others left. At most one of its reads failed, and its count of faults says so
-pub record HasGiven {S : Type 0} (faults : S → ℕ) (left : S → Option (List ℕ)) (old new : S) : Type 0 where
+-- a source gave some bytes, and has the others left. At most one of its reads failed, and its count
+-- of faults says so
+pub record HasGiven {S : Type 0} (faults : S → ℕ) (left : S
+    → Option (List ℕ)) (old new : S) : Type 0 where
   pub bytes : List ℕ
   pub took : Took bytes (left old) (left new)
   pub counted : (faults new ≡ faults old) ⊎ Rose (faults old) (faults new)
 
 -- it was read to its end, which it answered just once, and no read failed
-pub record IsReadWhole {S : Type 0} (faults end_count : S → ℕ) (left : S → Option (List ℕ)) (old new : S) : Type 0 where
+pub record IsReadWhole {S : Type 0} (faults end_count : S → ℕ) (left : S
+    → Option (List ℕ)) (old new : S) : Type 0 where
   pub ended : IfSome (left new) (λ rest. rest ≡ [])
   pub once : Rose (end_count old) (end_count new)
   pub kept : faults new ≡ faults old
 
 -- what is so of each of so many first sources, before and after
 abbrev pub OfEach : {S : Type 0} → ℕ → (S → S → Type 0) → List S → List S → Type 0
-OfEach {S} count R olds news = (k : ℕ) (d : S) → k < count → R (slice_index_or olds k d) (slice_index_or news k d)
+OfEach {S} count R olds news =
+    (k : ℕ) (d : S) → k < count → R (slice_index_or olds k d) (slice_index_or news k d)
 
 -- so many first sources were read to their ends
-abbrev pub AreReadWhole : {S : Type 0} → (S → ℕ) → (S → ℕ) → (S → Option (List ℕ)) → ℕ → List S → List S → Type 0
-AreReadWhole faults end_count left count olds news = OfEach count (IsReadWhole faults end_count left) olds news
+abbrev pub AreReadWhole : {S : Type 0} → (S → ℕ) → (S → ℕ) → (S → Option (List ℕ)) → ℕ → List S
+    → List S → Type 0
+AreReadWhole faults end_count left count olds news =
+    OfEach count (IsReadWhole faults end_count left) olds news
 
 -- no read failed
 abbrev pub AreQuiet : {S : Type 0} → (S → ℕ) → List S → List S → Type 0
@@ -35,26 +44,36 @@ AreQuiet faults olds news = OfEach (length olds) (λ old new. faults new ≡ fau
 
 -- a read of this file failed
 abbrev pub HasFailed : {S : Type 0} → (S → ℕ) → List S → List S → ℕ → Type 0
-HasFailed {S} faults olds news file = (d : S) → Rose (faults (slice_index_or olds (file - 1) d)) (faults (slice_index_or news (file - 1) d))
+HasFailed {S} faults olds news file =
+    (d : S) → Rose (faults (slice_index_or olds (file - 1) d))
+    (faults (slice_index_or news (file - 1) d))
 
--- how far sources were read where recordings were refused: those before the file of the fault to their ends, and all of them where an event
--- is out of place, or shares what it may not with one of another file, and where two files are of two runs
-abbrev pub AreReadUntil : {S : Type 0} → (S → ℕ) → (S → ℕ) → (S → Option (List ℕ)) → List S → List S → JudgeFault → Type 0
+-- how far sources were read where recordings were refused: those before the file of the fault to
+-- their ends, and all of them where an event is out of place, or shares what it may not with one of
+-- another file, and where two files are of two runs
+abbrev pub AreReadUntil : {S : Type 0} → (S → ℕ) → (S → ℕ) → (S → Option (List ℕ)) → List S → List S
+    → JudgeFault → Type 0
 AreReadUntil faults end_count left olds news (BadLine file line) =
-    IsFile (length olds) file × AreReadWhole faults end_count left (file - 1) olds news × AreQuiet faults olds news
+    IsFile (length olds) file × AreReadWhole faults end_count left (file - 1) olds news
+    × AreQuiet faults olds news
 AreReadUntil faults end_count left olds news (Shared what file line other_file other_line) =
-    IsFile (length olds) file × IsFile (length olds) other_file × AreReadWhole faults end_count left (length olds) olds news
+    IsFile (length olds) file × IsFile (length olds) other_file
+    × AreReadWhole faults end_count left (length olds) olds news
 AreReadUntil faults end_count left olds news (TwoRuns file run other_file other_run) =
-    IsFile (length olds) file × IsFile (length olds) other_file × AreReadWhole faults end_count left (length olds) olds news
+    IsFile (length olds) file × IsFile (length olds) other_file
+    × AreReadWhole faults end_count left (length olds) olds news
 AreReadUntil faults end_count left olds news (Unlawful file line) =
     IsFile (length olds) file × AreReadWhole faults end_count left (length olds) olds news
 AreReadUntil faults end_count left olds news (ReadFault file) =
-    IsFile (length olds) file × AreReadWhole faults end_count left (file - 1) olds news × HasFailed faults olds news file
+    IsFile (length olds) file × AreReadWhole faults end_count left (file - 1) olds news
+    × HasFailed faults olds news file
 AreReadUntil faults end_count left olds news (TooLarge file) =
-    IsFile (length olds) file × AreReadWhole faults end_count left (file - 1) olds news × AreQuiet faults olds news
+    IsFile (length olds) file × AreReadWhole faults end_count left (file - 1) olds news
+    × AreQuiet faults olds news
 AreReadUntil faults end_count left olds news NoMemory = AreQuiet faults olds news
 
--- For private calls: the count of faults of the one source that was read rose exactly where a read of it failed
+-- For private calls: the count of faults of the one source that was read rose exactly where a read
+-- of it failed
 abbrev pub CountsFault : ReadingFault → ℕ → ℕ → Type 0
 CountsFault (reading.ReadFault file) old new = Rose old new
 CountsFault _ old new = new ≡ old

@@ -1,5 +1,7 @@
--- What the texts of recordings say: the opening tokens, and the events of all files, one file after the other
-use Rattle.std.specs.Prelude.{ℕ, ◌+◌, Bool, true, false, ◌==◌, nat_lt, List, [], ◌∷◌, ◌++◌, Option, Some, None, Result, Ok, Err, length, if◌then◌else◌, All}
+-- What the texts of recordings say: the opening tokens, and the events of all files, one file after
+-- the other
+use Rattle.std.specs.Prelude.{ℕ, ◌+◌, Bool, true, false, ◌==◌, nat_lt, List, [], ◌∷◌, ◌++◌, Option}
+use Rattle.std.specs.Prelude.{Some, None, Result, Ok, Err, length, if◌then◌else◌, All}
 use Rattle.scq_lines.specs.Lines.{lines_of}
 use Rattle.scq_hist.specs.declared.events.Event.{Event}
 use Rattle.scq_judge.specs.Entry.{said_by}
@@ -12,8 +14,8 @@ use Rattle.scq_judge.specs.declared.recorded.Place.{Place}
 use Rattle.scq_judge.specs.declared.recorded.RunOf.{RunOf}
 use Rattle.scq_judge.specs.declared.recorded.Stamped.{Stamped}
 
--- what has been read: of which run each file is that says so, the opening tokens, the events, and of the file that is being read what stood
--- in front of its last event
+-- what has been read: of which run each file is that says so, the opening tokens, the events, and
+-- of the file that is being read what stood in front of its last event
 pub record Recording : Type 0 where
   pub runs : List RunOf
   pub opening : List (List ℕ)
@@ -24,8 +26,9 @@ pub record Recording : Type 0 where
 abbrev pub nothing : Recording
 nothing = record { runs = []; opening = []; events = []; last = NoEvent }
 
--- whether an entry may follow in the file of this number. Opening tokens stand at the head of file 1, and then the run's number, once, before
--- the file's events; stamps rise; events without stamps are those of a lone file, which has no others
+-- whether an entry may follow in the file of this number. Opening tokens stand at the head of file
+-- 1, and then the run's number, once, before the file's events; stamps rise; events without stamps
+-- are those of a lone file, which has no others
 abbrev pub may_follow : ℕ → Bool → Last → Entry → Bool
 may_follow file lone NoEvent (Run number) = true
 may_follow file lone NoEvent (Opening content) = file == 1
@@ -39,8 +42,10 @@ may_follow file lone _ _ = false
 
 -- an event of this file and line. The numbers of their lines are the stamps of events without any
 abbrev pub event_with : ℕ → ℕ → Option ℕ → Event → Stamped
-event_with file line (Some stamp) event = record { stamp = stamp; place = record { file = file; line = line }; event = event }
-event_with file line None event = record { stamp = line; place = record { file = file; line = line }; event = event }
+event_with file line (Some stamp) event =
+    record { stamp = stamp; place = record { file = file; line = line }; event = event }
+event_with file line None event =
+    record { stamp = line; place = record { file = file; line = line }; event = event }
 
 abbrev pub last_of : Option ℕ → Last
 last_of (Some stamp) = Stamp stamp
@@ -48,13 +53,16 @@ last_of None = Bare
 
 -- with what the line of this number says
 abbrev pub with_entry : ℕ → ℕ → Recording → Entry → Recording
-with_entry file line r (Run number) = record r { runs = r.runs ++ (record { file = file; number = number }) ∷ []; last = Headed }
+with_entry file line r (Run number) =
+    record r { runs = r.runs ++ (record { file = file; number = number }) ∷ []; last = Headed }
 with_entry file line r (Opening content) = record r { opening = r.opening ++ content ∷ [] }
-with_entry file line r (Happens stamp event) = record r { events = r.events ++ event_with file line stamp event ∷ []; last = last_of stamp }
+with_entry file line r (Happens stamp event) =
+    record r { events = r.events ++ event_with file line stamp event ∷ []; last = last_of stamp }
 
 abbrev pub after_entry : ℕ → Bool → ℕ → Recording → Option Entry → Option Recording
 after_entry file lone line r None = None
-after_entry file lone line r (Some entry) = if may_follow file lone r.last entry then Some (with_entry file line r entry) else None
+after_entry file lone line r (Some entry) =
+    if may_follow file lone r.last entry then Some (with_entry file line r entry) else None
 
 -- after a line, or none where it isn't understood there
 abbrev pub after_line : ℕ → Bool → ℕ → Recording → List ℕ → Option Recording
@@ -65,26 +73,32 @@ abbrev pub if_read : {A : Type 0} → ℕ → Option Recording → (Recording �
 if_read number (Some r) more = more r
 if_read number None more = Err number
 
--- after these lines, which follow so many of their file; or the number of the first that isn't understood
+-- after these lines, which follow so many of their file; or the number of the first that isn't
+-- understood
 abbrev pub after_lines : ℕ → Bool → ℕ → Recording → List (List ℕ) → Result Recording ℕ
 after_lines file lone number r [] = Ok r
 after_lines file lone number r (line ∷ lines) =
-    if_read (number + 1) (after_line file lone (number + 1) r line) (λ next. after_lines file lone (number + 1) next lines)
+    if_read (number + 1) (after_line file lone (number + 1) r line) (λ next.
+    after_lines file lone (number + 1) next lines)
 
 -- after a file of this content
 abbrev pub after_file : ℕ → Bool → Recording → List ℕ → Result Recording ℕ
-after_file file lone r content = after_lines file lone 0 (record r { last = NoEvent }) (lines_of content)
+after_file file lone r content =
+    after_lines file lone 0 (record r { last = NoEvent }) (lines_of content)
 
 -- goes on after a file that is understood
-abbrev pub if_file : {A : Type 0} → ℕ → Result Recording ℕ → (Recording → Result A Place) → Result A Place
+abbrev pub if_file : {A : Type 0} → ℕ → Result Recording ℕ → (Recording → Result A Place)
+    → Result A Place
 if_file file (Ok r) more = more r
 if_file file (Err line) more = Err (record { file = file; line = line })
 
--- after files of these contents, of which the first has this number; or the first line that isn't understood
+-- after files of these contents, of which the first has this number; or the first line that isn't
+-- understood
 abbrev pub after_files : Bool → ℕ → Recording → List (List ℕ) → Result Recording Place
 after_files lone file r [] = Ok r
 after_files lone file r (content ∷ contents) =
-    if_file file (after_file file lone r content) (λ next. after_files lone (file + 1) next contents)
+    if_file file (after_file file lone r content) (λ next.
+    after_files lone (file + 1) next contents)
 
 -- the recording of files with these contents. A lone file may be without stamps
 abbrev pub recording_of : List (List ℕ) → Result Recording Place

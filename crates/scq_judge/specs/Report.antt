@@ -1,5 +1,6 @@
 -- What is said of a merged history
-use Rattle.std.specs.Prelude.{◌≡◌, ℕ, ◌+◌, List, [], ◌++◌, Option, Some, None, length, codes, decimal}
+use Rattle.std.specs.Prelude.{◌≡◌, ℕ, ◌+◌, List, [], ◌++◌, Option, Some, None, length, codes}
+use Rattle.std.specs.Prelude.{decimal}
 use Rattle.scq_hist.specs.Aspects.{IsFreshAt, IsOnceAt, IsInOrderAt, IsEmptyRightAt}
 use Rattle.scq_hist.specs.Counts.{IsCount}
 use Rattle.scq_hist.specs.declared.events.Event.{Event}
@@ -20,10 +21,13 @@ use Rattle.scq_judge.specs.Telling.{Told, event_at_text, token_text}
 abbrev pub AreWrongRefusals : Option ℕ → List (List ℕ) → List Event → Option Failures → Type 0
 AreWrongRefusals None opening history told = told ≡ None
 AreWrongRefusals (Some room) opening history None = ⊥
-AreWrongRefusals (Some room) opening history (Some failures) = AreFailures (IsFullRightAt room opening history) failures
+AreWrongRefusals (Some room) opening history (Some failures) =
+    AreFailures (IsFullRightAt room opening history) failures
 
--- of a history: the events that break each aspect, and how many events, queues, seats, calls and overlapping calls there are
-pub record IsReport (room : Option ℕ) (opening : List (List ℕ)) (history : List Event) (report : Report) : Type 0 where
+-- of a history: the events that break each aspect, and how many events, queues, seats, calls and
+-- overlapping calls there are
+pub record IsReport (room : Option ℕ) (opening : List (List ℕ)) (history : List Event)
+    (report : Report) : Type 0 where
   pub fresh : AreFailures (IsFreshAt opening history) report.breaches.fresh
   pub once : AreFailures (IsOnceAt history) report.breaches.once
   pub in_order : AreFailures (IsInOrderAt opening history) report.breaches.in_order
@@ -37,11 +41,13 @@ pub record IsReport (room : Option ℕ) (opening : List (List ℕ)) (history : L
   pub calls : IsCount (IsStart history) report.counts.calls
   pub overlapping : IsCount (Overlaps history) report.counts.overlapping
 
--- the verdict on an aspect: its name, and ` holds` or ` fails at` the first event that breaks it, and how many do
+-- the verdict on an aspect: its name, and ` holds` or ` fails at` the first event that breaks it,
+-- and how many do
 abbrev pub failures_text : List ℕ → Told → Option ℕ → ℕ → List ℕ
 failures_text name t None count = name ++ codes " holds"
 failures_text name t (Some e) count =
-    name ++ codes " fails at " ++ event_at_text t e ++ codes ", " ++ decimal count ++ codes " in all"
+    name ++ codes " fails at " ++ event_at_text t e ++ codes ", " ++ decimal count
+        ++ codes " in all"
 
 abbrev pub verdict_text : List ℕ → Told → Failures → List ℕ
 verdict_text name t failures = failures_text name t failures.first failures.count
@@ -72,7 +78,8 @@ waiting_text t (Some w) =
 -- where the put that a Got names was put
 abbrev pub origin_text : Told → Option Origin → List ℕ
 origin_text t None = []
-origin_text t (Some Nobody) = codes "; names a put that nobody made: values have to be the recorder's"
+origin_text t (Some Nobody) =
+    codes "; names a put that nobody made: values have to be the recorder's"
 origin_text t (Some (Token number)) = codes "; names the opening at " ++ token_text t number
 origin_text t (Some (Start s)) = codes "; names the put started at " ++ event_at_text t s
 
@@ -81,23 +88,28 @@ abbrev pub overtaker_text : Told → Option Origin → List ℕ
 overtaker_text t (Some (Start s)) = codes "; overtaken by the put started at " ++ event_at_text t s
 overtaker_text t _ = []
 
--- the lines of aspects: the verdict, and behind it what its first event stands against, which is nothing, where a put was put, an event,
--- puts that wait, or puts that wait and where that was put which has overtaken them
+-- the lines of aspects: the verdict, and behind it what its first event stands against, which is
+-- nothing, where a put was put, an event, puts that wait, or puts that wait and where that was put
+-- which has overtaken them
 abbrev pub plain_line : List ℕ → Told → Failures → List ℕ
 plain_line name t failures = verdict_text name t failures ++ codes "\n"
 
 abbrev pub origin_line : List ℕ → Told → Failures → Option Origin → List ℕ
-origin_line name t failures origin = verdict_text name t failures ++ origin_text t origin ++ codes "\n"
+origin_line name t failures origin =
+    verdict_text name t failures ++ origin_text t origin ++ codes "\n"
 
 abbrev pub beside_line : List ℕ → Told → Failures → List ℕ → Option ℕ → List ℕ
-beside_line name t failures words event = verdict_text name t failures ++ event_text words t event ++ codes "\n"
+beside_line name t failures words event =
+    verdict_text name t failures ++ event_text words t event ++ codes "\n"
 
 abbrev pub waiting_line : List ℕ → Told → Failures → Option Waiting → List ℕ
-waiting_line name t failures waiting = verdict_text name t failures ++ waiting_text t waiting ++ codes "\n"
+waiting_line name t failures waiting =
+    verdict_text name t failures ++ waiting_text t waiting ++ codes "\n"
 
 abbrev pub order_line : List ℕ → Told → Failures → Option Waiting → Option Origin → List ℕ
 order_line name t failures waiting overtaker =
-    verdict_text name t failures ++ waiting_text t waiting ++ overtaker_text t overtaker ++ codes "\n"
+    verdict_text name t failures ++ waiting_text t waiting ++ overtaker_text t overtaker
+        ++ codes "\n"
 
 -- the line on refusals, where they are judged
 abbrev pub full_line : Told → Option Failures → List ℕ
@@ -116,7 +128,8 @@ report_lines t r =
     ++ beside_line (codes "once") t r.breaches.once (codes "; named before at ") told.once
     ++ order_line (codes "in order") t r.breaches.in_order told.in_order told.overtaker
     ++ waiting_line (codes "empty") t r.breaches.empty_right told.empty_right
-    ++ beside_line (codes "refused never got") t r.breaches.accepted (codes "; put refused at ") told.accepted
+    ++ beside_line (codes "refused never got") t r.breaches.accepted
+    (codes "; put refused at ") told.accepted
     ++ full_line t r.full
     ++ count_line (codes "events") r.counts.events ++ count_line (codes "queues") r.counts.queues
     ++ count_line (codes "seats") r.counts.seats ++ count_line (codes "calls") r.counts.calls

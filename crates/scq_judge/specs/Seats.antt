@@ -21,7 +21,8 @@ pub record IsAt (events : List Stamped) (i seat : ℕ) (place : Place) : Type 0 
 
 -- each seat's events stand in one file
 abbrev pub HaveOwnFiles : List Stamped → Type 0
-HaveOwnFiles events = (i k seat : ℕ) (a b : Place) → IsAt events i seat a → IsAt events k seat b → a.file ≡ b.file
+HaveOwnFiles events =
+    (i k seat : ℕ) (a b : Place) → IsAt events i seat a → IsAt events k seat b → a.file ≡ b.file
 
 -- the event of this place is of a seat that has one of the other place, in another file
 pub record HasSeatOfAnother (events : List Stamped) (place other : Place) : Type 0 where
@@ -32,7 +33,8 @@ pub record HasSeatOfAnother (events : List Stamped) (place other : Place) : Type
   pub there : IsAt events k seat other
   pub apart : ¬ (other.file ≡ place.file)
 
--- For private calls: no event of the seat stands before position i; and those that do stand in the file of this place, which is that of one of them
+-- For private calls: no event of the seat stands before position i; and those that do stand in the
+-- file of this place, which is that of one of them
 pub record NoneBefore (events : List Stamped) (i seat : ℕ) : Type 0 where
   pub none : (k : ℕ) (place : Place) → k < i → ¬ IsAt events k seat place
 
@@ -44,11 +46,13 @@ pub record IsHome (events : List Stamped) (i seat : ℕ) (home : Place) : Type 0
 
 -- so of each seat
 pub record AreHomes (events : List Stamped) (i : ℕ) (homes : Homes) : Type 0 where
-  pub each : (seat : ℕ) → MatchOption (get nat_eq homes.known seat) (NoneBefore events i seat) (IsHome events i seat)
+  pub each : (seat : ℕ)
+      → MatchOption (get nat_eq homes.known seat) (NoneBefore events i seat) (IsHome events i seat)
 
 -- the event at position i stands in the file of its seat's events before it
 abbrev pub IsAtHome : List Stamped → ℕ → Type 0
-IsAtHome events i = (k seat : ℕ) (a b : Place) → k < i → IsAt events k seat a → IsAt events i seat b → a.file ≡ b.file
+IsAtHome events i = (k seat : ℕ) (a b : Place) → k < i → IsAt events k seat a → IsAt events i seat b
+    → a.file ≡ b.file
 
 -- the event at position i is of a seat whose first is at the other place, in another file
 pub record IsAway (events : List Stamped) (i : ℕ) (other : Place) : Type 0 where

@@ -1,5 +1,7 @@
 -- What is said of a place, of an event and of an opening token
-use Rattle.std.specs.Prelude.{ℕ, ◌+◌, ◌-◌, ◌/◌, ◌%◌, ◌&&◌, nat_lt, nat_le, if◌then◌else◌, List, [], ◌∷◌, ◌++◌, Option, Some, map, string_bytes, slice_get, slice_index_or, flat_map, codes, decimal}
+use Rattle.std.specs.Prelude.{ℕ, ◌+◌, ◌-◌, ◌/◌, ◌%◌, ◌&&◌, nat_lt, nat_le, if◌then◌else◌, List, []}
+use Rattle.std.specs.Prelude.{◌∷◌, ◌++◌, Option, Some, map, string_bytes, slice_get, slice_index_or}
+use Rattle.std.specs.Prelude.{flat_map, codes, decimal}
 use Rattle.scq_hist.specs.Calls.{puts_before}
 use Rattle.scq_hist.specs.declared.events.Call.TheVariants.{Put, Get}
 use Rattle.scq_hist.specs.declared.events.Event.{Event}
@@ -11,18 +13,21 @@ use Rattle.scq_check.specs.Calls.{own_start}
 use Rattle.scq_judge.specs.declared.recorded.Place.{Place}
 use Rattle.scq_judge.specs.declared.telling.Teller.{Teller}
 
--- what places and events are told by: the names of the files, the place of each event, and the history
+-- what places and events are told by: the names of the files, the place of each event, and the
+-- history
 pub record Told : Type 0 where
   pub names : List (List ℕ)
   pub places : List Place
   pub events : List Event
 
--- a hexadecimal digit with lower-case letters, and a byte of a name: as it is, or as `\xHH` where it is below 33 or above 126
+-- a hexadecimal digit with lower-case letters, and a byte of a name: as it is, or as `\xHH` where
+-- it is below 33 or above 126
 abbrev pub hex_digit : ℕ → ℕ
 hex_digit n = if nat_lt n 10 then n + 48 else n + 87
 
 abbrev pub byte_text : ℕ → List ℕ
-byte_text b = if nat_le 33 b && nat_le b 126 then b ∷ [] else codes "\\x" ++ hex_digit (b / 16) ∷ hex_digit (b % 16) ∷ []
+byte_text b = if nat_le 33 b && nat_le b 126 then b ∷ []
+    else codes "\\x" ++ hex_digit (b / 16) ∷ hex_digit (b % 16) ∷ []
 
 -- a name, byte by byte
 abbrev pub name_text : List ℕ → List ℕ
@@ -30,7 +35,8 @@ name_text name = flat_map byte_text name
 
 -- a line of the file of this number: the file's name, and the number of the line
 abbrev pub line_text : List (List ℕ) → ℕ → ℕ → List ℕ
-line_text names file line = name_text (slice_index_or names (file - 1) []) ++ codes " line " ++ decimal line
+line_text names file line =
+    name_text (slice_index_or names (file - 1) []) ++ codes " line " ++ decimal line
 
 abbrev pub place_text : List (List ℕ) → Place → List ℕ
 place_text names place = line_text names place.file place.line
@@ -49,7 +55,8 @@ abbrev pub got_name_text : Option Event → List ℕ
 got_name_text (Some (End seat (Got name content))) = codes " got " ++ put_name_text name
 got_name_text _ = []
 
--- the call that starts at position s by this event: its queue, its seat and, of a put, which of the seat's puts it is, from 1
+-- the call that starts at position s by this event: its queue, its seat and, of a put, which of the
+-- seat's puts it is, from 1
 abbrev pub seat_text : ℕ → ℕ → List ℕ
 seat_text queue seat = codes "queue " ++ decimal queue ++ codes " seat " ++ decimal seat
 
@@ -67,12 +74,19 @@ call_at_text events e =
 
 -- the event at position e: its place and its call
 abbrev pub event_at_text : Told → ℕ → List ℕ
-event_at_text t e = place_text t.names (place_at t.places e) ++ codes " (" ++ call_at_text t.events e ++ codes ")"
+event_at_text t e =
+    place_text t.names (place_at t.places e) ++ codes " (" ++ call_at_text t.events e ++ codes ")"
 
 -- the opening token of this number, which stands in file 1 behind those before it
 abbrev pub token_text : Told → ℕ → List ℕ
-token_text t number = line_text t.names 1 (number + 1) ++ codes " (opening " ++ decimal number ++ codes ")"
+token_text t number =
+    line_text t.names 1 (number + 1) ++ codes " (opening " ++ decimal number ++ codes ")"
 
 -- For private calls: what a teller tells by
 abbrev pub told_by : Teller → Told
-told_by teller = record { names = map string_bytes teller.names.now; places = teller.places.now; events = teller.events.now }
+told_by teller = record {
+  names = map string_bytes teller.names.now;
+  places =
+      teller.places.now;
+  events = teller.events.now;
+}

@@ -1,16 +1,19 @@
 //! What is counted of a history.
 
-ghost use Rattle.std.specs.Prelude.{◌≡◌, ◌+◌, ◌<◌, ◌≤◌, ◌↔◌, ◌==◌, ◌||◌, ℕ, IsTrue, false, IfOk, OnOk, length, slice_get};
+ghost use Rattle.std.specs.Prelude.{◌≡◌, ◌+◌, ◌<◌, ◌≤◌, ◌↔◌, ◌==◌, ◌||◌, ℕ, IsTrue, false, IfOk};
+ghost use Rattle.std.specs.Prelude.{OnOk, length, slice_get};
 ghost use Rattle.scq_hist.specs.Aspects.{IsLawful};
 ghost use Rattle.scq_hist.specs.Counts.{IsCount};
-ghost use Rattle.scq_judge.specs.Counted.{IsStart, IsNamed, Overlaps, Before, AreSeen, AreBusy, named_by, is_in};
+ghost use Rattle.scq_judge.specs.Counted.{IsStart, IsNamed, Overlaps, Before, AreSeen, AreBusy};
+ghost use Rattle.scq_judge.specs.Counted.{named_by, is_in};
 
 use scq_hist::{Call, Event};
 use scq_word::NoMemory;
 use std::alloc::Global;
 use std::collections::HashMap;
 
-/// How many events, queues, seats and calls a history has, and how many of its calls overlap another.
+/// How many events, queues, seats and calls a history has, and how many of its calls overlap
+/// another.
 #[derive(Clone, Copy)]
 pub struct Counts {
     pub events: usize,
@@ -49,7 +52,8 @@ impl Seen {
     }
 
     fn add(&mut self, number: u32) -> Result<(), NoMemory>
-        ensures { OnOk result ((other : ℕ) → is_in self.new other ≡ ((number == other) || is_in self.old other)) }
+        ensures { OnOk result ((other : ℕ)
+            → is_in self.new other ≡ ((number == other) || is_in self.old other)) }
     {
         self.numbers.insert(number, true)?;
         Ok(())
@@ -60,7 +64,8 @@ impl Seen {
 pub(crate) fn count(alloc: Global, events: &[Event]) -> Result<Counts, NoMemory>
     requires { IsLawful events.now }
     ensures events { IfOk result (λ counts. counts.events ≡ length events.now) }
-    ensures queues { IfOk result (λ counts. IsCount (IsNamed Named.Queue events.now) counts.queues) }
+    ensures queues { IfOk result (λ counts.
+        IsCount (IsNamed Named.Queue events.now) counts.queues) }
     ensures seats { IfOk result (λ counts. IsCount (IsNamed Named.Seat events.now) counts.seats) }
     ensures calls { IfOk result (λ counts. IsCount (IsStart events.now) counts.calls) }
     ensures overlapping { IfOk result (λ counts. IsCount (Overlaps events.now) counts.overlapping) }
@@ -174,7 +179,8 @@ fn calls_after(calls: usize, events: &[Event], e: usize) -> usize
     }
 }
 
-// Whether a call starts at this position that overlaps another, where so many seats have calls under way.
+// Whether a call starts at this position that overlaps another, where so many seats have calls
+// under way.
 fn overlaps(events: &[Event], busy: usize, e: usize) -> bool
     requires busy { AreBusy events.now e busy }
     requires within { e < length events.now }
@@ -185,7 +191,8 @@ fn overlaps(events: &[Event], busy: usize, e: usize) -> bool
     starts && (busy > 0 || next)
 }
 
-// From how many seats have calls under way just before the event at this position to how many have just after it.
+// From how many seats have calls under way just before the event at this position to how many have
+// just after it.
 fn busy_after(busy: usize, events: &[Event], e: usize) -> usize
     requires lawful { IsLawful events.now }
     requires within { e < length events.now }
@@ -212,7 +219,8 @@ fn count_overlapping(events: &[Event]) -> usize
     overlapping
 }
 
-// From how many calls that start before position e overlap another to how many of those up to it do.
+// From how many calls that start before position e overlap another to how many of those up to it
+// do.
 fn overlapping_after(overlapping: usize, events: &[Event], busy: usize, e: usize) -> usize
     requires within { e < length events.now }
     requires busy { AreBusy events.now e busy }

@@ -1,12 +1,14 @@
 //! Recordings read, merged and judged.
 
-ghost use Rattle.std.specs.Prelude.{◌≡◌, ◌<◌, ◌^◌, ◌⊎◌, ℕ, List, length, map, string_bytes, IfOk, IfErr, IfSome, OnOk};
+ghost use Rattle.std.specs.Prelude.{◌≡◌, ◌<◌, ◌^◌, ◌⊎◌, ℕ, List, length, map, string_bytes, IfOk};
+ghost use Rattle.std.specs.Prelude.{IfErr, IfSome, OnOk};
 ghost use Rattle.scq_hist.specs.Aspects.{IsLawful};
 ghost use Rattle.scq_check.specs.Verdicts.{AreWithin};
 ghost use Rattle.scq_judge.specs.Files.{HaveContents};
 ghost use Rattle.scq_judge.specs.Runs.{AreOfOneRun};
 ghost use Rattle.scq_judge.specs.Seats.{HaveOwnFiles};
-ghost use Rattle.scq_judge.specs.Judged.{shared_by, IsJudged, IsCause, IsReported, IsReportOf, IsCauseIn, IsUnlawfulAt};
+ghost use Rattle.scq_judge.specs.Judged.{shared_by, IsJudged, IsCause, IsReported, IsReportOf};
+ghost use Rattle.scq_judge.specs.Judged.{IsCauseIn, IsUnlawfulAt};
 ghost use Rattle.scq_judge.specs.Reads.{HasGiven, OfEach, AreReadWhole, AreReadUntil};
 ghost use Rattle.scq_judge.specs.Report.{AreWrongRefusals, IsReport};
 
@@ -25,8 +27,8 @@ use scq_word::{Bytes, NoMemory};
 use std::alloc::Global;
 use thiserror::Error;
 
-/// What is said of a history: the events that break each aspect, where they are judged the refusals that
-/// found a place, and what it has.
+/// What is said of a history: the events that break each aspect, where they are judged the refusals
+/// that found a place, and what it has.
 #[derive(Clone, Copy)]
 pub struct Report {
     pub breaches: Breaches,
@@ -52,7 +54,8 @@ pub enum JudgeFault {
         file: u32,
         line: u32,
     },
-    /// The line's event has the stamp of another file's, or is of a seat that has an event in another file.
+    /// The line's event has the stamp of another file's, or is of a seat that has an event in
+    /// another file.
     #[error("file {file} line {line}: same {what} as file {other_file} line {other_line}")]
     Shared {
         what: Shared,
@@ -125,9 +128,10 @@ impl From<MergeFault> for JudgeFault {
     }
 }
 
-/// The report of the history that the recordings of these files are merged to, as text. Where it is told for how many values
-/// each queue has room, refused puts are judged too. Files are told by these names, in the order of the sources. Memory and time grow little faster than
-/// the number of events. Files are read one after the other, up to the first that has a fault of its own.
+/// The report of the history that the recordings of these files are merged to, as text. Where it is
+/// told for how many values each queue has room, refused puts are judged too. Files are told by
+/// these names, in the order of the sources. Memory and time grow little faster than the number of
+/// events. Files are read one after the other, up to the first that has a fault of its own.
 pub fn judge_recordings<S: Source>(
     alloc: Global,
     room: Option<u32>,
@@ -137,12 +141,17 @@ pub fn judge_recordings<S: Source>(
     requires { length sources.old < 2 ^ 31 }
 
     // What the contents tell, where all are visible: the report, or the cause of a fault.
-    ensures judged { IfOk result (λ text. (contents : List (List ℕ)) → HaveContents S.left sources.old contents → IsJudged (map string_bytes names.now) room contents text) }
-    ensures refused { IfErr result (λ fault. (contents : List (List ℕ)) → HaveContents S.left sources.old contents → IsCause contents fault) }
+    ensures judged { IfOk result (λ text. (contents : List (List ℕ))
+        → HaveContents S.left sources.old contents
+        → IsJudged (map string_bytes names.now) room contents text) }
+    ensures refused { IfErr result (λ fault. (contents : List (List ℕ))
+        → HaveContents S.left sources.old contents → IsCause contents fault) }
 
     // How far the sources were read, visible or not.
-    ensures whole { OnOk result (AreReadWhole S.faults S.ends S.left (length sources.old) sources.old sources.new) }
-    ensures until { IfErr result (λ fault. AreReadUntil S.faults S.ends S.left sources.old sources.new fault) }
+    ensures whole { OnOk result
+        (AreReadWhole S.faults S.ends S.left (length sources.old) sources.old sources.new) }
+    ensures until { IfErr result (λ fault.
+        AreReadUntil S.faults S.ends S.left sources.old sources.new fault) }
     ensures given { OfEach (length sources.old) (HasGiven S.faults S.left) sources.old sources.new }
 {
     match read_recordings(alloc, sources) {
@@ -229,8 +238,12 @@ fn judge_merged(
     merged: &Merged,
 ) -> Result<Bytes, JudgeFault>
     requires { length merged.now.places.items ≡ length merged.now.events.items }
-    ensures reported { IfOk result (IsReportOf (map string_bytes names.now) room merged.now.opening.items merged.now.events.items merged.now.places.items) }
-    ensures refused { IfErr result (λ fault. (fault ≡ JudgeFault.NoMemory) ⊎ IsUnlawfulAt merged.now.events.items merged.now.places.items fault) }
+    ensures reported { IfOk result
+        (IsReportOf (map string_bytes names.now) room merged.now.opening.items
+        merged.now.events.items merged.now.places.items) }
+    ensures refused { IfErr result (λ fault.
+        (fault ≡ JudgeFault.NoMemory)
+        ⊎ IsUnlawfulAt merged.now.events.items merged.now.places.items fault) }
 {
     let opening = merged.opening.as_slice();
     let events = merged.events.as_slice();
@@ -251,8 +264,12 @@ fn judge_history(
     teller: Teller<'_>,
 ) -> Result<Bytes, JudgeFault>
     requires { length teller.places.now ≡ length teller.events.now }
-    ensures reported { IfOk result (IsReportOf (map string_bytes teller.entry.names.now) room opening.now teller.entry.events.now teller.entry.places.now) }
-    ensures refused { IfErr result (λ fault. (fault ≡ JudgeFault.NoMemory) ⊎ IsUnlawfulAt teller.entry.events.now teller.entry.places.now fault) }
+    ensures reported { IfOk result
+        (IsReportOf (map string_bytes teller.entry.names.now) room opening.now
+        teller.entry.events.now teller.entry.places.now) }
+    ensures refused { IfErr result (λ fault.
+        (fault ≡ JudgeFault.NoMemory)
+        ⊎ IsUnlawfulAt teller.entry.events.now teller.entry.places.now fault) }
 {
     let first = first_unlawful(alloc, teller.events)?;
     match first {
@@ -273,7 +290,9 @@ fn judge_lawful(
 ) -> Result<Bytes, JudgeFault>
     requires many { length teller.places.now ≡ length teller.events.now }
     requires lawful { IsLawful teller.events.now }
-    ensures reported { IfOk result (IsReportOf (map string_bytes teller.entry.names.now) room opening.now teller.entry.events.now teller.entry.places.now) }
+    ensures reported { IfOk result
+        (IsReportOf (map string_bytes teller.entry.names.now) room opening.now
+        teller.entry.events.now teller.entry.places.now) }
     ensures refused { IfErr result (λ fault. fault ≡ JudgeFault.NoMemory) }
 {
     let report = report_on(alloc, room, opening, teller.events)?;
@@ -291,7 +310,8 @@ fn report_on(
     requires { IsLawful events.now }
     ensures report { IfOk result (IsReport room opening.now events.now) }
     ensures within { IfOk result (λ report. AreWithin (length events.now) report.breaches) }
-    ensures full_within { IfOk result (λ report. IfSome report.full (λ full. IfSome full.first (λ e. e < length events.now))) }
+    ensures full_within { IfOk result (λ report.
+        IfSome report.full (λ full. IfSome full.first (λ e. e < length events.now))) }
 {
     Ok(Report {
         breaches: find_breaches(alloc, opening, events)?,
@@ -309,7 +329,8 @@ fn wrong_refusals(
 ) -> Result<Option<Failures>, NoMemory>
     requires { IsLawful events.now }
     ensures told { IfOk result (AreWrongRefusals room opening.now events.now) }
-    ensures within { IfOk result (λ told. IfSome told (λ full. IfSome full.first (λ e. e < length events.now))) }
+    ensures within { IfOk result (λ told.
+        IfSome told (λ full. IfSome full.first (λ e. e < length events.now))) }
 {
     match room {
         None => Ok(None),

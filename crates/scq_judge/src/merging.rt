@@ -1,8 +1,10 @@
 //! The events of all files in the order of their stamps.
 
-ghost use Rattle.std.specs.Prelude.{◌≡◌, ◌<◌, ◌≤◌, ◌↔◌, IsTrue, map, length, IfOk, OnOk, MatchOption, IsErrOf};
+ghost use Rattle.std.specs.Prelude.{◌≡◌, ◌<◌, ◌≤◌, ◌↔◌, IsTrue, map, length, IfOk, OnOk};
+ghost use Rattle.std.specs.Prelude.{MatchOption, IsErrOf};
 ghost use Rattle.std.specs.List.Sorted.{IsPermutation, IsNonDecreasingBy};
-ghost use Rattle.scq_judge.specs.Merged.{RiseBelow, HasEqual, IsAbove, IsPlaceAt, IsMergeOf, HasStampOfAnother};
+ghost use Rattle.scq_judge.specs.Merged.{RiseBelow, HasEqual, IsAbove, IsPlaceAt, IsMergeOf};
+ghost use Rattle.scq_judge.specs.Merged.{HasStampOfAnother};
 
 use crate::recorded::{Place, Recorded, Stamped};
 use scq_hist::Event;
@@ -28,8 +30,10 @@ pub(crate) enum MergeFault {
 /// Merges recordings.
 pub(crate) fn merge(alloc: Global, recorded: Recorded) -> Result<Merged, MergeFault>
     ensures opening { IfOk result (λ merged. merged.opening.items ≡ recorded.opening) }
-    ensures merged { IfOk result (λ merged. IsMergeOf recorded.events merged.events.items merged.places.items) }
-    ensures same_stamp { (place other : Place) → IsErrOf result (MergeFault.SameStamp place other) → HasStampOfAnother recorded.events place other }
+    ensures merged { IfOk result (λ merged.
+        IsMergeOf recorded.events merged.events.items merged.places.items) }
+    ensures same_stamp { (place other : Place) → IsErrOf result (MergeFault.SameStamp place other)
+        → HasStampOfAnother recorded.events place other }
 {
     let (opening, mut stamped) = recorded.into_parts();
     if sort(&mut stamped).is_err() {
@@ -59,7 +63,8 @@ fn sort(stamped: &mut Vec<Stamped>) -> Result<(), NoMemory>
 /// The places of the first event whose stamp is that of the one before it, and of that one.
 fn first_equal(stamped: &[Stamped]) -> Option<(Place, Place)>
     requires { IsNonDecreasingBy (λ s. s.stamp) stamped.now }
-    ensures { MatchOption result (RiseBelow stamped.now (length stamped.now)) (λ pair. HasEqual stamped.now pair.0 pair.1) }
+    ensures { MatchOption result (RiseBelow stamped.now (length stamped.now)) (λ pair.
+        HasEqual stamped.now pair.0 pair.1) }
 {
     for i in 1..stamped.len() {
         if !is_above(stamped, i) {

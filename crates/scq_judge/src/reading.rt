@@ -1,12 +1,14 @@
 //! Recordings read from their files, piece by piece.
 
-ghost use Rattle.std.specs.Prelude.{◌≡◌, ◌+◌, ◌<◌, ◌≤◌, ◌^◌, ◌∷◌, ◌++◌, ℕ, List, None, Ok, Err, length, IfOk, IfErr, IfSome, OnOk, IsErrOf};
+ghost use Rattle.std.specs.Prelude.{◌≡◌, ◌+◌, ◌<◌, ◌≤◌, ◌^◌, ◌∷◌, ◌++◌, ℕ, List, None, Ok, Err};
+ghost use Rattle.std.specs.Prelude.{length, IfOk, IfErr, IfSome, OnOk, IsErrOf};
 ghost use Rattle.scq_lines.specs.Lines.{lines_of};
 ghost use Rattle.memchr.specs.Find.{IsFirstByte, is_byte};
 ghost use Rattle.scq_judge.specs.Recording.{after_lines, after_file, recording_of, AreAllOf};
 ghost use Rattle.scq_judge.specs.Files.{HaveContents, AreSmall, IsFile, most_bytes};
 ghost use Rattle.scq_judge.specs.Judged.{IsCause, fault_of_reading};
-ghost use Rattle.scq_judge.specs.Reads.{HasGiven, IsReadWhole, OfEach, AreReadWhole, AreReadUntil, CountsFault};
+ghost use Rattle.scq_judge.specs.Reads.{HasGiven, IsReadWhole, OfEach, AreReadWhole, AreReadUntil};
+ghost use Rattle.scq_judge.specs.Reads.{CountsFault};
 
 use crate::entry::MOST_LINE;
 use crate::recorded::{LineFault, Place, Recorded};
@@ -75,10 +77,13 @@ impl Reading {
         text: &[u8],
     ) -> Result<(), ReadingFault>
         requires { before + 1 < 2 ^ 32 }
-        ensures read { OnOk result ((lines : List (List ℕ)) → after_lines self.file self.lone before recorded.old (text.now ∷ lines)
+        ensures read { OnOk result ((lines : List (List ℕ))
+            → after_lines self.file self.lone before recorded.old (text.now ∷ lines)
             ≡ after_lines self.file self.lone (before + 1) recorded.new lines) }
-        ensures files { (count : ℕ) → IsFile count self.file → AreAllOf count recorded.old → OnOk result (AreAllOf count recorded.new) }
-        ensures bad_line { (f l : ℕ) → IsErrOf result (ReadingFault.BadLine f l) → (f ≡ self.file) × ((lines : List (List ℕ))
+        ensures files { (count : ℕ) → IsFile count self.file → AreAllOf count recorded.old
+            → OnOk result (AreAllOf count recorded.new) }
+        ensures bad_line { (f l : ℕ) → IsErrOf result (ReadingFault.BadLine f l)
+            → (f ≡ self.file) × ((lines : List (List ℕ))
             → after_lines self.file self.lone before recorded.old (text.now ∷ lines) ≡ Err l) }
         ensures read_fault { (f : ℕ) → ¬ IsErrOf result (ReadingFault.ReadFault f) }
         ensures large { (f : ℕ) → ¬ IsErrOf result (ReadingFault.TooLarge f) }
@@ -101,13 +106,19 @@ impl Reading {
         bytes: &'a [u8],
     ) -> Result<Taken<'a>, ReadingFault>
         requires room { before + length bytes.now < 2 ^ 31 }
-        ensures taken { IfOk result (λ taken. (more : List ℕ) → after_lines self.file self.lone before recorded.old (lines_of (bytes.now ++ more))
-            ≡ after_lines self.file self.lone taken.lines recorded.new (lines_of (taken.rest.now ++ more))) }
-        ensures files { (count : ℕ) → IsFile count self.file → AreAllOf count recorded.old → OnOk result (AreAllOf count recorded.new) }
-        ensures few { IfOk result (λ taken. taken.lines + length taken.rest.now ≤ before + length bytes.now) }
+        ensures taken { IfOk result (λ taken. (more : List ℕ)
+            → after_lines self.file self.lone before recorded.old (lines_of (bytes.now ++ more))
+            ≡ after_lines self.file self.lone taken.lines recorded.new
+            (lines_of (taken.rest.now ++ more))) }
+        ensures files { (count : ℕ) → IsFile count self.file → AreAllOf count recorded.old
+            → OnOk result (AreAllOf count recorded.new) }
+        ensures few { IfOk result (λ taken.
+            taken.lines + length taken.rest.now ≤ before + length bytes.now) }
         ensures front { IfOk result (λ taken. IsFirstByte (is_byte 10) taken.rest.now None) }
-        ensures bad_line { (f l : ℕ) → IsErrOf result (ReadingFault.BadLine f l) → (f ≡ self.file) × ((more : List ℕ)
-            → after_lines self.file self.lone before recorded.old (lines_of (bytes.now ++ more)) ≡ Err l) }
+        ensures bad_line { (f l : ℕ) → IsErrOf result (ReadingFault.BadLine f l)
+            → (f ≡ self.file) × ((more : List ℕ)
+            → after_lines self.file self.lone before recorded.old (lines_of (bytes.now ++ more))
+            ≡ Err l) }
         ensures read_fault { (f : ℕ) → ¬ IsErrOf result (ReadingFault.ReadFault f) }
         ensures large { (f : ℕ) → ¬ IsErrOf result (ReadingFault.TooLarge f) }
     {
@@ -143,10 +154,13 @@ impl Reading {
     ) -> Result<(), ReadingFault>
         requires room { before < 2 ^ 31 }
         requires front { IsFirstByte (is_byte 10) bytes.now None }
-        ensures read { OnOk result (after_lines self.file self.lone before recorded.old (lines_of bytes.now) ≡ Ok recorded.new) }
-        ensures files { (count : ℕ) → IsFile count self.file → AreAllOf count recorded.old → OnOk result (AreAllOf count recorded.new) }
+        ensures read { OnOk result (after_lines self.file self.lone before recorded.old
+            (lines_of bytes.now) ≡ Ok recorded.new) }
+        ensures files { (count : ℕ) → IsFile count self.file → AreAllOf count recorded.old
+            → OnOk result (AreAllOf count recorded.new) }
         ensures bad_line { (f l : ℕ) → IsErrOf result (ReadingFault.BadLine f l)
-            → (f ≡ self.file) × (after_lines self.file self.lone before recorded.old (lines_of bytes.now) ≡ Err l) }
+            → (f ≡ self.file)
+            × (after_lines self.file self.lone before recorded.old (lines_of bytes.now) ≡ Err l) }
         ensures read_fault { (f : ℕ) → ¬ IsErrOf result (ReadingFault.ReadFault f) }
         ensures large { (f : ℕ) → ¬ IsErrOf result (ReadingFault.TooLarge f) }
     {
@@ -163,16 +177,21 @@ impl Reading {
         recorded: &mut Recorded,
         source: &mut S,
     ) -> Result<(), ReadingFault>
-        ensures read { OnOk result (IfSome (S.left source.old) (λ content. after_file self.file self.lone recorded.old content ≡ Ok recorded.new)) }
-        ensures small { OnOk result (IfSome (S.left source.old) (λ content. length content ≤ most_bytes)) }
-        ensures files { (count : ℕ) → IsFile count self.file → AreAllOf count recorded.old → OnOk result (AreAllOf count recorded.new) }
+        ensures read { OnOk result (IfSome (S.left source.old) (λ content.
+            after_file self.file self.lone recorded.old content ≡ Ok recorded.new)) }
+        ensures small { OnOk result
+            (IfSome (S.left source.old) (λ content. length content ≤ most_bytes)) }
+        ensures files { (count : ℕ) → IsFile count self.file → AreAllOf count recorded.old
+            → OnOk result (AreAllOf count recorded.new) }
         ensures bad_line { (f l : ℕ) → IsErrOf result (ReadingFault.BadLine f l) → (f ≡ self.file)
-            × IfSome (S.left source.old) (λ content. after_file self.file self.lone recorded.old content ≡ Err l) }
+            × IfSome (S.left source.old) (λ content.
+            after_file self.file self.lone recorded.old content ≡ Err l) }
         ensures large { (f : ℕ) → IsErrOf result (ReadingFault.TooLarge f) → (f ≡ self.file)
             × IfSome (S.left source.old) (λ content. most_bytes < length content) }
         ensures read_fault { (f : ℕ) → IsErrOf result (ReadingFault.ReadFault f) → f ≡ self.file }
         ensures whole { OnOk result (IsReadWhole S.faults S.ends S.left source.old source.new) }
-        ensures counted { IfErr result (λ fault. CountsFault fault (S.faults source.old) (S.faults source.new)) }
+        ensures counted { IfErr result (λ fault.
+            CountsFault fault (S.faults source.old) (S.faults source.new)) }
         ensures given { HasGiven S.faults S.left source.old source.new }
     {
         recorded.begin_file();
@@ -199,20 +218,26 @@ impl Reading {
     }
 }
 
-/// Reads the files of recordings, one after the other, each to its end. A lone file may be without stamps.
+/// Reads the files of recordings, one after the other, each to its end. A lone file may be without
+/// stamps.
 pub(crate) fn read_recordings<S: Source>(
     alloc: Global,
     sources: &mut [S],
 ) -> Result<Recorded, ReadingFault>
     requires { length sources.old < 2 ^ 31 }
-    ensures read { IfOk result (λ recorded. (contents : List (List ℕ)) → HaveContents S.left sources.old contents
+    ensures read { IfOk result (λ recorded. (contents : List (List ℕ))
+        → HaveContents S.left sources.old contents
         → recording_of contents ≡ Ok recorded) }
-    ensures small { OnOk result ((contents : List (List ℕ)) → HaveContents S.left sources.old contents → AreSmall contents) }
+    ensures small { OnOk result ((contents : List (List ℕ))
+        → HaveContents S.left sources.old contents → AreSmall contents) }
     ensures files { IfOk result (λ recorded. AreAllOf (length sources.old) recorded) }
-    ensures cause { IfErr result (λ fault. (contents : List (List ℕ)) → HaveContents S.left sources.old contents
+    ensures cause { IfErr result (λ fault. (contents : List (List ℕ))
+        → HaveContents S.left sources.old contents
         → IsCause contents (fault_of_reading fault)) }
-    ensures whole { OnOk result (AreReadWhole S.faults S.ends S.left (length sources.old) sources.old sources.new) }
-    ensures until { IfErr result (λ fault. AreReadUntil S.faults S.ends S.left sources.old sources.new (fault_of_reading fault)) }
+    ensures whole { OnOk result
+        (AreReadWhole S.faults S.ends S.left (length sources.old) sources.old sources.new) }
+    ensures until { IfErr result (λ fault.
+        AreReadUntil S.faults S.ends S.left sources.old sources.new (fault_of_reading fault)) }
     ensures given { OfEach (length sources.old) (HasGiven S.faults S.left) sources.old sources.new }
 {
     let lone = sources.len() == 1;

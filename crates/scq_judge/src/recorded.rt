@@ -2,7 +2,8 @@
 
 ghost use Rattle.std.specs.Prelude.{◌≡◌, [], ◌∷◌, ◌++◌, Some, None, OnOk, IsErrOf};
 ghost use Rattle.scq_judge.specs.Entry.{said_by};
-ghost use Rattle.scq_judge.specs.Recording.{nothing, may_follow, with_entry, event_with, after_line, after_entry};
+ghost use Rattle.scq_judge.specs.Recording.{nothing, may_follow, with_entry, event_with};
+ghost use Rattle.scq_judge.specs.Recording.{after_line, after_entry};
 ghost use Rattle.scq_judge.specs.declared.recorded.Last.TheVariants.{NoEvent};
 
 use crate::entry::{Entry, read_entry};
@@ -33,7 +34,8 @@ pub struct Stamped {
     pub event: Event,
 }
 
-/// What stood in front of the last event of a file, or that there was none, behind the run's number.
+/// What stood in front of the last event of a file, or that there was none, behind the run's
+/// number.
 #[derive(Clone, Copy)]
 pub enum Last {
     NoEvent,
@@ -42,7 +44,8 @@ pub enum Last {
     Stamp(u64),
 }
 
-/// The numbers of runs, the opening tokens and the events of all files that were read. Contracts see the lists.
+/// The numbers of runs, the opening tokens and the events of all files that were read. Contracts
+/// see the lists.
 #[derive(Drop)]
 pub struct Recorded {
     runs: Vec<RunOf>,
@@ -56,7 +59,13 @@ impl Model for Recorded {
 
     ghost Value = { Recording };
 
-    ghost view = { λ r. record { runs = r.runs.items; opening = r.opening.items; events = r.events.items; last = r.last } };
+    ghost view = { λ r. record {
+      runs = r.runs.items;
+      opening = r.opening.items;
+      events =
+          r.events.items;
+      last = r.last;
+    } };
 }
 
 /// Why a line was not taken.
@@ -86,8 +95,9 @@ impl<T: Drop> From<AllocFailed<T>> for LineFault {
     }
 }
 
-/// Whether an entry may follow in this file. Opening tokens stand at the head of file 1, and then the run's number, once, before the file's
-/// events; stamps rise; events without stamps are those of a lone file, which has no others.
+/// Whether an entry may follow in this file. Opening tokens stand at the head of file 1, and then
+/// the run's number, once, before the file's events; stamps rise; events without stamps are those
+/// of a lone file, which has no others.
 fn may_follow(file: u32, lone: bool, last: Last, entry: &Entry) -> bool
     ensures { result ≡ may_follow file lone last entry.now }
 {
@@ -137,8 +147,10 @@ impl Recorded {
         place: Place,
         line: &[u8],
     ) -> Result<(), LineFault>
-        ensures read { OnOk result (after_line place.file lone place.line self.old line.now ≡ Some self.new) }
-        ensures not_understood { IsErrOf result LineFault.NotUnderstood → after_line place.file lone place.line self.old line.now ≡ None }
+        ensures read { OnOk result (after_line place.file lone place.line self.old line.now
+            ≡ Some self.new) }
+        ensures not_understood { IsErrOf result LineFault.NotUnderstood
+            → after_line place.file lone place.line self.old line.now ≡ None }
     {
         let Some(entry) = read_entry(alloc, line)? else {
             return Err(LineFault::NotUnderstood);
@@ -179,7 +191,11 @@ impl Recorded {
     }
 
     fn push(&mut self, stamp: u64, place: Place, event: Event) -> Result<(), NoMemory>
-        ensures { OnOk result (self.new ≡ record self.old { events = self.old.events ++ (record { stamp = stamp; place = place; event = event }) ∷ [] }) }
+        ensures { OnOk result (self.new
+            ≡ record self.old {
+              events =
+                  self.old.events ++ (record { stamp = stamp; place = place; event = event }) ∷ [];
+            }) }
     {
         self.events
             .push(Stamped {

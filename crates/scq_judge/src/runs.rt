@@ -7,7 +7,8 @@ use crate::recorded::RunOf;
 
 /// The first file that is of another run than the first that tells its run, and this one.
 pub(crate) fn first_other_run(runs: &[RunOf]) -> Option<(RunOf, RunOf)>
-    ensures { MatchOption result (AreOfOneRun runs.now) (λ pair. IsOfAnotherRun runs.now pair.0 pair.1) }
+    ensures { MatchOption result (AreOfOneRun runs.now) (λ pair.
+        IsOfAnotherRun runs.now pair.0 pair.1) }
 {
     let first = *runs.first()?;
     for run in runs {

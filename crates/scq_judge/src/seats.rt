@@ -1,8 +1,10 @@
 //! Seats whose events stand in two files.
 
-ghost use Rattle.std.specs.Prelude.{◌≡◌, ◌+◌, ◌<◌, ℕ, List, length, IfOk, OnOk, MatchOption, nat_eq};
+ghost use Rattle.std.specs.Prelude.{◌≡◌, ◌+◌, ◌<◌, ℕ, List, length, IfOk, OnOk, MatchOption};
+ghost use Rattle.std.specs.Prelude.{nat_eq};
 ghost use Rattle.std.specs.HashMap.{get};
-ghost use Rattle.scq_judge.specs.Seats.{seat_of, IsAt, HaveOwnFiles, HasSeatOfAnother, AreHomes, IsAtHome, IsAway};
+ghost use Rattle.scq_judge.specs.Seats.{seat_of, IsAt, HaveOwnFiles, HasSeatOfAnother, AreHomes};
+ghost use Rattle.scq_judge.specs.Seats.{IsAtHome, IsAway};
 ghost use Rattle.scq_judge.specs.declared.recorded.Stamped.{Stamped as TheStamped};
 
 use crate::recorded::{Place, Stamped};
@@ -44,7 +46,8 @@ fn at(events: &[Stamped], i: usize) -> (u32, Place)
 
 // The home, if it is in another file than the place.
 fn if_elsewhere(home: Place, place: Place) -> Option<Place>
-    ensures { MatchOption result (home.file ≡ place.file) (λ other. (other ≡ home) × (¬ (home.file ≡ place.file))) }
+    ensures { MatchOption result (home.file ≡ place.file) (λ other.
+        (other ≡ home) × (¬ (home.file ≡ place.file))) }
 {
     if home.file == place.file {
         None
@@ -68,7 +71,8 @@ impl Homes {
         self.known.get(&seat).copied()
     }
 
-    // Where the first event stands of the seat that the event at this position is of, if that is in another file.
+    // Where the first event stands of the seat that the event at this position is of, if that is in
+    // another file.
     fn elsewhere(&self, events: &[Stamped], i: usize) -> Option<Place>
         requires within { i < length events.now }
         requires homes { AreHomes events.now i self.now }
@@ -101,7 +105,9 @@ impl Homes {
 
 /// The first event that is of a seat which has one in another file before it.
 pub(crate) fn first_apart(alloc: Global, events: &[Stamped]) -> Result<Option<Apart>, NoMemory>
-    ensures { IfOk result (λ found. MatchOption found (HaveOwnFiles events.now) (λ apart. HasSeatOfAnother events.now apart.place apart.other)) }
+    ensures { IfOk result (λ found.
+        MatchOption found (HaveOwnFiles events.now) (λ apart.
+        HasSeatOfAnother events.now apart.place apart.other)) }
 {
     let mut homes = Homes::new(alloc);
     for i in 0..events.len() {

@@ -1,16 +1,20 @@
 //! What is said of places, events and opening tokens.
 
-ghost use Rattle.std.specs.Prelude.{◌≡◌, ◌+◌, ◌<◌, ◌≤◌, ◌^◌, ◌++◌, ◌-◌, [], Some, decimal, length, map, slice_get, slice_index_or, string_bytes, IfSome, OnOk};
+ghost use Rattle.std.specs.Prelude.{◌≡◌, ◌+◌, ◌<◌, ◌≤◌, ◌^◌, ◌++◌, ◌-◌, [], Some, decimal, length};
+ghost use Rattle.std.specs.Prelude.{map, slice_get, slice_index_or, string_bytes, IfSome, OnOk};
 ghost use Rattle.scq_hist.specs.Calls.{under_way, puts_before};
 ghost use Rattle.scq_check.specs.Calls.{own_start};
-ghost use Rattle.scq_judge.specs.Telling.{byte_text, hex_digit, name_text, line_text, place_text, put_name_text, got_name_text, seat_text, call_text, call_at_text, event_at_text, token_text, told_by};
+ghost use Rattle.scq_judge.specs.Telling.{byte_text, hex_digit, name_text, line_text, place_text};
+ghost use Rattle.scq_judge.specs.Telling.{put_name_text, got_name_text, seat_text, call_text};
+ghost use Rattle.scq_judge.specs.Telling.{call_at_text, event_at_text, token_text, told_by};
 
 use crate::recorded::Place;
 use itoa::Buffer;
 use scq_hist::{Call, Event, PutName, Reply};
 use scq_word::NoMemory;
 
-/// What places and events are told by: the names of the files, the place of each event, and the history.
+/// What places and events are told by: the names of the files, the place of each event, and the
+/// history.
 #[derive(Clone, Copy)]
 pub(crate) struct Teller<'a> {
     pub names: &'a [String],
@@ -22,7 +26,8 @@ pub(crate) struct Teller<'a> {
 pub(crate) fn add_event_at(text: &mut Vec<u8>, teller: Teller<'_>, e: usize) -> Result<(), NoMemory>
     requires many { length teller.places.now ≡ length teller.events.now }
     requires within { e < length teller.events.now }
-    ensures { OnOk result (text.new.items ≡ text.old.items ++ event_at_text (told_by teller.entry) e) }
+    ensures { OnOk result (text.new.items
+        ≡ text.old.items ++ event_at_text (told_by teller.entry) e) }
 {
     add_place(text, teller.names, teller.places[e])?;
     text.extend_from_slice(b" (")?;
@@ -38,7 +43,8 @@ pub(crate) fn add_token(
     number: usize,
 ) -> Result<(), NoMemory>
     requires { number < 2 ^ 32 }
-    ensures { OnOk result (text.new.items ≡ text.old.items ++ token_text (told_by teller.entry) number) }
+    ensures { OnOk result (text.new.items
+        ≡ text.old.items ++ token_text (told_by teller.entry) number) }
 {
     add_line(text, teller.names, 1, number as u64 + 1)?;
     text.extend_from_slice(b" (opening ")?;
@@ -55,14 +61,16 @@ pub(crate) fn add_number(text: &mut Vec<u8>, number: u64) -> Result<(), NoMemory
 }
 
 fn add_place(text: &mut Vec<u8>, names: &[String], place: Place) -> Result<(), NoMemory>
-    ensures { OnOk result (text.new.items ≡ text.old.items ++ place_text (map string_bytes names.now) place) }
+    ensures { OnOk result (text.new.items
+        ≡ text.old.items ++ place_text (map string_bytes names.now) place) }
 {
     add_line(text, names, place.file, u64::from(place.line))
 }
 
 // A line of the file of this number, from 1.
 fn add_line(text: &mut Vec<u8>, names: &[String], file: u32, line: u64) -> Result<(), NoMemory>
-    ensures { OnOk result (text.new.items ≡ text.old.items ++ line_text (map string_bytes names.now) file line) }
+    ensures { OnOk result (text.new.items
+        ≡ text.old.items ++ line_text (map string_bytes names.now) file line) }
 {
     add_name(text, name_of(names, file))?;
     text.extend_from_slice(b" line ")?;
@@ -177,7 +185,8 @@ fn puts_before(events: &[Event], seat: u32, moment: usize) -> u64
 // The call that starts at this position by this event.
 fn add_call(text: &mut Vec<u8>, events: &[Event], s: usize, event: &Event) -> Result<(), NoMemory>
     requires { s < length events.now }
-    ensures { OnOk result (text.new.items ≡ text.old.items ++ call_text events.now s (Some event.now)) }
+    ensures { OnOk result (text.new.items
+        ≡ text.old.items ++ call_text events.now s (Some event.now)) }
 {
     match event {
         Event::Start {

@@ -5,7 +5,10 @@ ghost use Rattle.scq_check.specs.Counterparts.{IsOriginWithin};
 ghost use Rattle.scq_check.specs.Verdicts.{AreWithin};
 ghost use Rattle.scq_check.specs.Waiting.{IsToldWithin};
 ghost use Rattle.scq_judge.specs.Telling.{told_by};
-ghost use Rattle.scq_judge.specs.Report.{beside_line, count_line, event_text, full_line, got_text, order_line, origin_line, origin_text, overtaker_text, plain_line, put_text, report_lines, verdict_text, waiting_line, waiting_text};
+ghost use Rattle.scq_judge.specs.Report.{beside_line, count_line, event_text, full_line, got_text};
+ghost use Rattle.scq_judge.specs.Report.{order_line, origin_line, origin_text, overtaker_text};
+ghost use Rattle.scq_judge.specs.Report.{plain_line, put_text, report_lines, verdict_text};
+ghost use Rattle.scq_judge.specs.Report.{waiting_line, waiting_text};
 
 use crate::judging::Report;
 use crate::telling::{Teller, add_event_at, add_number, add_token};
@@ -13,8 +16,8 @@ use scq_check::{Failures, Origin, Waiting};
 use scq_word::{Bytes, NoMemory};
 use std::alloc::Global;
 
-/// A report as text: a line for each aspect and one for each count. `NAME holds`, or `NAME fails at EVENT, COUNT in all`, and
-/// behind that what this event stands against.
+/// A report as text: a line for each aspect and one for each count. `NAME holds`, or `NAME fails at
+/// EVENT, COUNT in all`, and behind that what this event stands against.
 pub(crate) fn report_text(
     alloc: Global,
     teller: Teller<'_>,
@@ -22,7 +25,8 @@ pub(crate) fn report_text(
 ) -> Result<Bytes, NoMemory>
     requires many { length teller.places.now ≡ length teller.events.now }
     requires within { AreWithin (length teller.events.now) report.now.breaches }
-    requires full_within { IfSome report.now.full (λ full. IfSome full.first (λ e. e < length teller.events.now)) }
+    requires full_within { IfSome report.now.full (λ full.
+        IfSome full.first (λ e. e < length teller.events.now)) }
     ensures { IfOk result (λ text. text ≡ report_lines (told_by teller.entry) report.now) }
 {
     let breaches = &report.breaches;
@@ -78,7 +82,8 @@ fn add_plain(
 ) -> Result<(), NoMemory>
     requires many { length teller.places.now ≡ length teller.events.now }
     requires within { IfSome failures.now.first (λ e. e < length teller.events.now) }
-    ensures { OnOk result (text.new.items ≡ text.old.items ++ plain_line name.now (told_by teller.entry) failures.now) }
+    ensures { OnOk result (text.new.items
+        ≡ text.old.items ++ plain_line name.now (told_by teller.entry) failures.now) }
 {
     add_verdict(text, name, teller, failures)?;
     text.extend_from_slice(b"\n")?;
@@ -96,7 +101,8 @@ fn add_origin(
     requires many { length teller.places.now ≡ length teller.events.now }
     requires first { IfSome failures.now.first (λ e. e < length teller.events.now) }
     requires origin { IfSome origin (IsOriginWithin (length teller.events.now)) }
-    ensures { OnOk result (text.new.items ≡ text.old.items ++ origin_line name.now (told_by teller.entry) failures.now origin) }
+    ensures { OnOk result (text.new.items
+        ≡ text.old.items ++ origin_line name.now (told_by teller.entry) failures.now origin) }
 {
     add_verdict(text, name, teller, failures)?;
     if let Some(origin) = origin {
@@ -110,7 +116,8 @@ fn add_origin(
 fn add_put_of(text: &mut Vec<u8>, teller: Teller<'_>, origin: Origin) -> Result<(), NoMemory>
     requires many { length teller.places.now ≡ length teller.events.now }
     requires within { IsOriginWithin (length teller.events.now) origin }
-    ensures { OnOk result (text.new.items ≡ text.old.items ++ origin_text (told_by teller.entry) (Some origin)) }
+    ensures { OnOk result (text.new.items
+        ≡ text.old.items ++ origin_text (told_by teller.entry) (Some origin)) }
 {
     match origin {
         Origin::Nobody => {
@@ -134,7 +141,8 @@ fn add_put_of(text: &mut Vec<u8>, teller: Teller<'_>, origin: Origin) -> Result<
 fn add_full(text: &mut Vec<u8>, teller: Teller<'_>, full: Option<Failures>) -> Result<(), NoMemory>
     requires many { length teller.places.now ≡ length teller.events.now }
     requires within { IfSome full (λ full. IfSome full.first (λ e. e < length teller.events.now)) }
-    ensures { OnOk result (text.new.items ≡ text.old.items ++ full_line (told_by teller.entry) full) }
+    ensures { OnOk result (text.new.items
+        ≡ text.old.items ++ full_line (told_by teller.entry) full) }
 {
     match full {
         None => Ok(()),
@@ -154,7 +162,9 @@ fn add_beside(
     requires many { length teller.places.now ≡ length teller.events.now }
     requires first { IfSome failures.now.first (λ e. e < length teller.events.now) }
     requires event { IfSome event (λ e. e < length teller.events.now) }
-    ensures { OnOk result (text.new.items ≡ text.old.items ++ beside_line name.now (told_by teller.entry) failures.now words.now event) }
+    ensures { OnOk result (text.new.items
+        ≡ text.old.items
+        ++ beside_line name.now (told_by teller.entry) failures.now words.now event) }
 {
     add_verdict(text, name, teller, failures)?;
     add_event(text, words, teller, event)?;
@@ -173,7 +183,8 @@ fn add_waiting(
     requires many { length teller.places.now ≡ length teller.events.now }
     requires first { IfSome failures.now.first (λ e. e < length teller.events.now) }
     requires waiting { IfSome waiting (IsToldWithin (length teller.events.now)) }
-    ensures { OnOk result (text.new.items ≡ text.old.items ++ waiting_line name.now (told_by teller.entry) failures.now waiting) }
+    ensures { OnOk result (text.new.items
+        ≡ text.old.items ++ waiting_line name.now (told_by teller.entry) failures.now waiting) }
 {
     add_verdict(text, name, teller, failures)?;
     add_puts(text, teller, waiting)?;
@@ -194,7 +205,9 @@ fn add_order(
     requires first { IfSome failures.now.first (λ e. e < length teller.events.now) }
     requires waiting { IfSome waiting (IsToldWithin (length teller.events.now)) }
     requires overtaker { IfSome overtaker (IsOriginWithin (length teller.events.now)) }
-    ensures { OnOk result (text.new.items ≡ text.old.items ++ order_line name.now (told_by teller.entry) failures.now waiting overtaker) }
+    ensures { OnOk result (text.new.items
+        ≡ text.old.items
+        ++ order_line name.now (told_by teller.entry) failures.now waiting overtaker) }
 {
     add_verdict(text, name, teller, failures)?;
     add_puts(text, teller, waiting)?;
@@ -211,7 +224,8 @@ fn add_overtaker(
 ) -> Result<(), NoMemory>
     requires many { length teller.places.now ≡ length teller.events.now }
     requires within { IfSome overtaker (IsOriginWithin (length teller.events.now)) }
-    ensures { OnOk result (text.new.items ≡ text.old.items ++ overtaker_text (told_by teller.entry) overtaker) }
+    ensures { OnOk result (text.new.items
+        ≡ text.old.items ++ overtaker_text (told_by teller.entry) overtaker) }
 {
     if let Some(Origin::Start { position }) = overtaker {
         text.extend_from_slice(b"; overtaken by the put started at ")?;
@@ -228,7 +242,8 @@ fn add_verdict(
 ) -> Result<(), NoMemory>
     requires many { length teller.places.now ≡ length teller.events.now }
     requires within { IfSome failures.now.first (λ e. e < length teller.events.now) }
-    ensures { OnOk result (text.new.items ≡ text.old.items ++ verdict_text name.now (told_by teller.entry) failures.now) }
+    ensures { OnOk result (text.new.items
+        ≡ text.old.items ++ verdict_text name.now (told_by teller.entry) failures.now) }
 {
     text.extend_from_slice(name)?;
     match failures.first {
@@ -253,7 +268,8 @@ fn add_event(
 ) -> Result<(), NoMemory>
     requires many { length teller.places.now ≡ length teller.events.now }
     requires within { IfSome event (λ e. e < length teller.events.now) }
-    ensures { OnOk result (text.new.items ≡ text.old.items ++ event_text words.now (told_by teller.entry) event) }
+    ensures { OnOk result (text.new.items
+        ≡ text.old.items ++ event_text words.now (told_by teller.entry) event) }
 {
     if let Some(at) = event {
         text.extend_from_slice(words)?;
@@ -270,7 +286,8 @@ fn add_puts(
 ) -> Result<(), NoMemory>
     requires many { length teller.places.now ≡ length teller.events.now }
     requires within { IfSome waiting (IsToldWithin (length teller.events.now)) }
-    ensures { OnOk result (text.new.items ≡ text.old.items ++ waiting_text (told_by teller.entry) waiting) }
+    ensures { OnOk result (text.new.items
+        ≡ text.old.items ++ waiting_text (told_by teller.entry) waiting) }
 {
     if let Some(told) = waiting {
         text.extend_from_slice(b"; ")?;
@@ -307,7 +324,8 @@ fn add_put(
     requires many { length teller.places.now ≡ length teller.events.now }
     requires token { IfSome token (λ number. number < 2 ^ 32) }
     requires put { IfSome put (λ d. d < length teller.events.now) }
-    ensures { OnOk result (text.new.items ≡ text.old.items ++ put_text (told_by teller.entry) token put) }
+    ensures { OnOk result (text.new.items
+        ≡ text.old.items ++ put_text (told_by teller.entry) token put) }
 {
     match (token, put) {
         (Some(number), _) => add_token(text, teller, number),

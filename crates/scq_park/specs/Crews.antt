@@ -1,6 +1,7 @@
--- What contracts see of a crew and of a stand, what each call makes of a stand, and what a crew tells where it closes. A crew is seen as
--- its parkers, that of worker w at w.
-use Rattle.std.specs.Prelude.{◌≡◌, ℕ, zero, suc, ◌+◌, ◌-◌, ◌^◌, min, List, [], ◌∷◌, ◌++◌, map, length, All, slice_index, slice_set}
+-- What contracts see of a crew and of a stand, what each call makes of a stand, and what a crew
+-- tells where it closes. A crew is seen as its parkers, that of worker w at w.
+use Rattle.std.specs.Prelude.{◌≡◌, ℕ, zero, suc, ◌+◌, ◌-◌, ◌^◌, min, List, [], ◌∷◌, ◌++◌, map}
+use Rattle.std.specs.Prelude.{length, All, slice_index, slice_set}
 use Rattle.atomic_table.specs.Seated.{TableId}
 use Rattle.scq_park.specs.declared.rested.Rested.{Rested}
 
@@ -61,7 +62,8 @@ abbrev pub woken : List ℕ → List Post → List ℕ
 woken before [] = before
 woken before (p ∷ ps) = woken (plus before p.wakes) ps
 
--- what is told of a worker that rested and was woken so often; and of each worker that has this stand and was woken so often
+-- what is told of a worker that rested and was woken so often; and of each worker that has this
+-- stand and was woken so often
 abbrev pub rested_of : ℕ → ℕ → Rested
 rested_of n m = record { rests = counted n; wakes = counted m }
 

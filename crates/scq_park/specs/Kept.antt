@@ -1,5 +1,6 @@
 -- For private calls: what passes, stands and a crew keep.
-use Rattle.std.specs.Prelude.{◌≡◌, ℕ, zero, suc, ◌-◌, ◌<◌, ◌≤◌, List, [], ◌∷◌, map, length, All, Option, Some, slice_get}
+use Rattle.std.specs.Prelude.{◌≡◌, ℕ, zero, suc, ◌-◌, ◌<◌, ◌≤◌, List, [], ◌∷◌, map, length, All}
+use Rattle.std.specs.Prelude.{Option, Some, slice_get}
 use Rattle.atomic_table.specs.Seated.{TableId}
 use Rattle.scq_park.specs.declared.rested.Rested.{Rested}
 use Rattle.scq_park.specs.Rule.{Deeds, deeds, one_part_less, added}
@@ -34,8 +35,10 @@ pub record IsStand (worker : ℕ) (own : Tally) (links : List Tally) : Type 0 wh
   pub one : own.deeds ≡ one_rested own.deeds.rested
   pub each : All IsLink links
 
--- what a crew keeps: of each parker the parts that the stands don't have, and empty lists with room for all passes and counts
-pub record IsCrew (wakers : List Tally) (owns : List Tally) (own_room : ℕ) (rested : List Rested) (room : ℕ) : Type 0 where
+-- what a crew keeps: of each parker the parts that the stands don't have, and empty lists with room
+-- for all passes and counts
+pub record IsCrew (wakers : List Tally) (owns : List Tally) (own_room : ℕ) (rested : List Rested)
+    (room : ℕ) : Type 0 where
   pub few : length wakers ≤ 4096
   pub rest : All (λ (w : Tally). w.deeds ≡ deeds (8191 - length wakers) 0 0) wakers
   pub no_own : owns ≡ []
@@ -43,7 +46,8 @@ pub record IsCrew (wakers : List Tally) (owns : List Tally) (own_room : ℕ) (re
   pub no_rested : rested ≡ []
   pub all_rested : length wakers ≤ room
 
--- a first pass to a parker; a parker with one part less; and the first so many of a list with one part less
+-- a first pass to a parker; a parker with one part less; and the first so many of a list with one
+-- part less
 abbrev pub first_link : Tally → Tally
 first_link w = tally w.parker (deeds 1 0 0)
 
@@ -71,7 +75,8 @@ abbrev pub gathered : List Tally → List Post → List Tally
 gathered ws [] = ws
 gathered ws (p ∷ ps) = gathered (with_row ws p.wakes) ps
 
--- what is told of a worker's own pass: its parker, and what it stands for; and the same by its stand
+-- what is told of a worker's own pass: its parker, and what it stands for; and the same by its
+-- stand
 abbrev pub told : Tally → Option TableId × Deeds
 told o = (Some o.parker, o.deeds)
 

@@ -1,8 +1,8 @@
 -- The rule of one parker, over the token and over what each pass to the parker stands for.
 use Rattle.std.specs.Prelude.{◌≡◌, ℕ, ◌+◌, ◌-◌, ◌≤◌, Bool, true, false, List, [], ◌∷◌}
 
--- what a pass did: how often it woke the worker, and how often the worker rested by it; and the parts that it has of the right to know
--- the whole, which is cut into 8192
+-- what a pass did: how often it woke the worker, and how often the worker rested by it; and the
+-- parts that it has of the right to know the whole, which is cut into 8192
 pub record Deeds : Type 0 where
   pub parts : ℕ
   pub woke : ℕ

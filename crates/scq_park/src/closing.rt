@@ -1,6 +1,8 @@
 //! The end of a crew: all passes come back to the parkers that they are of.
-ghost use Rattle.std.specs.Prelude.{◌≡◌, ◌+◌, ◌<◌, ◌≤◌, [], length, map, All, vec_len, vec_capacity};
-ghost use Rattle.scq_park.specs.Kept.{parkers_of, AreFor, with_row, gathered, told, told_by, EachEnds, ends};
+ghost use Rattle.std.specs.Prelude.{◌≡◌, ◌+◌, ◌<◌, ◌≤◌, [], length, map, All, vec_len};
+ghost use Rattle.std.specs.Prelude.{vec_capacity};
+ghost use Rattle.scq_park.specs.Kept.{parkers_of, AreFor, with_row, gathered, told, told_by};
+ghost use Rattle.scq_park.specs.Kept.{EachEnds, ends};
 
 use crate::passes::{RestPass, WakePass};
 use crate::rested::Rested;
@@ -17,7 +19,8 @@ fn take_row(wakers: &mut Vec<Waker>, mut links: Vec<WakePass>)
     }
 }
 
-/// The passes of all stands come back, each to its parker; those by which the workers rested are put into an empty list with room.
+/// The passes of all stands come back, each to its parker; those by which the workers rested are
+/// put into an empty list with room.
 pub fn gather(mut stands: Vec<Stand>, wakers: &mut Vec<Waker>, owns: &mut Vec<RestPass>)
     requires crew { All (λ s. s.crew ≡ parkers_of wakers.old.items) stands.items }
     requires parts { All (λ w. 0 < w.deeds.parts) wakers.old.items }

@@ -1,6 +1,7 @@
 //! A crew, and what its workers do with it.
 ghost use Rattle.std.specs.Prelude.{◌≡◌, ◌+◌, ◌<◌, ◌≤◌, length, map, All, IfOk};
-ghost use Rattle.scq_park.specs.Crews.{Post, first_posts, with_wake, with_rest, AreAll, no_wakes, woken, ended};
+ghost use Rattle.scq_park.specs.Crews.{Post, first_posts, with_wake, with_rest, AreAll, no_wakes};
+ghost use Rattle.scq_park.specs.Crews.{woken, ended};
 
 use crate::closing::{all_ended, gather};
 use crate::making::{pairs, stands_of};
@@ -13,7 +14,8 @@ use std::alloc::Global;
 use std::marker::Model;
 use std::sync::Wait;
 
-/// The parkers of workers, which threads share. Contracts see it as its parkers, in order of worker.
+/// The parkers of workers, which threads share. Contracts see it as its parkers, in order of
+/// worker.
 ///
 /// `owns` and `rested` are empty lists, with room for what `close` needs.
 #[derive(Drop)]
@@ -32,7 +34,8 @@ impl Model for Crew {
 
     ghost view = { λ c. parkers_of c.wakers.items };
 
-    ghost invariant = { λ c. IsCrew c.wakers.items c.owns.items (vec_capacity c.owns) c.rested.items (vec_capacity c.rested) };
+    ghost invariant = { λ c. IsCrew c.wakers.items c.owns.items (vec_capacity c.owns) c.rested.items
+        (vec_capacity c.rested) };
 }
 
 impl Crew {
@@ -66,8 +69,8 @@ impl Crew {
         self.wakers[index].wake(&mut stand.links[index]);
     }
 
-    /// Rests until the stand's worker is woken, unless it was since it last rested. When it returns, it has taken the token of its
-    /// worker, once.
+    /// Rests until the stand's worker is woken, unless it was since it last rested. When it
+    /// returns, it has taken the token of its worker, once.
     pub fn rest<R: Wait>(&self, rt: &R, stand: &mut Stand)
         requires stand { stand.old.crew ≡ self.now }
         ensures { stand.new ≡ with_rest stand.old }
@@ -75,8 +78,9 @@ impl Crew {
         stand.sleeper.rest(rt);
     }
 
-    /// Closes a crew whose stands all come back. They have to stand in the order of their workers, as `make` gave them, whatever order they
-    /// came back in. For each worker, in that order, it says how often it rested, and how often all stands woke it, which is no less. Takes no
+    /// Closes a crew whose stands all come back. They have to stand in the order of their workers,
+    /// as `make` gave them, whatever order they came back in. For each worker, in that order, it
+    /// says how often it rested, and how often all stands woke it, which is no less. Takes no
     /// memory.
     pub fn close(self, stands: Vec<Stand>) -> Vec<Rested>
         requires stands { AreAll self stands.items }

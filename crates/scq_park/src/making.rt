@@ -1,5 +1,6 @@
 //! The parkers of a crew, and the stands of its workers.
-ghost use Rattle.std.specs.Prelude.{◌≡◌, ◌+◌, ◌-◌, ◌<◌, ◌≤◌, [], map, All, IfOk, vec_len, vec_capacity};
+ghost use Rattle.std.specs.Prelude.{◌≡◌, ◌+◌, ◌-◌, ◌<◌, ◌≤◌, [], map, All, IfOk, vec_len};
+ghost use Rattle.std.specs.Prelude.{vec_capacity};
 ghost use Rattle.scq_park.specs.Rule.{deeds};
 ghost use Rattle.scq_park.specs.Crews.{first_posts};
 ghost use Rattle.scq_park.specs.Kept.{parkers_of, first_link, with_part_less, cut_below};
@@ -48,9 +49,11 @@ pub fn stands_of(
     requires few { vec_len wakers.old ≤ 4096 }
     requires wakers { All (λ w. w.deeds ≡ deeds 8191 0 0) wakers.old.items }
     requires sleepers { sleepers.items ≡ map first_link wakers.old.items }
-    ensures wakers { IfOk result (λ _. All (λ w. w.deeds ≡ deeds (8191 - vec_len wakers.old) 0 0) wakers.new.items) }
+    ensures wakers { IfOk result (λ _.
+        All (λ w. w.deeds ≡ deeds (8191 - vec_len wakers.old) 0 0) wakers.new.items) }
     ensures parkers { IfOk result (λ _. parkers_of wakers.new.items ≡ parkers_of wakers.old.items) }
-    ensures stands { IfOk result (λ stands. stands.items ≡ first_posts (parkers_of wakers.old.items) (vec_len wakers.old)) }
+    ensures stands { IfOk result (λ stands.
+        stands.items ≡ first_posts (parkers_of wakers.old.items) (vec_len wakers.old)) }
 {
     let mut stands = Vec::with_capacity(alloc, sleepers.len())?;
     sleepers.reverse();

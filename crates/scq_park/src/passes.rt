@@ -67,7 +67,8 @@ pub fn share(unparker: &Unparker, pass: &mut Pass<View>) -> Pass<View>
     unparker.split_pass::<Shares>(pass)
 }
 
-/// All that another pass stands for goes to a pass. The other made calls, so what it stands for is cut off first.
+/// All that another pass stands for goes to a pass. The other made calls, so what it stands for is
+/// cut off first.
 fn take_in(unparker: &Unparker, pass: &mut Pass<View>, mut other: Pass<View>)
     requires own { pass.old.table_id ≡ (arc_value unparker.now.state).shared.table_id }
     requires other { other.table_id ≡ pass.old.table_id }
@@ -115,14 +116,15 @@ impl WakePass {
         self.wakes = self.wakes.saturating_add(wakes);
     }
 
-    /// With all wakes and all rests of a parker: how many they are. One wake more, which nobody counts, shows that the rests are at most the
-    /// wakes.
+    /// With all wakes and all rests of a parker: how many they are. One wake more, which nobody
+    /// counts, shows that the rests are at most the wakes.
     pub fn end(self, unparker: &Unparker, own: RestPass) -> Rested
         requires own { self.parker ≡ (arc_value unparker.now.state).shared.table_id }
         requires same { own.parker ≡ self.parker }
         requires all { self.deeds.parts ≡ 8191 }
         requires one { own.deeds ≡ one_rested own.deeds.rested }
-        ensures counts { (result.rests ≡ counted own.deeds.rested) × (result.wakes ≡ counted self.deeds.woke) }
+        ensures counts { (result.rests ≡ counted own.deeds.rested)
+            × (result.wakes ≡ counted self.deeds.woke) }
         ensures woken { result.rests ≤ result.wakes }
     {
         let WakePass { mut pass, wakes } = self;

@@ -1,7 +1,7 @@
 ghost use Rattle.std.specs.Prelude.{◌≡◌};
 
-/// How often a worker rested, and how often it was woken. Each count stands still at the last value of 64 bits. Only a crew that closes
-/// makes it.
+/// How often a worker rested, and how often it was woken. Each count stands still at the last value
+/// of 64 bits. Only a crew that closes makes it.
 #[derive(Clone, Copy, Debug, PartialEq, Eq)]
 pub struct Rested {
     rests: u64,

@@ -2,8 +2,9 @@ use crate::passes::WakePass;
 use crate::waker::Sleeper;
 use std::marker::Model;
 
-/// What a worker of a crew makes calls with, in whichever thread it runs. It has a pass to each worker's parker, in order, with how often
-/// it woke that worker; and what the worker itself rests on.
+/// What a worker of a crew makes calls with, in whichever thread it runs. It has a pass to each
+/// worker's parker, in order, with how often it woke that worker; and what the worker itself rests
+/// on.
 #[derive(Drop)]
 pub struct Stand {
     pub(crate) worker: u32,

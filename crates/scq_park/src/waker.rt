@@ -105,7 +105,8 @@ impl Waker {
         requires own { own.parker ≡ self.parker }
         requires all { self.deeds.parts ≡ 8191 }
         requires one { own.deeds ≡ one_rested own.deeds.rested }
-        ensures counts { (result.rests ≡ counted own.deeds.rested) × (result.wakes ≡ counted self.deeds.woke) }
+        ensures counts { (result.rests ≡ counted own.deeds.rested)
+            × (result.wakes ≡ counted self.deeds.woke) }
         ensures woken { result.rests ≤ result.wakes }
     {
         let Waker { unparker, rest } = self;

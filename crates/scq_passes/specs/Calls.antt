@@ -1,5 +1,6 @@
 -- What a worker's calls make of its pass, whatever it sends and makes of what it takes.
-use Rattle.std.specs.Prelude.{◌≡◌, ℕ, zero, suc, ◌+◌, ◌-◌, ◌<◌, ◌≤◌, List, [], ◌∷◌, ◌++◌, length, take, drop, count_by, Option, Some, None, unwrap_or, IfSome}
+use Rattle.std.specs.Prelude.{◌≡◌, ℕ, zero, suc, ◌+◌, ◌-◌, ◌<◌, ◌≤◌, List, [], ◌∷◌, ◌++◌, length}
+use Rattle.std.specs.Prelude.{take, drop, count_by, Option, Some, None, unwrap_or, IfSome}
 use Rattle.std.specs.List.{Contains}
 use Rattle.scq_core.specs.declared.ended.Ended.{Ended}
 use Rattle.scq_core.specs.declared.ended.Ended.TheVariants.{Done, Got, Nothing}
@@ -8,7 +9,8 @@ use Rattle.scq_band.specs.Standing.{Identity}
 use Rattle.scq_queue.specs.Lists.{Placed, sends_of, takes_of}
 use Rattle.scq_band.specs.RunSeen.{with_retiree}
 use Rattle.scq_queue.specs.Passes.{PassStanding, HeldStanding, known_on}
-use Rattle.scq_passes.specs.Records.{is_got, is_put, on, Puts, AreTakesFollowed, IsReturn, HoldsNothingAtEachFull, MeetsNoSpent}
+use Rattle.scq_passes.specs.Records.{is_got, is_put, on, Puts, AreTakesFollowed, IsReturn}
+use Rattle.scq_passes.specs.Records.{HoldsNothingAtEachFull, MeetsNoSpent}
 
 -- the index of a value, where there is one
 abbrev pub index_of : {B : Type 0} → Option (HeldStanding B) → List ℕ
@@ -16,7 +18,8 @@ index_of None = []
 index_of (Some h) = h.index ∷ []
 
 module _ {B : Type 0} where
-  -- a pass of this queue, whose topics are so many declared ones and one more, and which has met no Spent
+  -- a pass of this queue, whose topics are so many declared ones and one more, and which has met no
+  -- Spent
   pub record Suits (shared : Identity B) (declared : ℕ) (p : PassStanding B) : Type 0 where
     pub queue : p.queue ≡ shared
     pub rings : shared.setup.rings ≡ declared + 2
@@ -31,16 +34,26 @@ module _ {B : Type 0} where
 
   -- each send of a pass is on one of its topics, and the pass knows of its place as finished
   pub record KnowsItsSends (p : PassStanding B) : Type 0 where
-    pub sends : (m : Placed) → Contains (sends_of p.calls) m → (suc m.topic < length p.numbers) × (m.place ≤ (known_on m.topic p).finished)
+    pub sends : (m : Placed) → Contains (sends_of p.calls) m
+        → (suc m.topic < length p.numbers) × (m.place ≤ (known_on m.topic p).finished)
 
-  -- a pass that has taken from topics, each take followed by such a put of what it got, and has done nothing else but ask whether all had
-  -- retired. Of a topic on which it put nothing the finished place known stays, and it knows of its sends still.
+  -- a pass that has taken from topics, each take followed by such a put of what it got, and has
+  -- done nothing else but ask whether all had retired. Of a topic on which it put nothing the
+  -- finished place known stays, and it knows of its sends still.
   pub record HasTakenFollowed (By : Puts) (old new : PassStanding B) : Type 0 where
     pub block : List Ended
     pub are : AreTakesFollowed By block
-    pub pass : new ≡ record old { calls = old.calls ++ block; numbers = new.numbers; gates = new.gates; gate = new.gate; seen = new.seen }
+    pub pass : new ≡ record old {
+      calls = old.calls ++ block;
+      numbers = new.numbers;
+      gates =
+          new.gates;
+      gate = new.gate;
+      seen = new.seen;
+    }
     pub knows : KnowsMore old new
-    pub same : (topic : ℕ) → tally (was_put (suc topic)) block ≡ 0 → (known_on topic new).finished ≡ (known_on topic old).finished
+    pub same : (topic : ℕ) → tally (was_put (suc topic)) block ≡ 0
+        → (known_on topic new).finished ≡ (known_on topic old).finished
     pub sends : KnowsItsSends old → KnowsItsSends new
 
   -- it gave back what it took, as it was
@@ -56,7 +69,8 @@ module _ {B : Type 0} where
 
   -- no take of the topic meanwhile has a place below the head that was known
   abbrev pub TookNoneBelow : ℕ → PassStanding B → PassStanding B → Type 0
-  TookNoneBelow topic old new = (m : Placed) → Contains (taken_since topic old new) m → (known_on topic old).head ≤ m.place
+  TookNoneBelow topic old new =
+      (m : Placed) → Contains (taken_since topic old new) m → (known_on topic old).head ≤ m.place
 
   -- a pass that was lent a buffer and sent it on this topic, where what it sent is so
   pub record HasSentSo (topic : ℕ) (So : Placed → Type 0) (old new : PassStanding B) : Type 0 where
@@ -75,11 +89,17 @@ module _ {B : Type 0} where
 
   -- a pass that found no buffer free
   pub record HasFoundFull (head : ℕ) (old new : PassStanding B) : Type 0 where
-    pub pass : new ≡ record old { calls = old.calls ++ Nothing 0 ∷ []; fulls = old.fulls ++ head ∷ []; numbers = new.numbers; seen = new.seen }
+    pub pass : new ≡ record old {
+      calls = old.calls ++ Nothing 0 ∷ [];
+      fulls =
+          old.fulls ++ head ∷ [];
+      numbers = new.numbers;
+      seen = new.seen;
+    }
     pub knows : KnowsMore old new
 
-  -- a pass between two parts: it holds nothing, now and at each Full, and has put as often as it got; it has met no Spent, and knows
-  -- each of its sends as finished
+  -- a pass between two parts: it holds nothing, now and at each Full, and has put as often as it
+  -- got; it has met no Spent, and knows each of its sends as finished
   pub record IsBetweenParts (p : PassStanding B) : Type 0 where
     pub alone : HoldsNothingAtEachFull p.calls
     pub even : count_by is_got p.calls ≡ count_by is_put p.calls
@@ -87,16 +107,19 @@ module _ {B : Type 0} where
     pub unspent : MeetsNoSpent p.calls
     pub knows : KnowsItsSends p
 
-  -- it has few calls for so many parts: at most one send and one Full for each, and a return for each take. `late` is 1 for a pass that met Spent
+  -- it has few calls for so many parts: at most one send and one Full for each, and a return for
+  -- each take. `late` is 1 for a pass that met Spent
   pub record HasFewCalls (late parts : ℕ) (p : PassStanding B) : Type 0 where
     pub sends : length (sends_of p.calls) ≤ parts
     pub fulls : length p.fulls ≤ parts
     pub puts : (topic : ℕ) → tally (was_put (suc topic)) p.calls ≤ parts + late
     pub returns : tally (was_put 0) p.calls ≤ length (takes_of p.calls) + late
 
-  -- a pass that met Spent, with the value that it keeps. `Few late parts p` says that it has few calls for so many parts, `late` as above:
-  -- before it had passed on at most so many, and now at most so many
-  pub record HasLeftSo (Few : ℕ → ℕ → PassStanding B → Type 0) (before after : ℕ) (old new : PassStanding B) (kept : Option (HeldStanding B))
+  -- a pass that met Spent, with the value that it keeps. `Few late parts p` says that it has few
+  -- calls for so many parts, `late` as above: before it had passed on at most so many, and now at
+  -- most so many
+  pub record HasLeftSo (Few : ℕ → ℕ → PassStanding B
+      → Type 0) (before after : ℕ) (old new : PassStanding B) (kept : Option (HeldStanding B))
       : Type 0 where
     pub spent : (ticket : ℕ) × (new.spent ≡ Some ticket)
     pub few_calls : Few 0 before old → Few 1 after new
@@ -108,12 +131,14 @@ module _ {B : Type 0} where
   abbrev pub HasLeft : ℕ → ℕ → PassStanding B → PassStanding B → Option (HeldStanding B) → Type 0
   HasLeft before after old new kept = HasLeftSo HasFewCalls before after old new kept
 
-  -- how many more tickets takes of so many topics could draw: each take that gets something uses one up
+  -- how many more tickets takes of so many topics could draw: each take that gets something uses
+  -- one up
   abbrev pub takes_left : ℕ → ℕ → PassStanding B → ℕ
   takes_left limit zero p = 0
   takes_left limit (suc topics) p = takes_left limit topics p + (limit - (known_on topics p).head)
 
-  -- the calls that stood in a pass's record when it retired, or all where it hasn't; and those behind them
+  -- the calls that stood in a pass's record when it retired, or all where it hasn't; and those
+  -- behind them
   abbrev pub calls_before : PassStanding B → List Ended
   calls_before p = take (unwrap_or p.retired (length p.calls)) p.calls
 
@@ -122,4 +147,8 @@ module _ {B : Type 0} where
 
   -- a pass that has retired
   abbrev pub after_retire : PassStanding B → PassStanding B
-  after_retire p = record p { retired = Some (length p.calls); seen = with_retiree (p.number, length p.calls) p.seen }
+  after_retire p = record p {
+    retired = Some (length p.calls);
+    seen =
+        with_retiree (p.number, length p.calls) p.seen;
+  }

@@ -3,11 +3,15 @@ use Rattle.std.specs.Prelude.{ℕ, List, map}
 use Rattle.scq_word.specs.declared.setup.Setup.{Setup}
 use Rattle.scq_band.specs.Buffers.{opening_of}
 use Rattle.scq_band.specs.Closing.{AreTheSame, IsOneRunToTheEnd}
-use Rattle.scq_queue.specs.Closing.{EachTakeIsASend, NoPlaceIsSentTwice, NoPlaceIsTakenTwice, IsBalance, EachSendPassedIsTaken, AllFullsStand, NoneIsKeptWithinTheLimit, IsAllThere, all_held, callers_of, records_of}
+use Rattle.scq_queue.specs.Closing.{EachTakeIsASend, NoPlaceIsSentTwice, NoPlaceIsTakenTwice}
+use Rattle.scq_queue.specs.Closing.{IsBalance, EachSendPassedIsTaken, AllFullsStand}
+use Rattle.scq_queue.specs.Closing.{NoneIsKeptWithinTheLimit, IsAllThere, all_held, callers_of}
+use Rattle.scq_queue.specs.Closing.{records_of}
 use Rattle.scq_queue.specs.Passes.{PassStanding, HeldStanding}
 
 -- what `close` says of the passes of a queue that was given these buffers, and gives those back
-pub record HasClosed {B : Type 0} (contents : B → List ℕ) (IsSameBuffer : B → B → Type 0) (c : Setup)
+pub record HasClosed {B : Type 0} (contents : B → List ℕ) (IsSameBuffer : B → B
+    → Type 0) (c : Setup)
     (given : List B) (passes : List (PassStanding B)) (held : List (HeldStanding B))
     (buffers : List B) (left : List ℕ) : Type 0 where
   pub run : IsOneRunToTheEnd c (opening_of contents given) (callers_of passes) (records_of passes)

@@ -32,8 +32,8 @@ module _ {B : Type 0} where
     pub gate : new.gate ≡ old.gate
 
   -- a sweep: the pass asked whether all had retired, when so many had not, as a reading in the run;
-  -- behind that reading it took from so many topics, each until it was empty, and asked no more. Such
-  -- puts follow the takes
+  -- behind that reading it took from so many topics, each until it was empty, and asked no more.
+  -- Such puts follow the takes
   pub record IsSweep (contents : B → List ℕ) (queue : Identity B) (By : Puts) (topics found : ℕ)
       (old new : PassStanding B) : Type 0 where
     pub asked : PassStanding B
@@ -45,8 +45,8 @@ module _ {B : Type 0} where
     pub empty : (topic : ℕ) → topic < topics → FoundTopicEmpty topic asked new
 
   -- sweeps in a row, each begun where the one before ended, of which just the last `idle` took
-  -- nothing. The worker went on after each: not all had retired before it, and where it took nothing
-  -- the number of such in a row `Goes` on
+  -- nothing. The worker went on after each: not all had retired before it, and where it took
+  -- nothing the number of such in a row `Goes` on
   pub data AreSweeps (contents : B → List ℕ) (queue : Identity B) (By : Puts) (topics : ℕ)
       (Goes : ℕ → Type 0) : ℕ → PassStanding B → PassStanding B → Type 0 where
     no_sweep : (p : PassStanding B) → AreSweeps contents queue By topics Goes 0 p p
@@ -59,8 +59,8 @@ module _ {B : Type 0} where
         → IsSweep contents queue By topics found old new → 0 < found → TookNothing old new
         → Goes (idle + 1) → AreSweeps contents queue By topics Goes (idle + 1) first new
 
-  -- it swept, and left after the first sweep before which all had retired, or where so many in a row
-  -- took nothing
+  -- it swept, and left after the first sweep before which all had retired, or where so many in a
+  -- row took nothing
   pub record HasSweptLast (contents : B → List ℕ) (queue : Identity B) (By : Puts)
       (topics most : ℕ) (old new : PassStanding B) : Type 0 where
     pub idle : ℕ
@@ -70,8 +70,8 @@ module _ {B : Type 0} where
     pub sweep : IsSweep contents queue By topics found begun new
     pub why : (found ≡ 0) ⊎ ((idle + 1 ≡ most) × TookNothing begun new)
 
-  -- the pass of a worker that has left so: it had asked nothing before it retired, and from there on
-  -- it swept
+  -- the pass of a worker that has left so: it had asked nothing before it retired, and from there
+  -- on it swept
   pub record HasLeftSwept (contents : B → List ℕ) (By : Puts) (topics most : ℕ) (p : PassStanding B)
       : Type 0 where
     pub before : PassStanding B

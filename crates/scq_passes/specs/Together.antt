@@ -1,5 +1,6 @@
 -- What all workers' passes did together, and what the queue was left with.
-use Rattle.std.specs.Prelude.{◌≡◌, ℕ, suc, ◌<◌, ◌≤◌, false, List, [], length, take, drop, flat_map, Some, None, slice_index, All}
+use Rattle.std.specs.Prelude.{◌≡◌, ℕ, suc, ◌<◌, ◌≤◌, false, List, [], length, take, drop, flat_map}
+use Rattle.std.specs.Prelude.{Some, None, slice_index, All}
 use Rattle.std.specs.List.{AllPairs, Contains, list_any}
 use Rattle.std.specs.List.Sorted.{IsPermutation}
 use Rattle.scq_core.specs.declared.ended.Ended.{Ended}
@@ -11,7 +12,8 @@ use Rattle.scq_passes.specs.Records.{is_lend}
 abbrev pub Apart : Placed → Placed → Type 0
 Apart m n = m.topic ≡ n.topic → m.place ≡ n.place → ⊥
 
--- nothing is left in any of so many topics: their rings stand behind that of the buffers that nobody holds
+-- nothing is left in any of so many topics: their rings stand behind that of the buffers that
+-- nobody holds
 abbrev pub NothingIsLeft : ℕ → List ℕ → Type 0
 NothingIsLeft topics left = (topic : ℕ) → topic < topics → slice_index left (suc topic) ≡ 0
 
@@ -31,8 +33,8 @@ module _ {B : Type 0} where
   abbrev pub NoPlaceStandsTwice : List (PassStanding B) → Type 0
   NoPlaceStandsTwice passes = AllPairs Apart (all_sends passes)
 
-  -- a worker's pass has retired, when so many calls stood in its record, of which this holds. From there on it has neither lent, and so found
-  -- no Full, nor sent
+  -- a worker's pass has retired, when so many calls stood in its record, of which this holds. From
+  -- there on it has neither lent, and so found no Full, nor sent
   pub record HasRetired (Before : List Ended → Type 0) (p : PassStanding B) : Type 0 where
     pub calls : ℕ
     pub retired : p.retired ≡ Some calls
@@ -51,6 +53,7 @@ module _ {B : Type 0} where
     pub takes : length (takes_of p.calls) ≤ most
     pub fulls : length p.fulls ≤ most
 
-  -- a pass knows of each of its sends that the topic's Head is past it: its last sweep found each topic empty after its last send there
+  -- a pass knows of each of its sends that the topic's Head is past it: its last sweep found each
+  -- topic empty after its last send there
   abbrev pub HasSwept : PassStanding B → Type 0
   HasSwept p = (m : Placed) → Contains (sends_of p.calls) m → m.place < (known_on m.topic p).head

@@ -1,5 +1,7 @@
--- Workers that wait in place of leaving early: how often they take in vain, and when they leave. `topics` is the number of topic rings.
-use Rattle.std.specs.Prelude.{◌≡◌, ℕ, suc, ◌+◌, ◌*◌, ◌<◌, ◌≤◌, Bool, true, false, List, length, count_by}
+-- Workers that wait in place of leaving early: how often they take in vain, and when they leave.
+-- `topics` is the number of topic rings.
+use Rattle.std.specs.Prelude.{◌≡◌, ℕ, suc, ◌+◌, ◌*◌, ◌<◌, ◌≤◌, Bool, true, false, List, length}
+use Rattle.std.specs.Prelude.{count_by}
 use Rattle.scq_core.specs.declared.ended.Ended.{Ended}
 use Rattle.scq_core.specs.declared.ended.Ended.TheVariants.{Nothing}
 use Rattle.scq_band.specs.Standing.{Identity}
@@ -26,16 +28,20 @@ module _ {B : Type 0} where
   abbrev pub TookMore : PassStanding B → PassStanding B → Type 0
   TookMore old new = length (takes_of old.calls) < length (takes_of new.calls)
 
-  -- a worker that reads its files: it takes in vain only where it helps, and that once from each topic after each Full
+  -- a worker that reads its files: it takes in vain only where it helps, and that once from each
+  -- topic after each Full
   abbrev pub HelpsInVain : ℕ → PassStanding B → Type 0
   HelpsInVain topics p = vain_takes p.calls ≤ topics * length p.fulls
 
-  -- a worker that sweeps: each sweep takes in vain once from each topic, and each but the last got something or was followed by a rest.
-  -- `begun` is 1 once its last sweep has begun, and 0 before it
+  -- a worker that sweeps: each sweep takes in vain once from each topic, and each but the last got
+  -- something or was followed by a rest. `begun` is 1 once its last sweep has begun, and 0 before
+  -- it
   abbrev pub SweepsInVain : ℕ → ℕ → ℕ → PassStanding B → Type 0
-  SweepsInVain topics begun rests p = vain_takes p.calls ≤ topics * (begun + rests + length (takes_of p.calls) + length p.fulls)
+  SweepsInVain topics begun rests p =
+      vain_takes p.calls ≤ topics * (begun + rests + length (takes_of p.calls) + length p.fulls)
 
-  -- it swept, and left after the first sweep before which all had retired. There is no other way to leave
+  -- it swept, and left after the first sweep before which all had retired. There is no other way to
+  -- leave
   pub record HasSweptTold (contents : B → List ℕ) (queue : Identity B) (By : Puts) (topics : ℕ)
       (old new : PassStanding B) : Type 0 where
     pub idle : ℕ
@@ -43,8 +49,8 @@ module _ {B : Type 0} where
     pub before : AreSweeps contents queue By topics (λ n. Unit {0}) idle old begun
     pub sweep : IsSweep contents queue By topics 0 begun new
 
-  -- the pass of a worker that has left so: it had asked nothing before it retired, and from there on
-  -- it swept
+  -- the pass of a worker that has left so: it had asked nothing before it retired, and from there
+  -- on it swept
   pub record HasLeftTold (contents : B → List ℕ) (By : Puts) (topics : ℕ) (p : PassStanding B)
       : Type 0 where
     pub before : PassStanding B

@@ -12,7 +12,8 @@ use std::alloc::Global;
 /// How many bytes stand in front of a part.
 const HEADER: u32 = 24;
 
-/// The frames of a queue, with the block that they are carved from: each has room for a part of so many bytes.
+/// The frames of a queue, with the block that they are carved from: each has room for a part of so
+/// many bytes.
 fn make_frames(alloc: Global, setup: Setup, size: u32) -> Result<(Block, Vec<Frame>), NoMemory>
     requires { size ≤ 65536 }
     ensures count { IfOk result (λ made. vec_len made.1 ≡ 2 ^ setup.order) }
@@ -22,7 +23,8 @@ fn make_frames(alloc: Global, setup: Setup, size: u32) -> Result<(Block, Vec<Fra
     Block::carve(alloc, 1 << setup.order, size + HEADER)
 }
 
-/// A queue over the frames of one block, with its passes: each frame has room for a part of so many bytes.
+/// A queue over the frames of one block, with its passes: each frame has room for a part of so many
+/// bytes.
 pub fn make_queue(
     alloc: Global,
     setup: Setup,

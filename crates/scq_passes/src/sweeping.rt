@@ -55,7 +55,8 @@ pub fn sweep<C, B: Buffer, T: Taker<C, B>>(
     ensures only { OnOk result
         (HasOnlyCalled B.contents (T.queue with.now) (T.pass taker.old) (T.pass taker.new)) }
     ensures emptied { OnOk result (HasEmptiedAll topics (T.pass taker.old) (T.pass taker.new)) }
-    ensures fewer { result ≡ Ok true → takes_left (T.queue with.now).setup.limit topics (T.pass taker.new)
+    ensures fewer { result ≡ Ok true
+        → takes_left (T.queue with.now).setup.limit topics (T.pass taker.new)
         < takes_left (T.queue with.now).setup.limit topics (T.pass taker.old) }
     ensures more { result ≡ Ok true → TookMore (T.pass taker.old) (T.pass taker.new) }
     ensures nothing { result ≡ Ok false → TookNothing (T.pass taker.old) (T.pass taker.new) }

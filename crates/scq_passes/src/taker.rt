@@ -1,9 +1,11 @@
 //! Who takes from topics.
-ghost use Rattle.std.specs.Prelude.{◌≡◌, ℕ, ◌≤◌, ◌==◌, List, Option, true, false, Some, Ok, IfErr, OnOk};
+ghost use Rattle.std.specs.Prelude.{◌≡◌, ℕ, ◌≤◌, ◌==◌, List, Option, true, false, Some, Ok, IfErr};
+ghost use Rattle.std.specs.Prelude.{OnOk};
 ghost use Rattle.scq_band.specs.Buffers.{opening_of};
 ghost use Rattle.scq_band.specs.RunSeen.{IsReadingInRun};
 ghost use Rattle.scq_band.specs.Standing.{Identity};
-ghost use Rattle.scq_queue.specs.Passes.{HeldStanding, PassStanding, after_look, caller_of, having_seen};
+ghost use Rattle.scq_queue.specs.Passes.{HeldStanding, PassStanding, after_look, caller_of};
+ghost use Rattle.scq_queue.specs.Passes.{having_seen};
 ghost use Rattle.scq_passes.specs.Calls.{HasTakenFollowed, Suits};
 ghost use Rattle.scq_passes.specs.Leaving.{HasOnlyCalled, TookNothing};
 ghost use Rattle.scq_passes.specs.Records.{AreReturns};
@@ -64,7 +66,8 @@ pub trait Taker<C, B: Buffer> {
     ghost made_none: { (c : C) (old : Self) → made c old old };
 
     ghost made_along: { (c : C) (old mid new : Self)
-        → HasTakenFollowed follows (pass old) (pass mid) → HasTakenFollowed follows (pass mid) (pass new)
+        → HasTakenFollowed follows (pass old) (pass mid)
+        → HasTakenFollowed follows (pass mid) (pass new)
         → made c old mid → made c mid new → made c old new };
 
     ghost left_along: { (c : C) (old mid new : Self) (kept : Option (HeldStanding B))

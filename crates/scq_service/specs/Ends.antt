@@ -1,6 +1,8 @@
--- How a run ends, up to what is reported of it, case by case. It knows contents, topics and settings
--- alone, and neither how the work is done nor by whom.
-use Rattle.std.specs.Prelude.{◌≡◌, ◌⊎◌, false, ℕ, ◌+◌, ◌-◌, ◌^◌, ◌<◌, ◌≤◌, List, [], Option, Some, None, IsSome, IfSome, IsSomeAnd, Result, Ok, Err, length, take, slice_get, slice_index_or}
+-- How a run ends, up to what is reported of it, case by case. It knows contents, topics and
+-- settings alone, and neither how the work is done nor by whom.
+use Rattle.std.specs.Prelude.{◌≡◌, ◌⊎◌, false, ℕ, ◌+◌, ◌-◌, ◌^◌, ◌<◌, ◌≤◌, List, [], Option, Some}
+use Rattle.std.specs.Prelude.{None, IsSome, IfSome, IsSomeAnd, Result, Ok, Err, length, take}
+use Rattle.std.specs.Prelude.{slice_get, slice_index_or}
 use Rattle.std.specs.List.{All}
 use Rattle.std.specs.Option.{option_map}
 use Rattle.scq_outside.specs.Counts.{Rose}
@@ -25,15 +27,19 @@ use Rattle.scq_service.specs.Contents.{IfVisible, IsMissing, without_names}
 use Rattle.scq_service.specs.Telling.{Tells, IsOfText}
 use Rattle.scq_service.specs.Writing.{written_with, WrotePart}
 use Rattle.scq_service.specs.declared.fault.Fault.{Fault}
-use Rattle.scq_service.specs.declared.fault.Fault.TheVariants.{Words, OpenFault, ReadFault, TooLong, TooLarge, WriteFault, BadLine, NotEnabled, Unlawful, Unfinished, BadLineOf, SharedOf, TwoRunsOf, UnlawfulOf, NoMemory}
+use Rattle.scq_service.specs.declared.fault.Fault.TheVariants.{Words, OpenFault, ReadFault, TooLong}
+use Rattle.scq_service.specs.declared.fault.Fault.TheVariants.{TooLarge, WriteFault, BadLine}
+use Rattle.scq_service.specs.declared.fault.Fault.TheVariants.{NotEnabled, Unlawful, Unfinished}
+use Rattle.scq_service.specs.declared.fault.Fault.TheVariants.{BadLineOf, SharedOf, TwoRunsOf}
+use Rattle.scq_service.specs.declared.fault.Fault.TheVariants.{UnlawfulOf, NoMemory}
 
 -- a count or what is visible of an object, before a call and after it
 pub record Change (A : Type 0) : Type 0 where
   pub old : A
   pub new : A
 
--- what became of the inputs of a run: the table of files, the count of faults of files, the sources that were got, and how many bytes were
--- read of a file that is too large
+-- what became of the inputs of a run: the table of files, the count of faults of files, the sources
+-- that were got, and how many bytes were read of a file that is too large
 pub record Inputs (S : Type 0) : Type 0 where
   pub table : Change (Option Table)
   pub opens : Change ℕ
@@ -48,10 +54,21 @@ pub record Wrote : Type 0 where
 -- these, by what is seen of files and of a sink before a call and after it
 abbrev pub inputs_of : {F S : Type 0} → (F → Option Table) → (F → ℕ) → F → F → List S → ℕ → Inputs S
 inputs_of table faults old new sources read =
-    record { table = record { old = table old; new = table new }; opens = record { old = faults old; new = faults new }; sources = sources; read = read }
+    record {
+      table = record { old = table old; new = table new };
+      opens =
+          record { old = faults old; new = faults new };
+      sources = sources;
+      read = read;
+    }
 
 abbrev pub wrote_of : {K : Type 0} → (K → Option (List ℕ)) → (K → ℕ) → K → K → Wrote
-wrote_of written faults old new = record { written = record { old = written old; new = written new }; faults = record { old = faults old; new = faults new } }
+wrote_of written faults old new =
+    record {
+      written = record { old = written old; new = written new };
+      faults =
+          record { old = faults old; new = faults new };
+    }
 
 -- nothing changed
 abbrev pub IsUnchanged : {A : Type 0} → Change A → Type 0
@@ -62,35 +79,46 @@ abbrev pub IsUnwritten : Wrote → Type 0
 IsUnwritten w = IsUnchanged w.written × IsUnchanged w.faults
 
 -- the contents of the sources that were got, where each told its own then, meet P
-abbrev pub IfTold : {S : Type 0} → (S → Option (List ℕ)) → List S → (List (List ℕ) → Type 0) → Type 0
+abbrev pub IfTold : {S : Type 0} → (S → Option (List ℕ)) → List S → (List (List ℕ) → Type 0)
+    → Type 0
 IfTold left got P = IfSome (all_left left got) P
 
--- sources were got in order, with no fault counted. Where the table is visible each told its name's content, and each has left what follows
--- the bytes that it gave. Where all were got, the count of files was kept
-pub record HasGotSources {S : Type 0} (faults : S → ℕ) (left : S → Option (List ℕ)) (names : List (List ℕ)) (got : List S) (r : Inputs S) : Type 0 where
+-- sources were got in order, with no fault counted. Where the table is visible each told its name's
+-- content, and each has left what follows the bytes that it gave. Where all were got, the count of
+-- files was kept
+pub record HasGotSources {S : Type 0} (faults : S → ℕ) (left : S
+    → Option (List ℕ)) (names : List (List ℕ)) (got : List S) (r : Inputs S) : Type 0 where
   pub within : length r.sources ≤ length names
   pub count : length got ≡ length r.sources
   pub table : r.table.new ≡ option_map (without_names (take (length r.sources) names)) r.table.old
   pub kept : length r.sources ≡ length names → IsUnchanged r.opens
   pub fresh : All (λ source. faults source ≡ 0) got
-  pub told : IfVisible r.table.old (take (length r.sources) names) (λ contents. all_left left got ≡ Some contents)
-  pub moved : (k : ℕ) (d : S) → k < length got → HasMoved faults left (slice_index_or got k d) (slice_index_or r.sources k d)
+  pub told : IfVisible r.table.old (take (length r.sources) names) (λ contents.
+      all_left left got ≡ Some contents)
+  pub moved : (k : ℕ) (d : S) → k < length got
+      → HasMoved faults left (slice_index_or got k d) (slice_index_or r.sources k d)
   pub rest : IfTold left got (λ contents. HaveRest left contents r.sources)
 
 -- of the files that were got this is the first fault
-abbrev pub HasFault : {S : Type 0} → ℕ → (S → ℕ) → (S → Option (List ℕ)) → List S → Inputs S → Option Fault → Type 0
-HasFault size faults left got r fault = IfTold left got (λ contents. first_file_fault size faults left 1 contents r.sources ≡ fault)
+abbrev pub HasFault : {S : Type 0} → ℕ → (S → ℕ) → (S → Option (List ℕ)) → List S → Inputs S
+    → Option Fault → Type 0
+HasFault size faults left got r fault =
+    IfTold left got (λ contents. first_file_fault size faults left 1 contents r.sources ≡ fault)
 
 -- how many bytes a payload may have
 abbrev pub most_payload : ℕ
 most_payload = 2 ^ 20
 
--- so many sources were read to their ends: each answered its end once since it was got, and just once
+-- so many sources were read to their ends: each answered its end once since it was got, and just
+-- once
 abbrev pub AreReadOut : {S : Type 0} → (S → ℕ) → ℕ → List S → Inputs S → Type 0
-AreReadOut {S} end_count count got r = (k : ℕ) (d : S) → k < count → Rose (end_count (slice_index_or got k d)) (end_count (slice_index_or r.sources k d))
+AreReadOut {S} end_count count got r =
+    (k : ℕ) (d : S) → k < count
+    → Rose (end_count (slice_index_or got k d)) (end_count (slice_index_or r.sources k d))
 
 -- every source was got and read to its end, and there is no fault
-pub record IsAllRead {S : Type 0} (size : ℕ) (faults end_count : S → ℕ) (left : S → Option (List ℕ)) (names : List (List ℕ)) (got : List S)
+pub record IsAllRead {S : Type 0} (size : ℕ) (faults end_count : S → ℕ) (left : S
+    → Option (List ℕ)) (names : List (List ℕ)) (got : List S)
     (r : Inputs S) : Type 0 where
   pub all : length r.sources ≡ length names
   pub quiet : All (λ source. faults source ≡ 0) r.sources
@@ -105,7 +133,8 @@ pub record HasMissed {S : Type 0} (names : List (List ℕ)) (r : Inputs S) : Typ
   pub missing : IfSome r.table.old (λ files. IsMissing files names (length r.sources + 1))
 
 -- a source was not got, and those before it were read to their ends and have no fault
-pub record IsNotOpened {S : Type 0} (size : ℕ) (faults end_count : S → ℕ) (left : S → Option (List ℕ)) (names : List (List ℕ)) (got : List S)
+pub record IsNotOpened {S : Type 0} (size : ℕ) (faults end_count : S → ℕ) (left : S
+    → Option (List ℕ)) (names : List (List ℕ)) (got : List S)
     (r : Inputs S) (file : ℕ) : Type 0 where
   pub next : file ≡ length r.sources + 1
   pub within : length r.sources < length names
@@ -116,9 +145,10 @@ pub record IsNotOpened {S : Type 0} (size : ℕ) (faults end_count : S → ℕ) 
   pub sound : HasFault size faults left got r None
   pub read : r.read ≡ 0
 
--- this file has the first fault, and those before it were read to their ends; where not all sources were got,
--- the next one was not
-pub record IsRefused {S : Type 0} (size : ℕ) (faults end_count : S → ℕ) (left : S → Option (List ℕ)) (names : List (List ℕ)) (got : List S)
+-- this file has the first fault, and those before it were read to their ends; where not all sources
+-- were got, the next one was not
+pub record IsRefused {S : Type 0} (size : ℕ) (faults end_count : S → ℕ) (left : S
+    → Option (List ℕ)) (names : List (List ℕ)) (got : List S)
     (r : Inputs S) (file : ℕ) (fault : Fault) : Type 0 where
   pub first : 0 < file
   pub last : file ≤ length r.sources
@@ -132,21 +162,28 @@ pub record IsRefused {S : Type 0} (size : ℕ) (faults end_count : S → ℕ) (l
 abbrev pub IsReadOf : {S : Type 0} → (S → Option (List ℕ)) → ℕ → List (List ℕ) → List S → ℕ → Type 0
 IsReadOf left read contents sources file =
     IsSomeAnd (slice_get contents (file - 1)) (λ content.
-    IsSomeAnd (slice_get sources (file - 1)) (λ source. Some (length content) ≡ option_map (λ bytes. read + length bytes) (left source)))
+    IsSomeAnd (slice_get sources (file - 1)) (λ source.
+    Some (length content) ≡ option_map (λ bytes. read + length bytes) (left source)))
 
 -- how the reading of files of these names ends
-abbrev pub ReadsOver : {S : Type 0} → ℕ → (S → ℕ) → (S → ℕ) → (S → Option (List ℕ)) → List (List ℕ) → List S → Inputs S → Option Fault → Type 0
-ReadsOver size faults end_count left names got r None = IsAllRead size faults end_count left names got r
-ReadsOver size faults end_count left names got r (Some (OpenFault file)) = IsNotOpened size faults end_count left names got r file
+abbrev pub ReadsOver : {S : Type 0} → ℕ → (S → ℕ) → (S → ℕ) → (S → Option (List ℕ)) → List (List ℕ)
+    → List S → Inputs S → Option Fault → Type 0
+ReadsOver size faults end_count left names got r None =
+    IsAllRead size faults end_count left names got r
+ReadsOver size faults end_count left names got r (Some (OpenFault file)) =
+    IsNotOpened size faults end_count left names got r file
 ReadsOver size faults end_count left names got r (Some (ReadFault file)) =
     IsRefused size faults end_count left names got r file (ReadFault file) × (r.read ≡ 0)
     × IsSomeAnd (slice_get r.sources (file - 1)) (λ source. 0 < faults source)
 ReadsOver size faults end_count left names got r (Some (TooLong file line len limit)) =
-    IsRefused size faults end_count left names got r file (TooLong file line len limit) × (r.read ≡ 0) × (limit ≡ size) × (0 < line) × (size < len)
+    IsRefused size faults end_count left names got r file (TooLong file line len limit)
+    × (r.read ≡ 0) × (limit ≡ size) × (0 < line) × (size < len)
     × IfTold left got (λ contents. IsTroubled size contents file (LongPayload line len))
 ReadsOver size faults end_count left names got r (Some (TooLarge file limit)) =
-    IsRefused size faults end_count left names got r file (TooLarge file limit) × (limit ≡ 2 ^ 30) × (r.read ≡ 2 ^ 30 + 1)
-    × IfTold left got (λ contents. IsTroubled size contents file ManyBytes × IsReadOf left r.read contents r.sources file)
+    IsRefused size faults end_count left names got r file (TooLarge file limit) × (limit ≡ 2 ^ 30)
+    × (r.read ≡ 2 ^ 30 + 1)
+    × IfTold left got (λ contents.
+    IsTroubled size contents file ManyBytes × IsReadOf left r.read contents r.sources file)
 ReadsOver size faults end_count left names got r (Some NoMemory) = r.read ≡ 0
 ReadsOver size faults end_count left names got r (Some WriteFault) = ⊥
 ReadsOver size faults end_count left names got r (Some (BadLine line)) = ⊥
@@ -159,9 +196,10 @@ ReadsOver size faults end_count left names got r (Some (TwoRunsOf file run g s))
 ReadsOver size faults end_count left names got r (Some (UnlawfulOf file line)) = ⊥
 ReadsOver size faults end_count left names got r (Some (Words fault)) = ⊥
 
--- how a run over files of these names ends: with the text written, with a front of it where out failed,
--- or with nothing written
-abbrev pub EndsOver : {S : Type 0} → ℕ → (List (List ℕ) → List ℕ) → (S → ℕ) → (S → ℕ) → (S → Option (List ℕ)) → List (List ℕ) → List S → Inputs S → Wrote
+-- how a run over files of these names ends: with the text written, with a front of it where out
+-- failed, or with nothing written
+abbrev pub EndsOver : {S : Type 0} → ℕ → (List (List ℕ) → List ℕ) → (S → ℕ) → (S → ℕ)
+    → (S → Option (List ℕ)) → List (List ℕ) → List S → Inputs S → Wrote
     → Option Fault → Type 0
 EndsOver size text faults end_count left names got r w None =
     IsAllRead size faults end_count left names got r × IsUnchanged w.faults
@@ -169,17 +207,19 @@ EndsOver size text faults end_count left names got r w None =
 EndsOver size text faults end_count left names got r w (Some WriteFault) =
     IsAllRead size faults end_count left names got r × Rose w.faults.old w.faults.new
     × IfTold left got (λ contents. WrotePart w.written.old w.written.new (text contents))
-EndsOver size text faults end_count left names got r w fault = ReadsOver size faults end_count left names got r fault × IsUnwritten w
+EndsOver size text faults end_count left names got r w fault =
+    ReadsOver size faults end_count left names got r fault × IsUnwritten w
 
 -- how a run over no file of the outside ends that is to write this text
 abbrev pub EndsAlone : List ℕ → Wrote → Option Fault → Type 0
 EndsAlone text w None = IsUnchanged w.faults × (w.written.new ≡ written_with w.written.old text)
-EndsAlone text w (Some WriteFault) = Rose w.faults.old w.faults.new × WrotePart w.written.old w.written.new text
+EndsAlone text w (Some WriteFault) =
+    Rose w.faults.old w.faults.new × WrotePart w.written.old w.written.new text
 EndsAlone text w (Some NoMemory) = IsUnwritten w
 EndsAlone text w _ = ⊥
 
--- A run over one whole file, whose text tells what is to be written. The order of its tests is: the file is got, read, not too
--- large, and then its text is taken line by line.
+-- A run over one whole file, whose text tells what is to be written. The order of its tests is: the
+-- file is got, read, not too large, and then its text is taken line by line.
 
 -- the most bytes of such a file
 abbrev pub most_text : ℕ
@@ -189,8 +229,8 @@ most_text = 2 ^ 24
 abbrev pub IfContent : {S : Type 0} → (S → Option (List ℕ)) → List S → (List ℕ → Type 0) → Type 0
 IfContent left got P = All (λ source. IfSome (left source) P) got
 
--- the file was got, with no fault counted, and nothing else was asked for. Where the table is visible
--- its source told the name's content
+-- the file was got, with no fault counted, and nothing else was asked for. Where the table is
+-- visible its source told the name's content
 pub record IsOneGot {S : Type 0} (faults : S → ℕ) (left : S → Option (List ℕ)) (name : List ℕ)
     (got : List S) (r : Inputs S) : Type 0 where
   pub one : (length got ≡ 1) × (length r.sources ≡ 1)
@@ -235,7 +275,8 @@ pub record IsLarge {S : Type 0} (faults : S → ℕ) (left : S → Option (List 
   pub quiet : All (λ source. faults source ≡ 0) r.sources
   pub read : r.read ≡ most_text + 1
   pub bytes : IfContent left got (λ content.
-      All (λ source. Some (length content) ≡ option_map (λ rest. r.read + length rest) (left source))
+      All (λ source. Some (length content)
+      ≡ option_map (λ rest. r.read + length rest) (left source))
       r.sources)
 
 -- what the file's lines tell meets P
@@ -274,59 +315,79 @@ pub record HaveAll {S : Type 0} (names : List (List ℕ)) (r : Inputs S) : Type 
   pub table : r.table.new ≡ option_map (without_names names) r.table.old
   pub read : r.read ≡ 0
 
--- what recordings of files with these names tell of queues with this room, where that is known, meets P, where each source told its own
--- when it was got
-abbrev pub IsReported : {S : Type 0} → (S → Option (List ℕ)) → List (List ℕ) → Option ℕ → List S → (List ℕ → Type 0) → Type 0
-IsReported left names room got P = IfTold left got (λ contents. (text : List ℕ) × IsJudged names room contents text × P text)
+-- what recordings of files with these names tell of queues with this room, where that is known,
+-- meets P, where each source told its own when it was got
+abbrev pub IsReported : {S : Type 0} → (S → Option (List ℕ)) → List (List ℕ) → Option ℕ → List S
+    → (List ℕ → Type 0) → Type 0
+IsReported left names room got P =
+    IfTold left got (λ contents. (text : List ℕ) × IsJudged names room contents text × P text)
 
 -- recordings were refused: sources were read so far, and this is at fault in what they told
-abbrev pub IsRefusedBy : {S : Type 0} → (S → ℕ) → (S → ℕ) → (S → Option (List ℕ)) → List S → Inputs S → JudgeFault → Type 0
+abbrev pub IsRefusedBy : {S : Type 0} → (S → ℕ) → (S → ℕ) → (S → Option (List ℕ)) → List S
+    → Inputs S → JudgeFault → Type 0
 IsRefusedBy faults end_count left got r refused =
-    AreReadUntil faults end_count left got r.sources refused × IfTold left got (λ contents. IsCause contents refused)
+    AreReadUntil faults end_count left got r.sources refused
+    × IfTold left got (λ contents. IsCause contents refused)
 
--- how a run over recordings of these names ends. With its report every source was read to its end, and no read failed; none was read
--- where one was not got
-abbrev pub EndsJudged : {S : Type 0} → (S → ℕ) → (S → ℕ) → (S → Option (List ℕ)) → Option ℕ → List (List ℕ) → List S → Inputs S → Wrote → Option Fault → Type 0
+-- how a run over recordings of these names ends. With its report every source was read to its end,
+-- and no read failed; none was read where one was not got
+abbrev pub EndsJudged : {S : Type 0} → (S → ℕ) → (S → ℕ) → (S → Option (List ℕ)) → Option ℕ
+    → List (List ℕ) → List S → Inputs S → Wrote → Option Fault → Type 0
 EndsJudged faults end_count left room names got r w None =
-    HaveAll names r × AreReadWhole faults end_count left (length names) got r.sources × IsUnchanged w.faults
+    HaveAll names r × AreReadWhole faults end_count left (length names) got r.sources
+    × IsUnchanged w.faults
     × IsReported left names room got (λ text. w.written.new ≡ written_with w.written.old text)
 EndsJudged faults end_count left room names got r w (Some WriteFault) =
-    HaveAll names r × AreReadWhole faults end_count left (length names) got r.sources × Rose w.faults.old w.faults.new
+    HaveAll names r × AreReadWhole faults end_count left (length names) got r.sources
+    × Rose w.faults.old w.faults.new
     × IsReported left names room got (λ text. WrotePart w.written.old w.written.new text)
 EndsJudged faults end_count left room names got r w (Some (OpenFault file)) =
-    (file ≡ length r.sources + 1) × (length r.sources < length names) × HasMissed names r × (r.sources ≡ got) × (r.read ≡ 0) × IsUnwritten w
+    (file ≡ length r.sources + 1) × (length r.sources < length names) × HasMissed names r
+    × (r.sources ≡ got) × (r.read ≡ 0) × IsUnwritten w
 EndsJudged faults end_count left room names got r w (Some NoMemory) =
     (length r.sources ≤ length names) × AreQuiet faults got r.sources × (r.read ≡ 0) × IsUnwritten w
 EndsJudged faults end_count left room names got r w (Some fault) =
-    HaveAll names r × ((refused : JudgeFault) × (fault ≡ fault_of_judge refused) × IsRefusedBy faults end_count left got r refused) × IsUnwritten w
+    HaveAll names r × ((refused : JudgeFault) × (fault ≡ fault_of_judge refused)
+    × IsRefusedBy faults end_count left got r refused) × IsUnwritten w
 
 -- no file was asked for
 abbrev pub IsClosed : {S : Type 0} → Inputs S → Type 0
 IsClosed r = IsUnchanged r.table × IsUnchanged r.opens × (r.sources ≡ []) × (r.read ≡ 0)
 
--- how a run ends that is asked for this: refused words, files, a generated file, recordings, one whole file, or files that go through stages, whose
--- payloads have at most as many bytes as the size that is asked for. The sources of files are told as they were when they were got
-abbrev pub EndsAs : {S : Type 0} → (S → ℕ) → (S → ℕ) → (S → Option (List ℕ)) → Result Asked WordsFault → List S → Inputs S → Wrote → Option Fault → Type 0
-EndsAs faults end_count left (Err fault) got r w end = IsClosed r × IsUnwritten w × ((end ≡ Some (Words fault)) ⊎ (end ≡ Some NoMemory))
+-- how a run ends that is asked for this: refused words, files, a generated file, recordings, one
+-- whole file, or files that go through stages, whose payloads have at most as many bytes as the
+-- size that is asked for. The sources of files are told as they were when they were got
+abbrev pub EndsAs : {S : Type 0} → (S → ℕ) → (S → ℕ) → (S → Option (List ℕ))
+    → Result Asked WordsFault → List S → Inputs S → Wrote → Option Fault → Type 0
+EndsAs faults end_count left (Err fault) got r w end =
+    IsClosed r × IsUnwritten w × ((end ≡ Some (Words fault)) ⊎ (end ≡ Some NoMemory))
 EndsAs faults end_count left (Ok (run a)) got r w end =
-    HasGotSources faults left a.files got r × EndsOver most_payload (one_thread_output a.topics) faults end_count left a.files got r w end
-EndsAs faults end_count left (Ok (generated a)) got r w end = IsClosed r × EndsAlone (self_summary a.seed a.lines) w end
+    HasGotSources faults left a.files got r
+    × EndsOver most_payload
+    (one_thread_output a.topics) faults end_count left a.files got r w end
+EndsAs faults end_count left (Ok (generated a)) got r w end =
+    IsClosed r × EndsAlone (self_summary a.seed a.lines) w end
 EndsAs faults end_count left (Ok (judged a)) got r w end =
-    HasGotSources faults left a.files got r × EndsJudged faults end_count left a.room a.files got r w end
+    HasGotSources faults left a.files got r
+    × EndsJudged faults end_count left a.room a.files got r w end
 EndsAs faults end_count left (Ok (whole a)) got r w end =
     EndsWhole a.command faults end_count left a.file got r w end
 EndsAs faults end_count left (Ok (staged a)) got r w end =
-    HasGotSources faults left a.files got r × EndsOver a.size one_thread_stage_output faults end_count left a.files got r w end
+    HasGotSources faults left a.files got r
+    × EndsOver a.size one_thread_stage_output faults end_count left a.files got r w end
 
--- nothing stood in the way of a run over these files: each was got, no count rose, each told its content, and none has trouble
-pub record IsCalm {S : Type 0} (size : ℕ) (faults : S → ℕ) (left : S → Option (List ℕ)) (names : List (List ℕ)) (got : List S) (r : Inputs S)
+-- nothing stood in the way of a run over these files: each was got, no count rose, each told its
+-- content, and none has trouble
+pub record IsCalm {S : Type 0} (size : ℕ) (faults : S → ℕ) (left : S
+    → Option (List ℕ)) (names : List (List ℕ)) (got : List S) (r : Inputs S)
     (w : Wrote) : Type 0 where
   pub all : length r.sources ≡ length names
   pub opens : ¬ Rose r.opens.old r.opens.new
   pub writes : ¬ Rose w.faults.old w.faults.new
   pub quiet : All (λ source. faults source ≡ 0) r.sources
   pub visible : IsSome (all_left left got)
-  pub sound : IfTold left got (λ contents. All (λ content. file_trouble size false content ≡ None) contents)
+  pub sound : IfTold left got (λ contents.
+      All (λ content. file_trouble size false content ≡ None) contents)
 
 -- nothing stood in the way of a run over one whole file: it was got, no count rose, it told its
 -- content, and that is not too large
@@ -340,4 +401,5 @@ pub record IsCalmText {S : Type 0} (faults : S → ℕ) (left : S → Option (Li
 
 -- it ended with its output, for want of memory, or with a fault that the text has
 abbrev pub IsOfTextAlone : TextCommand → Option Fault → Type 0
-IsOfTextAlone command end = (end ≡ None) ⊎ ((end ≡ Some NoMemory) ⊎ IsSomeAnd end (IsOfText command))
+IsOfTextAlone command end =
+    (end ≡ None) ⊎ ((end ≡ Some NoMemory) ⊎ IsSomeAnd end (IsOfText command))

@@ -1,15 +1,22 @@
 -- What the program ends with.
 use Rattle.std.specs.Prelude.{ℕ, ◌-◌, ◌^◌, List, ◌++◌, Option, Some, None, codes, decimal}
 use Rattle.scq_topics.specs.declared.topics.TopicFault.{TopicFault}
-use Rattle.scq_topics.specs.declared.topics.TopicFault.TheVariants.{TooMany, BadName, BadKind, Twice}
+use Rattle.scq_topics.specs.declared.topics.TopicFault.TheVariants.{TooMany, BadName, BadKind}
+use Rattle.scq_topics.specs.declared.topics.TopicFault.TheVariants.{Twice}
 use Rattle.scq_words.specs.declared.fault.WordsFault.{WordsFault}
-use Rattle.scq_words.specs.declared.fault.WordsFault.TheVariants.{NotUnderstood, Workers, Order, Size, Topics, TooManyFiles, NoName, Seed, Lines, Room}
+use Rattle.scq_words.specs.declared.fault.WordsFault.TheVariants.{NotUnderstood, Workers, Order}
+use Rattle.scq_words.specs.declared.fault.WordsFault.TheVariants.{Size, Topics, TooManyFiles}
+use Rattle.scq_words.specs.declared.fault.WordsFault.TheVariants.{NoName, Seed, Lines, Room}
 use Rattle.scq_work.specs.declared.worked.WorkFault.{WorkFault}
 use Rattle.scq_work.specs.declared.worked.WorkFault.TheVariants as work
 use Rattle.scq_stages.specs.declared.staged.StageFault.{StageFault}
 use Rattle.scq_stages.specs.declared.staged.StageFault.TheVariants as stage
 use Rattle.scq_service.specs.declared.fault.Fault.{Fault}
-use Rattle.scq_service.specs.declared.fault.Fault.TheVariants.{Words, OpenFault, ReadFault, TooLong, TooLarge, WriteFault, BadLine, NotEnabled, Unlawful, Unfinished, BadLineOf, SharedOf, TwoRunsOf, UnlawfulOf, NoMemory}
+use Rattle.scq_service.specs.declared.fault.Fault.TheVariants.{Words, OpenFault, ReadFault, TooLong}
+use Rattle.scq_service.specs.declared.fault.Fault.TheVariants.{TooLarge, WriteFault, BadLine}
+use Rattle.scq_service.specs.declared.fault.Fault.TheVariants.{NotEnabled, Unlawful, Unfinished}
+use Rattle.scq_service.specs.declared.fault.Fault.TheVariants.{BadLineOf, SharedOf, TwoRunsOf}
+use Rattle.scq_service.specs.declared.fault.Fault.TheVariants.{UnlawfulOf, NoMemory}
 use Rattle.scq_outside.specs.declared.read_all_fault.ReadAllFault.{ReadAllFault}
 use Rattle.scq_outside.specs.declared.read_all_fault.ReadAllFault.TheVariants as whole
 use Rattle.scq_check.specs.declared.history.HistoryFault.{HistoryFault}
@@ -104,16 +111,20 @@ abbrev pub fault_line : Fault → List ℕ
 fault_line (Words fault) = words_line fault
 fault_line (OpenFault file) = file_line file (codes ": cannot open\n")
 fault_line (ReadFault file) = file_line file (codes ": read fault\n")
-fault_line (TooLong file line len limit) = file_line file (codes " line ") ++ payload_line line len limit
-fault_line (TooLarge file limit) = file_line file (codes ": more than ") ++ (decimal limit ++ codes " bytes\n")
+fault_line (TooLong file line len limit) =
+    file_line file (codes " line ") ++ payload_line line len limit
+fault_line (TooLarge file limit) =
+    file_line file (codes ": more than ") ++ (decimal limit ++ codes " bytes\n")
 fault_line WriteFault = codes "write fault\n"
 fault_line (BadLine line) = text_line line (codes ": not understood\n")
 fault_line (NotEnabled line) = text_line line (codes ": step not enabled\n")
 fault_line (Unlawful line) = text_line line (codes ": event out of place\n")
 fault_line (Unfinished seat) = seat_line seat (codes ": call not ended\n")
 fault_line (BadLineOf file line) = place_line file line (codes ": not understood\n")
-fault_line (SharedOf what file line other_file other_line) = place_line file line (shared_words what) ++ place_line other_file other_line (codes "\n")
-fault_line (TwoRunsOf file run other_file other_run) = run_line file run (codes ", ") ++ run_line other_file other_run (codes "\n")
+fault_line (SharedOf what file line other_file other_line) =
+    place_line file line (shared_words what) ++ place_line other_file other_line (codes "\n")
+fault_line (TwoRunsOf file run other_file other_run) =
+    run_line file run (codes ", ") ++ run_line other_file other_run (codes "\n")
 fault_line (UnlawfulOf file line) = place_line file line (codes ": event out of place\n")
 fault_line NoMemory = codes "out of memory\n"
 
@@ -131,7 +142,8 @@ fault_of_stages (stage.TooLong file line len) = work.TooLong file line len
 fault_of_stages (stage.TooLarge file bytes) = work.TooLarge file bytes
 fault_of_stages stage.NoMemory = work.NoMemory
 
--- the number of bytes that were read of a file that is too large, and 0 at the workers' other faults
+-- the number of bytes that were read of a file that is too large, and 0 at the workers' other
+-- faults
 abbrev pub bytes_of_large : WorkFault → ℕ
 bytes_of_large (work.TooLarge file bytes) = bytes
 bytes_of_large _ = 0
@@ -161,8 +173,10 @@ fault_of_schedule schedule.NoMemory = NoMemory
 -- a fault of recordings
 abbrev pub fault_of_judge : JudgeFault → Fault
 fault_of_judge (judge.BadLine file line) = BadLineOf file line
-fault_of_judge (judge.Shared what file line other_file other_line) = SharedOf what file line other_file other_line
-fault_of_judge (judge.TwoRuns file run other_file other_run) = TwoRunsOf file run other_file other_run
+fault_of_judge (judge.Shared what file line other_file other_line) =
+    SharedOf what file line other_file other_line
+fault_of_judge (judge.TwoRuns file run other_file other_run) =
+    TwoRunsOf file run other_file other_run
 fault_of_judge (judge.Unlawful file line) = UnlawfulOf file line
 fault_of_judge (judge.ReadFault file) = ReadFault file
 fault_of_judge (judge.TooLarge file) = TooLarge file (2 ^ 31 - 2)

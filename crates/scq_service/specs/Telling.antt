@@ -1,4 +1,5 @@
--- What the text of a file tells a command, line by line: what is to be written, or the first line with a fault.
+-- What the text of a file tells a command, line by line: what is to be written, or the first line
+-- with a fault.
 use Rattle.std.specs.Prelude.{◌≡◌, ℕ, List, Result, Ok, Err}
 use Rattle.scq_hist.specs.Aspects.{IsFreshAt, IsOnceAt, IsInOrderAt, IsEmptyRightAt}
 use Rattle.scq_hist.specs.declared.events.Event.{Event}
@@ -11,10 +12,12 @@ use Rattle.scq_replay.specs.declared.replaying.ScheduleFault.TheVariants as sche
 use Rattle.scq_words.specs.declared.text_request.TextCommand.{TextCommand}
 use Rattle.scq_words.specs.declared.text_request.TextCommand.TheVariants.{Check, Replay, Order}
 use Rattle.scq_service.specs.declared.fault.Fault.{Fault}
-use Rattle.scq_service.specs.declared.fault.Fault.TheVariants.{BadLine, NotEnabled, Unlawful, Unfinished}
+use Rattle.scq_service.specs.declared.fault.Fault.TheVariants.{BadLine, NotEnabled, Unlawful}
+use Rattle.scq_service.specs.declared.fault.Fault.TheVariants.{Unfinished}
 
 -- the verdict of a history: of each aspect the first event that breaks it
-pub record IsVerdictOf (opening : List (List ℕ)) (events : List Event) (verdict : Verdict) : Type 0 where
+pub record IsVerdictOf (opening : List (List ℕ)) (events : List Event)
+    (verdict : Verdict) : Type 0 where
   pub fresh : IsVerdict (IsFreshAt opening events) verdict.fresh
   pub once : IsVerdict (IsOnceAt events) verdict.once
   pub in_order : IsVerdict (IsInOrderAt opening events) verdict.in_order

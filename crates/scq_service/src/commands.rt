@@ -1,4 +1,5 @@
-//! The commands: each gets its files, does its work, writes what comes of it, and says how that ended.
+//! The commands: each gets its files, does its work, writes what comes of it, and says how that
+//! ended.
 
 mod judge;
 mod run;

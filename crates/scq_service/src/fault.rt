@@ -40,7 +40,8 @@ pub enum Fault {
     NotEnabled {
         line: u32,
     },
-    /// After all steps of a schedule whose orders are asked for, this seat is in the middle of a call.
+    /// After all steps of a schedule whose orders are asked for, this seat is in the middle of a
+    /// call.
     Unfinished {
         seat: u32,
     },
@@ -53,7 +54,8 @@ pub enum Fault {
         file: u32,
         line: u32,
     },
-    /// The event of this line of this file of recordings has the stamp or the seat of one in another file.
+    /// The event of this line of this file of recordings has the stamp or the seat of one in
+    /// another file.
     SharedOf {
         what: Shared,
         file: u32,

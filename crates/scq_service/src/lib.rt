@@ -1,7 +1,8 @@
-//! The service: what a command line asks for, answered and written. It stands on `scq_words` for what is
-//! asked, on `scq_work` and `scq_stages` for workers, on `scq_collect` for the text of answers, on `scq_self` for a
-//! generated file, on `scq_judge` for recordings, and on `scq_outside` for files and sinks. The program calls `serve`, whose contract is the promise of the
-//! whole: at status 0 the output is that of one thread, and each other status comes only where its cause
+//! The service: what a command line asks for, answered and written. It stands on `scq_words` for
+//! what is asked, on `scq_work` and `scq_stages` for workers, on `scq_collect` for the text of
+//! answers, on `scq_self` for a generated file, on `scq_judge` for recordings, and on `scq_outside`
+//! for files and sinks. The program calls `serve`, whose contract is the promise of the whole: at
+//! status 0 the output is that of one thread, and each other status comes only where its cause
 //! holds.
 #![tactic(auto)]
 

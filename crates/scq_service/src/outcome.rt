@@ -1,5 +1,6 @@
 ghost use Rattle.std.specs.Prelude.{◌≡◌, Some, None};
-ghost use Rattle.scq_service.specs.Faults.{status_of_fault, fault_of_work, fault_of_text, bytes_of_large, bytes_of_large_text};
+ghost use Rattle.scq_service.specs.Faults.{status_of_fault, fault_of_work, fault_of_text};
+ghost use Rattle.scq_service.specs.Faults.{bytes_of_large, bytes_of_large_text};
 ghost use Rattle.scq_service.specs.Answers.{WorkedAt};
 
 use crate::Fault;
@@ -28,15 +29,15 @@ pub struct Outcome<S> {
     pub worked: Option<Worked>,
     /// What workers finished: there exactly where `stages` ended with status 0 or 4.
     pub staged: Option<Staged>,
-    /// How many indices were left in each ring of the workers' queue when it was closed. Of `run` and `self` it is None only at status 2
-    /// and 5, and of other commands always.
+    /// How many indices were left in each ring of the workers' queue when it was closed. Of `run`
+    /// and `self` it is None only at status 2 and 5, and of other commands always.
     pub left: Option<Vec<u64>>,
     /// For contracts alone, and where `left` is there, the workers' passes as they were then.
     pub passes: Option<Snapshot<Vec<Pass<Frame>>>>,
     /// Likewise the queue's buffers as they came back, in the order of their indices.
     pub frames: Option<Snapshot<Vec<Frame>>>,
-    /// Where idle workers wait: of each worker, whether it saw that all had retired, and how often it rested and was woken. None only at
-    /// status 2 and 5. Where they leave early it is None.
+    /// Where idle workers wait: of each worker, whether it saw that all had retired, and how often
+    /// it rested and was woken. None only at status 2 and 5. Where they leave early it is None.
     pub waited: Option<Waited>,
     /// For contracts alone, the sources of files as they were when they were got.
     pub got: Snapshot<Vec<S>>,
@@ -107,7 +108,8 @@ impl<S> Outcome<S> {
         ensures read { result.read ≡ self.read }
         ensures worked { result.worked ≡ self.worked }
         ensures staged { result.staged ≡ self.staged }
-        ensures left { (result.left ≡ self.left) × (result.passes ≡ self.passes) × (result.frames ≡ self.frames) }
+        ensures left { (result.left ≡ self.left) × (result.passes ≡ self.passes)
+            × (result.frames ≡ self.frames) }
         ensures waited { result.waited ≡ self.waited }
         ensures got { result.got ≡ self.got }
     {
@@ -126,7 +128,8 @@ impl<S> Outcome<S> {
         ensures read { result.read ≡ 0 }
         ensures worked { result.worked ≡ None }
         ensures staged { result.staged ≡ None }
-        ensures left { (result.left ≡ self.left) × (result.passes ≡ self.passes) × (result.frames ≡ self.frames) }
+        ensures left { (result.left ≡ self.left) × (result.passes ≡ self.passes)
+            × (result.frames ≡ self.frames) }
         ensures waited { result.waited ≡ self.waited }
         ensures got { result.got ≡ self.got }
     {
@@ -140,7 +143,8 @@ impl<S> Outcome<S> {
         }
     }
 
-    /// The same end, with the sources as they were when they were got, and with what is seen of the workers' queue and of how they waited.
+    /// The same end, with the sources as they were when they were got, and with what is seen of the
+    /// workers' queue and of how they waited.
     pub(crate) fn behind(
         self,
         got: Snapshot<Vec<S>>,

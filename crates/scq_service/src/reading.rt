@@ -1,5 +1,8 @@
 //! The files of a run: their sources, and what the workers' end makes of it.
-ghost use Rattle.std.specs.Prelude.{◌≡◌, ℕ, ◌+◌, ◌<◌, ◌≤◌, List, [], Some, None, IfOk, IfErr, IfSome, IsErrOf, IsNone, IsSome, IsSomeAnd, OnOk, OnSome, length, map, slice_index_or, string_bytes, vec_len, vec_capacity};
+ghost use Rattle.std.specs.Prelude.{◌≡◌, ℕ, ◌+◌, ◌<◌, ◌≤◌, List, [], Some, None, IfOk, IfErr};
+ghost use Rattle.std.specs.Prelude.{IfSome, IsErrOf, IsNone, IsSome, IsSomeAnd, OnOk, OnSome};
+ghost use Rattle.std.specs.Prelude.{length, map, slice_index_or, string_bytes, vec_len};
+ghost use Rattle.std.specs.Prelude.{vec_capacity};
 ghost use Rattle.std.specs.List.{All};
 ghost use Rattle.std.specs.List.Sorted.{IsPermutation};
 ghost use Rattle.scq_frames.specs.declared.message.Message.{Message as TheMessage};
@@ -11,7 +14,8 @@ ghost use Rattle.scq_files.specs.Ends.{AreGiven, HasMoved, all_left, messages_in
 ghost use Rattle.scq_work.specs.Ends.{HasCause};
 ghost use Rattle.scq_files.specs.Reading.{IsWhole};
 ghost use Rattle.scq_work.specs.Waiting.{HaveWaited};
-ghost use Rattle.scq_service.specs.Answers.{HaveCome, HaveAllCome, AreOfParts, IsWork, IsWorkOf, WorkedAt};
+ghost use Rattle.scq_service.specs.Answers.{HaveCome, HaveAllCome, AreOfParts, IsWork, IsWorkOf};
+ghost use Rattle.scq_service.specs.Answers.{WorkedAt};
 ghost use Rattle.scq_service.specs.Ends.{HasGotSources, ReadsOver, inputs_of};
 ghost use Rattle.scq_service.specs.Faults.{status_of};
 
@@ -23,8 +27,8 @@ use std::snapshot::Snapshot;
 use std::sync::Wait;
 use std::thread::Threads;
 
-/// Gets the sources of the files in order, up to the first that isn't got, and says whether all were got.
-/// Each is asked for once, and none is read.
+/// Gets the sources of the files in order, up to the first that isn't got, and says whether all
+/// were got. Each is asked for once, and none is read.
 pub(crate) fn get_sources<F: Files>(
     names: &[String],
     files: &mut F,
@@ -32,9 +36,12 @@ pub(crate) fn get_sources<F: Files>(
 ) -> bool
     requires none { (sources.old.items ≡ []) × (vec_len sources.old ≡ 0) }
     requires room { length names.now ≤ vec_capacity sources.old }
-    ensures count { (vec_len sources.new ≡ length sources.new.items) × (vec_len sources.new ≤ length names.now) }
-    ensures come { HaveCome F.Src.faults F.Src.left (map string_bytes names.now) (inputs_of F.table F.faults files.old files.new sources.new.items 0) }
-    ensures all { HaveAllCome (map string_bytes names.now) (inputs_of F.table F.faults files.old files.new sources.new.items 0) result }
+    ensures count { (vec_len sources.new ≡ length sources.new.items)
+        × (vec_len sources.new ≤ length names.now) }
+    ensures come { HaveCome F.Src.faults F.Src.left (map string_bytes names.now)
+        (inputs_of F.table F.faults files.old files.new sources.new.items 0) }
+    ensures all { HaveAllCome (map string_bytes names.now)
+        (inputs_of F.table F.faults files.old files.new sources.new.items 0) result }
 {
     'files: for name in names {
         match files.source(name.as_str()) {
@@ -45,8 +52,8 @@ pub(crate) fn get_sources<F: Files>(
     true
 }
 
-/// Gets the sources of the files, up to the first that isn't got, and answers the messages of those that
-/// it got. Each source is asked for once and read at most once.
+/// Gets the sources of the files, up to the first that isn't got, and answers the messages of those
+/// that it got. Each source is asked for once and read at most once.
 pub fn read_files<R: Threads + Sync, F: Files, G: Gate>(
     rt: &R,
     alloc: Global,
@@ -56,23 +63,34 @@ pub fn read_files<R: Threads + Sync, F: Files, G: Gate>(
     gate: &G,
 ) -> Outcome<F::Src>
     requires few { length names.now ≤ 64 }
-    ensures got { HasGotSources F.Src.faults F.Src.left (map string_bytes names.now) result.got.value.items
+    ensures got { HasGotSources F.Src.faults F.Src.left
+        (map string_bytes names.now) result.got.value.items
         (inputs_of F.table F.faults files.old files.new result.sources.items result.read) }
-    ensures ends { ReadsOver job.now.longest F.Src.faults F.Src.ends F.Src.left (map string_bytes names.now) result.got.value.items
-        (inputs_of F.table F.faults files.old files.new result.sources.items result.read) result.fault }
+    ensures ends { ReadsOver job.now.longest F.Src.faults F.Src.ends F.Src.left
+        (map string_bytes names.now) result.got.value.items
+        (inputs_of F.table F.faults files.old files.new result.sources.items result.read)
+        result.fault }
     ensures status { result.status ≡ status_of result.fault }
     ensures worked { WorkedAt result.fault result.worked }
     ensures unstaged { result.staged ≡ None }
-    ensures known { IfSome result.worked (λ w. All (λ a. a.topic ≤ length job.now.topics) (members_in w.answered.items)) }
-    ensures answers { AreOfParts job.now.topics job.now.size F.Src.left result.got.value.items result.worked }
-    ensures told { IsWorkOf job.now.topics job.now.size job.now.workers F.Src.left result.got.value.items result.worked }
-    ensures work { IsWork job.now.topics job.now.size job.now.longest job.now.workers F.Src.faults F.Src.ends F.Src.left result.got.value.items
-        (inputs_of F.table F.faults files.old files.new result.sources.items result.read) result.worked }
-    ensures left { IfSome result.left (λ left. IsSomeAnd result.passes (λ passes. IsSomeAnd result.frames (λ frames.
-        NothingIsStranded job.now.order (length job.now.topics + 1) job.now.workers passes.value.items frames.value.items left.items))) }
+    ensures known { IfSome result.worked (λ w.
+        All (λ a. a.topic ≤ length job.now.topics) (members_in w.answered.items)) }
+    ensures answers { AreOfParts job.now.topics job.now.size F.Src.left result.got.value.items
+        result.worked }
+    ensures told { IsWorkOf job.now.topics job.now.size job.now.workers F.Src.left
+        result.got.value.items result.worked }
+    ensures work { IsWork job.now.topics job.now.size job.now.longest job.now.workers F.Src.faults
+        F.Src.ends F.Src.left result.got.value.items
+        (inputs_of F.table F.faults files.old files.new result.sources.items result.read)
+        result.worked }
+    ensures left { IfSome result.left (λ left.
+        IsSomeAnd result.passes (λ passes. IsSomeAnd result.frames (λ frames.
+        NothingIsStranded job.now.order (length job.now.topics
+        + 1) job.now.workers passes.value.items frames.value.items left.items))) }
     ensures there { OnSome result.worked (IsSome result.left) }
     ensures seen { IsNone result.left → result.fault ≡ Some Fault.NoMemory }
-    ensures same { IfSome result.worked (λ w. IsSomeAnd result.passes (λ passes. passes.value.items ≡ w.passes.value.items)) }
+    ensures same { IfSome result.worked (λ w.
+        IsSomeAnd result.passes (λ passes. passes.value.items ≡ w.passes.value.items)) }
     ensures leaves { IsNone result.waited }
 {
     let Ok(mut sources) = Vec::with_capacity(alloc, names.len()) else {
@@ -96,25 +114,37 @@ pub fn read_files_waiting<R: Threads + Wait + Sync, F: Files, G: Gate>(
     gate: &G,
 ) -> Outcome<F::Src>
     requires few { length names.now ≤ 64 }
-    ensures got { HasGotSources F.Src.faults F.Src.left (map string_bytes names.now) result.got.value.items
+    ensures got { HasGotSources F.Src.faults F.Src.left
+        (map string_bytes names.now) result.got.value.items
         (inputs_of F.table F.faults files.old files.new result.sources.items result.read) }
-    ensures ends { ReadsOver job.now.longest F.Src.faults F.Src.ends F.Src.left (map string_bytes names.now) result.got.value.items
-        (inputs_of F.table F.faults files.old files.new result.sources.items result.read) result.fault }
+    ensures ends { ReadsOver job.now.longest F.Src.faults F.Src.ends F.Src.left
+        (map string_bytes names.now) result.got.value.items
+        (inputs_of F.table F.faults files.old files.new result.sources.items result.read)
+        result.fault }
     ensures status { result.status ≡ status_of result.fault }
     ensures worked { WorkedAt result.fault result.worked }
     ensures unstaged { result.staged ≡ None }
-    ensures known { IfSome result.worked (λ w. All (λ a. a.topic ≤ length job.now.topics) (members_in w.answered.items)) }
-    ensures answers { AreOfParts job.now.topics job.now.size F.Src.left result.got.value.items result.worked }
-    ensures told { IsWorkOf job.now.topics job.now.size job.now.workers F.Src.left result.got.value.items result.worked }
-    ensures work { IsWork job.now.topics job.now.size job.now.longest job.now.workers F.Src.faults F.Src.ends F.Src.left result.got.value.items
-        (inputs_of F.table F.faults files.old files.new result.sources.items result.read) result.worked }
-    ensures left { IfSome result.left (λ left. IsSomeAnd result.passes (λ passes. IsSomeAnd result.frames (λ frames.
-        NothingIsStranded job.now.order (length job.now.topics + 1) job.now.workers passes.value.items frames.value.items left.items))) }
+    ensures known { IfSome result.worked (λ w.
+        All (λ a. a.topic ≤ length job.now.topics) (members_in w.answered.items)) }
+    ensures answers { AreOfParts job.now.topics job.now.size F.Src.left result.got.value.items
+        result.worked }
+    ensures told { IsWorkOf job.now.topics job.now.size job.now.workers F.Src.left
+        result.got.value.items result.worked }
+    ensures work { IsWork job.now.topics job.now.size job.now.longest job.now.workers F.Src.faults
+        F.Src.ends F.Src.left result.got.value.items
+        (inputs_of F.table F.faults files.old files.new result.sources.items result.read)
+        result.worked }
+    ensures left { IfSome result.left (λ left.
+        IsSomeAnd result.passes (λ passes. IsSomeAnd result.frames (λ frames.
+        NothingIsStranded job.now.order (length job.now.topics
+        + 1) job.now.workers passes.value.items frames.value.items left.items))) }
     ensures there { OnSome result.worked (IsSome result.left) }
     ensures seen { IsNone result.left → result.fault ≡ Some Fault.NoMemory }
-    ensures same { IfSome result.worked (λ w. IsSomeAnd result.passes (λ passes. passes.value.items ≡ w.passes.value.items)) }
+    ensures same { IfSome result.worked (λ w.
+        IsSomeAnd result.passes (λ passes. passes.value.items ≡ w.passes.value.items)) }
     ensures waited { IfSome result.waited (λ waited. IsSomeAnd result.passes (λ passes.
-        HaveWaited (length job.now.topics + 1) job.now.workers passes.value.items waited.saw.items waited.rested.items)) }
+        HaveWaited (length job.now.topics
+        + 1) job.now.workers passes.value.items waited.saw.items waited.rested.items)) }
     ensures waits { IsNone result.waited → result.fault ≡ Some Fault.NoMemory }
     ensures attended { OnSome result.worked (IsSome result.waited) }
     ensures both { OnSome result.waited (IsSome result.left) }
@@ -130,8 +160,8 @@ pub fn read_files_waiting<R: Threads + Wait + Sync, F: Files, G: Gate>(
     conclude(job, names, &was, files, all, count, got, end, waited)
 }
 
-/// The end of a run, by the end of its workers. `was` is what the files were before any source was got, `got` the sources as they were then, and
-/// `all` says whether all were got.
+/// The end of a run, by the end of its workers. `was` is what the files were before any source was
+/// got, `got` the sources as they were then, and `all` says whether all were got.
 fn conclude<F: Files>(
     job: &Job,
     names: &[String],
@@ -145,44 +175,71 @@ fn conclude<F: Files>(
 ) -> Outcome<F::Src>
     requires few { count ≤ 64 }
     requires number { count ≡ length got.value.items }
-    requires come { HaveCome F.Src.faults F.Src.left (map string_bytes names.now) (inputs_of F.table F.faults was.now.value files.now got.value.items 0) }
-    requires all { HaveAllCome (map string_bytes names.now) (inputs_of F.table F.faults was.now.value files.now got.value.items 0) all }
+    requires come { HaveCome F.Src.faults F.Src.left (map string_bytes names.now)
+        (inputs_of F.table F.faults was.now.value files.now got.value.items 0) }
+    requires all { HaveAllCome (map string_bytes names.now)
+        (inputs_of F.table F.faults was.now.value files.now got.value.items 0) all }
     requires count { length end.sources.items ≡ length got.value.items }
     requires moved { (k : ℕ) (d : F.Src) → k < length got.value.items
-        → HasMoved F.Src.faults F.Src.left (slice_index_or got.value.items k d) (slice_index_or end.sources.items k d) }
+        → HasMoved F.Src.faults F.Src.left (slice_index_or got.value.items k d)
+        (slice_index_or end.sources.items k d) }
     requires whole { OnOk end.result ((k : ℕ) (d : F.Src) → k < length got.value.items
-        → IsWhole job.now.longest F.Src.faults F.Src.ends F.Src.left (slice_index_or got.value.items k d) (slice_index_or end.sources.items k d)) }
-    requires answers { IfOk end.result (λ w. IfSome (all_left F.Src.left got.value.items) (λ contents.
-        IsPermutation (map without_way (members_in w.answered.items)) (part_answers job.now.topics job.now.size (messages_to job.now.topics 1 contents)))) }
+        → IsWhole job.now.longest F.Src.faults F.Src.ends F.Src.left
+        (slice_index_or got.value.items k d) (slice_index_or end.sources.items k d)) }
+    requires answers { IfOk end.result (λ w.
+        IfSome (all_left F.Src.left got.value.items) (λ contents.
+        IsPermutation (map without_way (members_in w.answered.items))
+        (part_answers job.now.topics job.now.size (messages_to job.now.topics 1 contents)))) }
     requires told { IfOk end.result (λ w. IfSome (all_left F.Src.left got.value.items) (λ contents.
-        HasWorked job.now.topics job.now.size job.now.workers (messages_in job.now.topics 1 contents) w)) }
-    requires worked { IfOk end.result (λ w. (given : List (List TheMessage)) × AreGiven job.now.topics job.now.longest F.Src.left 1 got.value.items given
+        HasWorked job.now.topics job.now.size job.now.workers
+        (messages_in job.now.topics 1 contents) w)) }
+    requires worked { IfOk end.result (λ w.
+        (given : List (List TheMessage))
+        × AreGiven job.now.topics job.now.longest F.Src.left 1 got.value.items given
         × HasWorked job.now.topics job.now.size job.now.workers given w) }
-    requires left { IfSome end.left (λ left. IsSomeAnd end.passes (λ passes. IsSomeAnd end.frames (λ frames.
-        NothingIsStranded job.now.order (length job.now.topics + 1) job.now.workers passes.value.items frames.value.items left.items))) }
+    requires left { IfSome end.left (λ left.
+        IsSomeAnd end.passes (λ passes. IsSomeAnd end.frames (λ frames.
+        NothingIsStranded job.now.order (length job.now.topics
+        + 1) job.now.workers passes.value.items frames.value.items left.items))) }
     requires none { end.left ≡ None → IsErrOf end.result WorkFault.NoMemory }
-    requires same { IfOk end.result (λ w. IsSomeAnd end.passes (λ passes. passes.value.items ≡ w.passes.value.items)) }
-    requires cause { IfErr end.result (λ fault. HasCause job.now.longest F.Src.faults F.Src.ends F.Src.left got.value.items end.sources.items fault) }
-    ensures got { HasGotSources F.Src.faults F.Src.left (map string_bytes names.now) result.got.value.items
+    requires same { IfOk end.result (λ w.
+        IsSomeAnd end.passes (λ passes. passes.value.items ≡ w.passes.value.items)) }
+    requires cause { IfErr end.result (λ fault.
+        HasCause job.now.longest F.Src.faults F.Src.ends F.Src.left got.value.items
+        end.sources.items fault) }
+    ensures got { HasGotSources F.Src.faults F.Src.left
+        (map string_bytes names.now) result.got.value.items
         (inputs_of F.table F.faults was.now.value files.now result.sources.items result.read) }
-    ensures ends { ReadsOver job.now.longest F.Src.faults F.Src.ends F.Src.left (map string_bytes names.now) result.got.value.items
-        (inputs_of F.table F.faults was.now.value files.now result.sources.items result.read) result.fault }
+    ensures ends { ReadsOver job.now.longest F.Src.faults F.Src.ends F.Src.left
+        (map string_bytes names.now) result.got.value.items
+        (inputs_of F.table F.faults was.now.value files.now result.sources.items result.read)
+        result.fault }
     ensures status { result.status ≡ status_of result.fault }
     ensures worked { WorkedAt result.fault result.worked }
     ensures unstaged { result.staged ≡ None }
-    ensures known { IfSome result.worked (λ w. All (λ a. a.topic ≤ length job.now.topics) (members_in w.answered.items)) }
-    ensures answers { AreOfParts job.now.topics job.now.size F.Src.left result.got.value.items result.worked }
-    ensures told { IsWorkOf job.now.topics job.now.size job.now.workers F.Src.left result.got.value.items result.worked }
-    ensures work { IsWork job.now.topics job.now.size job.now.longest job.now.workers F.Src.faults F.Src.ends F.Src.left result.got.value.items
-        (inputs_of F.table F.faults was.now.value files.now result.sources.items result.read) result.worked }
-    ensures left { IfSome result.left (λ left. IsSomeAnd result.passes (λ passes. IsSomeAnd result.frames (λ frames.
-        NothingIsStranded job.now.order (length job.now.topics + 1) job.now.workers passes.value.items frames.value.items left.items))) }
+    ensures known { IfSome result.worked (λ w.
+        All (λ a. a.topic ≤ length job.now.topics) (members_in w.answered.items)) }
+    ensures answers { AreOfParts job.now.topics job.now.size F.Src.left result.got.value.items
+        result.worked }
+    ensures told { IsWorkOf job.now.topics job.now.size job.now.workers F.Src.left
+        result.got.value.items result.worked }
+    ensures work { IsWork job.now.topics job.now.size job.now.longest job.now.workers F.Src.faults
+        F.Src.ends F.Src.left result.got.value.items
+        (inputs_of F.table F.faults was.now.value files.now result.sources.items result.read)
+        result.worked }
+    ensures left { IfSome result.left (λ left.
+        IsSomeAnd result.passes (λ passes. IsSomeAnd result.frames (λ frames.
+        NothingIsStranded job.now.order (length job.now.topics
+        + 1) job.now.workers passes.value.items frames.value.items left.items))) }
     ensures there { OnSome result.worked (IsSome result.left) }
     ensures seen { IsNone result.left → result.fault ≡ Some Fault.NoMemory }
-    ensures same { IfSome result.worked (λ w. IsSomeAnd result.passes (λ passes. passes.value.items ≡ w.passes.value.items)) }
+    ensures same { IfSome result.worked (λ w.
+        IsSomeAnd result.passes (λ passes. passes.value.items ≡ w.passes.value.items)) }
     ensures waited { result.waited ≡ waited }
-    ensures closed { (result.left ≡ end.left) × (result.passes ≡ end.passes) × (result.frames ≡ end.frames) }
-    ensures wanting { IsErrOf end.result WorkFault.NoMemory → (result.fault ≡ Some Fault.NoMemory) × (result.worked ≡ None) }
+    ensures closed { (result.left ≡ end.left) × (result.passes ≡ end.passes)
+        × (result.frames ≡ end.frames) }
+    ensures wanting { IsErrOf end.result WorkFault.NoMemory
+        → (result.fault ≡ Some Fault.NoMemory) × (result.worked ≡ None) }
 {
     let WorkEnd {
         sources,
@@ -197,7 +254,9 @@ fn conclude<F: Files>(
                 Outcome::answered(sources, worked).behind(got, left, passes, frames, waited)
             } else {
                 let file = count as u32 + 1;
-                Outcome::at(sources, Fault::OpenFault { file }).behind(got, left, passes, frames, waited)
+                Outcome::at(sources, Fault::OpenFault { file }).behind(
+                    got, left, passes, frames, waited,
+                )
             }
         }
         Err(fault) => Outcome::of_work(sources, job.longest, fault).behind(

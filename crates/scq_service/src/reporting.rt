@@ -1,6 +1,8 @@
 ghost use Rattle.std.specs.Prelude.{◌≡◌, ◌++◌, codes, decimal, OnOk, OnErr};
 ghost use Rattle.scq_outside.specs.Counts.{Rose};
-ghost use Rattle.scq_service.specs.Faults.{entry_line, fault_line, file_line, limit_line, payload_line, place_line, run_line, seat_line, shared_words, text_line, topics_line, words_line};
+ghost use Rattle.scq_service.specs.Faults.{entry_line, fault_line, file_line, limit_line};
+ghost use Rattle.scq_service.specs.Faults.{payload_line, place_line, run_line, seat_line};
+ghost use Rattle.scq_service.specs.Faults.{shared_words, text_line, topics_line, words_line};
 ghost use Rattle.scq_service.specs.Writing.{written_with, WrotePart};
 
 use crate::Fault;
@@ -13,7 +15,8 @@ use scq_words::WordsFault;
 
 /// Writes the line about a fault. It takes no memory, so that want of memory can be reported too.
 pub fn report<K: Sink>(sink: &mut K, fault: &Fault) -> Result<(), Failed>
-    ensures whole { OnOk result (K.written sink.new ≡ written_with (K.written sink.old) (fault_line fault.now)) }
+    ensures whole { OnOk result (K.written sink.new
+        ≡ written_with (K.written sink.old) (fault_line fault.now)) }
     ensures part { WrotePart (K.written sink.old) (K.written sink.new) (fault_line fault.now) }
     ensures kept { OnOk result (K.faults sink.new ≡ K.faults sink.old) }
     ensures rose { OnErr result (Rose (K.faults sink.old) (K.faults sink.new)) }
@@ -61,7 +64,8 @@ pub fn report<K: Sink>(sink: &mut K, fault: &Fault) -> Result<(), Failed>
 }
 
 fn write_words<K: Sink>(sink: &mut K, fault: &WordsFault) -> Result<(), Failed>
-    ensures whole { OnOk result (K.written sink.new ≡ written_with (K.written sink.old) (words_line fault.now)) }
+    ensures whole { OnOk result (K.written sink.new
+        ≡ written_with (K.written sink.old) (words_line fault.now)) }
     ensures part { WrotePart (K.written sink.old) (K.written sink.new) (words_line fault.now) }
     ensures kept { OnOk result (K.faults sink.new ≡ K.faults sink.old) }
     ensures rose { OnErr result (Rose (K.faults sink.old) (K.faults sink.new)) }
@@ -81,7 +85,8 @@ fn write_words<K: Sink>(sink: &mut K, fault: &WordsFault) -> Result<(), Failed>
 }
 
 fn write_topics<K: Sink>(sink: &mut K, fault: &TopicFault) -> Result<(), Failed>
-    ensures whole { OnOk result (K.written sink.new ≡ written_with (K.written sink.old) (topics_line fault.now)) }
+    ensures whole { OnOk result (K.written sink.new
+        ≡ written_with (K.written sink.old) (topics_line fault.now)) }
     ensures part { WrotePart (K.written sink.old) (K.written sink.new) (topics_line fault.now) }
     ensures kept { OnOk result (K.faults sink.new ≡ K.faults sink.old) }
     ensures rose { OnErr result (Rose (K.faults sink.old) (K.faults sink.new)) }
@@ -101,8 +106,11 @@ fn write_too_long<K: Sink>(
     len: u64,
     limit: u32,
 ) -> Result<(), Failed>
-    ensures whole { OnOk result (K.written sink.new ≡ written_with (K.written sink.old) (file_line file (codes " line ") ++ payload_line line len limit)) }
-    ensures part { WrotePart (K.written sink.old) (K.written sink.new) (file_line file (codes " line ") ++ payload_line line len limit) }
+    ensures whole { OnOk result (K.written sink.new
+        ≡ written_with (K.written sink.old) (file_line file (codes " line ")
+        ++ payload_line line len limit)) }
+    ensures part { WrotePart (K.written sink.old) (K.written sink.new)
+        (file_line file (codes " line ") ++ payload_line line len limit) }
     ensures kept { OnOk result (K.faults sink.new ≡ K.faults sink.old) }
     ensures rose { OnErr result (Rose (K.faults sink.old) (K.faults sink.new)) }
 {
@@ -111,8 +119,10 @@ fn write_too_long<K: Sink>(
 }
 
 fn write_payload<K: Sink>(sink: &mut K, line: u32, len: u64, limit: u32) -> Result<(), Failed>
-    ensures whole { OnOk result (K.written sink.new ≡ written_with (K.written sink.old) (payload_line line len limit)) }
-    ensures part { WrotePart (K.written sink.old) (K.written sink.new) (payload_line line len limit) }
+    ensures whole { OnOk result (K.written sink.new
+        ≡ written_with (K.written sink.old) (payload_line line len limit)) }
+    ensures part { WrotePart (K.written sink.old) (K.written sink.new)
+        (payload_line line len limit) }
     ensures kept { OnOk result (K.faults sink.new ≡ K.faults sink.old) }
     ensures rose { OnErr result (Rose (K.faults sink.old) (K.faults sink.new)) }
 {
@@ -121,7 +131,8 @@ fn write_payload<K: Sink>(sink: &mut K, line: u32, len: u64, limit: u32) -> Resu
 }
 
 fn write_limit<K: Sink>(sink: &mut K, len: u64, limit: u32) -> Result<(), Failed>
-    ensures whole { OnOk result (K.written sink.new ≡ written_with (K.written sink.old) (limit_line len limit)) }
+    ensures whole { OnOk result (K.written sink.new
+        ≡ written_with (K.written sink.old) (limit_line len limit)) }
     ensures part { WrotePart (K.written sink.old) (K.written sink.new) (limit_line len limit) }
     ensures kept { OnOk result (K.faults sink.new ≡ K.faults sink.old) }
     ensures rose { OnErr result (Rose (K.faults sink.old) (K.faults sink.new)) }
@@ -132,8 +143,10 @@ fn write_limit<K: Sink>(sink: &mut K, len: u64, limit: u32) -> Result<(), Failed
 
 fn write_too_large<K: Sink>(sink: &mut K, file: u32, limit: u64) -> Result<(), Failed>
     ensures whole { OnOk result (K.written sink.new
-        ≡ written_with (K.written sink.old) (file_line file (codes ": more than ") ++ (decimal limit ++ codes " bytes\n"))) }
-    ensures part { WrotePart (K.written sink.old) (K.written sink.new) (file_line file (codes ": more than ") ++ (decimal limit ++ codes " bytes\n")) }
+        ≡ written_with (K.written sink.old) (file_line file (codes ": more than ")
+        ++ (decimal limit ++ codes " bytes\n"))) }
+    ensures part { WrotePart (K.written sink.old) (K.written sink.new)
+        (file_line file (codes ": more than ") ++ (decimal limit ++ codes " bytes\n")) }
     ensures kept { OnOk result (K.faults sink.new ≡ K.faults sink.old) }
     ensures rose { OnErr result (Rose (K.faults sink.old) (K.faults sink.new)) }
 {
@@ -142,7 +155,8 @@ fn write_too_large<K: Sink>(sink: &mut K, file: u32, limit: u64) -> Result<(), F
 }
 
 fn write_about<K: Sink>(sink: &mut K, file: u32, what: &[u8]) -> Result<(), Failed>
-    ensures whole { OnOk result (K.written sink.new ≡ written_with (K.written sink.old) (file_line file what.now)) }
+    ensures whole { OnOk result (K.written sink.new
+        ≡ written_with (K.written sink.old) (file_line file what.now)) }
     ensures part { WrotePart (K.written sink.old) (K.written sink.new) (file_line file what.now) }
     ensures kept { OnOk result (K.faults sink.new ≡ K.faults sink.old) }
     ensures rose { OnErr result (Rose (K.faults sink.old) (K.faults sink.new)) }
@@ -151,7 +165,8 @@ fn write_about<K: Sink>(sink: &mut K, file: u32, what: &[u8]) -> Result<(), Fail
 }
 
 fn write_of_line<K: Sink>(sink: &mut K, line: u32, what: &[u8]) -> Result<(), Failed>
-    ensures whole { OnOk result (K.written sink.new ≡ written_with (K.written sink.old) (text_line line what.now)) }
+    ensures whole { OnOk result (K.written sink.new
+        ≡ written_with (K.written sink.old) (text_line line what.now)) }
     ensures part { WrotePart (K.written sink.old) (K.written sink.new) (text_line line what.now) }
     ensures kept { OnOk result (K.faults sink.new ≡ K.faults sink.old) }
     ensures rose { OnErr result (Rose (K.faults sink.old) (K.faults sink.new)) }
@@ -160,8 +175,10 @@ fn write_of_line<K: Sink>(sink: &mut K, line: u32, what: &[u8]) -> Result<(), Fa
 }
 
 fn write_of_place<K: Sink>(sink: &mut K, file: u32, line: u32, what: &[u8]) -> Result<(), Failed>
-    ensures whole { OnOk result (K.written sink.new ≡ written_with (K.written sink.old) (place_line file line what.now)) }
-    ensures part { WrotePart (K.written sink.old) (K.written sink.new) (place_line file line what.now) }
+    ensures whole { OnOk result (K.written sink.new
+        ≡ written_with (K.written sink.old) (place_line file line what.now)) }
+    ensures part { WrotePart (K.written sink.old) (K.written sink.new)
+        (place_line file line what.now) }
     ensures kept { OnOk result (K.faults sink.new ≡ K.faults sink.old) }
     ensures rose { OnErr result (Rose (K.faults sink.old) (K.faults sink.new)) }
 {
@@ -177,8 +194,12 @@ fn write_of_shared<K: Sink>(
     other_file: u32,
     other_line: u32,
 ) -> Result<(), Failed>
-    ensures whole { OnOk result (K.written sink.new ≡ written_with (K.written sink.old) (place_line file line (shared_words what) ++ place_line other_file other_line (codes "\n"))) }
-    ensures part { WrotePart (K.written sink.old) (K.written sink.new) (place_line file line (shared_words what) ++ place_line other_file other_line (codes "\n")) }
+    ensures whole { OnOk result (K.written sink.new
+        ≡ written_with (K.written sink.old) (place_line file line (shared_words what)
+        ++ place_line other_file other_line (codes "\n"))) }
+    ensures part { WrotePart (K.written sink.old) (K.written sink.new)
+        (place_line file line (shared_words what)
+        ++ place_line other_file other_line (codes "\n")) }
     ensures kept { OnOk result (K.faults sink.new ≡ K.faults sink.old) }
     ensures rose { OnErr result (Rose (K.faults sink.old) (K.faults sink.new)) }
 {
@@ -187,8 +208,10 @@ fn write_of_shared<K: Sink>(
 }
 
 fn write_shared<K: Sink>(sink: &mut K, what: Shared, file: u32, line: u32) -> Result<(), Failed>
-    ensures whole { OnOk result (K.written sink.new ≡ written_with (K.written sink.old) (place_line file line (shared_words what))) }
-    ensures part { WrotePart (K.written sink.old) (K.written sink.new) (place_line file line (shared_words what)) }
+    ensures whole { OnOk result (K.written sink.new
+        ≡ written_with (K.written sink.old) (place_line file line (shared_words what))) }
+    ensures part { WrotePart (K.written sink.old) (K.written sink.new)
+        (place_line file line (shared_words what)) }
     ensures kept { OnOk result (K.faults sink.new ≡ K.faults sink.old) }
     ensures rose { OnErr result (Rose (K.faults sink.old) (K.faults sink.new)) }
 {
@@ -205,8 +228,11 @@ fn write_of_runs<K: Sink>(
     other_file: u32,
     other_run: u64,
 ) -> Result<(), Failed>
-    ensures whole { OnOk result (K.written sink.new ≡ written_with (K.written sink.old) (run_line file run (codes ", ") ++ run_line other_file other_run (codes "\n"))) }
-    ensures part { WrotePart (K.written sink.old) (K.written sink.new) (run_line file run (codes ", ") ++ run_line other_file other_run (codes "\n")) }
+    ensures whole { OnOk result (K.written sink.new
+        ≡ written_with (K.written sink.old) (run_line file run (codes ", ")
+        ++ run_line other_file other_run (codes "\n"))) }
+    ensures part { WrotePart (K.written sink.old) (K.written sink.new)
+        (run_line file run (codes ", ") ++ run_line other_file other_run (codes "\n")) }
     ensures kept { OnOk result (K.faults sink.new ≡ K.faults sink.old) }
     ensures rose { OnErr result (Rose (K.faults sink.old) (K.faults sink.new)) }
 {
@@ -215,8 +241,10 @@ fn write_of_runs<K: Sink>(
 }
 
 fn write_run<K: Sink>(sink: &mut K, file: u32, run: u64, what: &[u8]) -> Result<(), Failed>
-    ensures whole { OnOk result (K.written sink.new ≡ written_with (K.written sink.old) (run_line file run what.now)) }
-    ensures part { WrotePart (K.written sink.old) (K.written sink.new) (run_line file run what.now) }
+    ensures whole { OnOk result (K.written sink.new
+        ≡ written_with (K.written sink.old) (run_line file run what.now)) }
+    ensures part { WrotePart (K.written sink.old) (K.written sink.new)
+        (run_line file run what.now) }
     ensures kept { OnOk result (K.faults sink.new ≡ K.faults sink.old) }
     ensures rose { OnErr result (Rose (K.faults sink.old) (K.faults sink.new)) }
 {
@@ -225,7 +253,8 @@ fn write_run<K: Sink>(sink: &mut K, file: u32, run: u64, what: &[u8]) -> Result<
 }
 
 fn write_of_seat<K: Sink>(sink: &mut K, seat: u32, what: &[u8]) -> Result<(), Failed>
-    ensures whole { OnOk result (K.written sink.new ≡ written_with (K.written sink.old) (seat_line seat what.now)) }
+    ensures whole { OnOk result (K.written sink.new
+        ≡ written_with (K.written sink.old) (seat_line seat what.now)) }
     ensures part { WrotePart (K.written sink.old) (K.written sink.new) (seat_line seat what.now) }
     ensures kept { OnOk result (K.faults sink.new ≡ K.faults sink.old) }
     ensures rose { OnErr result (Rose (K.faults sink.old) (K.faults sink.new)) }
@@ -234,7 +263,8 @@ fn write_of_seat<K: Sink>(sink: &mut K, seat: u32, what: &[u8]) -> Result<(), Fa
 }
 
 fn write_entry<K: Sink>(sink: &mut K, at: u32, what: &[u8]) -> Result<(), Failed>
-    ensures whole { OnOk result (K.written sink.new ≡ written_with (K.written sink.old) (entry_line at what.now)) }
+    ensures whole { OnOk result (K.written sink.new
+        ≡ written_with (K.written sink.old) (entry_line at what.now)) }
     ensures part { WrotePart (K.written sink.old) (K.written sink.new) (entry_line at what.now) }
     ensures kept { OnOk result (K.faults sink.new ≡ K.faults sink.old) }
     ensures rose { OnErr result (Rose (K.faults sink.old) (K.faults sink.new)) }
@@ -249,8 +279,10 @@ fn write_numbered<K: Sink>(
     number: u32,
     what: &[u8],
 ) -> Result<(), Failed>
-    ensures whole { OnOk result (K.written sink.new ≡ written_with (K.written sink.old) (name.now ++ (decimal number ++ what.now))) }
-    ensures part { WrotePart (K.written sink.old) (K.written sink.new) (name.now ++ (decimal number ++ what.now)) }
+    ensures whole { OnOk result (K.written sink.new
+        ≡ written_with (K.written sink.old) (name.now ++ (decimal number ++ what.now))) }
+    ensures part { WrotePart (K.written sink.old) (K.written sink.new) (name.now
+        ++ (decimal number ++ what.now)) }
     ensures kept { OnOk result (K.faults sink.new ≡ K.faults sink.old) }
     ensures rose { OnErr result (Rose (K.faults sink.old) (K.faults sink.new)) }
 {
@@ -259,7 +291,8 @@ fn write_numbered<K: Sink>(
 }
 
 fn write_count<K: Sink>(sink: &mut K, count: u64, what: &[u8]) -> Result<(), Failed>
-    ensures whole { OnOk result (K.written sink.new ≡ written_with (K.written sink.old) (decimal count ++ what.now)) }
+    ensures whole { OnOk result (K.written sink.new
+        ≡ written_with (K.written sink.old) (decimal count ++ what.now)) }
     ensures part { WrotePart (K.written sink.old) (K.written sink.new) (decimal count ++ what.now) }
     ensures kept { OnOk result (K.faults sink.new ≡ K.faults sink.old) }
     ensures rose { OnErr result (Rose (K.faults sink.old) (K.faults sink.new)) }

@@ -1,9 +1,12 @@
-ghost use Rattle.std.specs.Prelude.{◌≡◌, ◌⊎◌, Ok, None, Some, false, is_some, IfSome, IsSomeAnd, map, string_bytes};
+ghost use Rattle.std.specs.Prelude.{◌≡◌, ◌⊎◌, Ok, None, Some, false, is_some, IfSome, IsSomeAnd};
+ghost use Rattle.std.specs.Prelude.{map, string_bytes};
 ghost use Rattle.scq_outside.specs.Counts.{Rose};
-ghost use Rattle.scq_words.specs.Asked.{asked, generated, run, staged, whole, RunAsked, SelfAsked, StagesAsked, TextAsked};
+ghost use Rattle.scq_words.specs.Asked.{asked, generated, run, staged, whole, RunAsked, SelfAsked};
+ghost use Rattle.scq_words.specs.Asked.{StagesAsked, TextAsked};
 ghost use Rattle.scq_words.specs.Ranges.{is_taken};
 ghost use Rattle.scq_service.specs.Answers.{IsSeenAt, LeavesNothing, StagedAs, WorkedAs};
-ghost use Rattle.scq_service.specs.Ends.{EndsAs, IsCalm, IsCalmText, IsOfTextAlone, most_payload, inputs_of, wrote_of};
+ghost use Rattle.scq_service.specs.Ends.{EndsAs, IsCalm, IsCalmText, IsOfTextAlone, most_payload};
+ghost use Rattle.scq_service.specs.Ends.{inputs_of, wrote_of};
 ghost use Rattle.scq_service.specs.Faults.{status_of};
 ghost use Rattle.scq_service.specs.Reports.{asks_report, reported};
 ghost use Rattle.scq_service.specs.declared.fault.Fault.TheVariants.{NoMemory};
@@ -19,11 +22,12 @@ use scq_work::Gate;
 use std::alloc::Global;
 use std::thread::Threads;
 
-/// Runs what the words ask for: gets the sources of the files that they name, up to the first that isn't
-/// got, answers their messages, or takes them through stages, or answers those of a generated file, by as many workers as they ask for, and
-/// writes the output, or the summary, once it is whole. At a fault it writes one line to `err`, in no
-/// memory; a failing `err` changes nothing. Workers call the gate, which has no meaning. They share a
-/// queue of buffers. Where it is asked for, what each worker sent, took and answered directly is reported to `err` too.
+/// Runs what the words ask for: gets the sources of the files that they name, up to the first that
+/// isn't got, answers their messages, or takes them through stages, or answers those of a generated
+/// file, by as many workers as they ask for, and writes the output, or the summary, once it is
+/// whole. At a fault it writes one line to `err`, in no memory; a failing `err` changes nothing.
+/// Workers call the gate, which has no meaning. They share a queue of buffers. Where it is asked
+/// for, what each worker sent, took and answered directly is reported to `err` too.
 pub fn serve<R: Threads + Sync, F: Files, K: Sink, G: Gate>(
     rt: &R,
     alloc: Global,
@@ -35,34 +39,48 @@ pub fn serve<R: Threads + Sync, F: Files, K: Sink, G: Gate>(
 ) -> Outcome<F::Src>
     ensures status { result.status ≡ status_of result.fault }
 
-    // How it ended is one of the cases of `EndsAs`, each with what was got, read and written, and why.
-    ensures end { EndsAs F.Src.faults F.Src.ends F.Src.left (asked (map string_bytes words.now)) result.got.value.items
+    // How it ended is one of the cases of `EndsAs`, each with what was got, read and written, and
+    // why.
+    ensures end { EndsAs F.Src.faults F.Src.ends F.Src.left
+        (asked (map string_bytes words.now)) result.got.value.items
         (inputs_of F.table F.faults files.old files.new result.sources.items result.read)
         (wrote_of K.written K.faults out.old out.new) result.fault }
 
-    // What workers answered is there exactly where the text of it was whole. It answers such messages as `IsWork` says, which are those
-    // of the contents where these are visible.
-    ensures worked { WorkedAs F.Src.faults F.Src.ends F.Src.left (asked (map string_bytes words.now)) result.got.value.items
-        (inputs_of F.table F.faults files.old files.new result.sources.items result.read) result.fault result.worked }
+    // What workers answered is there exactly where the text of it was whole. It answers such
+    // messages as `IsWork` says, which are those of the contents where these are visible.
+    ensures worked { WorkedAs F.Src.faults F.Src.ends F.Src.left
+        (asked (map string_bytes words.now)) result.got.value.items
+        (inputs_of F.table F.faults files.old files.new result.sources.items result.read)
+        result.fault result.worked }
 
-    // What the workers of stages finished is there likewise, and is what becomes of such messages. Nothing is stranded in their queue.
-    ensures staged { StagedAs F.Src.faults F.Src.ends F.Src.left (asked (map string_bytes words.now)) result.got.value.items
-        (inputs_of F.table F.faults files.old files.new result.sources.items result.read) result.fault result.staged }
+    // What the workers of stages finished is there likewise, and is what becomes of such messages.
+    // Nothing is stranded in their queue.
+    ensures staged { StagedAs F.Src.faults F.Src.ends F.Src.left
+        (asked (map string_bytes words.now)) result.got.value.items
+        (inputs_of F.table F.faults files.old files.new result.sources.items result.read)
+        result.fault result.staged }
 
-    // Whatever the answer is, where workers were at work nothing is stranded: their queue was closed with each buffer free, what was sent was taken,
-    // each pass has retired, and no call met a ticket past the limit.
-    ensures left { IfSome result.left (λ left. IsSomeAnd result.passes (λ passes. IsSomeAnd result.frames (λ frames.
-        LeavesNothing (asked (map string_bytes words.now)) passes.value.items frames.value.items left.items))) }
-    ensures seen { IsSeenAt (asked (map string_bytes words.now)) result.fault (is_some result.left) }
-    ensures same { IfSome result.worked (λ w. IsSomeAnd result.passes (λ passes. passes.value.items ≡ w.passes.value.items)) }
+    // Whatever the answer is, where workers were at work nothing is stranded: their queue was
+    // closed with each buffer free, what was sent was taken, each pass has retired, and no call met
+    // a ticket past the limit.
+    ensures left { IfSome result.left (λ left.
+        IsSomeAnd result.passes (λ passes. IsSomeAnd result.frames (λ frames.
+        LeavesNothing (asked
+        (map string_bytes words.now)) passes.value.items frames.value.items left.items))) }
+    ensures seen { IsSeenAt (asked (map string_bytes words.now)) result.fault
+        (is_some result.left) }
+    ensures same { IfSome result.worked (λ w.
+        IsSomeAnd result.passes (λ passes. passes.value.items ≡ w.passes.value.items)) }
 
     // Its workers leave early.
     ensures leaves { result.waited ≡ None }
 
     // `clap` refuses no words that it is said to take.
-    ensures taken { result.fault ≡ Some (Fault.Words WordsFault.NotUnderstood) → is_taken (map string_bytes words.now) ≡ false }
+    ensures taken { result.fault ≡ Some (Fault.Words WordsFault.NotUnderstood)
+        → is_taken (map string_bytes words.now) ≡ false }
 
-    // Where nothing stood in the way of a run over files, it ends with the output, or for want of memory.
+    // Where nothing stood in the way of a run over files, it ends with the output, or for want of
+    // memory.
     ensures complete { (a : RunAsked) → asked (map string_bytes words.now) ≡ Ok (run a)
         → IsCalm most_payload F.Src.faults F.Src.left a.files result.got.value.items
         (inputs_of F.table F.faults files.old files.new result.sources.items result.read)
@@ -77,19 +95,24 @@ pub fn serve<R: Threads + Sync, F: Files, K: Sink, G: Gate>(
         → (result.fault ≡ None) ⊎ (result.fault ≡ Some NoMemory) }
 
     // Where no write failed a run of `self` ends with the summary, or for want of memory.
-    ensures complete_self { (a : SelfAsked) → asked (map string_bytes words.now) ≡ Ok (generated a) → ¬ Rose (K.faults out.old) (K.faults out.new)
+    ensures complete_self { (a : SelfAsked) → asked (map string_bytes words.now) ≡ Ok (generated a)
+        → ¬ Rose (K.faults out.old) (K.faults out.new)
         → (result.fault ≡ None) ⊎ (result.fault ≡ Some NoMemory) }
 
-    // Where nothing stood in the way of a run over one whole file, it ends with what its text tells, or for want of memory.
+    // Where nothing stood in the way of a run over one whole file, it ends with what its text
+    // tells, or for want of memory.
     ensures complete_text { (a : TextAsked) → asked (map string_bytes words.now) ≡ Ok (whole a)
         → IsCalmText F.Src.faults F.Src.left result.got.value.items
         (inputs_of F.table F.faults files.old files.new result.sources.items result.read)
         (wrote_of K.written K.faults out.old out.new)
         → IsOfTextAlone a.command result.fault }
 
-    // `err` gets the fault's line, or at status 0 the lines of the workers where they are asked for: the whole of it where no write failed.
+    // `err` gets the fault's line, or at status 0 the lines of the workers where they are asked
+    // for: the whole of it where no write failed.
     ensures reported { Rose (K.faults err.old) (K.faults err.new)
-        ⊎ (K.written err.new ≡ written_with (K.written err.old) (reported (asks_report (asked (map string_bytes words.now))) result.fault result.worked)) }
+        ⊎ (K.written err.new
+        ≡ written_with (K.written err.old)
+        (reported (asks_report (asked (map string_bytes words.now))) result.fault result.worked)) }
     ensures reported_front { WrotePart (K.written err.old) (K.written err.new)
         (reported (asks_report (asked (map string_bytes words.now))) result.fault result.worked) }
 {
@@ -130,20 +153,32 @@ fn run<R: Threads + Sync, F: Files, K: Sink, G: Gate>(
     gate: &G,
 ) -> Ran<F::Src>
     ensures status { result.outcome.status ≡ status_of result.outcome.fault }
-    ensures end { EndsAs F.Src.faults F.Src.ends F.Src.left (asked (map string_bytes words.now)) result.outcome.got.value.items
-        (inputs_of F.table F.faults files.old files.new result.outcome.sources.items result.outcome.read)
+    ensures end { EndsAs F.Src.faults F.Src.ends F.Src.left
+        (asked (map string_bytes words.now)) result.outcome.got.value.items
+        (inputs_of F.table F.faults files.old files.new result.outcome.sources.items
+        result.outcome.read)
         (wrote_of K.written K.faults out.old out.new) result.outcome.fault }
-    ensures worked { WorkedAs F.Src.faults F.Src.ends F.Src.left (asked (map string_bytes words.now)) result.outcome.got.value.items
-        (inputs_of F.table F.faults files.old files.new result.outcome.sources.items result.outcome.read) result.outcome.fault result.outcome.worked }
-    ensures staged { StagedAs F.Src.faults F.Src.ends F.Src.left (asked (map string_bytes words.now)) result.outcome.got.value.items
-        (inputs_of F.table F.faults files.old files.new result.outcome.sources.items result.outcome.read) result.outcome.fault result.outcome.staged }
-    ensures left { IfSome result.outcome.left (λ left. IsSomeAnd result.outcome.passes (λ passes. IsSomeAnd result.outcome.frames (λ frames.
-        LeavesNothing (asked (map string_bytes words.now)) passes.value.items frames.value.items left.items))) }
-    ensures seen { IsSeenAt (asked (map string_bytes words.now)) result.outcome.fault (is_some result.outcome.left) }
-    ensures same { IfSome result.outcome.worked (λ w. IsSomeAnd result.outcome.passes (λ passes. passes.value.items ≡ w.passes.value.items)) }
+    ensures worked { WorkedAs F.Src.faults F.Src.ends F.Src.left
+        (asked (map string_bytes words.now)) result.outcome.got.value.items
+        (inputs_of F.table F.faults files.old files.new result.outcome.sources.items
+        result.outcome.read) result.outcome.fault result.outcome.worked }
+    ensures staged { StagedAs F.Src.faults F.Src.ends F.Src.left
+        (asked (map string_bytes words.now)) result.outcome.got.value.items
+        (inputs_of F.table F.faults files.old files.new result.outcome.sources.items
+        result.outcome.read) result.outcome.fault result.outcome.staged }
+    ensures left { IfSome result.outcome.left (λ left.
+        IsSomeAnd result.outcome.passes (λ passes. IsSomeAnd result.outcome.frames (λ frames.
+        LeavesNothing (asked
+        (map string_bytes words.now)) passes.value.items frames.value.items left.items))) }
+    ensures seen { IsSeenAt (asked (map string_bytes words.now)) result.outcome.fault
+        (is_some result.outcome.left) }
+    ensures same { IfSome result.outcome.worked (λ w.
+        IsSomeAnd result.outcome.passes (λ passes. passes.value.items ≡ w.passes.value.items)) }
     ensures leaves { result.outcome.waited ≡ None }
-    ensures taken { result.outcome.fault ≡ Some (Fault.Words WordsFault.NotUnderstood) → is_taken (map string_bytes words.now) ≡ false }
-    ensures report { result.outcome.fault ≡ None → result.report ≡ asks_report (asked (map string_bytes words.now)) }
+    ensures taken { result.outcome.fault ≡ Some (Fault.Words WordsFault.NotUnderstood)
+        → is_taken (map string_bytes words.now) ≡ false }
+    ensures report { result.outcome.fault ≡ None
+        → result.report ≡ asks_report (asked (map string_bytes words.now)) }
 {
     match read_words(alloc, words) {
         Ok(Request::Run(asked)) => {

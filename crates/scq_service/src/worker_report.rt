@@ -19,10 +19,11 @@ struct Sums {
     full: u128,
 }
 
-/// Writes what each worker sent, took and answered directly, and what all did together: a line for each
-/// worker, numbered from 1, and one for all. It takes no memory.
+/// Writes what each worker sent, took and answered directly, and what all did together: a line for
+/// each worker, numbered from 1, and one for all. It takes no memory.
 pub fn report_workers<K: Sink>(sink: &mut K, counts: &[Counts]) -> Result<(), Failed>
-    ensures whole { OnOk result (K.written sink.new ≡ written_with (K.written sink.old) (report_lines counts.now)) }
+    ensures whole { OnOk result (K.written sink.new
+        ≡ written_with (K.written sink.old) (report_lines counts.now)) }
     ensures part { WrotePart (K.written sink.old) (K.written sink.new) (report_lines counts.now) }
     ensures kept { OnOk result (K.faults sink.new ≡ K.faults sink.old) }
     ensures rose { OnErr result (Rose (K.faults sink.old) (K.faults sink.new)) }
@@ -35,12 +36,14 @@ pub fn report_workers<K: Sink>(sink: &mut K, counts: &[Counts]) -> Result<(), Fa
     write_counts(sink, sums.sent, sums.taken, sums.full)
 }
 
-/// Reports how a run ended: its fault, where it has one, or else what the workers did, where that is asked for. Nothing depends on
-/// whether the sink takes it.
+/// Reports how a run ended: its fault, where it has one, or else what the workers did, where that
+/// is asked for. Nothing depends on whether the sink takes it.
 pub fn report_run<K: Sink>(sink: &mut K, fault: &Option<Fault>, worked: &Option<Worked>, asks: bool)
     ensures reported { Rose (K.faults sink.old) (K.faults sink.new)
-        ⊎ (K.written sink.new ≡ written_with (K.written sink.old) (reported asks fault.now worked.now)) }
-    ensures front { WrotePart (K.written sink.old) (K.written sink.new) (reported asks fault.now worked.now) }
+        ⊎ (K.written sink.new
+        ≡ written_with (K.written sink.old) (reported asks fault.now worked.now)) }
+    ensures front { WrotePart (K.written sink.old) (K.written sink.new)
+        (reported asks fault.now worked.now) }
 {
     if let Some(fault) = fault {
         let _ = report(sink, fault);
@@ -79,8 +82,10 @@ fn wide(number: u64) -> u128
 }
 
 fn write_worker<K: Sink>(sink: &mut K, number: u64, counts: &Counts) -> Result<(), Failed>
-    ensures whole { OnOk result (K.written sink.new ≡ written_with (K.written sink.old) (worker_line number counts.now)) }
-    ensures part { WrotePart (K.written sink.old) (K.written sink.new) (worker_line number counts.now) }
+    ensures whole { OnOk result (K.written sink.new
+        ≡ written_with (K.written sink.old) (worker_line number counts.now)) }
+    ensures part { WrotePart (K.written sink.old) (K.written sink.new)
+        (worker_line number counts.now) }
     ensures kept { OnOk result (K.faults sink.new ≡ K.faults sink.old) }
     ensures rose { OnErr result (Rose (K.faults sink.old) (K.faults sink.new)) }
 {
@@ -94,8 +99,10 @@ fn write_worker<K: Sink>(sink: &mut K, number: u64, counts: &Counts) -> Result<(
 }
 
 fn write_counts<K: Sink>(sink: &mut K, sent: u128, taken: u128, direct: u128) -> Result<(), Failed>
-    ensures whole { OnOk result (K.written sink.new ≡ written_with (K.written sink.old) (counts_line sent taken direct)) }
-    ensures part { WrotePart (K.written sink.old) (K.written sink.new) (counts_line sent taken direct) }
+    ensures whole { OnOk result (K.written sink.new
+        ≡ written_with (K.written sink.old) (counts_line sent taken direct)) }
+    ensures part { WrotePart (K.written sink.old) (K.written sink.new)
+        (counts_line sent taken direct) }
     ensures kept { OnOk result (K.faults sink.new ≡ K.faults sink.old) }
     ensures rose { OnErr result (Rose (K.faults sink.old) (K.faults sink.new)) }
 {
@@ -107,8 +114,10 @@ fn write_counts<K: Sink>(sink: &mut K, sent: u128, taken: u128, direct: u128) ->
 
 /// Writes a name and then a number.
 fn write_named<K: Sink>(sink: &mut K, name: &[u8], number: u128) -> Result<(), Failed>
-    ensures whole { OnOk result (K.written sink.new ≡ written_with (K.written sink.old) (name.now ++ decimal number)) }
-    ensures part { WrotePart (K.written sink.old) (K.written sink.new) (name.now ++ decimal number) }
+    ensures whole { OnOk result (K.written sink.new
+        ≡ written_with (K.written sink.old) (name.now ++ decimal number)) }
+    ensures part { WrotePart (K.written sink.old) (K.written sink.new) (name.now
+        ++ decimal number) }
     ensures kept { OnOk result (K.faults sink.new ≡ K.faults sink.old) }
     ensures rose { OnErr result (Rose (K.faults sink.old) (K.faults sink.new)) }
 {

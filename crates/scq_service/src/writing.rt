@@ -36,7 +36,8 @@ pub fn write_text<K: Sink>(sink: &mut K, text: &Text) -> Result<(), Failed>
 
 /// Writes all pieces, one behind the other.
 fn write_pieces<K: Sink>(sink: &mut K, pieces: &[Vec<u8>]) -> Result<(), Failed>
-    ensures whole { OnOk result (K.written sink.new ≡ written_with (K.written sink.old) (bytes_of pieces.now)) }
+    ensures whole { OnOk result (K.written sink.new
+        ≡ written_with (K.written sink.old) (bytes_of pieces.now)) }
     ensures kept { OnOk result (K.faults sink.new ≡ K.faults sink.old) }
 
     // After a fault the sink has a front of the bytes.

@@ -1,10 +1,12 @@
--- How the stages over all files ended: the fault of the workers and its cause. Files are numbered from 1.
+-- How the stages over all files ended: the fault of the workers and its cause. Files are numbered
+-- from 1.
 use Rattle.std.specs.Prelude.{ℕ, List, Option}
 use Rattle.scq_desk.specs.Faults as workers
 use Rattle.scq_desk.specs.declared.fault.EndFault.{EndFault}
 use Rattle.scq_desk.specs.declared.fault.EndFault.TheVariants as ends
 use Rattle.scq_stages.specs.declared.staged.StageFault.{StageFault}
-use Rattle.scq_stages.specs.declared.staged.StageFault.TheVariants.{Read, TooLong, TooLarge, NoMemory}
+use Rattle.scq_stages.specs.declared.staged.StageFault.TheVariants.{Read, TooLong, TooLarge}
+use Rattle.scq_stages.specs.declared.staged.StageFault.TheVariants.{NoMemory}
 
 -- a fault as one of the workers at desks
 abbrev pub as_end : StageFault → EndFault
@@ -14,9 +16,13 @@ as_end (TooLarge file bytes) = ends.TooLarge file bytes
 as_end NoMemory = ends.NoMemory
 
 -- want of memory comes before any other fault
-abbrev pub MemoryIsFirst : {S : Type 0} → ℕ → (S → ℕ) → (S → ℕ) → (S → Option (List ℕ)) → List S → List S → StageFault → Type 0
-MemoryIsFirst size faults end_count left olds news fault = workers.MemoryIsFirst size faults end_count left olds news (as_end fault)
+abbrev pub MemoryIsFirst : {S : Type 0} → ℕ → (S → ℕ) → (S → ℕ) → (S → Option (List ℕ)) → List S
+    → List S → StageFault → Type 0
+MemoryIsFirst size faults end_count left olds news fault =
+    workers.MemoryIsFirst size faults end_count left olds news (as_end fault)
 
 -- the cause of each fault
-abbrev pub HasCause : {S : Type 0} → ℕ → (S → ℕ) → (S → ℕ) → (S → Option (List ℕ)) → List S → List S → StageFault → Type 0
-HasCause size faults end_count left olds news fault = workers.HasCause size faults end_count left olds news (as_end fault)
+abbrev pub HasCause : {S : Type 0} → ℕ → (S → ℕ) → (S → ℕ) → (S → Option (List ℕ)) → List S → List S
+    → StageFault → Type 0
+HasCause size faults end_count left olds news fault =
+    workers.HasCause size faults end_count left olds news (as_end fault)

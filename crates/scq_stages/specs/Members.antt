@@ -1,4 +1,5 @@
--- A worker's list of finished messages, against what its pass took. What was taken is read as a part.
+-- A worker's list of finished messages, against what its pass took. What was taken is read as a
+-- part.
 use Rattle.std.specs.Prelude.{◌≡◌, ℕ, Bool, true, false, List, filter, Some, None}
 use Rattle.std.specs.List.{AllZip}
 use Rattle.scq_frames.specs.Parts.{Part}
@@ -40,12 +41,14 @@ abbrev pub finished : StageWay → (List ℕ → List ℕ) → Part → Finished
 finished way stage p = record { file = p.file; line = p.line; payload = stage p.payload; way = way }
 
 -- a member is what became of the part that the bytes of a take are read as, at the take's place
-pub record FinishesTake (way : ℕ → StageWay) (stage : List ℕ → List ℕ) (take : Placed) (f : Finished) : Type 0 where
+pub record FinishesTake (way : ℕ → StageWay) (stage : List ℕ
+    → List ℕ) (take : Placed) (f : Finished) : Type 0 where
   pub part : Part
   pub decodes : part_at take.bytes ≡ Some part
   pub is : f ≡ finished (way take.place) stage part
 
--- one by one and in order, the Second members of a list are these takes, the First members are these, and the Direct ones are Full replies
+-- one by one and in order, the Second members of a list are these takes, the First members are
+-- these, and the Direct ones are Full replies
 abbrev pub SecondsAre : List Placed → List Finished → Type 0
 SecondsAre takes members = AllZip (FinishesTake Second squeezed) takes (filter is_second members)
 

@@ -1,5 +1,7 @@
--- What one thread writes about the messages of some files, taken in order, once they went through both stages.
-use Rattle.std.specs.Prelude.{ℕ, ◌+◌, List, [], ◌∷◌, ◌++◌, length, map, codes, decimal, flat_map, sum_by, Vec}
+-- What one thread writes about the messages of some files, taken in order, once they went through
+-- both stages.
+use Rattle.std.specs.Prelude.{ℕ, ◌+◌, List, [], ◌∷◌, ◌++◌, length, map, codes, decimal, flat_map}
+use Rattle.std.specs.Prelude.{sum_by, Vec}
 use Rattle.std.specs.Global.{Global}
 use Rattle.scq_frames.specs.Text.{Framed, messages_of}
 use Rattle.scq_stages.specs.Stages.{both}
@@ -18,16 +20,19 @@ handled_to file m = record { file = file; line = m.line; payload = both m.payloa
 -- all messages of files with these contents, handled, of which the first has this number
 abbrev pub all_handled : ℕ → List (List ℕ) → List Handled
 all_handled file [] = []
-all_handled file (content ∷ more) = map (handled_to file) (messages_of content) ++ all_handled (file + 1) more
+all_handled file (content ∷ more) =
+    map (handled_to file) (messages_of content) ++ all_handled (file + 1) more
 
 -- the line for one: `file:line bytes`
 abbrev pub handled_line : Handled → List ℕ
-handled_line r = decimal r.file ++ codes ":" ++ decimal r.line ++ codes " " ++ r.payload ++ codes "\n"
+handled_line r =
+    decimal r.file ++ codes ":" ++ decimal r.line ++ codes " " ++ r.payload ++ codes "\n"
 
 -- the last line: `total count bytes`
 abbrev pub total_of_handled : List Handled → List ℕ
 total_of_handled handled =
-    codes "total " ++ decimal (length handled) ++ codes " " ++ decimal (sum_by (λ (r : Handled). length r.payload) handled) ++ codes "\n"
+    codes "total " ++ decimal (length handled) ++ codes " "
+    ++ decimal (sum_by (λ (r : Handled). length r.payload) handled) ++ codes "\n"
 
 -- what is written of them
 abbrev pub text_of_handled : List Handled → List ℕ

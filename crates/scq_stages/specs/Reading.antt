@@ -14,7 +14,8 @@ module _ {B : Type 0} where
     pub number : new.pass.number ≡ old.pass.number
 
   -- it has passed these messages on, and goes on
-  pub record HasGoneOn (shared : Identity B) (messages : List Message) (old new : Worker B) : Type 0 where
+  pub record HasGoneOn (shared : Identity B) (messages : List Message)
+      (old new : Worker B) : Type 0 where
     pub suits : Suits shared 1 new.pass
     pub stays : new.pass.retired ≡ None
     pub work : (before : List Message) → IsAtWork before old.pass old.members.items old.starved

@@ -1,6 +1,7 @@
--- How takes stand in the record of a worker's pass: what helps after a Full, and how it ends where the pass retires. First is topic 0, and
--- second is topic 1.
-use Rattle.std.specs.Prelude.{◌≡◌, ℕ, zero, suc, Bool, true, false, List, [], ◌∷◌, ◌++◌, take, Option, Some, None}
+-- How takes stand in the record of a worker's pass: what helps after a Full, and how it ends where
+-- the pass retires. First is topic 0, and second is topic 1.
+use Rattle.std.specs.Prelude.{◌≡◌, ℕ, zero, suc, Bool, true, false, List, [], ◌∷◌, ◌++◌, take}
+use Rattle.std.specs.Prelude.{Option, Some, None}
 use Rattle.std.specs.List.{before_first, filter_map, list_any}
 use Rattle.scq_core.specs.declared.ended.Ended.{Ended}
 use Rattle.scq_core.specs.declared.ended.Ended.TheVariants.{Done, Got, Nothing, Spent}
@@ -23,17 +24,21 @@ take_topic call = None
 abbrev pub helps_behind : List Ended → List ℕ
 helps_behind after = filter_map take_topic (before_first is_lend after)
 
--- after each Full the pass takes from second and then from first, and from nothing else where a lend follows
+-- after each Full the pass takes from second and then from first, and from nothing else where a
+-- lend follows
 abbrev pub HelpsSecondThenFirst : List Ended → Type 0
 HelpsSecondThenFirst calls =
-    AfterEachFull (λ after. (take 2 (helps_behind after) ≡ second ∷ first ∷ []) × (list_any is_lend after ≡ true → helps_behind after ≡ second ∷ first ∷ []))
+    AfterEachFull (λ after. (take 2 (helps_behind after) ≡ second ∷ first ∷ [])
+    × (list_any is_lend after ≡ true → helps_behind after ≡ second ∷ first ∷ []))
     calls
 
 -- the same while the pass still lends: from nothing else, whether or not a lend follows
 abbrev pub HelpsJustSecondThenFirst : List Ended → Type 0
-HelpsJustSecondThenFirst calls = AfterEachFull (λ after. helps_behind after ≡ second ∷ first ∷ []) calls
+HelpsJustSecondThenFirst calls =
+    AfterEachFull (λ after. helps_behind after ≡ second ∷ first ∷ []) calls
 
--- what stood in the record of a pass when it retired: it had helped after each Full, and its last call was a take of first that found nothing
+-- what stood in the record of a pass when it retired: it had helped after each Full, and its last
+-- call was a take of first that found nothing
 pub record FoundFirstEmpty (calls : List Ended) : Type 0 where
   pub helps : HelpsSecondThenFirst calls
   pub before : List Ended

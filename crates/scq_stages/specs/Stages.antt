@@ -14,7 +14,8 @@ redacted payload = map redacted_byte payload
 -- bytes that stand behind a space, or don't, without each space that stands right behind another
 abbrev pub squeezed_behind : Bool → List ℕ → List ℕ
 squeezed_behind behind [] = []
-squeezed_behind behind (b ∷ bs) = if behind && is_space b then squeezed_behind true bs else b ∷ squeezed_behind (is_space b) bs
+squeezed_behind behind (b ∷ bs) =
+    if behind && is_space b then squeezed_behind true bs else b ∷ squeezed_behind (is_space b) bs
 
 -- the second stage: of each run of spaces the first is left
 abbrev pub squeezed : List ℕ → List ℕ

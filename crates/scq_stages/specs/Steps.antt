@@ -11,7 +11,8 @@ use Rattle.scq_stages.specs.Stages.{squeezed, both}
 use Rattle.scq_stages.specs.Members.{FinishesTake, IsMove, IsNoPart, is_second, is_first, is_direct}
 use Rattle.scq_stages.specs.Records.{first, second}
 
--- what was taken from second so far became Second members, but for what is no part's bytes; and what from first, First members
+-- what was taken from second so far became Second members, but for what is no part's bytes; and
+-- what from first, First members
 abbrev pub SecondsSoFar : List Placed → List Finished → Type 0
 SecondsSoFar takes members = BecomeSoFar IsNoPart (FinishesTake Second squeezed) takes members
 
@@ -31,7 +32,8 @@ abbrev pub GotNo : (Finished → Bool) → List Finished → List Finished → T
 GotNo is_kind was is = filter is_kind is ≡ filter is_kind was
 
 module _ {B : Type 0} where
-  -- a pass that has taken from topics and given back what it took, and has done nothing else but ask whether all had retired
+  -- a pass that has taken from topics and given back what it took, and has done nothing else but
+  -- ask whether all had retired
   abbrev pub HasGivenBack : PassStanding B → PassStanding B → Type 0
   HasGivenBack old new = HasTakenFollowed IsGivenBack old new
 
@@ -43,17 +45,22 @@ module _ {B : Type 0} where
   abbrev pub HasMovedIts : PassStanding B → PassStanding B → Type 0
   HasMovedIts old new =
       (takes sends : List Placed) → MovesSoFar takes sends
-      → MovesSoFar (takes ++ taken_since first old new) (sends ++ on second (sends_of (since old new)))
+      → MovesSoFar (takes ++ taken_since first old new) (sends
+      ++ on second (sends_of (since old new)))
 
   -- what it took from second meanwhile became Second members, and there are no others of them more
-  abbrev pub HasFinishedSeconds : PassStanding B → PassStanding B → List Finished → List Finished → Type 0
+  abbrev pub HasFinishedSeconds : PassStanding B → PassStanding B → List Finished → List Finished
+      → Type 0
   HasFinishedSeconds old new was is =
-      (takes : List Placed) → SecondsSoFar takes (filter is_second was) → SecondsSoFar (takes ++ taken_since second old new) (filter is_second is)
+      (takes : List Placed) → SecondsSoFar takes (filter is_second was)
+      → SecondsSoFar (takes ++ taken_since second old new) (filter is_second is)
 
   -- and what it took from first became First members
-  abbrev pub HasFinishedFirsts : PassStanding B → PassStanding B → List Finished → List Finished → Type 0
+  abbrev pub HasFinishedFirsts : PassStanding B → PassStanding B → List Finished → List Finished
+      → Type 0
   HasFinishedFirsts old new was is =
-      (takes : List Placed) → FirstsSoFar takes (filter is_first was) → FirstsSoFar (takes ++ taken_since first old new) (filter is_first is)
+      (takes : List Placed) → FirstsSoFar takes (filter is_first was)
+      → FirstsSoFar (takes ++ taken_since first old new) (filter is_first is)
 
   -- all that it took meanwhile became members, and there are no others more
   pub record HasFinished (old new : PassStanding B) (was is : List Finished) : Type 0 where
@@ -62,7 +69,8 @@ module _ {B : Type 0} where
     pub directs : GotNo is_direct was is
 
   -- before it retired: what it took from second became members, and there are no others more
-  pub record HasFinishedOnlySeconds (old new : PassStanding B) (was is : List Finished) : Type 0 where
+  pub record HasFinishedOnlySeconds (old new : PassStanding B)
+      (was is : List Finished) : Type 0 where
     pub seconds : HasFinishedSeconds old new was is
     pub firsts : GotNo is_first was is
     pub directs : GotNo is_direct was is

@@ -8,9 +8,11 @@ use Rattle.scq_stages.specs.Working.{HasFewStageCalls}
 use Rattle.scq_stages.specs.declared.worker.Worker.{Worker}
 
 module _ {B : Type 0} where
-  -- what it took meanwhile it has finished, unless it wanted memory, and nothing lay below what it knew of first
+  -- what it took meanwhile it has finished, unless it wanted memory, and nothing lay below what it
+  -- knew of first
   pub record HasFinishedAll (old new : Worker B) : Type 0 where
-    pub finished : new.starved ≡ false → HasFinished old.pass new.pass old.members.items new.members.items
+    pub finished : new.starved ≡ false
+        → HasFinished old.pass new.pass old.members.items new.members.items
     pub below : TookNoneBelow first old.pass new.pass
     pub fed : new.starved ≡ false → old.starved ≡ false
 

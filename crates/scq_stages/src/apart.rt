@@ -18,7 +18,8 @@ use std::alloc::Global;
 use std::thread;
 use std::thread::Threads;
 
-/// The work of all workers, each in a thread, of which none waits. The desks come back in their order.
+/// The work of all workers, each in a thread, of which none waits. The desks come back in their
+/// order.
 pub(crate) fn run_all<R: Threads + Sync, S: Source>(
     rt: &R,
     alloc: Global,
@@ -33,14 +34,17 @@ pub(crate) fn run_all<R: Threads + Sync, S: Source>(
     requires unread { All (λ d. All IsNew d.files.items) desks.items }
     ensures count { length result.items ≡ length desks.items }
     ensures same { (w : ℕ) (d : _) → w < length desks.items
-        → ids_of (slice_index_or result.items w d).files.items ≡ ids_of (slice_index_or desks.items w d).files.items }
+        → ids_of (slice_index_or result.items w d).files.items
+        ≡ ids_of (slice_index_or desks.items w d).files.items }
     ensures numbers { (w : ℕ) (d : _) → w < length desks.items
-        → (slice_index_or result.items w d).worker.worker.pass.number ≡ (slice_index_or desks.items w d).worker.worker.pass.number }
+        → (slice_index_or result.items w d).worker.worker.pass.number
+        ≡ (slice_index_or desks.items w d).worker.worker.pass.number }
     ensures run { All (λ d.
         HasRun queue.now job.now.size S.faults S.ends S.left d.files.items d.worker.worker.pass
         d.worker.worker.members.items d.worker.worker.starved d.worker.kept)
         result.items }
-    ensures behind { All (λ d. d.worker.worker.pass.spent ≡ None → HasLeftSwept bytes_of IsGivenBack 2 64 d.worker.worker.pass) result.items }
+    ensures behind { All (λ d. d.worker.worker.pass.spent ≡ None
+        → HasLeftSwept bytes_of IsGivenBack 2 64 d.worker.worker.pass) result.items }
 {
     let mut desks = desks;
     run_each(rt, alloc, job, queue, desks.as_mut_slice());
@@ -61,25 +65,31 @@ fn run_each<R: Threads + Sync, S: Source>(
     requires fresh { All (λ d. IsFresh queue.now d.worker) desks.old }
     requires unread { All (λ d. All IsNew d.files.items) desks.old }
     ensures same { (w : ℕ) (d : _) → w < length desks.old
-        → ids_of (slice_index_or desks.new w d).files.items ≡ ids_of (slice_index_or desks.old w d).files.items }
+        → ids_of (slice_index_or desks.new w d).files.items
+        ≡ ids_of (slice_index_or desks.old w d).files.items }
     ensures numbers { (w : ℕ) (d : _) → w < length desks.old
-        → (slice_index_or desks.new w d).worker.worker.pass.number ≡ (slice_index_or desks.old w d).worker.worker.pass.number }
+        → (slice_index_or desks.new w d).worker.worker.pass.number
+        ≡ (slice_index_or desks.old w d).worker.worker.pass.number }
     ensures run { All (λ d.
         HasRun queue.now job.now.size S.faults S.ends S.left d.files.items d.worker.worker.pass
         d.worker.worker.members.items d.worker.worker.starved d.worker.kept)
         desks.new }
-    ensures behind { All (λ d. d.worker.worker.pass.spent ≡ None → HasLeftSwept bytes_of IsGivenBack 2 64 d.worker.worker.pass) desks.new }
+    ensures behind { All (λ d. d.worker.worker.pass.spent ≡ None
+        → HasLeftSwept bytes_of IsGivenBack 2 64 d.worker.worker.pass) desks.new }
 {
     let threads = desks.len();
     let run_one = |_: usize, desk: &mut StageDesk<S>|
-        requires { (queue.now.setup.rings ≡ 3) × All (λ b. job.now.size + 24 ≤ length b.bytes.items) queue.now.given
+        requires { (queue.now.setup.rings ≡ 3)
+            × All (λ b. job.now.size + 24 ≤ length b.bytes.items) queue.now.given
             × IsFresh queue.now desk.now.worker × All IsNew desk.now.files.items }
         ensures { (ids_of desk.exit.now.files.items ≡ ids_of desk.entry.now.files.items)
             × (desk.exit.now.worker.worker.pass.number ≡ desk.entry.now.worker.worker.pass.number)
             × HasRun queue.entry.now job.entry.now.size S.faults S.ends S.left
             desk.exit.now.files.items desk.exit.now.worker.worker.pass
-            desk.exit.now.worker.worker.members.items desk.exit.now.worker.worker.starved desk.exit.now.worker.kept
-            × (desk.exit.now.worker.worker.pass.spent ≡ None → HasLeftSwept bytes_of IsGivenBack 2 64 desk.exit.now.worker.worker.pass) }
+            desk.exit.now.worker.worker.members.items desk.exit.now.worker.worker.starved
+            desk.exit.now.worker.kept
+            × (desk.exit.now.worker.worker.pass.spent ≡ None
+            → HasLeftSwept bytes_of IsGivenBack 2 64 desk.exit.now.worker.worker.pass) }
     { run(desk, alloc, job, queue) };
     thread::for_each_mut(rt, desks, threads, &run_one);
 }

@@ -3,16 +3,18 @@ use scq_word::Bytes;
 /// How a worker came to finish a message.
 #[derive(Clone, Copy, Debug, PartialEq, Eq)]
 pub enum StageWay {
-    /// It took the message from second, at this place, and squeezed what another or it had redacted.
+    /// It took the message from second, at this place, and squeezed what another or it had
+    /// redacted.
     Second { place: u64 },
     /// It took the message from first, at this place, after it had retired, and did both.
     First { place: u64 },
-    /// It did both to a message of its own file, since no buffer was free: with this head of the ring of free buffers.
+    /// It did both to a message of its own file, since no buffer was free: with this head of the
+    /// ring of free buffers.
     Direct { head: u64 },
 }
 
-/// A message that went through both stages: its file and line, both numbered from 1, what is left of its payload, and
-/// how a worker came to finish it.
+/// A message that went through both stages: its file and line, both numbered from 1, what is left
+/// of its payload, and how a worker came to finish it.
 #[derive(Debug, Drop)]
 pub struct Finished {
     pub file: u32,

@@ -1,5 +1,6 @@
 //! The two stages on the bytes of a part, where they stand in a buffer.
-ghost use Rattle.std.specs.Prelude.{◌≡◌, ◌+◌, ◌≤◌, ◌++◌, true, false, None, length, take, drop, IfSome, IsSomeAnd};
+ghost use Rattle.std.specs.Prelude.{◌≡◌, ◌+◌, ◌≤◌, ◌++◌, true, false, None, length, take, drop};
+ghost use Rattle.std.specs.Prelude.{IfSome, IsSomeAnd};
 ghost use Rattle.scq_frames.specs.Encoded.{BeginsWith, part_at};
 ghost use Rattle.scq_stages.specs.Stages.{redacted, squeezed};
 ghost use Rattle.scq_stages.specs.Handling.{after};
@@ -10,8 +11,8 @@ use scq_frames::decode;
 /// Where the bytes of a part begin, behind its numbers.
 const HEADER: usize = 24;
 
-/// What is left of a part once its spaces are squeezed: the file and the line of its message, and how many bytes. The length that
-/// stands in front of them isn't theirs.
+/// What is left of a part once its spaces are squeezed: the file and the line of its message, and
+/// how many bytes. The length that stands in front of them isn't theirs.
 #[derive(Clone, Copy, Debug)]
 pub struct Rest {
     pub file: u32,
@@ -21,7 +22,8 @@ pub struct Rest {
 
 /// Redacts the part that comes first. Whether there is one.
 pub fn redact_part(bytes: &mut [u8]) -> bool
-    ensures redacted { IfSome (part_at bytes.old) (λ p. (result ≡ true) × BeginsWith bytes.new (after redacted p)) }
+    ensures redacted { IfSome (part_at bytes.old) (λ p.
+        (result ≡ true) × BeginsWith bytes.new (after redacted p)) }
     ensures none { part_at bytes.old ≡ None → (result ≡ false) × (bytes.new ≡ bytes.old) }
     ensures len { length bytes.new ≡ length bytes.old }
 {
@@ -36,16 +38,20 @@ pub fn redact_part(bytes: &mut [u8]) -> bool
 /// Redacts so many bytes behind the numbers.
 fn redact_behind(bytes: &mut [u8], len: usize)
     requires { 24 + len ≤ length bytes.old }
-    ensures redacted { bytes.new ≡ take 24 bytes.old ++ (redacted (take len (drop 24 bytes.old)) ++ drop len (drop 24 bytes.old)) }
+    ensures redacted { bytes.new ≡ take 24 bytes.old ++ (redacted (take len (drop 24 bytes.old))
+        ++ drop len (drop 24 bytes.old)) }
     ensures len { length bytes.new ≡ length bytes.old }
 {
     redact(&mut bytes[HEADER..HEADER + len]);
 }
 
-/// Squeezes the spaces of the part that comes first. What is left of its bytes comes first behind its numbers.
+/// Squeezes the spaces of the part that comes first. What is left of its bytes comes first behind
+/// its numbers.
 pub fn squeeze_part(bytes: &mut [u8]) -> Option<Rest>
-    ensures squeezed { IfSome (part_at bytes.old) (λ p. IsSomeAnd result (λ rest. (rest.file ≡ p.file) × (rest.line ≡ p.line)
-        × (24 + rest.len ≤ length bytes.new) × (take rest.len (drop 24 bytes.new) ≡ squeezed p.payload))) }
+    ensures squeezed { IfSome (part_at bytes.old) (λ p.
+        IsSomeAnd result (λ rest. (rest.file ≡ p.file) × (rest.line ≡ p.line)
+        × (24 + rest.len ≤ length bytes.new)
+        × (take rest.len (drop 24 bytes.new) ≡ squeezed p.payload))) }
     ensures none { part_at bytes.old ≡ None → result ≡ None }
     ensures len { length bytes.new ≡ length bytes.old }
 {
@@ -63,10 +69,13 @@ pub fn squeeze_part(bytes: &mut [u8]) -> Option<Rest>
     })
 }
 
-/// Does both stages to the part that comes first. What is left of its bytes comes first behind its numbers.
+/// Does both stages to the part that comes first. What is left of its bytes comes first behind its
+/// numbers.
 pub fn finish_part(bytes: &mut [u8]) -> Option<Rest>
-    ensures finished { IfSome (part_at bytes.old) (λ p. IsSomeAnd result (λ rest. (rest.file ≡ p.file) × (rest.line ≡ p.line)
-        × (24 + rest.len ≤ length bytes.new) × (take rest.len (drop 24 bytes.new) ≡ squeezed (redacted p.payload)))) }
+    ensures finished { IfSome (part_at bytes.old) (λ p.
+        IsSomeAnd result (λ rest. (rest.file ≡ p.file) × (rest.line ≡ p.line)
+        × (24 + rest.len ≤ length bytes.new)
+        × (take rest.len (drop 24 bytes.new) ≡ squeezed (redacted p.payload)))) }
     ensures none { part_at bytes.old ≡ None → result ≡ None }
     ensures len { length bytes.new ≡ length bytes.old }
 {

@@ -20,8 +20,8 @@ fn redact_byte(byte: u8) -> u8
     if byte.is_ascii_digit() { HIDDEN } else { byte }
 }
 
-/// The second stage: of spaces that stand together one stays. The bytes that are left come first, so many; what follows
-/// them means nothing.
+/// The second stage: of spaces that stand together one stays. The bytes that are left come first,
+/// so many; what follows them means nothing.
 pub fn squeeze(payload: &mut [u8]) -> usize
     ensures within { result ≤ length payload.old }
     ensures squeezed { take result payload.new ≡ squeezed payload.old }

@@ -1,7 +1,7 @@
 ghost use Rattle.scq_passes.specs.Jobs.{IsJob};
 
-/// What workers of stages are to do: messages of at most `size` bytes go through both stages in 2^order buffers, by
-/// `workers` workers.
+/// What workers of stages are to do: messages of at most `size` bytes go through both stages in
+/// 2^order buffers, by `workers` workers.
 #[derive(Clone, Copy, Debug)]
 pub struct StageJob {
     pub order: u32,
@@ -13,7 +13,8 @@ pub struct StageJob {
 impl StageJob {
     ghost use Rattle.std.specs.Prelude.{◌≡◌, ◌↔◌, IsNone, IfSome};
 
-    /// None exactly where the order isn't in 1 to 12, the size isn't in 1 to 65,536, or the workers aren't in 1 to 4,096.
+    /// None exactly where the order isn't in 1 to 12, the size isn't in 1 to 65,536, or the workers
+    /// aren't in 1 to 4,096.
     pub fn new(order: u32, size: u32, workers: u32) -> Option<StageJob>
         ensures refused { IsNone result ↔ ¬ IsJob order size workers }
         ensures order { IfSome result (λ job. job.order ≡ order) }

@@ -41,7 +41,8 @@ impl<'a> Taker<Takes<'a>, Frame> for Worker<Frame> {
 
     ghost left = { λ c old new kept. LeavesOn old new kept };
 
-    /// Takes once from first or from second. What it got goes through what stages are left, is finished and given back.
+    /// Takes once from first or from second. What it got goes through what stages are left, is
+    /// finished and given back.
     fn take_once(&mut self, with: &Takes<'a>, topic: u32) -> Result<bool, AtLimit<Frame>> {
         if topic == FIRST {
             self.finish_one(with.alloc, with.queue)
@@ -66,16 +67,25 @@ impl<'a> Taker<Takes<'a>, Frame> for Worker<Frame> {
 }
 
 /// Retires, and sweeps until it leaves.
-pub(crate) fn leave(worker: &mut Worker<Frame>, alloc: Global, queue: &Queue<Frame>) -> Result<(), AtLimit<Frame>>
+pub(crate) fn leave(
+    worker: &mut Worker<Frame>,
+    alloc: Global,
+    queue: &Queue<Frame>,
+) -> Result<(), AtLimit<Frame>>
     requires suits { Suits queue.now 1 worker.old.pass }
     requires stays { worker.old.pass.retired ≡ None }
     ensures taken { OnOk result (HasGivenBack (after_retire worker.old.pass) worker.new.pass) }
-    ensures empty { OnOk result ((t : ℕ) → t < 2 → (known_on t worker.new.pass).finished < (known_on t worker.new.pass).head) }
-    ensures swept { OnOk result (HasSweptLast bytes_of queue.now IsGivenBack 2 64 (after_retire worker.old.pass) worker.new.pass) }
-    ensures leaving { OnOk result ((messages : List TheMessage) → IsDone messages worker.old.pass worker.old.members.items worker.old.starved
-        → IsLeaving messages worker.old.pass worker.new.pass worker.new.members.items worker.new.starved) }
+    ensures empty { OnOk result ((t : ℕ) → t < 2
+        → (known_on t worker.new.pass).finished < (known_on t worker.new.pass).head) }
+    ensures swept { OnOk result (HasSweptLast bytes_of queue.now IsGivenBack 2 64
+        (after_retire worker.old.pass) worker.new.pass) }
+    ensures leaving { OnOk result ((messages : List TheMessage)
+        → IsDone messages worker.old.pass worker.old.members.items worker.old.starved
+        → IsLeaving messages worker.old.pass worker.new.pass worker.new.members.items
+        worker.new.starved) }
     ensures left { IfErr result (λ l. (messages : ℕ)
-        → HasLeftSo HasFewStageCalls messages messages (after_retire worker.old.pass) worker.new.pass l.held) }
+        → HasLeftSo HasFewStageCalls messages messages
+        (after_retire worker.old.pass) worker.new.pass l.held) }
     ensures starved { worker.new.starved ≡ false → worker.old.starved ≡ false }
 {
     queue.retire(&mut worker.pass);

@@ -13,7 +13,8 @@ type Placed<'a> = (u32, u32, &'a Finished);
 
 /// The members of all lists, in order of file and line. They stay where they lie.
 pub fn ordered<'a>(alloc: Global, lists: &'a [Vec<Finished>]) -> Result<Vec<Placed<'a>>, NoMemory>
-    ensures { IfOk result (λ all. IsMerged position_of_finished (finished_in lists.entry.now) (map (λ m. m.2.now) all.items)) }
+    ensures { IfOk result (λ all.
+        IsMerged position_of_finished (finished_in lists.entry.now) (map (λ m. m.2.now) all.items)) }
 {
     let mut members = members_of(alloc, lists)?;
     members.sort_by_key(|(file, line, _)| (*file, *line))?;
@@ -22,8 +23,10 @@ pub fn ordered<'a>(alloc: Global, lists: &'a [Vec<Finished>]) -> Result<Vec<Plac
 
 /// The members of all lists, one list behind the other.
 fn members_of<'a>(alloc: Global, lists: &'a [Vec<Finished>]) -> Result<Vec<Placed<'a>>, NoMemory>
-    ensures members { IfOk result (λ members. map (λ m. m.2.now) members.items ≡ finished_in lists.entry.now) }
-    ensures placed { IfOk result (λ members. All (λ m. (m.0, m.1, 1) ≡ position_of_finished m.2.now) members.items) }
+    ensures members { IfOk result (λ members.
+        map (λ m. m.2.now) members.items ≡ finished_in lists.entry.now) }
+    ensures placed { IfOk result (λ members.
+        All (λ m. (m.0, m.1, 1) ≡ position_of_finished m.2.now) members.items) }
 {
     let mut members = Vec::new(alloc);
     'lists: for list in lists {

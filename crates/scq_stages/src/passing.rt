@@ -1,5 +1,7 @@
-//! How a worker sends a message to first, and what it does with what is in first when it has read its files.
-ghost use Rattle.std.specs.Prelude.{◌≡◌, ℕ, ◌+◌, ◌≤◌, List, length, None, IfErr, IfSome, IsSome, OnOk};
+//! How a worker sends a message to first, and what it does with what is in first when it has read
+//! its files.
+ghost use Rattle.std.specs.Prelude.{◌≡◌, ℕ, ◌+◌, ◌≤◌, List, length, None, IfErr, IfSome, IsSome};
+ghost use Rattle.std.specs.Prelude.{OnOk};
 ghost use Rattle.scq_frames.specs.declared.message.Message.{Message as TheMessage};
 ghost use Rattle.scq_queue.specs.Passes.{IsHeldBy, after_put, after_spent_put, having_seen};
 ghost use Rattle.scq_passes.specs.Calls.{Suits};
@@ -22,22 +24,28 @@ impl<B: BufferMut> Worker<B> {
         message: &Message,
         held: Held<B>,
     ) -> Result<(), AtLimit<B>>
-        requires pass { (self.old.pass.queue ≡ queue.now) × (self.old.pass.spent ≡ None) × (self.old.pass.retired ≡ None) }
+        requires pass { (self.old.pass.queue ≡ queue.now) × (self.old.pass.spent ≡ None)
+            × (self.old.pass.retired ≡ None) }
         requires rings { queue.now.setup.rings ≡ 3 }
         requires topic { message.now.topic ≡ 0 }
         requires short { length message.now.payload ≤ job.now.size }
         requires held { IsHeldBy self.old.pass held }
         requires room { job.now.size + 24 ≤ length (B.contents held.buffer) }
         ensures sent { OnOk result ((place : ℕ) × (bytes : List ℕ)
-            × (self.new.pass ≡ having_seen self.new.pass.seen (after_put 1 held.index place bytes self.old.pass))
+            × (self.new.pass
+            ≡ having_seen self.new.pass.seen (after_put 1 held.index place bytes self.old.pass))
             × SendsToFirst message.now (record { topic = 0; place = place; bytes = bytes })) }
         ensures spent { IfErr result (λ l. (ticket : ℕ)
-            × (self.new.pass ≡ having_seen self.new.pass.seen (after_spent_put 1 ticket self.old.pass))) }
-        ensures back { IfErr result (λ l. IfSome l.held (λ h. (h.index ≡ held.index) × (h.queue ≡ held.queue))) }
+            × (self.new.pass
+            ≡ having_seen self.new.pass.seen (after_spent_put 1 ticket self.old.pass))) }
+        ensures back { IfErr result (λ l.
+            IfSome l.held (λ h. (h.index ≡ held.index) × (h.queue ≡ held.queue))) }
         ensures kept { IfErr result (λ l. IsSome l.held) }
-        ensures same { (self.new.members.items ≡ self.old.members.items) × (self.new.starved ≡ self.old.starved) }
+        ensures same { (self.new.members.items ≡ self.old.members.items)
+            × (self.new.starved ≡ self.old.starved) }
     {
-        // Its numbers are read here, so that it is known of each that it is one of 32 bits, as encode writes it.
+        // Its numbers are read here, so that it is known of each that it is one of 32 bits, as
+        // encode writes it.
         let _file = message.file;
         let _line = message.line;
         let _topic = message.topic;
@@ -55,12 +63,14 @@ impl<B: BufferMut> Worker<B> {
         requires stays { self.old.pass.retired ≡ None }
         ensures suits { OnOk result (Suits queue.now 1 self.new.pass) }
         ensures stays { OnOk result (self.new.pass.retired ≡ None) }
-        ensures done { OnOk result ((messages : List TheMessage) → IsAtWork messages self.old.pass self.old.members.items self.old.starved
+        ensures done { OnOk result ((messages : List TheMessage)
+            → IsAtWork messages self.old.pass self.old.members.items self.old.starved
             → IsDone messages self.new.pass self.new.members.items self.new.starved) }
         ensures left { IfErr result (λ l. (messages : List TheMessage)
             → IsAtWork messages self.old.pass self.old.members.items self.old.starved
             → HasStopped queue.now (length messages) self.new.pass l.held) }
-        ensures same { (self.new.members.items ≡ self.old.members.items) × (self.new.starved ≡ self.old.starved) }
+        ensures same { (self.new.members.items ≡ self.old.members.items)
+            × (self.new.starved ≡ self.old.starved) }
         ensures number { self.new.pass.number ≡ self.old.pass.number }
     {
         'moves: while self.move_one(queue)? {}

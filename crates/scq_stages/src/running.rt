@@ -24,7 +24,8 @@ use scq_topics::Topics;
 use scq_word::BufferMut;
 use std::alloc::Global;
 
-/// Reads files and passes their messages on, and then moves what is in first until nothing is there.
+/// Reads files and passes their messages on, and then moves what is in first until nothing is
+/// there.
 fn work<S: Source>(
     worker: &mut Worker<Frame>,
     alloc: Global,
@@ -39,14 +40,18 @@ fn work<S: Source>(
     requires topics { topics.now ≡ [] }
     requires unread { All IsNew files.old }
     ensures same { ids_of files.new ≡ ids_of files.old }
-    ensures read { All (λ f. IsRead topics.now job.now.size S.faults S.ends S.left f.number f.was.value f.source (given_in f.given.value) f.end)
+    ensures read { All (λ f.
+        IsRead topics.now job.now.size S.faults S.ends S.left f.number f.was.value f.source
+        (given_in f.given.value) f.end)
         files.new }
     ensures stops { StopsAtAFault files.new }
     ensures suits { OnOk result (Suits queue.now 1 worker.new.pass) }
     ensures stays { OnOk result (worker.new.pass.retired ≡ None) }
-    ensures done { OnOk result (IsAtWork [] worker.old.pass worker.old.members.items worker.old.starved
+    ensures done { OnOk result
+        (IsAtWork [] worker.old.pass worker.old.members.items worker.old.starved
         → IsDone (all_given files.new) worker.new.pass worker.new.members.items worker.new.starved) }
-    ensures left { IfErr result (λ l. IsAtWork [] worker.old.pass worker.old.members.items worker.old.starved
+    ensures left { IfErr result (λ l.
+        IsAtWork [] worker.old.pass worker.old.members.items worker.old.starved
         → HasStopped queue.now (length (all_given files.new)) worker.new.pass l.held) }
     ensures number { worker.new.pass.number ≡ worker.old.pass.number }
 {
@@ -55,8 +60,9 @@ fn work<S: Source>(
     worker.empty_first(queue)
 }
 
-/// The worker's whole work: it reads its files and passes their messages on, moves what is in first, retires, and sweeps until it leaves. Where it
-/// met a ticket past the limit, it retires at once where it hasn't yet, leaves, and keeps the value that came back.
+/// The worker's whole work: it reads its files and passes their messages on, moves what is in
+/// first, retires, and sweeps until it leaves. Where it met a ticket past the limit, it retires at
+/// once where it hasn't yet, leaves, and keeps the value that came back.
 pub(crate) fn run<S: Source>(
     desk: &mut Desk<Seat<Worker<Frame>, Frame>, S>,
     alloc: Global,
@@ -68,9 +74,11 @@ pub(crate) fn run<S: Source>(
     requires fresh { IsFresh queue.now desk.old.worker }
     requires unread { All IsNew desk.old.files.items }
     ensures same { ids_of desk.new.files.items ≡ ids_of desk.old.files.items }
-    ensures run { HasRun queue.now job.now.size S.faults S.ends S.left desk.new.files.items desk.new.worker.worker.pass
+    ensures run { HasRun queue.now job.now.size S.faults S.ends S.left desk.new.files.items
+        desk.new.worker.worker.pass
         desk.new.worker.worker.members.items desk.new.worker.worker.starved desk.new.worker.kept }
-    ensures behind { desk.new.worker.worker.pass.spent ≡ None → HasLeftSwept bytes_of IsGivenBack 2 64 desk.new.worker.worker.pass }
+    ensures behind { desk.new.worker.worker.pass.spent ≡ None
+        → HasLeftSwept bytes_of IsGivenBack 2 64 desk.new.worker.worker.pass }
     ensures number { desk.new.worker.worker.pass.number ≡ desk.old.worker.worker.pass.number }
 {
     let topics = Topics::none();

@@ -1,5 +1,7 @@
 //! The stages over all files.
-ghost use Rattle.std.specs.Prelude.{◌≡◌, ℕ, ◌^◌, ◌<◌, ◌≤◌, List, [], None, length, map, slice_index_or, vec_len, IfOk, IfErr, IfSome, IsErrOf, IsSomeAnd, OnOk};
+ghost use Rattle.std.specs.Prelude.{◌≡◌, ℕ, ◌^◌, ◌<◌, ◌≤◌, List, [], None, length, map};
+ghost use Rattle.std.specs.Prelude.{slice_index_or, vec_len, IfOk, IfErr, IfSome, IsErrOf};
+ghost use Rattle.std.specs.Prelude.{IsSomeAnd, OnOk};
 ghost use Rattle.std.specs.List.Sorted.{IsPermutation};
 ghost use Rattle.scq_frames.specs.declared.message.Message.{Message as TheMessage};
 ghost use Rattle.std.specs.List.{All};
@@ -41,8 +43,9 @@ fn setup_of(job: &StageJob) -> Setup
     }
 }
 
-/// Takes the messages of all sources through both stages by the job's workers, each of which reads its own files: file f, from 1, is that of
-/// worker (f - 1) mod the number of workers. They share a queue of buffers. The sources come back in their order in every case.
+/// Takes the messages of all sources through both stages by the job's workers, each of which reads
+/// its own files: file f, from 1, is that of worker (f - 1) mod the number of workers. They share a
+/// queue of buffers. The sources come back in their order in every case.
 pub fn stage_work<R: Threads + Sync, S: Source>(
     rt: &R,
     alloc: Global,
@@ -52,40 +55,51 @@ pub fn stage_work<R: Threads + Sync, S: Source>(
     requires { vec_len sources ≤ 64 }
     ensures count { length result.sources.items ≡ length sources.items }
     ensures moved { (k : ℕ) (d : S) → k < length sources.items
-        → HasMoved S.faults S.left (slice_index_or sources.items k d) (slice_index_or result.sources.items k d) }
+        → HasMoved S.faults S.left (slice_index_or sources.items k d)
+        (slice_index_or result.sources.items k d) }
 
     // No worker read a file behind one of its own at which it stopped.
     ensures stops { StopsAtFaults job.now.workers job.now.size S.faults S.ends S.left
         sources.items result.sources.items }
 
-    // Each source was read to its end, and where the bytes of all are visible the members are what becomes of their messages, each once.
+    // Each source was read to its end, and where the bytes of all are visible the members are what
+    // becomes of their messages, each once.
     ensures whole { OnOk result.result ((k : ℕ) (d : S) → k < length sources.items
-        → IsWhole job.now.size S.faults S.ends S.left (slice_index_or sources.items k d) (slice_index_or result.sources.items k d)) }
+        → IsWhole job.now.size S.faults S.ends S.left (slice_index_or sources.items k d)
+        (slice_index_or result.sources.items k d)) }
     ensures handled { IfOk result.result (λ s. IfSome (all_left S.left sources.items) (λ contents.
         IsPermutation (map without_way (finished_in s.done.items)) (all_handled 1 contents))) }
 
-    // The lists tell of the messages that the files gave, and of what the passes sent and took: of contents that are visible, and of every
-    // source.
+    // The lists tell of the messages that the files gave, and of what the passes sent and took: of
+    // contents that are visible, and of every source.
     ensures told { IfOk result.result (λ s. IfSome (all_left S.left sources.items) (λ contents.
         HasStaged job.now.workers (messages_in [] 1 contents) s)) }
-    ensures staged { IfOk result.result (λ s. (given : List (List TheMessage)) × AreGiven [] job.now.size S.left 1 sources.items given
+    ensures staged { IfOk result.result (λ s.
+        (given : List (List TheMessage)) × AreGiven [] job.now.size S.left 1 sources.items given
         × HasStaged job.now.workers given s) }
 
-    // Whatever the answer is, the queue was closed with each buffer free: before it retired each pass moved to second what it took from first, and
-    // then found first empty; and what was sent was taken. Only where there was no memory for a queue there was none.
-    ensures left { IfSome result.left (λ left. IsSomeAnd result.passes (λ passes. IsSomeAnd result.frames (λ frames.
-        NothingIsStranded job.now.order job.now.workers passes.value.items frames.value.items left.items))) }
+    // Whatever the answer is, the queue was closed with each buffer free: before it retired each
+    // pass moved to second what it took from first, and then found first empty; and what was sent
+    // was taken. Only where there was no memory for a queue there was none.
+    ensures left { IfSome result.left (λ left.
+        IsSomeAnd result.passes (λ passes. IsSomeAnd result.frames (λ frames.
+        NothingIsStranded job.now.order job.now.workers passes.value.items frames.value.items
+        left.items))) }
     ensures none { result.left ≡ None → IsErrOf result.result StageFault.NoMemory }
-    ensures same { IfOk result.result (λ s. IsSomeAnd result.passes (λ passes. passes.value.items ≡ s.passes.value.items)) }
+    ensures same { IfOk result.result (λ s.
+        IsSomeAnd result.passes (λ passes. passes.value.items ≡ s.passes.value.items)) }
 
-    // A fault is that of its file, and those in front of it were read to their ends. Where there is one of a file, each source is as one
-    // whose reading didn't stop for want of memory.
-    ensures cause { IfErr result.result (λ fault. HasCause job.now.size S.faults S.ends S.left sources.items result.sources.items fault) }
-    ensures memory_first { IfErr result.result (λ fault. MemoryIsFirst job.now.size S.faults S.ends S.left sources.items result.sources.items fault) }
+    // A fault is that of its file, and those in front of it were read to their ends. Where there is
+    // one of a file, each source is as one whose reading didn't stop for want of memory.
+    ensures cause { IfErr result.result (λ fault.
+        HasCause job.now.size S.faults S.ends S.left sources.items result.sources.items fault) }
+    ensures memory_first { IfErr result.result (λ fault.
+        MemoryIsFirst job.now.size S.faults S.ends S.left sources.items result.sources.items fault) }
 
-    // Each worker asked before each of its sweeps whether all had retired, and left after the first before which they had, or after 64 in a
-    // row that took nothing.
-    ensures behind { IfSome result.passes (λ passes. All (HasLeftSwept bytes_of IsGivenBack 2 64) passes.value.items) }
+    // Each worker asked before each of its sweeps whether all had retired, and left after the first
+    // before which they had, or after 64 in a row that took nothing.
+    ensures behind { IfSome result.passes (λ passes.
+        All (HasLeftSwept bytes_of IsGivenBack 2 64) passes.value.items) }
 {
     let Ok(room) = make_room(alloc, job.workers, sources.len()) else {
         return StageEnd::starved(sources);

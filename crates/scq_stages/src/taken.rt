@@ -1,5 +1,6 @@
 //! The two stages on a value that a worker holds.
-ghost use Rattle.std.specs.Prelude.{◌≡◌, ◌+◌, ◌≤◌, true, false, None, length, take, drop, IfSome, IsSomeAnd};
+ghost use Rattle.std.specs.Prelude.{◌≡◌, ◌+◌, ◌≤◌, true, false, None, length, take, drop, IfSome};
+ghost use Rattle.std.specs.Prelude.{IsSomeAnd};
 ghost use Rattle.scq_frames.specs.Encoded.{BeginsWith, part_at};
 ghost use Rattle.scq_stages.specs.Stages.{redacted, squeezed, both};
 ghost use Rattle.scq_stages.specs.Handling.{after};
@@ -13,27 +14,36 @@ pub fn redact_in<B: BufferMut>(held: &mut Held<B>) -> bool
     ensures redacted { IfSome (part_at (B.contents held.old.buffer))
         (λ p. (result ≡ true) × BeginsWith (B.contents held.new.buffer) (after redacted p)) }
     ensures none { part_at (B.contents held.old.buffer) ≡ None → result ≡ false }
-    ensures same { (held.new.index ≡ held.old.index) × (held.new.queue ≡ held.old.queue) × (held.new.pass ≡ held.old.pass) }
+    ensures same { (held.new.index ≡ held.old.index) × (held.new.queue ≡ held.old.queue)
+        × (held.new.pass ≡ held.old.pass) }
 {
     redact_part(held.bytes_mut())
 }
 
-/// Squeezes the spaces of the part that comes first. What is left of its bytes comes first behind its numbers.
+/// Squeezes the spaces of the part that comes first. What is left of its bytes comes first behind
+/// its numbers.
 pub fn squeeze_in<B: BufferMut>(held: &mut Held<B>) -> Option<Rest>
-    ensures squeezed { IfSome (part_at (B.contents held.old.buffer)) (λ p. IsSomeAnd result (λ rest. (rest.file ≡ p.file) × (rest.line ≡ p.line)
-        × (24 + rest.len ≤ length (B.contents held.new.buffer)) × (take rest.len (drop 24 (B.contents held.new.buffer)) ≡ squeezed p.payload))) }
+    ensures squeezed { IfSome (part_at (B.contents held.old.buffer)) (λ p.
+        IsSomeAnd result (λ rest. (rest.file ≡ p.file) × (rest.line ≡ p.line)
+        × (24 + rest.len ≤ length (B.contents held.new.buffer))
+        × (take rest.len (drop 24 (B.contents held.new.buffer)) ≡ squeezed p.payload))) }
     ensures none { part_at (B.contents held.old.buffer) ≡ None → result ≡ None }
-    ensures same { (held.new.index ≡ held.old.index) × (held.new.queue ≡ held.old.queue) × (held.new.pass ≡ held.old.pass) }
+    ensures same { (held.new.index ≡ held.old.index) × (held.new.queue ≡ held.old.queue)
+        × (held.new.pass ≡ held.old.pass) }
 {
     squeeze_part(held.bytes_mut())
 }
 
-/// Does both stages to the part that comes first. What is left of its bytes comes first behind its numbers.
+/// Does both stages to the part that comes first. What is left of its bytes comes first behind its
+/// numbers.
 pub fn finish_in<B: BufferMut>(held: &mut Held<B>) -> Option<Rest>
-    ensures finished { IfSome (part_at (B.contents held.old.buffer)) (λ p. IsSomeAnd result (λ rest. (rest.file ≡ p.file) × (rest.line ≡ p.line)
-        × (24 + rest.len ≤ length (B.contents held.new.buffer)) × (take rest.len (drop 24 (B.contents held.new.buffer)) ≡ both p.payload))) }
+    ensures finished { IfSome (part_at (B.contents held.old.buffer)) (λ p.
+        IsSomeAnd result (λ rest. (rest.file ≡ p.file) × (rest.line ≡ p.line)
+        × (24 + rest.len ≤ length (B.contents held.new.buffer))
+        × (take rest.len (drop 24 (B.contents held.new.buffer)) ≡ both p.payload))) }
     ensures none { part_at (B.contents held.old.buffer) ≡ None → result ≡ None }
-    ensures same { (held.new.index ≡ held.old.index) × (held.new.queue ≡ held.old.queue) × (held.new.pass ≡ held.old.pass) }
+    ensures same { (held.new.index ≡ held.old.index) × (held.new.queue ≡ held.old.queue)
+        × (held.new.pass ≡ held.old.pass) }
 {
     finish_part(held.bytes_mut())
 }

@@ -1,12 +1,14 @@
 //! What a worker makes of what it takes.
-ghost use Rattle.std.specs.Prelude.{◌≡◌, ◌⊎◌, ℕ, suc, ◌<◌, ◌++◌, ◌∷◌, List, [], true, false, length, Some, None, Ok, IfErr, IfSome, IsSomeAnd, OnOk};
+ghost use Rattle.std.specs.Prelude.{◌≡◌, ◌⊎◌, ℕ, suc, ◌<◌, ◌++◌, ◌∷◌, List, [], true, false};
+ghost use Rattle.std.specs.Prelude.{length, Some, None, Ok, IfErr, IfSome, IsSomeAnd, OnOk};
 ghost use Rattle.std.specs.List.{filter_map};
 ghost use Rattle.scq_core.specs.declared.ended.Ended.{Ended as TheEnded};
 ghost use Rattle.scq_frames.specs.Encoded.{BeginsWith, part_at};
 ghost use Rattle.scq_queue.specs.Lists.{takes_of};
 ghost use Rattle.scq_band.specs.Buffers.{opening_of};
 ghost use Rattle.scq_band.specs.RunSeen.{IsCallInRun};
-ghost use Rattle.scq_queue.specs.Passes.{caller_of, known_on, IsHeldBy, WasGivenBack, after_put, after_spent_put, having_seen};
+ghost use Rattle.scq_queue.specs.Passes.{caller_of, known_on, IsHeldBy, WasGivenBack, after_put};
+ghost use Rattle.scq_queue.specs.Passes.{after_spent_put, having_seen};
 ghost use Rattle.scq_passes.specs.Calls.{Suits, HasLeftSo, TookNoneBelow, since};
 ghost use Rattle.scq_passes.specs.Leaving.{HasOnlyCalled, TookNothing};
 ghost use Rattle.scq_passes.specs.Taking.{HasEmptied, HasTakenFrom};
@@ -15,7 +17,8 @@ ghost use Rattle.scq_stages.specs.Stages.{redacted, squeezed, both};
 ghost use Rattle.scq_stages.specs.Handling.{after};
 ghost use Rattle.scq_stages.specs.Members.{finished};
 ghost use Rattle.scq_stages.specs.Records.{first, second, take_topic};
-ghost use Rattle.scq_stages.specs.Steps.{HasGivenBack, HasTakenOrMoved, HasMovedIts, HasFinishedOnlySeconds, HasFinished};
+ghost use Rattle.scq_stages.specs.Steps.{HasGivenBack, HasTakenOrMoved, HasMovedIts};
+ghost use Rattle.scq_stages.specs.Steps.{HasFinishedOnlySeconds, HasFinished};
 ghost use Rattle.scq_stages.specs.Working.{HasFewStageCalls};
 
 use crate::finished::StageWay;
@@ -37,14 +40,20 @@ impl<B: BufferMut> Worker<B> {
     ) -> Result<(), AtLimit<B>>
         requires pass { (self.old.pass.queue ≡ queue.now) × (self.old.pass.spent ≡ None) }
         requires held { IsHeldBy self.old.pass held }
-        ensures given { OnOk result ((later : List ℕ) × WasGivenBack later held.index self.old.pass self.new.pass) }
+        ensures given { OnOk result ((later : List ℕ)
+            × WasGivenBack later held.index self.old.pass self.new.pass) }
         ensures run { IsCallInRun queue.now.setup (opening_of B.contents queue.now.given)
             (caller_of self.old.pass) (caller_of self.new.pass) }
-        ensures finished { self.new.starved ≡ false → IfSome (part_at (B.contents held.buffer)) (λ part.
-            self.new.members.items ≡ self.old.members.items ++ finished (StageWay.Second place) squeezed part ∷ []) }
-        ensures passed_over { part_at (B.contents held.buffer) ≡ None → self.new.members.items ≡ self.old.members.items }
-        ensures back { IfErr result (λ l. IsSomeAnd l.held (λ h. (h.index ≡ held.index) × (h.queue ≡ held.queue)
-            × ((ticket : ℕ) × (self.new.pass ≡ having_seen self.new.pass.seen (after_spent_put 0 ticket self.old.pass))))) }
+        ensures finished { self.new.starved ≡ false
+            → IfSome (part_at (B.contents held.buffer)) (λ part.
+            self.new.members.items
+            ≡ self.old.members.items ++ finished (StageWay.Second place) squeezed part ∷ []) }
+        ensures passed_over { part_at (B.contents held.buffer) ≡ None
+            → self.new.members.items ≡ self.old.members.items }
+        ensures back { IfErr result (λ l.
+            IsSomeAnd l.held (λ h. (h.index ≡ held.index) × (h.queue ≡ held.queue)
+            × ((ticket : ℕ) × (self.new.pass
+            ≡ having_seen self.new.pass.seen (after_spent_put 0 ticket self.old.pass))))) }
         ensures starved { self.new.starved ≡ false → self.old.starved ≡ false }
     {
         let mut held = held;
@@ -54,7 +63,8 @@ impl<B: BufferMut> Worker<B> {
         self.give_back(queue, held)
     }
 
-    /// Ends what was taken from first at this place, behind the retirement: does both stages to it, finishes it and gives it back.
+    /// Ends what was taken from first at this place, behind the retirement: does both stages to it,
+    /// finishes it and gives it back.
     fn end_first(
         &mut self,
         alloc: Global,
@@ -64,14 +74,20 @@ impl<B: BufferMut> Worker<B> {
     ) -> Result<(), AtLimit<B>>
         requires pass { (self.old.pass.queue ≡ queue.now) × (self.old.pass.spent ≡ None) }
         requires held { IsHeldBy self.old.pass held }
-        ensures given { OnOk result ((later : List ℕ) × WasGivenBack later held.index self.old.pass self.new.pass) }
+        ensures given { OnOk result ((later : List ℕ)
+            × WasGivenBack later held.index self.old.pass self.new.pass) }
         ensures run { IsCallInRun queue.now.setup (opening_of B.contents queue.now.given)
             (caller_of self.old.pass) (caller_of self.new.pass) }
-        ensures finished { self.new.starved ≡ false → IfSome (part_at (B.contents held.buffer)) (λ part.
-            self.new.members.items ≡ self.old.members.items ++ finished (StageWay.First place) both part ∷ []) }
-        ensures passed_over { part_at (B.contents held.buffer) ≡ None → self.new.members.items ≡ self.old.members.items }
-        ensures back { IfErr result (λ l. IsSomeAnd l.held (λ h. (h.index ≡ held.index) × (h.queue ≡ held.queue)
-            × ((ticket : ℕ) × (self.new.pass ≡ having_seen self.new.pass.seen (after_spent_put 0 ticket self.old.pass))))) }
+        ensures finished { self.new.starved ≡ false
+            → IfSome (part_at (B.contents held.buffer)) (λ part.
+            self.new.members.items
+            ≡ self.old.members.items ++ finished (StageWay.First place) both part ∷ []) }
+        ensures passed_over { part_at (B.contents held.buffer) ≡ None
+            → self.new.members.items ≡ self.old.members.items }
+        ensures back { IfErr result (λ l.
+            IsSomeAnd l.held (λ h. (h.index ≡ held.index) × (h.queue ≡ held.queue)
+            × ((ticket : ℕ) × (self.new.pass
+            ≡ having_seen self.new.pass.seen (after_spent_put 0 ticket self.old.pass))))) }
         ensures starved { self.new.starved ≡ false → self.old.starved ≡ false }
     {
         let mut held = held;
@@ -83,19 +99,26 @@ impl<B: BufferMut> Worker<B> {
 
     /// Moves what was taken from first to second, redacted. What is no part goes back.
     fn move_on(&mut self, queue: &Queue<B>, held: Held<B>) -> Result<(), AtLimit<B>>
-        requires pass { (self.old.pass.queue ≡ queue.now) × (self.old.pass.spent ≡ None) × (self.old.pass.retired ≡ None) }
+        requires pass { (self.old.pass.queue ≡ queue.now) × (self.old.pass.spent ≡ None)
+            × (self.old.pass.retired ≡ None) }
         requires rings { queue.now.setup.rings ≡ 3 }
         requires held { IsHeldBy self.old.pass held }
-        ensures moved { OnOk result (IfSome (part_at (B.contents held.buffer)) (λ part. (place : ℕ) × (bytes : List ℕ)
-            × (self.new.pass ≡ having_seen self.new.pass.seen (after_put (suc second) held.index place bytes self.old.pass))
+        ensures moved { OnOk result
+            (IfSome (part_at (B.contents held.buffer)) (λ part. (place : ℕ) × (bytes : List ℕ)
+            × (self.new.pass
+            ≡ having_seen self.new.pass.seen
+            (after_put (suc second) held.index place bytes self.old.pass))
             × BeginsWith bytes (after redacted part))) }
         ensures passed_over { OnOk result (part_at (B.contents held.buffer) ≡ None
             → (later : List ℕ) × WasGivenBack later held.index self.old.pass self.new.pass) }
         ensures gates { OnOk result (self.new.pass.gates ≡ self.old.pass.gates) }
-        ensures back { IfErr result (λ l. IsSomeAnd l.held (λ h. (h.index ≡ held.index) × (h.queue ≡ held.queue)
+        ensures back { IfErr result (λ l.
+            IsSomeAnd l.held (λ h. (h.index ≡ held.index) × (h.queue ≡ held.queue)
             × ((ring : ℕ) × (ticket : ℕ) × ((ring ≡ 0) ⊎ (ring ≡ suc second))
-            × (self.new.pass ≡ having_seen self.new.pass.seen (after_spent_put ring ticket self.old.pass))))) }
-        ensures same { (self.new.members.items ≡ self.old.members.items) × (self.new.starved ≡ self.old.starved) }
+            × (self.new.pass
+            ≡ having_seen self.new.pass.seen (after_spent_put ring ticket self.old.pass))))) }
+        ensures same { (self.new.members.items ≡ self.old.members.items)
+            × (self.new.starved ≡ self.old.starved) }
     {
         let mut held = held;
         if redact_in(&mut held) {
@@ -105,7 +128,8 @@ impl<B: BufferMut> Worker<B> {
         }
     }
 
-    /// Takes once from second. What it got it squeezes, finishes and gives back. Whether it got anything.
+    /// Takes once from second. What it got it squeezes, finishes and gives back. Whether it got
+    /// anything.
     pub(crate) fn take_second(
         &mut self,
         alloc: Global,
@@ -113,12 +137,14 @@ impl<B: BufferMut> Worker<B> {
     ) -> Result<bool, AtLimit<B>>
         requires suits { Suits queue.now 1 self.old.pass }
         ensures taken { OnOk result (HasGivenBack self.old.pass self.new.pass) }
-        ensures one { OnOk result (filter_map take_topic (since self.old.pass self.new.pass) ≡ second ∷ []) }
+        ensures one { OnOk result (filter_map take_topic (since self.old.pass self.new.pass)
+            ≡ second ∷ []) }
         ensures moves { OnOk result (HasMovedIts self.old.pass self.new.pass) }
         ensures finished { OnOk result (self.new.starved ≡ false
             → HasFinished self.old.pass self.new.pass self.old.members.items self.new.members.items) }
         ensures helped { OnOk result (self.new.starved ≡ false
-            → HasFinishedOnlySeconds self.old.pass self.new.pass self.old.members.items self.new.members.items) }
+            → HasFinishedOnlySeconds self.old.pass self.new.pass self.old.members.items
+            self.new.members.items) }
         ensures below { OnOk result (TookNoneBelow first self.old.pass self.new.pass) }
         ensures some { result ≡ Ok true
             → HasTakenFrom queue.now.setup.limit second self.old.pass self.new.pass
@@ -127,7 +153,8 @@ impl<B: BufferMut> Worker<B> {
             × TookNothing self.old.pass self.new.pass }
         ensures only { OnOk result
             (HasOnlyCalled B.contents queue.now self.old.pass self.new.pass) }
-        ensures left { IfErr result (λ l. (messages : ℕ) → HasLeftSo HasFewStageCalls messages messages self.old.pass self.new.pass l.held) }
+        ensures left { IfErr result (λ l. (messages : ℕ)
+            → HasLeftSo HasFewStageCalls messages messages self.old.pass self.new.pass l.held) }
         ensures starved { self.new.starved ≡ false → self.old.starved ≡ false }
     {
         match queue.take(&mut self.pass, SECOND) {
@@ -140,21 +167,29 @@ impl<B: BufferMut> Worker<B> {
         }
     }
 
-    /// Takes once from first, before the pass retires. What it got it redacts and sends to second. Whether it got anything.
+    /// Takes once from first, before the pass retires. What it got it redacts and sends to second.
+    /// Whether it got anything.
     pub(crate) fn move_one(&mut self, queue: &Queue<B>) -> Result<bool, AtLimit<B>>
         requires suits { Suits queue.now 1 self.old.pass }
         requires stays { self.old.pass.retired ≡ None }
         ensures taken { OnOk result (HasTakenOrMoved self.old.pass self.new.pass) }
-        ensures one { OnOk result (filter_map take_topic (since self.old.pass self.new.pass) ≡ first ∷ []) }
+        ensures one { OnOk result (filter_map take_topic (since self.old.pass self.new.pass)
+            ≡ first ∷ []) }
         ensures moves { OnOk result (HasMovedIts self.old.pass self.new.pass) }
         ensures gates { OnOk result (self.new.pass.gates ≡ self.old.pass.gates) }
-        ensures helped { OnOk result (HasFinishedOnlySeconds self.old.pass self.new.pass self.old.members.items self.new.members.items) }
-        ensures same { (self.new.members.items ≡ self.old.members.items) × (self.new.starved ≡ self.old.starved) }
-        ensures some { result ≡ Ok true → ((known_on first self.old.pass).head < (known_on first self.new.pass).head)
+        ensures helped { OnOk result
+            (HasFinishedOnlySeconds self.old.pass self.new.pass self.old.members.items
+            self.new.members.items) }
+        ensures same { (self.new.members.items ≡ self.old.members.items)
+            × (self.new.starved ≡ self.old.starved) }
+        ensures some { result ≡ Ok true
+            → ((known_on first self.old.pass).head < (known_on first self.new.pass).head)
             × ((known_on first self.old.pass).head < queue.now.setup.limit) }
-        ensures last { result ≡ Ok false → (self.new.pass.calls ≡ self.old.pass.calls ++ TheEnded.Nothing (suc first) ∷ [])
+        ensures last { result ≡ Ok false
+            → (self.new.pass.calls ≡ self.old.pass.calls ++ TheEnded.Nothing (suc first) ∷ [])
             × ((known_on first self.new.pass).finished < (known_on first self.new.pass).head) }
-        ensures left { IfErr result (λ l. (messages : ℕ) → HasLeftSo HasFewStageCalls messages messages self.old.pass self.new.pass l.held) }
+        ensures left { IfErr result (λ l. (messages : ℕ)
+            → HasLeftSo HasFewStageCalls messages messages self.old.pass self.new.pass l.held) }
     {
         match queue.take(&mut self.pass, FIRST) {
             Ok((_, held)) => {
@@ -166,7 +201,8 @@ impl<B: BufferMut> Worker<B> {
         }
     }
 
-    /// Takes once from first, behind the retirement. What it got goes through both stages, is finished and given back. Whether it got anything.
+    /// Takes once from first, behind the retirement. What it got goes through both stages, is
+    /// finished and given back. Whether it got anything.
     pub(crate) fn finish_one(&mut self, alloc: Global, queue: &Queue<B>) -> Result<bool, AtLimit<B>>
         requires suits { Suits queue.now 1 self.old.pass }
         ensures taken { OnOk result (HasGivenBack self.old.pass self.new.pass) }
@@ -180,7 +216,8 @@ impl<B: BufferMut> Worker<B> {
             × TookNothing self.old.pass self.new.pass }
         ensures only { OnOk result
             (HasOnlyCalled B.contents queue.now self.old.pass self.new.pass) }
-        ensures left { IfErr result (λ l. (messages : ℕ) → HasLeftSo HasFewStageCalls messages messages self.old.pass self.new.pass l.held) }
+        ensures left { IfErr result (λ l. (messages : ℕ)
+            → HasLeftSo HasFewStageCalls messages messages self.old.pass self.new.pass l.held) }
         ensures starved { self.new.starved ≡ false → self.old.starved ≡ false }
     {
         match queue.take(&mut self.pass, FIRST) {
@@ -198,12 +235,15 @@ impl<B: BufferMut> Worker<B> {
         requires suits { Suits queue.now 1 self.old.pass }
         requires stays { self.old.pass.retired ≡ None }
         ensures taken { OnOk result (HasTakenOrMoved self.old.pass self.new.pass) }
-        ensures each { OnOk result (filter_map take_topic (since self.old.pass self.new.pass) ≡ second ∷ first ∷ []) }
+        ensures each { OnOk result (filter_map take_topic (since self.old.pass self.new.pass)
+            ≡ second ∷ first ∷ []) }
         ensures moves { OnOk result (HasMovedIts self.old.pass self.new.pass) }
         ensures gates { OnOk result (self.new.pass.gates ≡ self.old.pass.gates) }
         ensures helped { OnOk result (self.new.starved ≡ false
-            → HasFinishedOnlySeconds self.old.pass self.new.pass self.old.members.items self.new.members.items) }
-        ensures left { IfErr result (λ l. (messages : ℕ) → HasLeftSo HasFewStageCalls messages messages self.old.pass self.new.pass l.held) }
+            → HasFinishedOnlySeconds self.old.pass self.new.pass self.old.members.items
+            self.new.members.items) }
+        ensures left { IfErr result (λ l. (messages : ℕ)
+            → HasLeftSo HasFewStageCalls messages messages self.old.pass self.new.pass l.held) }
         ensures starved { self.new.starved ≡ false → self.old.starved ≡ false }
     {
         self.take_second(alloc, queue)?;

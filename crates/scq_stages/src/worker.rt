@@ -1,9 +1,11 @@
 //! A worker of the stages: what it makes of a message itself, and of what it takes.
-ghost use Rattle.std.specs.Prelude.{◌≡◌, ℕ, suc, ◌+◌, ◌≤◌, ◌++◌, ◌∷◌, [], true, false, length, take, drop, Some, None, IfOk, IfErr, IfSome, IsSome, OnOk};
+ghost use Rattle.std.specs.Prelude.{◌≡◌, ℕ, suc, ◌+◌, ◌≤◌, ◌++◌, ◌∷◌, [], true, false, length};
+ghost use Rattle.std.specs.Prelude.{take, drop, Some, None, IfOk, IfErr, IfSome, IsSome, OnOk};
 ghost use Rattle.scq_frames.specs.Encoded.{BeginsWith, part_at};
 ghost use Rattle.scq_band.specs.Buffers.{opening_of};
 ghost use Rattle.scq_band.specs.RunSeen.{IsCallInRun};
-ghost use Rattle.scq_queue.specs.Passes.{caller_of, IsHeldBy, WasGivenBack, after_put, after_spent_put, having_seen};
+ghost use Rattle.scq_queue.specs.Passes.{caller_of, IsHeldBy, WasGivenBack, after_put};
+ghost use Rattle.scq_queue.specs.Passes.{after_spent_put, having_seen};
 ghost use Rattle.scq_passes.specs.Calls.{Suits};
 ghost use Rattle.scq_stages.specs.Stages.{redacted, squeezed, both as the_both};
 ghost use Rattle.scq_stages.specs.Handling.{after};
@@ -28,7 +30,8 @@ pub(crate) const FIRST: u32 = 0;
 /// The topic to which they are moved, redacted.
 pub(crate) const SECOND: u32 = 1;
 
-/// A worker: the pass by which it makes its calls, what it has finished, and whether it wanted memory.
+/// A worker: the pass by which it makes its calls, what it has finished, and whether it wanted
+/// memory.
 #[derive(Drop)]
 pub struct Worker<B: Buffer> {
     pub pass: Pass<B>,
@@ -89,7 +92,8 @@ impl<B: Buffer> Sits<Pass<B>, Finished> for Worker<B> {
 impl<B: BufferMut> Worker<B> {
     /// Puts a member behind the list, where there was memory for it and for its payload.
     fn list(&mut self, file: u32, line: u32, payload: Result<Bytes, NoMemory>, way: StageWay)
-        ensures listed { IfOk payload (λ bytes. self.new.starved ≡ false → self.new.members.items ≡ self.old.members.items
+        ensures listed { IfOk payload (λ bytes. self.new.starved ≡ false
+            → self.new.members.items ≡ self.old.members.items
             ++ record { file = file; line = line; payload = bytes; way = way } ∷ []) }
         ensures wanted { IfErr payload (λ _. self.new.starved ≡ true) }
         ensures starved { self.new.starved ≡ false → self.old.starved ≡ false }
@@ -111,11 +115,18 @@ impl<B: BufferMut> Worker<B> {
         }
     }
 
-    /// Finishes what is left of a part: copies its bytes, so many behind its numbers. It gives up where it wanted memory before.
+    /// Finishes what is left of a part: copies its bytes, so many behind its numbers. It gives up
+    /// where it wanted memory before.
     pub(crate) fn finish(&mut self, alloc: Global, rest: Rest, bytes: &[u8], way: StageWay)
         requires { 24 + rest.len ≤ length bytes.now }
         ensures listed { self.new.starved ≡ false → self.new.members.items ≡ self.old.members.items
-            ++ record { file = rest.file; line = rest.line; payload = take rest.len (drop 24 bytes.now); way = way } ∷ [] }
+            ++ record {
+              file = rest.file;
+              line = rest.line;
+              payload =
+                  take rest.len (drop 24 bytes.now);
+              way = way;
+            } ∷ [] }
         ensures starved { self.new.starved ≡ false → self.old.starved ≡ false }
         ensures same { self.new.pass ≡ self.old.pass }
     {
@@ -126,10 +137,13 @@ impl<B: BufferMut> Worker<B> {
         self.list(rest.file, rest.line, left, way);
     }
 
-    /// Does both stages to a message itself, where no buffer was free: with this head of the ring of free buffers.
+    /// Does both stages to a message itself, where no buffer was free: with this head of the ring
+    /// of free buffers.
     pub(crate) fn finish_directly(&mut self, alloc: Global, message: &Message, head: u64)
         ensures listed { self.new.starved ≡ false
-            → self.new.members.items ≡ self.old.members.items ++ finished (StageWay.Direct head) the_both (whole_of message.now) ∷ [] }
+            → self.new.members.items
+            ≡ self.old.members.items
+            ++ finished (StageWay.Direct head) the_both (whole_of message.now) ∷ [] }
         ensures starved { self.new.starved ≡ false → self.old.starved ≡ false }
         ensures same { self.new.pass ≡ self.old.pass }
     {
@@ -141,14 +155,18 @@ impl<B: BufferMut> Worker<B> {
     pub(crate) fn give_back(&mut self, queue: &Queue<B>, held: Held<B>) -> Result<(), AtLimit<B>>
         requires pass { (self.old.pass.queue ≡ queue.now) × (self.old.pass.spent ≡ None) }
         requires held { IsHeldBy self.old.pass held }
-        ensures given { OnOk result (WasGivenBack (B.contents held.buffer) held.index self.old.pass self.new.pass) }
+        ensures given { OnOk result
+            (WasGivenBack (B.contents held.buffer) held.index self.old.pass self.new.pass) }
         ensures run { IsCallInRun queue.now.setup (opening_of B.contents queue.now.given)
             (caller_of self.old.pass) (caller_of self.new.pass) }
         ensures spent { IfErr result (λ l. (ticket : ℕ)
-            × (self.new.pass ≡ having_seen self.new.pass.seen (after_spent_put 0 ticket self.old.pass))) }
-        ensures back { IfErr result (λ l. IfSome l.held (λ h. (h.index ≡ held.index) × (h.queue ≡ held.queue))) }
+            × (self.new.pass
+            ≡ having_seen self.new.pass.seen (after_spent_put 0 ticket self.old.pass))) }
+        ensures back { IfErr result (λ l.
+            IfSome l.held (λ h. (h.index ≡ held.index) × (h.queue ≡ held.queue))) }
         ensures kept { IfErr result (λ l. IsSome l.held) }
-        ensures same { (self.new.members.items ≡ self.old.members.items) × (self.new.starved ≡ self.old.starved) }
+        ensures same { (self.new.members.items ≡ self.old.members.items)
+            × (self.new.starved ≡ self.old.starved) }
     {
         match queue.give_back(&mut self.pass, held) {
             Ok(()) => Ok(()),
@@ -158,16 +176,22 @@ impl<B: BufferMut> Worker<B> {
 
     /// Sends what it took from first to second, as it is now.
     pub(crate) fn send_on(&mut self, queue: &Queue<B>, held: Held<B>) -> Result<(), AtLimit<B>>
-        requires pass { (self.old.pass.queue ≡ queue.now) × (self.old.pass.spent ≡ None) × (self.old.pass.retired ≡ None) }
+        requires pass { (self.old.pass.queue ≡ queue.now) × (self.old.pass.spent ≡ None)
+            × (self.old.pass.retired ≡ None) }
         requires rings { queue.now.setup.rings ≡ 3 }
         requires held { IsHeldBy self.old.pass held }
         ensures sent { OnOk result ((place : ℕ)
-            × (self.new.pass ≡ having_seen self.new.pass.seen (after_put 2 held.index place (B.contents held.buffer) self.old.pass))) }
+            × (self.new.pass
+            ≡ having_seen self.new.pass.seen
+            (after_put 2 held.index place (B.contents held.buffer) self.old.pass))) }
         ensures spent { IfErr result (λ l. (ticket : ℕ)
-            × (self.new.pass ≡ having_seen self.new.pass.seen (after_spent_put 2 ticket self.old.pass))) }
-        ensures back { IfErr result (λ l. IfSome l.held (λ h. (h.index ≡ held.index) × (h.queue ≡ held.queue))) }
+            × (self.new.pass
+            ≡ having_seen self.new.pass.seen (after_spent_put 2 ticket self.old.pass))) }
+        ensures back { IfErr result (λ l.
+            IfSome l.held (λ h. (h.index ≡ held.index) × (h.queue ≡ held.queue))) }
         ensures kept { IfErr result (λ l. IsSome l.held) }
-        ensures same { (self.new.members.items ≡ self.old.members.items) × (self.new.starved ≡ self.old.starved) }
+        ensures same { (self.new.members.items ≡ self.old.members.items)
+            × (self.new.starved ≡ self.old.starved) }
     {
         match queue.send(&mut self.pass, SECOND, held) {
             Ok(_) => Ok(()),

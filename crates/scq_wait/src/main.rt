@@ -1,6 +1,7 @@
-//! The program `scq_wait`, which takes the words of `scq run` and lets idle workers wait in place of leaving early: it makes the real files,
-//! standard output and standard error, calls `serve_waiting` of `scq_service`, whose contract says what is written and why, and ends with
-//! its status. It has no contract of its own: what a real file or stream holds, no clause can say.
+//! The program `scq_wait`, which takes the words of `scq run` and lets idle workers wait in place
+//! of leaving early: it makes the real files, standard output and standard error, calls
+//! `serve_waiting` of `scq_service`, whose contract says what is written and why, and ends with its
+//! status. It has no contract of its own: what a real file or stream holds, no clause can say.
 #![tactic(auto)]
 
 use scq_outside::{DiskFiles, StdSink, StdStream};

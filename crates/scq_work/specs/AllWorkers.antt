@@ -1,5 +1,6 @@
--- What all workers did with the messages of files. `given` has the messages of each file, in the order of the files. A worker is told by
--- its number, from 0: by it stand its pass among the passes, and its list among the lists.
+-- What all workers did with the messages of files. `given` has the messages of each file, in the
+-- order of the files. A worker is told by its number, from 0: by it stand its pass among the
+-- passes, and its list among the lists.
 use Rattle.std.specs.Prelude.{◌≡◌, ℕ, ◌^◌, ◌≤◌, List, length, map, flat_map, All, Vec}
 use Rattle.std.specs.Global.{Global}
 use Rattle.std.specs.List.Sorted.{IsPermutation}
@@ -22,41 +23,55 @@ use Rattle.scq_passes.specs.Together.{HasRetired}
 use Rattle.scq_passes.specs.AllPasses.{IsSetup, OfEachWorker, HaveShared, lengths_of}
 
 module _ {B : Type 0} where
-  -- the workers' lists, against the messages of files and the workers' passes, where a part has at most `size` bytes
-  pub record HaveAnswered (topics : List (List ℕ × Kind)) (size workers : ℕ) (given : List (List Message)) (passes : List (PassStanding B))
+  -- the workers' lists, against the messages of files and the workers' passes, where a part has at
+  -- most `size` bytes
+  pub record HaveAnswered (topics : List (List ℕ × Kind)) (size workers : ℕ)
+      (given : List (List Message)) (passes : List (PassStanding B))
       (lists : List (Vec Answered Global)) : Type 0 where
     pub each_pass : length passes ≡ workers
     pub each_list : length lists ≡ workers
     -- the answers in all lists are those to all parts of all messages, each once
-    pub once : IsPermutation (map without_way (members_in lists)) (part_answers topics size (flat_map (λ own. own) given))
-    -- so they are whole messages: of each file and line that stands in the lists the members are its parts 1 to `parts`, each once and on one
-    -- topic. That is a known one, and no part has more than `size` bytes.
+    pub once : IsPermutation (map without_way (members_in lists))
+        (part_answers topics size (flat_map (λ own. own) given))
+    -- so they are whole messages: of each file and line that stands in the lists the members are
+    -- its parts 1 to `parts`, each once and on one topic. That is a known one, and no part has more
+    -- than `size` bytes.
     pub whole : AreWhole (members_in lists)
     pub known : All (λ a. a.topic ≤ length topics) (members_in lists)
     pub short : All (λ a. a.bytes ≤ size) (members_in lists)
-    -- one by one and in order, the Taken members of a worker's list are its takes, and the Direct ones its Full replies
-    pub takes : OfEachWorker (λ w p list. AnswersItsTakes topics (takes_of p.calls) list) passes lists
+    -- one by one and in order, the Taken members of a worker's list are its takes, and the Direct
+    -- ones its Full replies
+    pub takes : OfEachWorker (λ w p list.
+        AnswersItsTakes topics (takes_of p.calls) list) passes lists
     pub fulls : OfEachWorker (λ w p list. AnswersItsFulls p.fulls list) passes lists
-    -- the parts of the messages of a worker's files, in order of file, line and part, are each its next send or its next Direct member, and there
-    -- are no others
-    pub passed : OfEachWorker (λ w p list. HasPassedOn topics (parts_in size (own_of workers w 1 given)) (sends_of p.calls) list) passes lists
+    -- the parts of the messages of a worker's files, in order of file, line and part, are each its
+    -- next send or its next Direct member, and there are no others
+    pub passed : OfEachWorker (λ w p list.
+        HasPassedOn topics (parts_in size (own_of workers w 1 given))
+        (sends_of p.calls) list) passes lists
     -- and they stand so in its record: each is its next send or its next Full
-    pub follows : OfEachWorker (λ w p list. FollowsCalls (parts_in size (own_of workers w 1 given)) p.calls) passes lists
+    pub follows : OfEachWorker (λ w p list.
+        FollowsCalls (parts_in size (own_of workers w 1 given)) p.calls) passes lists
 
-  -- a pass has helped: after each Full, before the next lend, comes one take of each topic. And it has retired; up to there it took just once
-  -- from each topic after each Full
+  -- a pass has helped: after each Full, before the next lend, comes one take of each topic. And it
+  -- has retired; up to there it took just once from each topic after each Full
   pub record HasHelped (topics : ℕ) (p : PassStanding B) : Type 0 where
     pub helps : HelpsAfterEachFull topics p.calls
     pub retired : HasRetired (HelpsOnceAfterEachFull topics) p
 
--- the queue of a job with so many topics is closed, and nothing is stranded in it, whatever its workers met: they have retired and swept, and
--- all buffers are free: those that came back are the frames of its block that it was given
-pub record NothingIsStranded (order topics workers : ℕ) (passes : List (PassStanding Frame)) (frames : List Frame) (left : List ℕ) : Type 0 where
+-- the queue of a job with so many topics is closed, and nothing is stranded in it, whatever its
+-- workers met: they have retired and swept, and all buffers are free: those that came back are the
+-- frames of its block that it was given
+pub record NothingIsStranded (order topics workers : ℕ) (passes : List (PassStanding Frame))
+    (frames : List Frame) (left : List ℕ) : Type 0 where
   pub setup : Setup
   pub of_job : IsSetup order topics workers setup
-  pub shared : HaveShared bytes_of IsSame (HasHelped topics) (2 ^ 36) topics setup passes frames left
+  pub shared : HaveShared bytes_of IsSame (HasHelped topics)
+      (2 ^ 36) topics setup passes frames left
 
--- so many workers answered files that gave these messages: what they answered, by their passes, and the lengths of the passes' lists
-pub record HasWorked (topics : List (List ℕ × Kind)) (size workers : ℕ) (given : List (List Message)) (w : Worked) : Type 0 where
+-- so many workers answered files that gave these messages: what they answered, by their passes, and
+-- the lengths of the passes' lists
+pub record HasWorked (topics : List (List ℕ × Kind)) (size workers : ℕ)
+    (given : List (List Message)) (w : Worked) : Type 0 where
   pub answered : HaveAnswered topics size workers given w.passes.value.items w.answered.items
   pub counts : w.counts.items ≡ map lengths_of w.passes.value.items

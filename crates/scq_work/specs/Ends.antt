@@ -1,5 +1,7 @@
--- How the work on all files ended: the fault of the workers and its cause, and what is known of each end. Files are numbered from 1.
-use Rattle.std.specs.Prelude.{◌≡◌, ℕ, ◌+◌, ◌<◌, List, length, map, slice_index_or, Option, Some, None, IfOk, IfErr, IfSome, IsErrOf, IsSomeAnd, OnOk}
+-- How the work on all files ended: the fault of the workers and its cause, and what is known of
+-- each end. Files are numbered from 1.
+use Rattle.std.specs.Prelude.{◌≡◌, ℕ, ◌+◌, ◌<◌, List, length, map, slice_index_or, Option, Some}
+use Rattle.std.specs.Prelude.{None, IfOk, IfErr, IfSome, IsErrOf, IsSomeAnd, OnOk}
 use Rattle.std.specs.List.Sorted.{IsPermutation}
 use Rattle.scq_frames.specs.declared.message.Message.{Message}
 use Rattle.scq_collect.specs.Collected.{messages_to}
@@ -24,27 +26,40 @@ as_end (TooLarge file bytes) = ends.TooLarge file bytes
 as_end NoMemory = ends.NoMemory
 
 -- want of memory comes before any other fault
-abbrev pub MemoryIsFirst : {S : Type 0} → ℕ → (S → ℕ) → (S → ℕ) → (S → Option (List ℕ)) → List S → List S → WorkFault → Type 0
-MemoryIsFirst size faults end_count left olds news fault = workers.MemoryIsFirst size faults end_count left olds news (as_end fault)
+abbrev pub MemoryIsFirst : {S : Type 0} → ℕ → (S → ℕ) → (S → ℕ) → (S → Option (List ℕ)) → List S
+    → List S → WorkFault → Type 0
+MemoryIsFirst size faults end_count left olds news fault =
+    workers.MemoryIsFirst size faults end_count left olds news (as_end fault)
 
 -- the cause of each fault
-abbrev pub HasCause : {S : Type 0} → ℕ → (S → ℕ) → (S → ℕ) → (S → Option (List ℕ)) → List S → List S → WorkFault → Type 0
-HasCause size faults end_count left olds news fault = workers.HasCause size faults end_count left olds news (as_end fault)
+abbrev pub HasCause : {S : Type 0} → ℕ → (S → ℕ) → (S → ℕ) → (S → Option (List ℕ)) → List S → List S
+    → WorkFault → Type 0
+HasCause size faults end_count left olds news fault =
+    workers.HasCause size faults end_count left olds news (as_end fault)
 
 -- what is known of the end of a job's work on these sources, as the contract of `work` says it
-pub record EndsWork {S : Type 0} (j : Job) (faults end_count : S → ℕ) (left : S → Option (List ℕ)) (sources : List S) (end : WorkEnd S) : Type 0 where
+pub record EndsWork {S : Type 0} (j : Job) (faults end_count : S → ℕ) (left : S
+    → Option (List ℕ)) (sources : List S) (end : WorkEnd S) : Type 0 where
   pub count : length end.sources.items ≡ length sources
-  pub moved : (k : ℕ) (d : S) → k < length sources → HasMoved faults left (slice_index_or sources k d) (slice_index_or end.sources.items k d)
+  pub moved : (k : ℕ) (d : S) → k < length sources
+      → HasMoved faults left (slice_index_or sources k d) (slice_index_or end.sources.items k d)
   pub whole : OnOk end.result ((k : ℕ) (d : S) → k < length sources
-      → IsWhole j.longest faults end_count left (slice_index_or sources k d) (slice_index_or end.sources.items k d))
+      → IsWhole j.longest faults end_count left (slice_index_or sources k d)
+      (slice_index_or end.sources.items k d))
   pub answers : IfOk end.result (λ w. IfSome (all_left left sources) (λ contents.
-      IsPermutation (map without_way (members_in w.answered.items)) (part_answers j.topics j.size (messages_to j.topics 1 contents))))
-  pub told : IfOk end.result (λ w. IfSome (all_left left sources) (λ contents. HasWorked j.topics j.size j.workers (messages_in j.topics 1 contents) w))
-  pub worked : IfOk end.result (λ w. (given : List (List Message)) × AreGiven j.topics j.longest left 1 sources given
+      IsPermutation (map without_way (members_in w.answered.items))
+      (part_answers j.topics j.size (messages_to j.topics 1 contents))))
+  pub told : IfOk end.result (λ w.
+      IfSome (all_left left sources) (λ contents.
+      HasWorked j.topics j.size j.workers (messages_in j.topics 1 contents) w))
+  pub worked : IfOk end.result (λ w.
+      (given : List (List Message)) × AreGiven j.topics j.longest left 1 sources given
       × HasWorked j.topics j.size j.workers given w)
   pub none_stranded : IfSome end.left (λ l. IsSomeAnd end.passes (λ p. IsSomeAnd end.frames (λ f.
-      NothingIsStranded j.order (length j.topics + 1) j.workers p.value.items f.value.items l.items)))
+      NothingIsStranded j.order (length j.topics
+      + 1) j.workers p.value.items f.value.items l.items)))
   pub none : end.left ≡ None → IsErrOf end.result NoMemory
   pub same : IfOk end.result (λ w. IsSomeAnd end.passes (λ p. p.value.items ≡ w.passes.value.items))
   pub cause : IfErr end.result (HasCause j.longest faults end_count left sources end.sources.items)
-  pub memory_first : IfErr end.result (MemoryIsFirst j.longest faults end_count left sources end.sources.items)
+  pub memory_first : IfErr end.result
+      (MemoryIsFirst j.longest faults end_count left sources end.sources.items)

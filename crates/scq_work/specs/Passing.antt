@@ -1,4 +1,5 @@
--- What becomes of the parts of the messages of a worker's files: each is sent, or answered directly.
+-- What becomes of the parts of the messages of a worker's files: each is sent, or answered
+-- directly.
 use Rattle.std.specs.Prelude.{◌≡◌, ℕ, suc, List, [], ◌∷◌, ◌++◌, filter, flat_map, None}
 use Rattle.scq_core.specs.declared.ended.Ended.{Ended}
 use Rattle.scq_core.specs.declared.ended.Ended.TheVariants.{Done, Nothing}
@@ -27,20 +28,25 @@ pub record AnswersDirectly (topics : List (List ℕ × Kind)) (p : Part) (a : An
   pub head : ℕ
   pub answer : a ≡ answered topics (Direct head) p
 
--- parts, in order, are each the next send or the next direct answer, and there are no other sends and direct answers
+-- parts, in order, are each the next send or the next direct answer, and there are no other sends
+-- and direct answers
 abbrev pub ArePassedOn : List (List ℕ × Kind) → List Part → List Placed → List Answered → Type 0
-ArePassedOn topics parts sends directs = passed.ArePassedOn Sends (AnswersDirectly topics) parts sends directs
+ArePassedOn topics parts sends directs =
+    passed.ArePassedOn Sends (AnswersDirectly topics) parts sends directs
 
 -- a worker has passed on these parts, with these sends and this list
 abbrev pub HasPassedOn : List (List ℕ × Kind) → List Part → List Placed → List Answered → Type 0
 HasPassedOn topics parts sends members = ArePassedOn topics parts sends (filter is_direct members)
 
--- these parts, in order, are each the next send or the next Full in a record of calls, and there are no other sends and Fulls
+-- these parts, in order, are each the next send or the next Full in a record of calls, and there
+-- are no other sends and Fulls
 pub data FollowsCalls : List Part → List Ended → Type 0 where
   no_call : FollowsCalls [] []
   by_send : {ps : List Part} {calls : List Ended} (p : Part) (place : ℕ) (bytes : List ℕ)
       → FollowsCalls ps calls → Sends p (record { topic = p.topic; place = place; bytes = bytes })
       → FollowsCalls (ps ++ p ∷ []) (calls ++ Done (suc p.topic) place bytes ∷ [])
-  by_full : {ps : List Part} {calls : List Ended} (p : Part) → FollowsCalls ps calls → FollowsCalls (ps ++ p ∷ []) (calls ++ Nothing 0 ∷ [])
+  by_full : {ps : List Part} {calls : List Ended} (p : Part) → FollowsCalls ps calls
+      → FollowsCalls (ps ++ p ∷ []) (calls ++ Nothing 0 ∷ [])
   by_other : {ps : List Part} {calls : List Ended} (call : Ended)
-      → FollowsCalls ps calls → sent_by call ≡ None → was_full call ≡ 0 → FollowsCalls ps (calls ++ call ∷ [])
+      → FollowsCalls ps calls → sent_by call ≡ None → was_full call ≡ 0
+      → FollowsCalls ps (calls ++ call ∷ [])

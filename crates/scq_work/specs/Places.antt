@@ -18,18 +18,23 @@ module _ {S : Type 0} where
   given_to (Done was work) = was.work.value
 
   -- a worker of this queue, job and crew was given what one begins with
-  pub record Begins (q : Identity Frame) (j : Job) (crew : List TableId) (faults end_count : S → ℕ) (left : S → Option (List ℕ)) (w : WorksOn S) : Type 0 where
+  pub record Begins (q : Identity Frame) (j : Job) (crew : List TableId) (faults end_count : S
+      → ℕ) (left : S → Option (List ℕ)) (w : WorksOn S) : Type 0 where
     pub queue : w.queue.value ≡ q
     pub job : w.job.value ≡ j
     pub of : w.crew.value ≡ crew
     pub given : IsGiven (task q j crew faults end_count left) w.work.value
 
-  -- so stands the worker of a place: where it has a thread of its own, that will tell; where the caller runs it, R holds of what it was given
-  -- and what it has
-  abbrev pub HasWork : (Work S → Work S → Type 0) → Identity Frame → Job → List TableId → (S → ℕ) → (S → ℕ) → (S → Option (List ℕ)) → Runner S → Type 0
-  HasWork R q j crew faults end_count left (Started h) = Begins q j crew faults end_count left h.promise
-  HasWork R q j crew faults end_count left (Here was work) = Begins q j crew faults end_count left was × R was.work.value work
-  HasWork R q j crew faults end_count left (Done was work) = HasDone (task q j crew faults end_count left) was.work.value work
+  -- so stands the worker of a place: where it has a thread of its own, that will tell; where the
+  -- caller runs it, R holds of what it was given and what it has
+  abbrev pub HasWork : (Work S → Work S → Type 0) → Identity Frame → Job → List TableId → (S → ℕ)
+      → (S → ℕ) → (S → Option (List ℕ)) → Runner S → Type 0
+  HasWork R q j crew faults end_count left (Started h) =
+      Begins q j crew faults end_count left h.promise
+  HasWork R q j crew faults end_count left (Here was work) =
+      Begins q j crew faults end_count left was × R was.work.value work
+  HasWork R q j crew faults end_count left (Done was work) =
+      HasDone (task q j crew faults end_count left) was.work.value work
 
   abbrev pub IsUntouched : Work S → Work S → Type 0
   IsUntouched given work = work ≡ given

@@ -11,10 +11,12 @@ use Rattle.scq_work.specs.declared.resting.RestingRoom.{RestingRoom}
 pub record HasRoom {S : Type 0} (workers : ℕ) (b : RestingRoom S) : Type 0 where
   pub flags : length b.flags.items ≡ workers
   pub none : (b.given.items ≡ []) × (b.places.items ≡ []) × (b.ends.items ≡ [])
-  pub all : (workers ≤ vec_capacity b.given) × (workers ≤ vec_capacity b.places) × (workers ≤ vec_capacity b.ends)
+  pub all : (workers ≤ vec_capacity b.given) × (workers ≤ vec_capacity b.places)
+      × (workers ≤ vec_capacity b.ends)
 
 -- the stands are all of the crew, in order, and each worker has waited as it should
-pub record AreSettled (crew : List TableId) (topics : ℕ) (stands : List Post) (passes : List (PassStanding Frame)) : Type 0 where
+pub record AreSettled (crew : List TableId) (topics : ℕ) (stands : List Post)
+    (passes : List (PassStanding Frame)) : Type 0 where
   pub all : AreAll crew stands
   pub many : length stands ≡ length passes
   pub waited : EachWaited topics stands passes

@@ -27,7 +27,8 @@ pub record Task (S : Type 0) : Type 0 where
   pub left : S → Option (List ℕ)
 
 module _ {S : Type 0} where
-  abbrev pub task : Identity Frame → Job → List TableId → (S → ℕ) → (S → ℕ) → (S → Option (List ℕ)) → Task S
+  abbrev pub task : Identity Frame → Job → List TableId → (S → ℕ) → (S → ℕ) → (S → Option (List ℕ))
+      → Task S
   task q j crew faults end_count left =
       record {
         queue = q;
@@ -41,7 +42,8 @@ module _ {S : Type 0} where
         left = left;
       }
 
-  -- they can begin: the queue has a ring for each topic and frames with room for a part, and the crew is one of so many
+  -- they can begin: the queue has a ring for each topic and frames with room for a part, and the
+  -- crew is one of so many
   pub record IsReady (t : Task S) : Type 0 where
     pub rings : t.queue.setup.rings ≡ length t.topics + 2
     pub room : All (λ b. t.size + 24 ≤ length b.bytes.items) t.queue.given
@@ -61,7 +63,8 @@ module _ {S : Type 0} where
 
   -- one that has read its files and retired
   pub record IsBegun (t : Task S) (w : Work S) : Type 0 where
-    pub produced : HasProduced t.queue t.topics t.size t.longest t.faults t.end_count t.left w.desk.files.items w.desk.worker.worker.pass
+    pub produced : HasProduced t.queue t.topics t.size t.longest t.faults t.end_count t.left
+        w.desk.files.items w.desk.worker.worker.pass
         w.desk.worker.worker.members.items w.desk.worker.worker.starved w.desk.worker.kept
     pub stand : w.stand.crew ≡ t.crew
 
@@ -74,9 +77,11 @@ module _ {S : Type 0} where
 
   -- its whole work is done
   pub record HasDone (t : Task S) (old new : Work S) : Type 0 where
-    pub run : HasRun t.queue t.topics t.size t.longest t.faults t.end_count t.left new.desk.files.items new.desk.worker.worker.pass
+    pub run : HasRun t.queue t.topics t.size t.longest t.faults t.end_count t.left
+        new.desk.files.items new.desk.worker.worker.pass
         new.desk.worker.worker.members.items new.desk.worker.worker.starved new.desk.worker.kept
-    pub waited : HasWaited bytes_of (length t.topics + 1) new.stand.rests new.desk.worker.worker.pass
+    pub waited : HasWaited bytes_of (length t.topics
+        + 1) new.stand.rests new.desk.worker.worker.pass
     pub files : ids_of new.desk.files.items ≡ ids_of old.desk.files.items
     pub number : new.desk.worker.worker.pass.number ≡ old.desk.worker.worker.pass.number
     pub crew : new.stand.crew ≡ old.stand.crew

@@ -5,7 +5,8 @@ ghost use Rattle.scq_work.specs.Waiting.{but_wakes};
 
 use scq_park::{Crew, Stand};
 
-/// What a worker does for those who may rest. `T` is what it wakes them by, of which it has one of its own. That a wake comes, no clause says.
+/// What a worker does for those who may rest. `T` is what it wakes them by, of which it has one of
+/// its own. That a wake comes, no clause says.
 pub trait Bell<T> {
     /// What each call leaves as it was.
     ghost kept: { T → Post };
@@ -42,7 +43,8 @@ impl Bell<NoBell> for NoBell {
 impl Bell<Stand> for Crew {
     ghost kept = { but_wakes };
 
-    ghost fits = { λ crew stand workers. (stand.crew ≡ crew) × (length crew ≡ workers) × (0 < workers) };
+    ghost fits = { λ crew stand workers.
+        (stand.crew ≡ crew) × (length crew ≡ workers) × (0 < workers) };
 
     fn after_send(&self, stand: &mut Stand, number: u32, workers: u32) {
         wake_next(self, stand, number, workers);

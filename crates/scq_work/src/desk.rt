@@ -23,8 +23,8 @@ use std::sync::Wait;
 /// A desk at which such a worker sits.
 pub type WorkDesk<S> = Desk<Seat<Worker<Frame>, Frame>, S>;
 
-/// It reads its files and passes their messages on, and retires. Where it met a ticket past the limit, it retires at once, and keeps the value
-/// that came back.
+/// It reads its files and passes their messages on, and retires. Where it met a ticket past the
+/// limit, it retires at once, and keeps the value that came back.
 pub fn produce<B: BufferMut, S: Source, G: Gate, T, W: Bell<T>>(
     desk: &mut Desk<Seat<Worker<B>, B>, S>,
     alloc: Global,
@@ -40,7 +40,8 @@ pub fn produce<B: BufferMut, S: Source, G: Gate, T, W: Bell<T>>(
     requires unread { All IsNew desk.old.files.items }
     requires bell { W.fits bell.now (W.kept stand.old) job.now.workers }
     ensures same { ids_of desk.new.files.items ≡ ids_of desk.old.files.items }
-    ensures produced { HasProduced queue.now job.now.topics job.now.size job.now.longest S.faults S.ends S.left desk.new.files.items desk.new.worker.worker.pass
+    ensures produced { HasProduced queue.now job.now.topics job.now.size job.now.longest S.faults
+        S.ends S.left desk.new.files.items desk.new.worker.worker.pass
         desk.new.worker.worker.members.items desk.new.worker.worker.starved desk.new.worker.kept }
     ensures number { desk.new.worker.worker.pass.number ≡ desk.old.worker.worker.pass.number }
     ensures bell { W.kept stand.new ≡ W.kept stand.old }
@@ -59,8 +60,9 @@ pub fn produce<B: BufferMut, S: Source, G: Gate, T, W: Bell<T>>(
     }
 }
 
-/// The worker's whole work: it reads its files and passes their messages on, retires, and sweeps until it leaves. Where it met a ticket
-/// past the limit, it leaves at once, and keeps the value that came back.
+/// The worker's whole work: it reads its files and passes their messages on, retires, and sweeps
+/// until it leaves. Where it met a ticket past the limit, it leaves at once, and keeps the value
+/// that came back.
 pub fn run<B: BufferMut, S: Source, G: Gate>(
     desk: &mut Desk<Seat<Worker<B>, B>, S>,
     alloc: Global,
@@ -73,9 +75,12 @@ pub fn run<B: BufferMut, S: Source, G: Gate>(
     requires fresh { IsFresh queue.now desk.old.worker }
     requires unread { All IsNew desk.old.files.items }
     ensures same { ids_of desk.new.files.items ≡ ids_of desk.old.files.items }
-    ensures run { HasRun queue.now job.now.topics job.now.size job.now.longest S.faults S.ends S.left desk.new.files.items desk.new.worker.worker.pass
+    ensures run { HasRun queue.now job.now.topics job.now.size job.now.longest S.faults S.ends
+        S.left desk.new.files.items desk.new.worker.worker.pass
         desk.new.worker.worker.members.items desk.new.worker.worker.starved desk.new.worker.kept }
-    ensures behind { desk.new.worker.worker.pass.spent ≡ None → HasLeftSwept B.contents IsReturn (length job.now.topics + 1) 64 desk.new.worker.worker.pass }
+    ensures behind { desk.new.worker.worker.pass.spent ≡ None
+        → HasLeftSwept B.contents IsReturn (length job.now.topics
+        + 1) 64 desk.new.worker.worker.pass }
     ensures number { desk.new.worker.worker.pass.number ≡ desk.old.worker.worker.pass.number }
 {
     let mut nobody = NoBell;
@@ -94,12 +99,16 @@ fn sweep_out<B: BufferMut, S: Source, G: Gate>(
     queue: &Queue<B>,
     gate: &G,
 )
-    requires sweep { IsToSweep queue.now job.now.topics job.now.size job.now.longest S.faults S.ends S.left desk.old.files.items desk.old.worker.worker.pass
+    requires sweep { IsToSweep queue.now job.now.topics job.now.size job.now.longest S.faults S.ends
+        S.left desk.old.files.items desk.old.worker.worker.pass
         desk.old.worker.worker.members.items desk.old.worker.worker.starved desk.old.worker.kept }
     ensures same { desk.new.files.items ≡ desk.old.files.items }
-    ensures run { HasRun queue.now job.now.topics job.now.size job.now.longest S.faults S.ends S.left desk.new.files.items desk.new.worker.worker.pass
+    ensures run { HasRun queue.now job.now.topics job.now.size job.now.longest S.faults S.ends
+        S.left desk.new.files.items desk.new.worker.worker.pass
         desk.new.worker.worker.members.items desk.new.worker.worker.starved desk.new.worker.kept }
-    ensures behind { desk.new.worker.worker.pass.spent ≡ None → HasLeftSwept B.contents IsReturn (length job.now.topics + 1) 64 desk.new.worker.worker.pass }
+    ensures behind { desk.new.worker.worker.pass.spent ≡ None
+        → HasLeftSwept B.contents IsReturn (length job.now.topics
+        + 1) 64 desk.new.worker.worker.pass }
     ensures number { desk.new.worker.worker.pass.number ≡ desk.old.worker.worker.pass.number }
 {
     if let Err(at_limit) = desk.worker.worker.sweep_out(alloc, job, queue, gate) {
@@ -107,8 +116,8 @@ fn sweep_out<B: BufferMut, S: Source, G: Gate>(
     }
 }
 
-/// Once it has retired: it sweeps, and rests after each sweep that took nothing, until all have retired. Where no wake comes it never
-/// returns.
+/// Once it has retired: it sweeps, and rests after each sweep that took nothing, until all have
+/// retired. Where no wake comes it never returns.
 pub fn finish<B: BufferMut, S: Source, G: Gate, R: Wait>(
     desk: &mut Desk<Seat<Worker<B>, B>, S>,
     rt: &R,
@@ -119,13 +128,16 @@ pub fn finish<B: BufferMut, S: Source, G: Gate, R: Wait>(
     crew: &Crew,
     stand: &mut Stand,
 )
-    requires produced { HasProduced queue.now job.now.topics job.now.size job.now.longest S.faults S.ends S.left desk.old.files.items desk.old.worker.worker.pass
+    requires produced { HasProduced queue.now job.now.topics job.now.size job.now.longest S.faults
+        S.ends S.left desk.old.files.items desk.old.worker.worker.pass
         desk.old.worker.worker.members.items desk.old.worker.worker.starved desk.old.worker.kept }
     requires stand { stand.old.crew ≡ crew.now }
     ensures same { desk.new.files.items ≡ desk.old.files.items }
-    ensures run { HasRun queue.now job.now.topics job.now.size job.now.longest S.faults S.ends S.left desk.new.files.items desk.new.worker.worker.pass
+    ensures run { HasRun queue.now job.now.topics job.now.size job.now.longest S.faults S.ends
+        S.left desk.new.files.items desk.new.worker.worker.pass
         desk.new.worker.worker.members.items desk.new.worker.worker.starved desk.new.worker.kept }
-    ensures waited { HasWaited B.contents (length job.now.topics + 1) stand.new.rests desk.new.worker.worker.pass }
+    ensures waited { HasWaited B.contents (length job.now.topics
+        + 1) stand.new.rests desk.new.worker.worker.pass }
     ensures number { desk.new.worker.worker.pass.number ≡ desk.old.worker.worker.pass.number }
     ensures stand { (stand.new.crew ≡ stand.old.crew) × (stand.new.worker ≡ stand.old.worker) }
 {
@@ -146,13 +158,16 @@ fn rest_out<B: BufferMut, S: Source, G: Gate, R: Wait>(
     crew: &Crew,
     stand: &mut Stand,
 )
-    requires sweep { IsToSweep queue.now job.now.topics job.now.size job.now.longest S.faults S.ends S.left desk.old.files.items desk.old.worker.worker.pass
+    requires sweep { IsToSweep queue.now job.now.topics job.now.size job.now.longest S.faults S.ends
+        S.left desk.old.files.items desk.old.worker.worker.pass
         desk.old.worker.worker.members.items desk.old.worker.worker.starved desk.old.worker.kept }
     requires stand { stand.old.crew ≡ crew.now }
     ensures same { desk.new.files.items ≡ desk.old.files.items }
-    ensures run { HasRun queue.now job.now.topics job.now.size job.now.longest S.faults S.ends S.left desk.new.files.items desk.new.worker.worker.pass
+    ensures run { HasRun queue.now job.now.topics job.now.size job.now.longest S.faults S.ends
+        S.left desk.new.files.items desk.new.worker.worker.pass
         desk.new.worker.worker.members.items desk.new.worker.worker.starved desk.new.worker.kept }
-    ensures waited { HasWaited B.contents (length job.now.topics + 1) stand.new.rests desk.new.worker.worker.pass }
+    ensures waited { HasWaited B.contents (length job.now.topics
+        + 1) stand.new.rests desk.new.worker.worker.pass }
     ensures number { desk.new.worker.worker.pass.number ≡ desk.old.worker.worker.pass.number }
     ensures stand { (stand.new.crew ≡ stand.old.crew) × (stand.new.worker ≡ stand.old.worker) }
 {

@@ -9,8 +9,9 @@ pub enum Point {
     BeforeLeave,
 }
 
-/// What workers call at each point, so that rows can make their threads meet there: a gate may hold a worker back. It has no meaning for what is
-/// answered, and nothing to do with the gate of the queue's rings, the word that counts those who haven't retired.
+/// What workers call at each point, so that rows can make their threads meet there: a gate may hold
+/// a worker back. It has no meaning for what is answered, and nothing to do with the gate of the
+/// queue's rings, the word that counts those who haven't retired.
 pub trait Gate: Sync {
     fn at(&self, worker: u32, point: Point);
 }

@@ -6,8 +6,8 @@ use scq_topics::Topics;
 /// How many bytes a payload may have.
 const LONGEST: u32 = 1 << 20;
 
-/// What workers are to do: messages are answered by `workers` workers through 2^order buffers. A payload may
-/// have `longest` bytes, and goes through the buffers in parts of at most `size`.
+/// What workers are to do: messages are answered by `workers` workers through 2^order buffers. A
+/// payload may have `longest` bytes, and goes through the buffers in parts of at most `size`.
 #[derive(Drop)]
 pub struct Job {
     pub order: u32,

@@ -1,4 +1,5 @@
-//! Workers: the messages of files, answered part by part by several threads that share a queue over the frames of one block.
+//! Workers: the messages of files, answered part by part by several threads that share a queue over
+//! the frames of one block.
 #![tactic(auto)]
 
 mod apart;

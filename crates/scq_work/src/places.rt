@@ -1,4 +1,5 @@
-//! The workers beside the first: each in a thread of its own, or with the caller where none could be made.
+//! The workers beside the first: each in a thread of its own, or with the caller where none could
+//! be made.
 ghost use Rattle.std.specs.Prelude.{◌≡◌, ◌≤◌, [], length, map, All, vec_len, vec_capacity};
 ghost use Rattle.std.specs.List.{AllZip};
 ghost use Rattle.scq_work.specs.Threads.{task, IsReady, IsGiven, HasBegun, HasDone};
@@ -16,7 +17,8 @@ use std::sync::atomic::AtomicBool;
 use std::thread;
 use std::thread::{PromisedHandle, Scope, Threads};
 
-/// A worker in a thread of its own; one whose thread could not be made, and which the caller runs; and one that has done its work.
+/// A worker in a thread of its own; one whose thread could not be made, and which the caller runs;
+/// and one that has done its work.
 #[derive(Drop)]
 pub enum Runner<S: Source> {
     Started(PromisedHandle<HandedBack<S>, WorksOn<S>>),
@@ -60,9 +62,12 @@ impl<S: Source> Runner<S> {
         crew: &Crew,
     )
         requires ready { IsReady (task queue.now job.now crew.now S.faults S.ends S.left) }
-        requires stands { HasWork IsUntouched queue.now job.now crew.now S.faults S.ends S.left self.old }
+        requires stands { HasWork IsUntouched queue.now job.now crew.now S.faults S.ends S.left
+            self.old }
         ensures given { given_to self.new ≡ given_to self.old }
-        ensures stands { HasWork (HasBegun (task queue.now job.now crew.now S.faults S.ends S.left)) queue.now job.now crew.now S.faults S.ends S.left
+        ensures stands { HasWork
+            (HasBegun (task queue.now job.now crew.now S.faults S.ends S.left)) queue.now job.now
+            crew.now S.faults S.ends S.left
             self.new }
     {
         match self {
@@ -82,10 +87,14 @@ impl<S: Source> Runner<S> {
         gate: &G,
         crew: &Crew,
     )
-        requires stands { HasWork (HasBegun (task queue.now job.now crew.now S.faults S.ends S.left)) queue.now job.now crew.now S.faults S.ends S.left
+        requires stands { HasWork
+            (HasBegun (task queue.now job.now crew.now S.faults S.ends S.left)) queue.now job.now
+            crew.now S.faults S.ends S.left
             self.old }
         ensures given { given_to self.new ≡ given_to self.old }
-        ensures stands { HasWork (HasDone (task queue.now job.now crew.now S.faults S.ends S.left)) queue.now job.now crew.now S.faults S.ends S.left
+        ensures stands { HasWork
+            (HasDone (task queue.now job.now crew.now S.faults S.ends S.left)) queue.now job.now
+            crew.now S.faults S.ends S.left
             self.new }
     {
         match self {
@@ -106,9 +115,12 @@ impl<S: Source> Runner<S> {
         crew: &Crew,
     ) -> Work<S>
         requires ready { IsReady (task queue.now job.now crew.now S.faults S.ends S.left) }
-        requires stands { HasWork (HasDone (task queue.now job.now crew.now S.faults S.ends S.left)) queue.now job.now crew.now S.faults S.ends S.left
+        requires stands { HasWork
+            (HasDone (task queue.now job.now crew.now S.faults S.ends S.left)) queue.now job.now
+            crew.now S.faults S.ends S.left
             self }
-        ensures { HasDone (task queue.now job.now crew.now S.faults S.ends S.left) (given_to self) result }
+        ensures { HasDone (task queue.now job.now crew.now S.faults S.ends S.left)
+            (given_to self) result }
     {
         match self {
             Runner::Started(handle) => match handle.join(rt) {
@@ -135,9 +147,12 @@ fn produce_all<S: Source, G: Gate>(
     crew: &Crew,
 )
     requires ready { IsReady (task queue.now job.now crew.now S.faults S.ends S.left) }
-    requires stands { All (HasWork IsUntouched queue.now job.now crew.now S.faults S.ends S.left) places.old }
+    requires stands { All
+        (HasWork IsUntouched queue.now job.now crew.now S.faults S.ends S.left) places.old }
     ensures given { map given_to places.new ≡ map given_to places.old }
-    ensures stands { All (HasWork (HasBegun (task queue.now job.now crew.now S.faults S.ends S.left)) queue.now job.now crew.now S.faults S.ends S.left)
+    ensures stands { All
+        (HasWork (HasBegun (task queue.now job.now crew.now S.faults S.ends S.left)) queue.now
+        job.now crew.now S.faults S.ends S.left)
         places.new }
 {
     'places: for place in places.iter_mut() {
@@ -154,10 +169,14 @@ fn finish_all<S: Source, G: Gate, R: Wait>(
     gate: &G,
     crew: &Crew,
 )
-    requires stands { All (HasWork (HasBegun (task queue.now job.now crew.now S.faults S.ends S.left)) queue.now job.now crew.now S.faults S.ends S.left)
+    requires stands { All
+        (HasWork (HasBegun (task queue.now job.now crew.now S.faults S.ends S.left)) queue.now
+        job.now crew.now S.faults S.ends S.left)
         places.old }
     ensures given { map given_to places.new ≡ map given_to places.old }
-    ensures stands { All (HasWork (HasDone (task queue.now job.now crew.now S.faults S.ends S.left)) queue.now job.now crew.now S.faults S.ends S.left)
+    ensures stands { All
+        (HasWork (HasDone (task queue.now job.now crew.now S.faults S.ends S.left)) queue.now
+        job.now crew.now S.faults S.ends S.left)
         places.new }
 {
     'places: for place in places.iter_mut() {
@@ -179,12 +198,14 @@ fn begin_all<'s, E, R: Threads + Wait + Sync + 's, S: Source + 's, G: Gate + 's>
     places: &mut Vec<Runner<S>>,
 )
     requires ready { IsReady (task queue.now job.now crew.now S.faults S.ends S.left) }
-    requires given { All (IsGiven (task queue.now job.now crew.now S.faults S.ends S.left)) given.items }
+    requires given { All
+        (IsGiven (task queue.now job.now crew.now S.faults S.ends S.left)) given.items }
     requires flags { vec_len given ≤ length flags.now }
     requires empty { places.old.items ≡ [] }
     requires room { vec_len given ≤ vec_capacity places.old }
     ensures given { map given_to places.new.items ≡ given.items }
-    ensures stands { All (HasWork IsUntouched queue.now job.now crew.now S.faults S.ends S.left) places.new.items }
+    ensures stands { All
+        (HasWork IsUntouched queue.now job.now crew.now S.faults S.ends S.left) places.new.items }
 {
     given.reverse();
     'starts: while let Some(work) = given.pop() {
@@ -205,11 +226,14 @@ fn end_all<S: Source, G: Gate, R: Threads + Wait>(
     ends: &mut Vec<Work<S>>,
 )
     requires ready { IsReady (task queue.now job.now crew.now S.faults S.ends S.left) }
-    requires stands { All (HasWork (HasDone (task queue.now job.now crew.now S.faults S.ends S.left)) queue.now job.now crew.now S.faults S.ends S.left)
+    requires stands { All
+        (HasWork (HasDone (task queue.now job.now crew.now S.faults S.ends S.left)) queue.now
+        job.now crew.now S.faults S.ends S.left)
         places.items }
     requires empty { ends.old.items ≡ [] }
     requires room { vec_len places ≤ vec_capacity ends.old }
-    ensures { AllZip (HasDone (task queue.now job.now crew.now S.faults S.ends S.left)) (map given_to places.items) ends.new.items }
+    ensures { AllZip (HasDone (task queue.now job.now crew.now S.faults S.ends S.left))
+        (map given_to places.items) ends.new.items }
 {
     places.reverse();
     'ends: while let Some(place) = places.pop() {
@@ -217,8 +241,8 @@ fn end_all<S: Source, G: Gate, R: Threads + Wait>(
     }
 }
 
-/// The work of all in one scope: the caller has the first worker, and each whose thread could not be made. It produces and retires for all of
-/// these before it rests for any.
+/// The work of all in one scope: the caller has the first worker, and each whose thread could not
+/// be made. It produces and retires for all of these before it rests for any.
 fn all_in<'s, E, R: Threads + Wait + Sync + 's, S: Source + 's, G: Gate + 's>(
     rt: &'s R,
     scope: &Scope<'s, E>,
@@ -235,12 +259,16 @@ fn all_in<'s, E, R: Threads + Wait + Sync + 's, S: Source + 's, G: Gate + 's>(
 ) -> (Work<S>, Vec<Work<S>>)
     requires ready { IsReady (task queue.now job.now crew.now S.faults S.ends S.left) }
     requires first { IsGiven (task queue.now job.now crew.now S.faults S.ends S.left) first }
-    requires given { All (IsGiven (task queue.now job.now crew.now S.faults S.ends S.left)) given.items }
+    requires given { All
+        (IsGiven (task queue.now job.now crew.now S.faults S.ends S.left)) given.items }
     requires flags { vec_len given ≤ length flags.now }
     requires empty { (places.items ≡ []) × (ends.items ≡ []) }
     requires room { (vec_len given ≤ vec_capacity places) × (vec_len given ≤ vec_capacity ends) }
-    ensures first { HasDone (task queue.now job.now crew.now S.faults S.ends S.left) first result.0 }
-    ensures others { AllZip (HasDone (task queue.now job.now crew.now S.faults S.ends S.left)) given.items result.1.items }
+    ensures first { HasDone
+        (task queue.now job.now crew.now S.faults S.ends S.left) first result.0 }
+    ensures others { AllZip
+        (HasDone (task queue.now job.now crew.now S.faults S.ends S.left)) given.items
+        result.1.items }
 {
     begin_all(
         rt,
@@ -278,12 +306,16 @@ pub fn run_all<R: Threads + Wait + Sync, S: Source, G: Gate>(
 ) -> (Work<S>, Vec<Work<S>>)
     requires ready { IsReady (task queue.now job.now crew.now S.faults S.ends S.left) }
     requires first { IsGiven (task queue.now job.now crew.now S.faults S.ends S.left) first }
-    requires given { All (IsGiven (task queue.now job.now crew.now S.faults S.ends S.left)) given.items }
+    requires given { All
+        (IsGiven (task queue.now job.now crew.now S.faults S.ends S.left)) given.items }
     requires flags { vec_len given ≤ length flags.now }
     requires empty { (places.items ≡ []) × (ends.items ≡ []) }
     requires room { (vec_len given ≤ vec_capacity places) × (vec_len given ≤ vec_capacity ends) }
-    ensures first { HasDone (task queue.now job.now crew.now S.faults S.ends S.left) first result.0 }
-    ensures others { AllZip (HasDone (task queue.now job.now crew.now S.faults S.ends S.left)) given.items result.1.items }
+    ensures first { HasDone
+        (task queue.now job.now crew.now S.faults S.ends S.left) first result.0 }
+    ensures others { AllZip
+        (HasDone (task queue.now job.now crew.now S.faults S.ends S.left)) given.items
+        result.1.items }
 {
     thread::scope(
         thread::scope_env(),
@@ -291,10 +323,16 @@ pub fn run_all<R: Threads + Wait + Sync, S: Source, G: Gate>(
         move |scope| -> (Work<S>, Vec<Work<S>>)
             requires { IsReady (task queue.now job.now crew.now S.faults S.ends S.left)
                 × IsGiven (task queue.now job.now crew.now S.faults S.ends S.left) first
-                × All (IsGiven (task queue.now job.now crew.now S.faults S.ends S.left)) given.items × (vec_len given ≤ length flags.now)
-                × (places.items ≡ []) × (ends.items ≡ []) × (vec_len given ≤ vec_capacity places) × (vec_len given ≤ vec_capacity ends) }
-            ensures first { HasDone (task queue.entry.now job.entry.now crew.entry.now S.faults S.ends S.left) first result.0 }
-            ensures others { AllZip (HasDone (task queue.entry.now job.entry.now crew.entry.now S.faults S.ends S.left)) given.items result.1.items }
+                × All (IsGiven (task queue.now job.now crew.now S.faults S.ends S.left)) given.items
+                × (vec_len given ≤ length flags.now)
+                × (places.items ≡ []) × (ends.items ≡ []) × (vec_len given ≤ vec_capacity places)
+                × (vec_len given ≤ vec_capacity ends) }
+            ensures first { HasDone
+                (task queue.entry.now job.entry.now crew.entry.now S.faults S.ends S.left) first
+                result.0 }
+            ensures others { AllZip
+                (HasDone (task queue.entry.now job.entry.now crew.entry.now S.faults S.ends S.left))
+                given.items result.1.items }
         {
             all_in(
                 rt, scope, alloc, job, queue, gate, crew, flags, first, given, places, ends,

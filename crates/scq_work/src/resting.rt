@@ -1,5 +1,6 @@
 //! Workers that wait in place of leaving early.
-ghost use Rattle.std.specs.Prelude.{◌≡◌, ℕ, ◌+◌, ◌<◌, ◌≤◌, ◌++◌, ◌∷◌, [], length, map, reverse, slice_index_or, vec_len, vec_capacity, IfOk};
+ghost use Rattle.std.specs.Prelude.{◌≡◌, ℕ, ◌+◌, ◌<◌, ◌≤◌, ◌++◌, ◌∷◌, [], length, map, reverse};
+ghost use Rattle.std.specs.Prelude.{slice_index_or, vec_len, vec_capacity, IfOk};
 ghost use Rattle.std.specs.List.{All};
 ghost use Rattle.scq_park.specs.Crews.{first_posts};
 ghost use Rattle.scq_work.specs.Seats.{IsFresh};
@@ -21,7 +22,8 @@ use std::sync::Wait;
 use std::sync::atomic::AtomicBool;
 use std::thread::Threads;
 
-/// Room for what the threads of workers are given and hand back: empty lists, and a flag for each worker.
+/// Room for what the threads of workers are given and hand back: empty lists, and a flag for each
+/// worker.
 #[derive(Drop)]
 pub struct RestingRoom<S: Source> {
     pub flags: Vec<AtomicBool>,
@@ -69,7 +71,8 @@ pub fn run_resting<R: Threads + Wait + Sync, S: Source, G: Gate>(
     resting_room: RestingRoom<S>,
     desks: Vec<WorkDesk<S>>,
 ) -> (Vec<WorkDesk<S>>, Vec<Stand>)
-    requires workers { (length desks.items ≡ job.now.workers) × (length crew.now ≡ job.now.workers) }
+    requires workers { (length desks.items ≡ job.now.workers)
+        × (length crew.now ≡ job.now.workers) }
     requires stands { stands.items ≡ first_posts crew.now job.now.workers }
     requires resting_room { HasRoom job.now.workers resting_room }
     requires rings { queue.now.setup.rings ≡ length job.now.topics + 2 }
@@ -78,14 +81,18 @@ pub fn run_resting<R: Threads + Wait + Sync, S: Source, G: Gate>(
     requires unread { All (λ d. All IsNew d.files.items) desks.items }
     ensures count { length result.0.items ≡ length desks.items }
     ensures same { (w : ℕ) (d : _) → w < length desks.items
-        → ids_of (slice_index_or result.0.items w d).files.items ≡ ids_of (slice_index_or desks.items w d).files.items }
+        → ids_of (slice_index_or result.0.items w d).files.items
+        ≡ ids_of (slice_index_or desks.items w d).files.items }
     ensures numbers { (w : ℕ) (d : _) → w < length desks.items
-        → (slice_index_or result.0.items w d).worker.worker.pass.number ≡ (slice_index_or desks.items w d).worker.worker.pass.number }
+        → (slice_index_or result.0.items w d).worker.worker.pass.number
+        ≡ (slice_index_or desks.items w d).worker.worker.pass.number }
     ensures run { All (λ d.
-        HasRun queue.now job.now.topics job.now.size job.now.longest S.faults S.ends S.left d.files.items d.worker.worker.pass
+        HasRun queue.now job.now.topics job.now.size job.now.longest S.faults S.ends S.left
+        d.files.items d.worker.worker.pass
         d.worker.worker.members.items d.worker.worker.starved d.worker.kept)
         result.0.items }
-    ensures settled { AreSettled crew.now (length job.now.topics + 1) result.1.items (map (λ d. d.worker.worker.pass) result.0.items) }
+    ensures settled { AreSettled crew.now (length job.now.topics
+        + 1) result.1.items (map (λ d. d.worker.worker.pass) result.0.items) }
 {
     let RestingRoom {
         flags,
@@ -114,8 +121,8 @@ pub fn run_resting<R: Threads + Wait + Sync, S: Source, G: Gate>(
     (desks, stands)
 }
 
-/// Puts each desk together with its stand: the first, and the others, in order, in an empty list with room. The lists of both are left empty,
-/// with their room.
+/// Puts each desk together with its stand: the first, and the others, in order, in an empty list
+/// with room. The lists of both are left empty, with their room.
 fn pair<S: Source>(
     desks: &mut Vec<WorkDesk<S>>,
     stands: &mut Vec<Stand>,
@@ -128,7 +135,8 @@ fn pair<S: Source>(
     ensures desks { desks.old.items ≡ map (λ w. w.desk) (result ∷ given.new.items) }
     ensures stands { stands.old.items ≡ map (λ w. w.stand) (result ∷ given.new.items) }
     ensures emptied { (desks.new.items ≡ []) × (stands.new.items ≡ []) }
-    ensures kept { (vec_capacity desks.new ≡ vec_capacity desks.old) × (vec_capacity stands.new ≡ vec_capacity stands.old) }
+    ensures kept { (vec_capacity desks.new ≡ vec_capacity desks.old)
+        × (vec_capacity stands.new ≡ vec_capacity stands.old) }
 {
     desks.reverse();
     stands.reverse();
@@ -143,8 +151,10 @@ fn pair_last<S: Source>(desks: &mut Vec<WorkDesk<S>>, stands: &mut Vec<Stand>) -
     requires many { vec_len stands.old ≡ vec_len desks.old }
     ensures desk { desks.old.items ≡ desks.new.items ++ result.desk ∷ [] }
     ensures stand { stands.old.items ≡ stands.new.items ++ result.stand ∷ [] }
-    ensures lens { (vec_len desks.new + 1 ≡ vec_len desks.old) × (vec_len stands.new + 1 ≡ vec_len stands.old) }
-    ensures kept { (vec_capacity desks.new ≡ vec_capacity desks.old) × (vec_capacity stands.new ≡ vec_capacity stands.old) }
+    ensures lens { (vec_len desks.new + 1 ≡ vec_len desks.old)
+        × (vec_len stands.new + 1 ≡ vec_len stands.old) }
+    ensures kept { (vec_capacity desks.new ≡ vec_capacity desks.old)
+        × (vec_capacity stands.new ≡ vec_capacity stands.old) }
 {
     let Some(desk) = desks.pop() else {
         unreachable!();
@@ -167,7 +177,8 @@ fn pair_all<S: Source>(
     ensures desks { map (λ w. w.desk) given.new.items ≡ reverse desks.old.items }
     ensures stands { map (λ w. w.stand) given.new.items ≡ reverse stands.old.items }
     ensures emptied { (desks.new.items ≡ []) × (stands.new.items ≡ []) }
-    ensures kept { (vec_capacity desks.new ≡ vec_capacity desks.old) × (vec_capacity stands.new ≡ vec_capacity stands.old) }
+    ensures kept { (vec_capacity desks.new ≡ vec_capacity desks.old)
+        × (vec_capacity stands.new ≡ vec_capacity stands.old) }
 {
     'pairs: while let Some(desk) = desks.pop() {
         let Some(stand) = stands.pop() else {
@@ -177,7 +188,8 @@ fn pair_all<S: Source>(
     }
 }
 
-/// Takes desks and stands apart again, in order: the first, and the others. They are put into empty lists with room.
+/// Takes desks and stands apart again, in order: the first, and the others. They are put into empty
+/// lists with room.
 fn take_apart<S: Source>(
     first: Work<S>,
     ends: Vec<Work<S>>,
@@ -185,7 +197,8 @@ fn take_apart<S: Source>(
     stands: &mut Vec<Stand>,
 )
     requires empty { (desks.old.items ≡ []) × (stands.old.items ≡ []) }
-    requires room { (vec_len ends < vec_capacity desks.old) × (vec_len ends < vec_capacity stands.old) }
+    requires room { (vec_len ends < vec_capacity desks.old)
+        × (vec_len ends < vec_capacity stands.old) }
     ensures desks { desks.new.items ≡ map (λ w. w.desk) (first ∷ ends.items) }
     ensures stands { stands.new.items ≡ map (λ w. w.stand) (first ∷ ends.items) }
 {
@@ -195,11 +208,14 @@ fn take_apart<S: Source>(
 
 /// Puts a desk and its stand behind others.
 fn put_apart<S: Source>(work: Work<S>, desks: &mut Vec<WorkDesk<S>>, stands: &mut Vec<Stand>)
-    requires room { (vec_len desks.old < vec_capacity desks.old) × (vec_len stands.old < vec_capacity stands.old) }
+    requires room { (vec_len desks.old < vec_capacity desks.old)
+        × (vec_len stands.old < vec_capacity stands.old) }
     ensures desks { desks.new.items ≡ desks.old.items ++ work.desk ∷ [] }
     ensures stands { stands.new.items ≡ stands.old.items ++ work.stand ∷ [] }
-    ensures lens { (vec_len desks.new ≡ vec_len desks.old + 1) × (vec_len stands.new ≡ vec_len stands.old + 1) }
-    ensures kept { (vec_capacity desks.new ≡ vec_capacity desks.old) × (vec_capacity stands.new ≡ vec_capacity stands.old) }
+    ensures lens { (vec_len desks.new ≡ vec_len desks.old + 1)
+        × (vec_len stands.new ≡ vec_len stands.old + 1) }
+    ensures kept { (vec_capacity desks.new ≡ vec_capacity desks.old)
+        × (vec_capacity stands.new ≡ vec_capacity stands.old) }
 {
     let (desk, stand) = work.into_parts();
     desks.push_reserved(desk);
@@ -212,7 +228,8 @@ fn take_all_apart<S: Source>(
     desks: &mut Vec<WorkDesk<S>>,
     stands: &mut Vec<Stand>,
 )
-    requires room { (vec_len desks.old + vec_len ends ≤ vec_capacity desks.old) × (vec_len stands.old + vec_len ends ≤ vec_capacity stands.old) }
+    requires room { (vec_len desks.old + vec_len ends ≤ vec_capacity desks.old)
+        × (vec_len stands.old + vec_len ends ≤ vec_capacity stands.old) }
     ensures desks { desks.new.items ≡ desks.old.items ++ map (λ w. w.desk) ends.items }
     ensures stands { stands.new.items ≡ stands.old.items ++ map (λ w. w.stand) ends.items }
 {

@@ -56,7 +56,8 @@ impl<S: Source> Work<S> {
         (desk, stand)
     }
 
-    /// It reads its files and passes their messages on, and retires. It wakes others, and never rests.
+    /// It reads its files and passes their messages on, and retires. It wakes others, and never
+    /// rests.
     pub fn produce<G: Gate>(
         &mut self,
         alloc: Global,
@@ -67,7 +68,8 @@ impl<S: Source> Work<S> {
     )
         requires ready { IsReady (task queue.now job.now crew.now S.faults S.ends S.left) }
         requires given { IsGiven (task queue.now job.now crew.now S.faults S.ends S.left) self.old }
-        ensures { HasBegun (task queue.now job.now crew.now S.faults S.ends S.left) self.old self.new }
+        ensures { HasBegun
+            (task queue.now job.now crew.now S.faults S.ends S.left) self.old self.new }
     {
         let desk = &mut self.desk;
         produce(desk, alloc, job, queue, gate, crew, &mut self.stand);
@@ -84,7 +86,8 @@ impl<S: Source> Work<S> {
         crew: &Crew,
     )
         requires begun { IsBegun (task queue.now job.now crew.now S.faults S.ends S.left) self.old }
-        ensures { (given : _) → HasBegun (task queue.now job.now crew.now S.faults S.ends S.left) given self.old
+        ensures { (given : _)
+            → HasBegun (task queue.now job.now crew.now S.faults S.ends S.left) given self.old
             → HasDone (task queue.now job.now crew.now S.faults S.ends S.left) given self.new }
     {
         let desk = &mut self.desk;
@@ -109,7 +112,9 @@ pub struct WorksOn<S: Source> {
 }
 
 impl<S: Source> Promise<HandedBack<S>> for WorksOn<S> {
-    ghost kept_by = { λ p end. HandsBack (task p.queue.value p.job.value p.crew.value S.faults S.ends S.left) p.work.value end };
+    ghost kept_by = { λ p end.
+        HandsBack (task p.queue.value p.job.value p.crew.value S.faults S.ends S.left) p.work.value
+        end };
 }
 
 impl<S: Source> WorksOn<S> {
@@ -117,7 +122,8 @@ impl<S: Source> WorksOn<S> {
 
     /// So it is of these.
     pub fn of(job: &Job, queue: &Queue<Frame>, crew: &Crew, work: &Work<S>) -> WorksOn<S>
-        ensures shared { (result.queue.value ≡ queue.now) × (result.job.value ≡ job.now) × (result.crew.value ≡ crew.now) }
+        ensures shared { (result.queue.value ≡ queue.now) × (result.job.value ≡ job.now)
+            × (result.crew.value ≡ crew.now) }
         ensures own { result.work.value ≡ work.now }
     {
         WorksOn {
@@ -152,7 +158,8 @@ fn work_there<R: Wait, S: Source, G: Gate>(
     HandedBack::Worked(work)
 }
 
-/// Starts a worker in a thread of its own. Where no thread can be made, what it was given comes back: the thread's closure is then called here, held back.
+/// Starts a worker in a thread of its own. Where no thread can be made, what it was given comes
+/// back: the thread's closure is then called here, held back.
 pub fn start<'s, E, R: Threads + Wait + Sync + 's, S: Source + 's, G: Gate + 's>(
     rt: &'s R,
     scope: &Scope<'s, E>,
@@ -165,14 +172,18 @@ pub fn start<'s, E, R: Threads + Wait + Sync + 's, S: Source + 's, G: Gate + 's>
     given: Work<S>,
 ) -> Result<PromisedHandle<HandedBack<S>, WorksOn<S>>, HandedBack<S>>
     requires begins { CanBegin (task queue.now job.now crew.now S.faults S.ends S.left) given }
-    ensures shared { IfOk result (λ h. (h.promise.queue.value ≡ queue.now) × (h.promise.job.value ≡ job.now) × (h.promise.crew.value ≡ crew.now)) }
+    ensures shared { IfOk result (λ h.
+        (h.promise.queue.value ≡ queue.now) × (h.promise.job.value ≡ job.now)
+        × (h.promise.crew.value ≡ crew.now)) }
     ensures own { IfOk result (λ h. h.promise.work.value ≡ given) }
-    ensures back { IfErr result (HandsBack (task queue.now job.now crew.now S.faults S.ends S.left) given) }
+    ensures back { IfErr result
+        (HandsBack (task queue.now job.now crew.now S.faults S.ends S.left) given) }
 {
     let promise = WorksOn::of(job, queue, crew, &given);
     let job_there = move || -> HandedBack<S>
         requires { CanBegin (task queue.now job.now crew.now S.faults S.ends S.left) given }
-        ensures { HandsBack (task queue.entry.now job.entry.now crew.entry.now S.faults S.ends S.left) given result }
+        ensures { HandsBack
+            (task queue.entry.now job.entry.now crew.entry.now S.faults S.ends S.left) given result }
     { work_there(rt, alloc, job, queue, gate, crew, held_back, given) };
     match scope.spawn_with(promise, job_there) {
         Ok(handle) => Ok(handle),

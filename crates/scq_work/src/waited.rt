@@ -1,5 +1,7 @@
 //! The work of workers that wait in place of leaving early, as `work` else.
-ghost use Rattle.std.specs.Prelude.{◌≡◌, ℕ, ◌+◌, ◌^◌, ◌<◌, ◌≤◌, List, None, length, map, slice_index_or, vec_len, IfOk, IfErr, IfSome, IsErrOf, IsSome, IsSomeAnd, OnOk, OnSome};
+ghost use Rattle.std.specs.Prelude.{◌≡◌, ℕ, ◌+◌, ◌^◌, ◌<◌, ◌≤◌, List, None, length, map};
+ghost use Rattle.std.specs.Prelude.{slice_index_or, vec_len, IfOk, IfErr, IfSome, IsErrOf, IsSome};
+ghost use Rattle.std.specs.Prelude.{IsSomeAnd, OnOk, OnSome};
 ghost use Rattle.std.specs.List.{All};
 ghost use Rattle.std.specs.List.Sorted.{IsPermutation};
 ghost use Rattle.scq_block.specs.Blocks.{AreAllOf};
@@ -34,7 +36,8 @@ use std::alloc::Global;
 use std::sync::Wait;
 use std::thread::Threads;
 
-/// Of each worker, in the order of their numbers: whether it saw that all had retired, and how often it rested and was woken.
+/// Of each worker, in the order of their numbers: whether it saw that all had retired, and how
+/// often it rested and was woken.
 #[derive(Drop)]
 pub struct Waited {
     pub saw: Vec<bool>,
@@ -65,7 +68,8 @@ impl<S> WaitEnd<S> {
     }
 }
 
-/// What the work needs beside its crew: room, and a queue over the frames of one block with a pass for each worker.
+/// What the work needs beside its crew: room, and a queue over the frames of one block with a pass
+/// for each worker.
 struct Made<S: Source> {
     resting_room: RestingRoom<S>,
     room: Room<Answered, Worker<Frame>, S>,
@@ -75,11 +79,15 @@ struct Made<S: Source> {
 }
 
 fn make_all<S: Source>(alloc: Global, job: &Job, files: usize) -> Result<Made<S>, NoMemory>
-    ensures setup { IfOk result (λ made. (made.queue.setup.order ≡ job.now.order) × (made.queue.setup.rings ≡ length job.now.topics + 2)
+    ensures setup { IfOk result (λ made.
+        (made.queue.setup.order ≡ job.now.order)
+        × (made.queue.setup.rings ≡ length job.now.topics + 2)
         × (made.queue.setup.seats ≡ job.now.workers) × (made.queue.setup.limit ≡ 2 ^ 60)) }
-    ensures frames { IfOk result (λ made. All (λ f. job.now.size + 24 ≤ length f.bytes.items) made.queue.given) }
+    ensures frames { IfOk result (λ made.
+        All (λ f. job.now.size + 24 ≤ length f.bytes.items) made.queue.given) }
     ensures all { IfOk result (λ made. AreAllOf made.block made.queue.given) }
-    ensures passes { IfOk result (λ made. made.passes.items ≡ first_passes made.queue made.queue.setup.seats) }
+    ensures passes { IfOk result (λ made.
+        made.passes.items ≡ first_passes made.queue made.queue.setup.seats) }
     ensures work_room { IfOk result (λ made. IsRoomFor job.now.workers files made.room) }
     ensures resting_room { IfOk result (λ made. HasRoom job.now.workers made.resting_room) }
 {
@@ -100,8 +108,9 @@ fn make_all<S: Source>(alloc: Global, job: &Job, files: usize) -> Result<Made<S>
     }
 }
 
-/// Answers the messages of all sources as `work` does, but that a worker that finds nothing to take rests until another wakes it, and leaves only
-/// once it was told that all have retired. Where no wake comes it never returns.
+/// Answers the messages of all sources as `work` does, but that a worker that finds nothing to take
+/// rests until another wakes it, and leaves only once it was told that all have retired. Where no
+/// wake comes it never returns.
 pub fn work_waiting<R: Threads + Wait + Sync, S: Source, G: Gate>(
     rt: &R,
     alloc: Global,
@@ -112,37 +121,54 @@ pub fn work_waiting<R: Threads + Wait + Sync, S: Source, G: Gate>(
     requires { vec_len sources ≤ 64 }
     ensures count { length result.end.sources.items ≡ length sources.items }
     ensures moved { (k : ℕ) (d : S) → k < length sources.items
-        → HasMoved S.faults S.left (slice_index_or sources.items k d) (slice_index_or result.end.sources.items k d) }
+        → HasMoved S.faults S.left (slice_index_or sources.items k d)
+        (slice_index_or result.end.sources.items k d) }
 
-    // Each source was read to its end, and where the bytes of all are visible the answers are those to all parts of their messages.
+    // Each source was read to its end, and where the bytes of all are visible the answers are those
+    // to all parts of their messages.
     ensures whole { OnOk result.end.result ((k : ℕ) (d : S) → k < length sources.items
-        → IsWhole job.now.longest S.faults S.ends S.left (slice_index_or sources.items k d) (slice_index_or result.end.sources.items k d)) }
-    ensures answers { IfOk result.end.result (λ w. IfSome (all_left S.left sources.items) (λ contents.
-        IsPermutation (map without_way (members_in w.answered.items)) (part_answers job.now.topics job.now.size (messages_to job.now.topics 1 contents)))) }
+        → IsWhole job.now.longest S.faults S.ends S.left (slice_index_or sources.items k d)
+        (slice_index_or result.end.sources.items k d)) }
+    ensures answers { IfOk result.end.result (λ w.
+        IfSome (all_left S.left sources.items) (λ contents.
+        IsPermutation (map without_way (members_in w.answered.items))
+        (part_answers job.now.topics job.now.size (messages_to job.now.topics 1 contents)))) }
 
-    // The lists answer for the messages that the files gave, and the passes for what was sent and taken: of contents that are visible, and of
-    // every source.
+    // The lists answer for the messages that the files gave, and the passes for what was sent and
+    // taken: of contents that are visible, and of every source.
     ensures told { IfOk result.end.result (λ w. IfSome (all_left S.left sources.items) (λ contents.
-        HasWorked job.now.topics job.now.size job.now.workers (messages_in job.now.topics 1 contents) w)) }
-    ensures worked { IfOk result.end.result (λ w. (given : List (List TheMessage)) × AreGiven job.now.topics job.now.longest S.left 1 sources.items given
+        HasWorked job.now.topics job.now.size job.now.workers
+        (messages_in job.now.topics 1 contents) w)) }
+    ensures worked { IfOk result.end.result (λ w.
+        (given : List (List TheMessage))
+        × AreGiven job.now.topics job.now.longest S.left 1 sources.items given
         × HasWorked job.now.topics job.now.size job.now.workers given w) }
 
-    // Whatever the answer is, the queue was closed with each buffer free: each pass has retired, what was sent was taken, and the block was
-    // merged. Only where there was no memory for a queue there was none.
-    ensures left { IfSome result.end.left (λ left. IsSomeAnd result.end.passes (λ passes. IsSomeAnd result.end.frames (λ frames.
-        NothingIsStranded job.now.order (length job.now.topics + 1) job.now.workers passes.value.items frames.value.items left.items))) }
+    // Whatever the answer is, the queue was closed with each buffer free: each pass has retired,
+    // what was sent was taken, and the block was merged. Only where there was no memory for a queue
+    // there was none.
+    ensures left { IfSome result.end.left (λ left.
+        IsSomeAnd result.end.passes (λ passes. IsSomeAnd result.end.frames (λ frames.
+        NothingIsStranded job.now.order (length job.now.topics
+        + 1) job.now.workers passes.value.items frames.value.items left.items))) }
     ensures none { result.end.left ≡ None → IsErrOf result.end.result WorkFault.NoMemory }
-    ensures same { IfOk result.end.result (λ w. IsSomeAnd result.end.passes (λ passes. passes.value.items ≡ w.passes.value.items)) }
+    ensures same { IfOk result.end.result (λ w.
+        IsSomeAnd result.end.passes (λ passes. passes.value.items ≡ w.passes.value.items)) }
 
-    // A fault is that of its file, and those in front of it were read to their ends. Where there is one of a file, each source is as one
-    // whose reading didn't stop for want of memory.
-    ensures cause { IfErr result.end.result (λ fault. HasCause job.now.longest S.faults S.ends S.left sources.items result.end.sources.items fault) }
-    ensures memory_first { IfErr result.end.result (λ fault. MemoryIsFirst job.now.longest S.faults S.ends S.left sources.items result.end.sources.items fault) }
+    // A fault is that of its file, and those in front of it were read to their ends. Where there is
+    // one of a file, each source is as one whose reading didn't stop for want of memory.
+    ensures cause { IfErr result.end.result (λ fault.
+        HasCause job.now.longest S.faults S.ends S.left sources.items result.end.sources.items
+        fault) }
+    ensures memory_first { IfErr result.end.result (λ fault.
+        MemoryIsFirst job.now.longest S.faults S.ends S.left sources.items result.end.sources.items
+        fault) }
 
-    // Each worker was told that all had retired, rested no more often than it was woken, and took in vain no more often than one does that
-    // rests after each sweep that took nothing.
+    // Each worker was told that all had retired, rested no more often than it was woken, and took
+    // in vain no more often than one does that rests after each sweep that took nothing.
     ensures waited { IfSome result.waited (λ waited. IsSomeAnd result.end.passes (λ passes.
-        HaveWaited (length job.now.topics + 1) job.now.workers passes.value.items waited.saw.items waited.rested.items)) }
+        HaveWaited (length job.now.topics
+        + 1) job.now.workers passes.value.items waited.saw.items waited.rested.items)) }
     ensures unwaited { result.waited ≡ None → IsErrOf result.end.result WorkFault.NoMemory }
     ensures both { OnSome result.waited (IsSome result.end.left) }
 {
@@ -170,7 +196,8 @@ fn wait_in<R: Threads + Wait + Sync, S: Source, G: Gate>(
     made: Made<S>,
 ) -> WaitEnd<S>
     requires few { vec_len sources ≤ 64 }
-    requires setup { (made.queue.setup.order ≡ job.now.order) × (made.queue.setup.rings ≡ length job.now.topics + 2)
+    requires setup { (made.queue.setup.order ≡ job.now.order)
+        × (made.queue.setup.rings ≡ length job.now.topics + 2)
         × (made.queue.setup.seats ≡ job.now.workers) × (made.queue.setup.limit ≡ 2 ^ 60) }
     requires frames { All (λ f. job.now.size + 24 ≤ length f.bytes.items) made.queue.given }
     requires all { AreAllOf made.block made.queue.given }
@@ -181,7 +208,8 @@ fn wait_in<R: Threads + Wait + Sync, S: Source, G: Gate>(
     requires stands { stands.items ≡ first_posts crew job.now.workers }
     ensures end { EndsWork job.now S.faults S.ends S.left sources.items result.end }
     ensures waited { IfSome result.waited (λ waited. IsSomeAnd result.end.passes (λ passes.
-        HaveWaited (length job.now.topics + 1) job.now.workers passes.value.items waited.saw.items waited.rested.items)) }
+        HaveWaited (length job.now.topics
+        + 1) job.now.workers passes.value.items waited.saw.items waited.rested.items)) }
     ensures there { IsSome result.waited }
     ensures closed { IsSome result.end.left }
 {

@@ -1,5 +1,6 @@
 //! How the work of all workers ends.
-ghost use Rattle.std.specs.Prelude.{◌≡◌, ℕ, ◌+◌, ◌^◌, ◌<◌, ◌≤◌, None, Some, false, length, map, slice_index_or, IfOk, IfErr, IfSome, IsSome};
+ghost use Rattle.std.specs.Prelude.{◌≡◌, ℕ, ◌+◌, ◌^◌, ◌<◌, ◌≤◌, None, Some, false, length, map};
+ghost use Rattle.std.specs.Prelude.{slice_index_or, IfOk, IfErr, IfSome, IsSome};
 ghost use Rattle.std.specs.List.{All};
 ghost use Rattle.scq_block.specs.Blocks.{AreAllOf};
 ghost use Rattle.scq_queue.specs.Passes.{was_told};
@@ -30,8 +31,9 @@ fn work_fault(fault: EndFault) -> WorkFault
     }
 }
 
-/// Ends the work of all workers once each has done its own: the files are gathered, the queue is closed and its block merged, in every answer. With
-/// the end comes, of each worker, whether it saw that all had retired.
+/// Ends the work of all workers once each has done its own: the files are gathered, the queue is
+/// closed and its block merged, in every answer. With the end comes, of each worker, whether it saw
+/// that all had retired.
 pub(crate) fn wind_up<S: Source>(
     job: &Job,
     laid: LaidOut<Answered, S>,
@@ -40,19 +42,24 @@ pub(crate) fn wind_up<S: Source>(
     desks: Vec<WorkDesk<S>>,
 ) -> (WorkEnd<S>, Vec<bool>)
     requires laid { IsLaid job.now.workers laid }
-    requires setup { (queue.setup.order ≡ job.now.order) × (queue.setup.rings ≡ length job.now.topics + 2) × (queue.setup.seats ≡ job.now.workers)
+    requires setup { (queue.setup.order ≡ job.now.order)
+        × (queue.setup.rings ≡ length job.now.topics + 2) × (queue.setup.seats ≡ job.now.workers)
         × (queue.setup.limit ≡ 2 ^ 60) }
     requires all { AreAllOf block queue.given }
     requires count { length desks.items ≡ job.now.workers }
     requires dealt { AreDealt 1 laid.was.value.items desks.items }
-    requires numbers { (w : ℕ) (d : _) → w < length desks.items → (slice_index_or desks.items w d).worker.worker.pass.number ≡ w }
+    requires numbers { (w : ℕ) (d : _) → w < length desks.items
+        → (slice_index_or desks.items w d).worker.worker.pass.number ≡ w }
     requires run { All (λ d.
-        HasRun queue job.now.topics job.now.size job.now.longest S.faults S.ends S.left d.files.items d.worker.worker.pass
+        HasRun queue job.now.topics job.now.size job.now.longest S.faults S.ends S.left
+        d.files.items d.worker.worker.pass
         d.worker.worker.members.items d.worker.worker.starved d.worker.kept)
         desks.items }
     ensures end { EndsWork job.now S.faults S.ends S.left laid.was.value.items result.0 }
-    ensures passes { IfSome result.0.passes (λ passes. passes.value.items ≡ map (λ d. d.worker.worker.pass) desks.items) }
-    ensures saw { IfSome result.0.passes (λ passes. result.1.items ≡ map (λ p. was_told p.gate) passes.value.items) }
+    ensures passes { IfSome result.0.passes (λ passes.
+        passes.value.items ≡ map (λ d. d.worker.worker.pass) desks.items) }
+    ensures saw { IfSome result.0.passes (λ passes.
+        result.1.items ≡ map (λ p. was_told p.gate) passes.value.items) }
     ensures there { IsSome result.0.passes }
     ensures closed { IsSome result.0.left }
 {

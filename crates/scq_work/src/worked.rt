@@ -4,10 +4,11 @@ use scq_collect::Answered;
 use scq_queue::{Counts, Pass};
 use std::snapshot::Snapshot;
 
-/// What workers answered, part by part: each list is that of one worker, in the order of their numbers. And how many parts each sent, took and
-/// answered directly.
+/// What workers answered, part by part: each list is that of one worker, in the order of their
+/// numbers. And how many parts each sent, took and answered directly.
 ///
-/// For contracts alone it has the workers' passes as they were when the queue was closed: they have no bytes when the program runs.
+/// For contracts alone it has the workers' passes as they were when the queue was closed: they have
+/// no bytes when the program runs.
 #[derive(Drop)]
 pub struct Worked {
     pub counts: Vec<Counts>,
@@ -27,17 +28,19 @@ pub enum WorkFault {
     NoMemory,
 }
 
-/// How the work ended: the sources in their order, in every case, and what was answered or why nothing was.
+/// How the work ended: the sources in their order, in every case, and what was answered or why
+/// nothing was.
 #[derive(Drop)]
 pub struct WorkEnd<S> {
     pub sources: Vec<S>,
     pub result: Result<Worked, WorkFault>,
-    /// How many indices were left in each ring of the queue when it was closed, whatever the answer is. None only at want of memory, where
-    /// there was no queue.
+    /// How many indices were left in each ring of the queue when it was closed, whatever the answer
+    /// is. None only at want of memory, where there was no queue.
     pub left: Option<Vec<u64>>,
     /// For contracts alone, and where `left` is there, the workers' passes as they were then.
     pub passes: Option<Snapshot<Vec<Pass<Frame>>>>,
-    /// Likewise the queue's buffers as they came back, in the order of their indices, before their block was merged.
+    /// Likewise the queue's buffers as they came back, in the order of their indices, before their
+    /// block was merged.
     pub frames: Option<Snapshot<Vec<Frame>>>,
 }
 

@@ -1,6 +1,7 @@
 //! The command `judge`, which reads recordings.
 
-ghost use Rattle.std.specs.Prelude.{◌≡◌, ◌<◌, ◌≤◌, ◌^◌, ℕ, List, None, length, map, string_bytes, IfOk, IfErr, OnOk};
+ghost use Rattle.std.specs.Prelude.{◌≡◌, ◌<◌, ◌≤◌, ◌^◌, ℕ, List, None, length, map, string_bytes};
+ghost use Rattle.std.specs.Prelude.{IfOk, IfErr, OnOk};
 ghost use Rattle.scq_judge.specs.Files.{HaveContents};
 ghost use Rattle.scq_judge.specs.Judged.{IsJudged, IsCause};
 ghost use Rattle.scq_judge.specs.Reads.{HasGiven, OfEach, AreReadWhole, AreReadUntil};
@@ -16,8 +17,8 @@ use scq_word::Bytes;
 use std::alloc::Global;
 use std::snapshot::Snapshot;
 
-/// Gets the files of recordings, reads them, and writes the report of their merged history. Where it is told for how many values each
-/// queue had room, refused puts are judged too.
+/// Gets the files of recordings, reads them, and writes the report of their merged history. Where
+/// it is told for how many values each queue had room, refused puts are judged too.
 pub fn run_judge<F: Files, K: Sink>(
     alloc: Global,
     room: Option<u32>,
@@ -27,9 +28,11 @@ pub fn run_judge<F: Files, K: Sink>(
 ) -> Outcome<F::Src>
     requires { length names.now ≤ 64 }
     ensures status { result.status ≡ status_of result.fault }
-    ensures got { HasGotSources F.Src.faults F.Src.left (map string_bytes names.now) result.got.value.items
+    ensures got { HasGotSources F.Src.faults F.Src.left
+        (map string_bytes names.now) result.got.value.items
         (inputs_of F.table F.faults files.old files.new result.sources.items result.read) }
-    ensures ends { EndsJudged F.Src.faults F.Src.ends F.Src.left room (map string_bytes names.now) result.got.value.items
+    ensures ends { EndsJudged F.Src.faults F.Src.ends F.Src.left room
+        (map string_bytes names.now) result.got.value.items
         (inputs_of F.table F.faults files.old files.new result.sources.items result.read)
         (wrote_of K.written K.faults out.old out.new) result.fault }
     ensures worked { result.worked ≡ None }
@@ -59,7 +62,8 @@ pub fn run_judge<F: Files, K: Sink>(
     }
 }
 
-/// The sources once they were read, and the report of their merged history, or why they were not judged.
+/// The sources once they were read, and the report of their merged history, or why they were not
+/// judged.
 fn report_on<S: Source>(
     alloc: Global,
     room: Option<u32>,
@@ -68,11 +72,17 @@ fn report_on<S: Source>(
 ) -> (Vec<S>, Result<Bytes, JudgeFault>)
     requires { length sources.items < 2 ^ 31 }
     ensures count { length result.0.items ≡ length sources.items }
-    ensures judged { IfOk result.1 (λ text. (contents : List (List ℕ)) → HaveContents S.left sources.items contents → IsJudged (map string_bytes names.now) room contents text) }
-    ensures refused { IfErr result.1 (λ fault. (contents : List (List ℕ)) → HaveContents S.left sources.items contents → IsCause contents fault) }
-    ensures whole { OnOk result.1 (AreReadWhole S.faults S.ends S.left (length sources.items) sources.items result.0.items) }
-    ensures until { IfErr result.1 (AreReadUntil S.faults S.ends S.left sources.items result.0.items) }
-    ensures given { OfEach (length sources.items) (HasGiven S.faults S.left) sources.items result.0.items }
+    ensures judged { IfOk result.1 (λ text. (contents : List (List ℕ))
+        → HaveContents S.left sources.items contents
+        → IsJudged (map string_bytes names.now) room contents text) }
+    ensures refused { IfErr result.1 (λ fault. (contents : List (List ℕ))
+        → HaveContents S.left sources.items contents → IsCause contents fault) }
+    ensures whole { OnOk result.1
+        (AreReadWhole S.faults S.ends S.left (length sources.items) sources.items result.0.items) }
+    ensures until { IfErr result.1
+        (AreReadUntil S.faults S.ends S.left sources.items result.0.items) }
+    ensures given { OfEach (length sources.items)
+        (HasGiven S.faults S.left) sources.items result.0.items }
 {
     let mut sources = sources;
     let report = judge_recordings(alloc, room, names, &mut sources);

@@ -1,5 +1,6 @@
 //! The run over files, whose workers leave early or rest.
-ghost use Rattle.std.specs.Prelude.{◌≡◌, ℕ, ◌+◌, ◌≤◌, List, Some, length, map, string_bytes, IfOk, IfSome, IsNone, IsSome, IsSomeAnd, OnSome, All};
+ghost use Rattle.std.specs.Prelude.{◌≡◌, ℕ, ◌+◌, ◌≤◌, List, Some, length, map, string_bytes, IfOk};
+ghost use Rattle.std.specs.Prelude.{IfSome, IsNone, IsSome, IsSomeAnd, OnSome, All};
 ghost use Rattle.std.specs.List.Sorted.{IsPermutation};
 ghost use Rattle.scq_collect.specs.Collected.{messages_to};
 ghost use Rattle.scq_collect.specs.Joined.{part_answers, without_way};
@@ -33,23 +34,32 @@ pub fn run_files<R: Threads + Sync, F: Files, K: Sink, G: Gate>(
     gate: &G,
 ) -> Outcome<F::Src>
     requires { length names.now ≤ 64 }
-    ensures got { HasGotSources F.Src.faults F.Src.left (map string_bytes names.now) result.got.value.items
+    ensures got { HasGotSources F.Src.faults F.Src.left
+        (map string_bytes names.now) result.got.value.items
         (inputs_of F.table F.faults files.old files.new result.sources.items result.read) }
-    ensures ends { EndsOver job.now.longest (one_thread_output job.now.topics) F.Src.faults F.Src.ends F.Src.left (map string_bytes names.now)
+    ensures ends { EndsOver job.now.longest
+        (one_thread_output job.now.topics) F.Src.faults F.Src.ends F.Src.left
+        (map string_bytes names.now)
         result.got.value.items
         (inputs_of F.table F.faults files.old files.new result.sources.items result.read)
         (wrote_of K.written K.faults out.old out.new) result.fault }
     ensures status { result.status ≡ status_of result.fault }
     ensures worked { WorkedAt result.fault result.worked }
     ensures unstaged { result.staged ≡ None }
-    ensures told { IsWorkOf job.now.topics job.now.size job.now.workers F.Src.left result.got.value.items result.worked }
-    ensures work { IsWork job.now.topics job.now.size job.now.longest job.now.workers F.Src.faults F.Src.ends F.Src.left result.got.value.items
-        (inputs_of F.table F.faults files.old files.new result.sources.items result.read) result.worked }
-    ensures left { IfSome result.left (λ left. IsSomeAnd result.passes (λ passes. IsSomeAnd result.frames (λ frames.
-        NothingIsStranded job.now.order (length job.now.topics + 1) job.now.workers passes.value.items frames.value.items left.items))) }
+    ensures told { IsWorkOf job.now.topics job.now.size job.now.workers F.Src.left
+        result.got.value.items result.worked }
+    ensures work { IsWork job.now.topics job.now.size job.now.longest job.now.workers F.Src.faults
+        F.Src.ends F.Src.left result.got.value.items
+        (inputs_of F.table F.faults files.old files.new result.sources.items result.read)
+        result.worked }
+    ensures left { IfSome result.left (λ left.
+        IsSomeAnd result.passes (λ passes. IsSomeAnd result.frames (λ frames.
+        NothingIsStranded job.now.order (length job.now.topics
+        + 1) job.now.workers passes.value.items frames.value.items left.items))) }
     ensures there { OnSome result.worked (IsSome result.left) }
     ensures seen { IsNone result.left → result.fault ≡ Some Fault.NoMemory }
-    ensures same { IfSome result.worked (λ w. IsSomeAnd result.passes (λ passes. passes.value.items ≡ w.passes.value.items)) }
+    ensures same { IfSome result.worked (λ w.
+        IsSomeAnd result.passes (λ passes. passes.value.items ≡ w.passes.value.items)) }
     ensures leaves { IsNone result.waited }
 {
     let outcome = read_files(rt, alloc, job, names, files, gate);
@@ -77,25 +87,35 @@ pub fn run_files_waiting<R: Threads + Wait + Sync, F: Files, K: Sink, G: Gate>(
     gate: &G,
 ) -> Outcome<F::Src>
     requires { length names.now ≤ 64 }
-    ensures got { HasGotSources F.Src.faults F.Src.left (map string_bytes names.now) result.got.value.items
+    ensures got { HasGotSources F.Src.faults F.Src.left
+        (map string_bytes names.now) result.got.value.items
         (inputs_of F.table F.faults files.old files.new result.sources.items result.read) }
-    ensures ends { EndsOver job.now.longest (one_thread_output job.now.topics) F.Src.faults F.Src.ends F.Src.left (map string_bytes names.now)
+    ensures ends { EndsOver job.now.longest
+        (one_thread_output job.now.topics) F.Src.faults F.Src.ends F.Src.left
+        (map string_bytes names.now)
         result.got.value.items
         (inputs_of F.table F.faults files.old files.new result.sources.items result.read)
         (wrote_of K.written K.faults out.old out.new) result.fault }
     ensures status { result.status ≡ status_of result.fault }
     ensures worked { WorkedAt result.fault result.worked }
     ensures unstaged { result.staged ≡ None }
-    ensures told { IsWorkOf job.now.topics job.now.size job.now.workers F.Src.left result.got.value.items result.worked }
-    ensures work { IsWork job.now.topics job.now.size job.now.longest job.now.workers F.Src.faults F.Src.ends F.Src.left result.got.value.items
-        (inputs_of F.table F.faults files.old files.new result.sources.items result.read) result.worked }
-    ensures left { IfSome result.left (λ left. IsSomeAnd result.passes (λ passes. IsSomeAnd result.frames (λ frames.
-        NothingIsStranded job.now.order (length job.now.topics + 1) job.now.workers passes.value.items frames.value.items left.items))) }
+    ensures told { IsWorkOf job.now.topics job.now.size job.now.workers F.Src.left
+        result.got.value.items result.worked }
+    ensures work { IsWork job.now.topics job.now.size job.now.longest job.now.workers F.Src.faults
+        F.Src.ends F.Src.left result.got.value.items
+        (inputs_of F.table F.faults files.old files.new result.sources.items result.read)
+        result.worked }
+    ensures left { IfSome result.left (λ left.
+        IsSomeAnd result.passes (λ passes. IsSomeAnd result.frames (λ frames.
+        NothingIsStranded job.now.order (length job.now.topics
+        + 1) job.now.workers passes.value.items frames.value.items left.items))) }
     ensures there { OnSome result.worked (IsSome result.left) }
     ensures seen { IsNone result.left → result.fault ≡ Some Fault.NoMemory }
-    ensures same { IfSome result.worked (λ w. IsSomeAnd result.passes (λ passes. passes.value.items ≡ w.passes.value.items)) }
+    ensures same { IfSome result.worked (λ w.
+        IsSomeAnd result.passes (λ passes. passes.value.items ≡ w.passes.value.items)) }
     ensures waited { IfSome result.waited (λ waited. IsSomeAnd result.passes (λ passes.
-        HaveWaited (length job.now.topics + 1) job.now.workers passes.value.items waited.saw.items waited.rested.items)) }
+        HaveWaited (length job.now.topics
+        + 1) job.now.workers passes.value.items waited.saw.items waited.rested.items)) }
     ensures waits { IsNone result.waited → result.fault ≡ Some Fault.NoMemory }
     ensures both { OnSome result.waited (IsSome result.left) }
 {

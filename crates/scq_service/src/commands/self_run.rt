@@ -1,4 +1,5 @@
-ghost use Rattle.std.specs.Prelude.{◌≡◌, ℕ, ◌+◌, ◌<◌, ◌≤◌, ◌^◌, [], ◌∷◌, Some, None, IfOk, IfSome, IsNone, IsSome, IsSomeAnd, length, map};
+ghost use Rattle.std.specs.Prelude.{◌≡◌, ℕ, ◌+◌, ◌<◌, ◌≤◌, ◌^◌, [], ◌∷◌, Some, None, IfOk, IfSome};
+ghost use Rattle.std.specs.Prelude.{IsNone, IsSome, IsSomeAnd, length, map};
 ghost use Rattle.std.specs.List.{All};
 ghost use Rattle.std.specs.List.Sorted.{IsPermutation};
 ghost use Rattle.scq_collect.specs.Collected.{messages_to};
@@ -33,7 +34,8 @@ const ORDER: u32 = 6;
 /// The greatest number of bytes of a part of a payload of the file.
 const SIZE: u32 = 1 << 16;
 
-/// Makes the file of the seed, answers it, and writes its summary once that is whole. No source is got.
+/// Makes the file of the seed, answers it, and writes its summary once that is whole. No source is
+/// got.
 pub fn run_self<R: Threads + Sync, S, K: Sink, G: Gate>(
     rt: &R,
     alloc: Global,
@@ -45,17 +47,23 @@ pub fn run_self<R: Threads + Sync, S, K: Sink, G: Gate>(
 ) -> Outcome<S>
     requires seed { seed < 2 ^ 31 }
     requires workers { (0 < workers) × (workers ≤ 4096) }
-    ensures ends { EndsAlone (self_summary seed lines) (wrote_of K.written K.faults out.old out.new) result.fault }
+    ensures ends { EndsAlone (self_summary seed lines)
+        (wrote_of K.written K.faults out.old out.new) result.fault }
     ensures sources { result.sources.items ≡ [] }
     ensures read { result.read ≡ 0 }
     ensures status { result.status ≡ status_of result.fault }
     ensures worked { WorkedAt result.fault result.worked }
     ensures unstaged { result.staged ≡ None }
-    ensures told { IfSome result.worked (λ w. HasWorked the_topics (2 ^ 16) workers (messages_in the_topics 1 (the_file seed lines ∷ [])) w) }
-    ensures left { IfSome result.left (λ left. IsSomeAnd result.passes (λ passes. IsSomeAnd result.frames (λ frames.
-        NothingIsStranded 6 (length the_topics + 1) workers passes.value.items frames.value.items left.items))) }
+    ensures told { IfSome result.worked (λ w.
+        HasWorked the_topics (2 ^ 16) workers
+        (messages_in the_topics 1 (the_file seed lines ∷ [])) w) }
+    ensures left { IfSome result.left (λ left.
+        IsSomeAnd result.passes (λ passes. IsSomeAnd result.frames (λ frames.
+        NothingIsStranded 6 (length the_topics
+        + 1) workers passes.value.items frames.value.items left.items))) }
     ensures seen { IsNone result.left → result.fault ≡ Some Fault.NoMemory }
-    ensures same { IfSome result.worked (λ w. IsSomeAnd result.passes (λ passes. passes.value.items ≡ w.passes.value.items)) }
+    ensures same { IfSome result.worked (λ w.
+        IsSomeAnd result.passes (λ passes. passes.value.items ≡ w.passes.value.items)) }
     ensures leaves { result.waited ≡ None }
 {
     let Ok(answers) = answer_file(rt, alloc, seed, lines, workers, gate) else {
@@ -90,8 +98,8 @@ struct Answers {
     frames: Option<Snapshot<Vec<Frame>>>,
 }
 
-/// Makes the file of the seed and answers its messages. Its lines are short and its source never fails,
-/// so where answers are wanting, memory is.
+/// Makes the file of the seed and answers its messages. Its lines are short and its source never
+/// fails, so where answers are wanting, memory is.
 fn answer_file<R: Threads + Sync, G: Gate>(
     rt: &R,
     alloc: Global,
@@ -102,15 +110,21 @@ fn answer_file<R: Threads + Sync, G: Gate>(
 ) -> Result<Answers, NoMemory>
     requires seed { seed < 2 ^ 31 }
     requires workers { (0 < workers) × (workers ≤ 4096) }
-    ensures known { IfOk result (λ a. All (λ m. m.topic ≤ length the_topics) (members_in a.worked.answered.items)) }
+    ensures known { IfOk result (λ a.
+        All (λ m. m.topic ≤ length the_topics) (members_in a.worked.answered.items)) }
     ensures answers { IfOk result (λ a.
         IsPermutation (map without_way (members_in a.worked.answered.items))
         (part_answers the_topics (2 ^ 16) (messages_to the_topics 1 (the_file seed lines ∷ [])))) }
-    ensures told { IfOk result (λ a. HasWorked the_topics (2 ^ 16) workers (messages_in the_topics 1 (the_file seed lines ∷ [])) a.worked) }
-    ensures left { IfOk result (λ a. IfSome a.left (λ left. IsSomeAnd a.passes (λ passes. IsSomeAnd a.frames (λ frames.
-        NothingIsStranded 6 (length the_topics + 1) workers passes.value.items frames.value.items left.items)))) }
+    ensures told { IfOk result (λ a.
+        HasWorked the_topics (2 ^ 16) workers
+        (messages_in the_topics 1 (the_file seed lines ∷ [])) a.worked) }
+    ensures left { IfOk result (λ a.
+        IfSome a.left (λ left. IsSomeAnd a.passes (λ passes. IsSomeAnd a.frames (λ frames.
+        NothingIsStranded 6 (length the_topics
+        + 1) workers passes.value.items frames.value.items left.items)))) }
     ensures seen { IfOk result (λ a. IsSome a.left) }
-    ensures same { IfOk result (λ a. IsSomeAnd a.passes (λ passes. passes.value.items ≡ a.worked.passes.value.items)) }
+    ensures same { IfOk result (λ a.
+        IsSomeAnd a.passes (λ passes. passes.value.items ≡ a.worked.passes.value.items)) }
 {
     let job = job_of(ORDER, SIZE, workers, self_topics());
     let source = PlainSource::new(generate(alloc, seed, lines)?);

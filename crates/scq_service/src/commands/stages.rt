@@ -1,13 +1,17 @@
 //! The run over files whose messages go through two stages.
-ghost use Rattle.std.specs.Prelude.{◌≡◌, ℕ, ◌<◌, ◌≤◌, List, [], None, Some, length, map, slice_index_or, string_bytes, IfOk, IfErr, IfSome, IsErrOf, IsSomeAnd, OnOk};
+ghost use Rattle.std.specs.Prelude.{◌≡◌, ℕ, ◌<◌, ◌≤◌, List, [], None, Some, length, map};
+ghost use Rattle.std.specs.Prelude.{slice_index_or, string_bytes, IfOk, IfErr, IfSome, IsErrOf};
+ghost use Rattle.std.specs.Prelude.{IsSomeAnd, OnOk};
 ghost use Rattle.std.specs.List.Sorted.{IsPermutation};
 ghost use Rattle.scq_frames.specs.declared.message.Message.{Message as TheMessage};
 ghost use Rattle.scq_files.specs.Ends.{AreGiven, HasMoved, all_left, messages_in};
 ghost use Rattle.scq_files.specs.Reading.{IsWhole};
 ghost use Rattle.scq_stages.specs.AllStages.{HasStaged, NothingIsStranded};
 ghost use Rattle.scq_stages.specs.Ends.{HasCause};
-ghost use Rattle.scq_stages.specs.Output.{finished_in, one_thread_stage_output, all_handled, without_way};
-ghost use Rattle.scq_service.specs.Answers.{AreAllHandled, HaveAllCome, HaveCome, IsStagedOf, IsStaging, StrandsNothing, WorkedAt};
+ghost use Rattle.scq_stages.specs.Output.{finished_in, one_thread_stage_output, all_handled};
+ghost use Rattle.scq_stages.specs.Output.{without_way};
+ghost use Rattle.scq_service.specs.Answers.{AreAllHandled, HaveAllCome, HaveCome, IsStagedOf};
+ghost use Rattle.scq_service.specs.Answers.{IsStaging, StrandsNothing, WorkedAt};
 ghost use Rattle.scq_service.specs.Ends.{EndsOver, HasGotSources, ReadsOver, inputs_of, wrote_of};
 ghost use Rattle.scq_service.specs.Faults.{fault_of_stages, status_of};
 
@@ -22,7 +26,8 @@ use std::alloc::Global;
 use std::snapshot::Snapshot;
 use std::thread::Threads;
 
-/// Reads the files, takes their messages through both stages, and writes what becomes of them once it is whole.
+/// Reads the files, takes their messages through both stages, and writes what becomes of them once
+/// it is whole.
 pub fn run_stages<R: Threads + Sync, F: Files, K: Sink>(
     rt: &R,
     alloc: Global,
@@ -32,17 +37,21 @@ pub fn run_stages<R: Threads + Sync, F: Files, K: Sink>(
     out: &mut K,
 ) -> Outcome<F::Src>
     requires { length names.now ≤ 64 }
-    ensures got { HasGotSources F.Src.faults F.Src.left (map string_bytes names.now) result.got.value.items
+    ensures got { HasGotSources F.Src.faults F.Src.left
+        (map string_bytes names.now) result.got.value.items
         (inputs_of F.table F.faults files.old files.new result.sources.items result.read) }
-    ensures ends { EndsOver job.now.size one_thread_stage_output F.Src.faults F.Src.ends F.Src.left (map string_bytes names.now) result.got.value.items
+    ensures ends { EndsOver job.now.size one_thread_stage_output F.Src.faults F.Src.ends F.Src.left
+        (map string_bytes names.now) result.got.value.items
         (inputs_of F.table F.faults files.old files.new result.sources.items result.read)
         (wrote_of K.written K.faults out.old out.new) result.fault }
     ensures status { result.status ≡ status_of result.fault }
     ensures worked { result.worked ≡ None }
     ensures staged { WorkedAt result.fault result.staged }
     ensures told { IsStagedOf job.now.workers F.Src.left result.got.value.items result.staged }
-    ensures work { IsStaging job.now.size job.now.workers F.Src.faults F.Src.ends F.Src.left result.got.value.items
-        (inputs_of F.table F.faults files.old files.new result.sources.items result.read) result.staged }
+    ensures work { IsStaging job.now.size job.now.workers F.Src.faults F.Src.ends F.Src.left
+        result.got.value.items
+        (inputs_of F.table F.faults files.old files.new result.sources.items result.read)
+        result.staged }
     ensures stranded { StrandsNothing job.now.order job.now.workers result.staged }
     ensures left { result.left ≡ None }
     ensures leaves { result.waited ≡ None }
@@ -63,15 +72,17 @@ pub fn run_stages<R: Threads + Sync, F: Files, K: Sink>(
 
 /// What is written of what workers finished.
 fn text_of(alloc: Global, staged: &Staged) -> Result<Bytes, NoMemory>
-    ensures { (contents : List (List ℕ)) → IsPermutation (map without_way (finished_in staged.now.done.items)) (all_handled 1 contents)
+    ensures { (contents : List (List ℕ))
+        → IsPermutation (map without_way (finished_in staged.now.done.items))
+        (all_handled 1 contents)
         → IfOk result (λ text. text ≡ one_thread_stage_output contents) }
 {
     let lists = staged.done.as_slice();
     stage_output(alloc, lists)
 }
 
-/// Gets the sources of the files, up to the first that isn't got, and takes the messages of those that it got through both stages. Each source is
-/// asked for once and read at most once.
+/// Gets the sources of the files, up to the first that isn't got, and takes the messages of those
+/// that it got through both stages. Each source is asked for once and read at most once.
 fn stage_files<R: Threads + Sync, F: Files>(
     rt: &R,
     alloc: Global,
@@ -80,17 +91,22 @@ fn stage_files<R: Threads + Sync, F: Files>(
     files: &mut F,
 ) -> Outcome<F::Src>
     requires few { length names.now ≤ 64 }
-    ensures got { HasGotSources F.Src.faults F.Src.left (map string_bytes names.now) result.got.value.items
+    ensures got { HasGotSources F.Src.faults F.Src.left
+        (map string_bytes names.now) result.got.value.items
         (inputs_of F.table F.faults files.old files.new result.sources.items result.read) }
-    ensures ends { ReadsOver job.now.size F.Src.faults F.Src.ends F.Src.left (map string_bytes names.now) result.got.value.items
-        (inputs_of F.table F.faults files.old files.new result.sources.items result.read) result.fault }
+    ensures ends { ReadsOver job.now.size F.Src.faults F.Src.ends F.Src.left
+        (map string_bytes names.now) result.got.value.items
+        (inputs_of F.table F.faults files.old files.new result.sources.items result.read)
+        result.fault }
     ensures status { result.status ≡ status_of result.fault }
     ensures worked { result.worked ≡ None }
     ensures staged { WorkedAt result.fault result.staged }
     ensures handled { AreAllHandled F.Src.left result.got.value.items result.staged }
     ensures told { IsStagedOf job.now.workers F.Src.left result.got.value.items result.staged }
-    ensures work { IsStaging job.now.size job.now.workers F.Src.faults F.Src.ends F.Src.left result.got.value.items
-        (inputs_of F.table F.faults files.old files.new result.sources.items result.read) result.staged }
+    ensures work { IsStaging job.now.size job.now.workers F.Src.faults F.Src.ends F.Src.left
+        result.got.value.items
+        (inputs_of F.table F.faults files.old files.new result.sources.items result.read)
+        result.staged }
     ensures stranded { StrandsNothing job.now.order job.now.workers result.staged }
     ensures left { result.left ≡ None }
     ensures leaves { result.waited ≡ None }
@@ -106,8 +122,8 @@ fn stage_files<R: Threads + Sync, F: Files>(
     conclude(job, names, &was, files, all, count, got, end)
 }
 
-/// The end of a run, by the end of its workers. `was` is what the files were before any source was got, `got` the sources as they were then, and
-/// `all` says whether all were got.
+/// The end of a run, by the end of its workers. `was` is what the files were before any source was
+/// got, `got` the sources as they were then, and `all` says whether all were got.
 fn conclude<F: Files>(
     job: &StageJob,
     names: &[String],
@@ -120,35 +136,52 @@ fn conclude<F: Files>(
 ) -> Outcome<F::Src>
     requires few { count ≤ 64 }
     requires number { count ≡ length got.value.items }
-    requires come { HaveCome F.Src.faults F.Src.left (map string_bytes names.now) (inputs_of F.table F.faults was.now.value files.now got.value.items 0) }
-    requires all { HaveAllCome (map string_bytes names.now) (inputs_of F.table F.faults was.now.value files.now got.value.items 0) all }
+    requires come { HaveCome F.Src.faults F.Src.left (map string_bytes names.now)
+        (inputs_of F.table F.faults was.now.value files.now got.value.items 0) }
+    requires all { HaveAllCome (map string_bytes names.now)
+        (inputs_of F.table F.faults was.now.value files.now got.value.items 0) all }
     requires count { length end.sources.items ≡ length got.value.items }
     requires moved { (k : ℕ) (d : F.Src) → k < length got.value.items
-        → HasMoved F.Src.faults F.Src.left (slice_index_or got.value.items k d) (slice_index_or end.sources.items k d) }
+        → HasMoved F.Src.faults F.Src.left (slice_index_or got.value.items k d)
+        (slice_index_or end.sources.items k d) }
     requires whole { OnOk end.result ((k : ℕ) (d : F.Src) → k < length got.value.items
-        → IsWhole job.now.size F.Src.faults F.Src.ends F.Src.left (slice_index_or got.value.items k d) (slice_index_or end.sources.items k d)) }
-    requires handled { IfOk end.result (λ s. IfSome (all_left F.Src.left got.value.items) (λ contents.
+        → IsWhole job.now.size F.Src.faults F.Src.ends F.Src.left
+        (slice_index_or got.value.items k d) (slice_index_or end.sources.items k d)) }
+    requires handled { IfOk end.result (λ s.
+        IfSome (all_left F.Src.left got.value.items) (λ contents.
         IsPermutation (map without_way (finished_in s.done.items)) (all_handled 1 contents))) }
     requires told { IfOk end.result (λ s. IfSome (all_left F.Src.left got.value.items) (λ contents.
         HasStaged job.now.workers (messages_in [] 1 contents) s)) }
-    requires staged { IfOk end.result (λ s. (given : List (List TheMessage)) × AreGiven [] job.now.size F.Src.left 1 got.value.items given
+    requires staged { IfOk end.result (λ s.
+        (given : List (List TheMessage))
+        × AreGiven [] job.now.size F.Src.left 1 got.value.items given
         × HasStaged job.now.workers given s) }
-    requires left { IfSome end.left (λ left. IsSomeAnd end.passes (λ passes. IsSomeAnd end.frames (λ frames.
-        NothingIsStranded job.now.order job.now.workers passes.value.items frames.value.items left.items))) }
+    requires left { IfSome end.left (λ left.
+        IsSomeAnd end.passes (λ passes. IsSomeAnd end.frames (λ frames.
+        NothingIsStranded job.now.order job.now.workers passes.value.items frames.value.items
+        left.items))) }
     requires none { end.left ≡ None → IsErrOf end.result StageFault.NoMemory }
-    requires same { IfOk end.result (λ s. IsSomeAnd end.passes (λ passes. passes.value.items ≡ s.passes.value.items)) }
-    requires cause { IfErr end.result (λ fault. HasCause job.now.size F.Src.faults F.Src.ends F.Src.left got.value.items end.sources.items fault) }
-    ensures got { HasGotSources F.Src.faults F.Src.left (map string_bytes names.now) result.got.value.items
+    requires same { IfOk end.result (λ s.
+        IsSomeAnd end.passes (λ passes. passes.value.items ≡ s.passes.value.items)) }
+    requires cause { IfErr end.result (λ fault.
+        HasCause job.now.size F.Src.faults F.Src.ends F.Src.left got.value.items end.sources.items
+        fault) }
+    ensures got { HasGotSources F.Src.faults F.Src.left
+        (map string_bytes names.now) result.got.value.items
         (inputs_of F.table F.faults was.now.value files.now result.sources.items result.read) }
-    ensures ends { ReadsOver job.now.size F.Src.faults F.Src.ends F.Src.left (map string_bytes names.now) result.got.value.items
-        (inputs_of F.table F.faults was.now.value files.now result.sources.items result.read) result.fault }
+    ensures ends { ReadsOver job.now.size F.Src.faults F.Src.ends F.Src.left
+        (map string_bytes names.now) result.got.value.items
+        (inputs_of F.table F.faults was.now.value files.now result.sources.items result.read)
+        result.fault }
     ensures status { result.status ≡ status_of result.fault }
     ensures worked { result.worked ≡ None }
     ensures staged { WorkedAt result.fault result.staged }
     ensures handled { AreAllHandled F.Src.left result.got.value.items result.staged }
     ensures told { IsStagedOf job.now.workers F.Src.left result.got.value.items result.staged }
-    ensures work { IsStaging job.now.size job.now.workers F.Src.faults F.Src.ends F.Src.left result.got.value.items
-        (inputs_of F.table F.faults was.now.value files.now result.sources.items result.read) result.staged }
+    ensures work { IsStaging job.now.size job.now.workers F.Src.faults F.Src.ends F.Src.left
+        result.got.value.items
+        (inputs_of F.table F.faults was.now.value files.now result.sources.items result.read)
+        result.staged }
     ensures stranded { StrandsNothing job.now.order job.now.workers result.staged }
     ensures left { result.left ≡ None }
     ensures leaves { result.waited ≡ None }
@@ -170,7 +203,9 @@ fn conclude<F: Files>(
             }
         }
         Err(fault) => {
-            Outcome::of_work(sources, job.size, work_fault(fault)).behind(got, None, None, None, None)
+            Outcome::of_work(sources, job.size, work_fault(fault)).behind(
+                got, None, None, None, None,
+            )
         }
     }
 }

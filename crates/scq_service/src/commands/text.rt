@@ -2,7 +2,8 @@
 ghost use Rattle.std.specs.Prelude.{◌≡◌, ◌⊎◌, ◌≤◌, None, Ok, Err, IfOk, IfErr, length};
 ghost use Rattle.scq_lines.specs.Lines.{lines_of};
 ghost use Rattle.scq_words.specs.declared.text_request.TextCommand.{TextCommand as TheCommand};
-ghost use Rattle.scq_service.specs.Ends.{Wrote, IsUnwritten, EndsWhole, IfContent, IsReadWhole, inputs_of, wrote_of};
+ghost use Rattle.scq_service.specs.Ends.{Wrote, IsUnwritten, EndsWhole, IfContent, IsReadWhole};
+ghost use Rattle.scq_service.specs.Ends.{inputs_of, wrote_of};
 ghost use Rattle.scq_service.specs.Faults.{status_of};
 ghost use Rattle.scq_service.specs.Telling.{Tells, IsOfText};
 
@@ -28,7 +29,8 @@ pub fn run_text<F: Files, K: Sink>(
     out: &mut K,
 ) -> Outcome<F::Src>
     ensures status { result.status ≡ status_of result.fault }
-    ensures ends { EndsWhole command F.Src.faults F.Src.ends F.Src.left name.now result.got.value.items
+    ensures ends { EndsWhole command F.Src.faults F.Src.ends F.Src.left name.now
+        result.got.value.items
         (inputs_of F.table F.faults files.old files.new result.sources.items result.read)
         (wrote_of K.written K.faults out.old out.new) result.fault }
     ensures worked { result.worked ≡ None }
@@ -64,9 +66,11 @@ fn read_one<F: Files>(
     name: &str,
     files: &mut F,
 ) -> Result<Whole<F::Src>, Outcome<F::Src>>
-    ensures whole { IfOk result (λ whole. IsReadWhole F.Src.faults F.Src.ends F.Src.left name.now whole.got.value.items
+    ensures whole { IfOk result (λ whole.
+        IsReadWhole F.Src.faults F.Src.ends F.Src.left name.now whole.got.value.items
         (inputs_of F.table F.faults files.old files.new whole.sources.items 0)) }
-    ensures text { IfOk result (λ whole. IfContent F.Src.left whole.got.value.items (λ content. content ≡ whole.text)) }
+    ensures text { IfOk result (λ whole.
+        IfContent F.Src.left whole.got.value.items (λ content. content ≡ whole.text)) }
     ensures status { IfErr result (λ outcome. outcome.status ≡ status_of outcome.fault) }
     ensures worked { IfErr result (λ outcome. outcome.worked ≡ None) }
     ensures unstaged { IfErr result (λ outcome. outcome.staged ≡ None) }
@@ -74,7 +78,8 @@ fn read_one<F: Files>(
     ensures leaves { IfErr result (λ outcome. outcome.waited ≡ None) }
     ensures ends { IfErr result (λ outcome. (command : TheCommand) (w : Wrote) → IsUnwritten w
         → EndsWhole command F.Src.faults F.Src.ends F.Src.left name.now outcome.got.value.items
-        (inputs_of F.table F.faults files.old files.new outcome.sources.items outcome.read) w outcome.fault) }
+        (inputs_of F.table F.faults files.old files.new outcome.sources.items outcome.read) w
+        outcome.fault) }
 {
     let Ok(mut sources) = Vec::with_capacity(alloc, 1) else {
         return Err(Outcome::at(Vec::new(alloc), Fault::NoMemory));
@@ -93,7 +98,9 @@ fn read_one<F: Files>(
 /// What the text tells the command, or its first line with a fault.
 fn tell(alloc: Global, command: TextCommand, text: &[u8]) -> Result<Bytes, Fault>
     ensures told { IfOk result (λ told. Tells command (lines_of text.now) (Ok told)) }
-    ensures refused { IfErr result (λ fault. (fault ≡ Fault.NoMemory) ⊎ (Tells command (lines_of text.now) (Err fault) × IsOfText command fault)) }
+    ensures refused { IfErr result (λ fault.
+        (fault ≡ Fault.NoMemory)
+        ⊎ (Tells command (lines_of text.now) (Err fault) × IsOfText command fault)) }
 {
     match command {
         TextCommand::Check => judged(alloc, text),
@@ -106,7 +113,8 @@ fn tell(alloc: Global, command: TextCommand, text: &[u8]) -> Result<Bytes, Fault
 fn judged(alloc: Global, text: &[u8]) -> Result<Bytes, Fault>
     ensures told { IfOk result (λ told. Tells TextCommand.Check (lines_of text.now) (Ok told)) }
     ensures refused { IfErr result (λ fault. (fault ≡ Fault.NoMemory)
-        ⊎ (Tells TextCommand.Check (lines_of text.now) (Err fault) × IsOfText TextCommand.Check fault)) }
+        ⊎ (Tells TextCommand.Check (lines_of text.now) (Err fault)
+        × IsOfText TextCommand.Check fault)) }
 {
     let history = read_history(alloc, text)?;
     let verdict = judge(alloc, history.opening.as_slice(), history.events.as_slice())?;

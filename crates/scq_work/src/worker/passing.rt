@@ -1,6 +1,8 @@
 //! What a worker does with each message of its files: it passes it on part by part.
-ghost use Rattle.std.specs.Prelude.{◌≡◌, ◌≤◌, ◌+◌, ◌++◌, ◌∷◌, List, false, [], length, None, IfErr, OnOk, All};
-ghost use Rattle.scq_frames.specs.Parts.{Part as ThePart, IsNumbered, all_parts, parts_of as the_parts_of, part_of};
+ghost use Rattle.std.specs.Prelude.{◌≡◌, ◌≤◌, ◌+◌, ◌++◌, ◌∷◌, List, false, [], length, None, IfErr};
+ghost use Rattle.std.specs.Prelude.{OnOk, All};
+ghost use Rattle.scq_frames.specs.Parts.{Part as ThePart, IsNumbered, all_parts};
+ghost use Rattle.scq_frames.specs.Parts.{parts_of as the_parts_of, part_of};
 ghost use Rattle.scq_passes.specs.Waiting.{HelpsInVain};
 ghost use Rattle.scq_passes.specs.Calls.{Suits};
 ghost use Rattle.scq_work.specs.Working.{IsAtWork, HasStopped};
@@ -15,7 +17,8 @@ use scq_word::BufferMut;
 use std::alloc::Global;
 
 impl<B: BufferMut> Worker<B> {
-    /// Passes a part of a message on: sends it in a buffer that nobody holds, or, where there is none, answers it itself and helps.
+    /// Passes a part of a message on: sends it in a buffer that nobody holds, or, where there is
+    /// none, answers it itself and helps.
     fn pass_part<G: Gate, T, W: Bell<T>>(
         &mut self,
         alloc: Global,
@@ -38,14 +41,18 @@ impl<B: BufferMut> Worker<B> {
         ensures stays { OnOk result (self.new.pass.retired ≡ None) }
         ensures work { OnOk result ((parts : List ThePart)
             → IsAtWork job.now.topics parts self.old.pass self.old.members.items self.old.starved
-            → IsAtWork job.now.topics (parts ++ part_of job.now.size message.now part ∷ []) self.new.pass self.new.members.items self.new.starved) }
+            → IsAtWork job.now.topics (parts ++ part_of job.now.size message.now part
+            ∷ []) self.new.pass self.new.members.items self.new.starved) }
         ensures left { IfErr result (λ l. (parts : List ThePart)
             → IsAtWork job.now.topics parts self.old.pass self.old.members.items self.old.starved
-            → HasStopped queue.now (length (parts ++ part_of job.now.size message.now part ∷ [])) self.new.pass l.held) }
-        ensures vain { OnOk result (HelpsInVain (length job.now.topics + 1) self.old.pass → HelpsInVain (length job.now.topics + 1) self.new.pass) }
+            → HasStopped queue.now
+            (length (parts ++ part_of job.now.size message.now part ∷ [])) self.new.pass l.held) }
+        ensures vain { OnOk result (HelpsInVain (length job.now.topics + 1) self.old.pass
+            → HelpsInVain (length job.now.topics + 1) self.new.pass) }
         ensures bell { W.kept stand.new ≡ W.kept stand.old }
         ensures starved { self.new.starved ≡ false → self.old.starved ≡ false }
-        ensures number { (self.new.number ≡ self.old.number) × (self.new.pass.number ≡ self.old.pass.number) }
+        ensures number { (self.new.number ≡ self.old.number)
+            × (self.new.pass.number ≡ self.old.pass.number) }
     {
         match queue.lend(&mut self.pass) {
             Ok(held) => {
@@ -84,14 +91,19 @@ impl<B: BufferMut> Worker<B> {
         ensures stays { OnOk result (self.new.pass.retired ≡ None) }
         ensures work { OnOk result ((parts : List ThePart)
             → IsAtWork job.now.topics parts self.old.pass self.old.members.items self.old.starved
-            → IsAtWork job.now.topics (parts ++ all_parts job.now.size message.now) self.new.pass self.new.members.items self.new.starved) }
+            → IsAtWork job.now.topics (parts
+            ++ all_parts job.now.size message.now) self.new.pass self.new.members.items
+            self.new.starved) }
         ensures left { IfErr result (λ l. (parts : List ThePart)
             → IsAtWork job.now.topics parts self.old.pass self.old.members.items self.old.starved
-            → HasStopped queue.now (length (parts ++ all_parts job.now.size message.now)) self.new.pass l.held) }
-        ensures vain { OnOk result (HelpsInVain (length job.now.topics + 1) self.old.pass → HelpsInVain (length job.now.topics + 1) self.new.pass) }
+            → HasStopped queue.now
+            (length (parts ++ all_parts job.now.size message.now)) self.new.pass l.held) }
+        ensures vain { OnOk result (HelpsInVain (length job.now.topics + 1) self.old.pass
+            → HelpsInVain (length job.now.topics + 1) self.new.pass) }
         ensures bell { W.kept stand.new ≡ W.kept stand.old }
         ensures starved { self.new.starved ≡ false → self.old.starved ≡ false }
-        ensures number { (self.new.number ≡ self.old.number) × (self.new.pass.number ≡ self.old.pass.number) }
+        ensures number { (self.new.number ≡ self.old.number)
+            × (self.new.pass.number ≡ self.old.pass.number) }
     {
         let parts = parts_of(message, job.size);
         'parts: for before in 0..parts {

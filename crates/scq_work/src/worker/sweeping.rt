@@ -1,8 +1,10 @@
 //! How a worker retires, sweeps and leaves.
-ghost use Rattle.std.specs.Prelude.{◌≡◌, ◌≤◌, ◌<◌, ◌+◌, ℕ, true, false, length, None, Ok, IfErr, OnOk};
+ghost use Rattle.std.specs.Prelude.{◌≡◌, ◌≤◌, ◌<◌, ◌+◌, ℕ, true, false, length, None, Ok, IfErr};
+ghost use Rattle.std.specs.Prelude.{OnOk};
 ghost use Rattle.scq_queue.specs.Passes.{known_on};
 ghost use Rattle.scq_passes.specs.Records.{IsReturn};
-ghost use Rattle.scq_passes.specs.Leaving.{FoundTopicEmpty, HasOnlyCalled, HasSweptLast, TookNothing};
+ghost use Rattle.scq_passes.specs.Leaving.{FoundTopicEmpty, HasOnlyCalled, HasSweptLast};
+ghost use Rattle.scq_passes.specs.Leaving.{TookNothing};
 ghost use Rattle.scq_passes.specs.Waiting.{TookInVain, TookMore};
 ghost use Rattle.scq_passes.specs.Calls.{Suits, HasTaken, HasLeft, takes_left, after_retire};
 ghost use Rattle.scq_work.specs.Working.{HasAnswered};
@@ -31,17 +33,22 @@ impl<B: BufferMut> Worker<B> {
         requires suits { Suits queue.now (length job.now.topics) self.old.pass }
         requires topic { topic ≤ length job.now.topics }
         ensures taken { OnOk result (HasTaken self.old.pass self.new.pass) }
-        ensures empty { OnOk result ((known_on topic self.new.pass).finished < (known_on topic self.new.pass).head) }
+        ensures empty { OnOk result ((known_on topic self.new.pass).finished
+            < (known_on topic self.new.pass).head) }
         ensures found { OnOk result (FoundTopicEmpty topic self.old.pass self.new.pass) }
         ensures nothing { result ≡ Ok false → TookNothing self.old.pass self.new.pass }
         ensures vain { OnOk result (TookInVain 1 self.old.pass self.new.pass) }
         ensures more { result ≡ Ok true → TookMore self.old.pass self.new.pass }
-        ensures only { OnOk result (HasOnlyCalled B.contents queue.now self.old.pass self.new.pass) }
+        ensures only { OnOk result
+            (HasOnlyCalled B.contents queue.now self.old.pass self.new.pass) }
         ensures answered { OnOk result (self.new.starved ≡ false
-            → HasAnswered job.now.topics self.old.pass self.new.pass self.old.members.items self.new.members.items) }
-        ensures some { result ≡ Ok true → ((known_on topic self.old.pass).head < (known_on topic self.new.pass).head)
+            → HasAnswered job.now.topics self.old.pass self.new.pass self.old.members.items
+            self.new.members.items) }
+        ensures some { result ≡ Ok true
+            → ((known_on topic self.old.pass).head < (known_on topic self.new.pass).head)
             × ((known_on topic self.old.pass).head < queue.now.setup.limit) }
-        ensures left { IfErr result (λ l. (parts : ℕ) → HasLeft parts parts self.old.pass self.new.pass l.held) }
+        ensures left { IfErr result (λ l. (parts : ℕ)
+            → HasLeft parts parts self.old.pass self.new.pass l.held) }
         ensures starved { self.new.starved ≡ false → self.old.starved ≡ false }
         ensures number { self.new.number ≡ self.old.number }
     {
@@ -68,16 +75,22 @@ impl<B: BufferMut> Worker<B> {
         ensures taken { OnOk result (HasTaken self.old.pass self.new.pass) }
         ensures empty { OnOk result ((t : ℕ) → t < length job.now.topics + 1
             → (known_on t self.new.pass).finished < (known_on t self.new.pass).head) }
-        ensures found { OnOk result ((t : ℕ) → t < length job.now.topics + 1 → FoundTopicEmpty t self.old.pass self.new.pass) }
+        ensures found { OnOk result ((t : ℕ) → t < length job.now.topics + 1
+            → FoundTopicEmpty t self.old.pass self.new.pass) }
         ensures nothing { result ≡ Ok false → TookNothing self.old.pass self.new.pass }
-        ensures vain { OnOk result (TookInVain (length job.now.topics + 1) self.old.pass self.new.pass) }
+        ensures vain { OnOk result
+            (TookInVain (length job.now.topics + 1) self.old.pass self.new.pass) }
         ensures more { result ≡ Ok true → TookMore self.old.pass self.new.pass }
-        ensures only { OnOk result (HasOnlyCalled B.contents queue.now self.old.pass self.new.pass) }
+        ensures only { OnOk result
+            (HasOnlyCalled B.contents queue.now self.old.pass self.new.pass) }
         ensures answered { OnOk result (self.new.starved ≡ false
-            → HasAnswered job.now.topics self.old.pass self.new.pass self.old.members.items self.new.members.items) }
-        ensures some { result ≡ Ok true → takes_left queue.now.setup.limit (length job.now.topics + 1) self.new.pass
+            → HasAnswered job.now.topics self.old.pass self.new.pass self.old.members.items
+            self.new.members.items) }
+        ensures some { result ≡ Ok true
+            → takes_left queue.now.setup.limit (length job.now.topics + 1) self.new.pass
             < takes_left queue.now.setup.limit (length job.now.topics + 1) self.old.pass }
-        ensures left { IfErr result (λ l. (parts : ℕ) → HasLeft parts parts self.old.pass self.new.pass l.held) }
+        ensures left { IfErr result (λ l. (parts : ℕ)
+            → HasLeft parts parts self.old.pass self.new.pass l.held) }
         ensures starved { self.new.starved ≡ false → self.old.starved ≡ false }
         ensures number { self.new.number ≡ self.old.number }
     {
@@ -95,14 +108,16 @@ impl<B: BufferMut> Worker<B> {
         requires stays { self.old.pass.retired ≡ None }
         requires bell { W.fits bell.now (W.kept stand.old) job.now.workers }
         ensures pass { self.new.pass ≡ after_retire self.old.pass }
-        ensures same { (self.new.members.items ≡ self.old.members.items) × (self.new.starved ≡ self.old.starved) × (self.new.number ≡ self.old.number) }
+        ensures same { (self.new.members.items ≡ self.old.members.items)
+            × (self.new.starved ≡ self.old.starved) × (self.new.number ≡ self.old.number) }
         ensures bell { W.kept stand.new ≡ W.kept stand.old }
     {
         queue.retire(&mut self.pass);
         bell.after_retire(stand, self.number, job.workers);
     }
 
-    /// Sweeps, and leaves after a sweep before which every worker had retired, or after 64 in a row that took nothing.
+    /// Sweeps, and leaves after a sweep before which every worker had retired, or after 64 in a row
+    /// that took nothing.
     pub fn sweep_out<G: Gate>(
         &mut self,
         alloc: Global,
@@ -114,11 +129,14 @@ impl<B: BufferMut> Worker<B> {
         ensures taken { OnOk result (HasTaken self.old.pass self.new.pass) }
         ensures empty { OnOk result ((t : ℕ) → t < length job.now.topics + 1
             → (known_on t self.new.pass).finished < (known_on t self.new.pass).head) }
-        ensures swept { OnOk result (HasSweptLast B.contents queue.now IsReturn (length job.now.topics + 1) 64
+        ensures swept { OnOk result
+            (HasSweptLast B.contents queue.now IsReturn (length job.now.topics + 1) 64
             self.old.pass self.new.pass) }
         ensures answered { OnOk result (self.new.starved ≡ false
-            → HasAnswered job.now.topics self.old.pass self.new.pass self.old.members.items self.new.members.items) }
-        ensures left { IfErr result (λ l. (parts : ℕ) → HasLeft parts parts self.old.pass self.new.pass l.held) }
+            → HasAnswered job.now.topics self.old.pass self.new.pass self.old.members.items
+            self.new.members.items) }
+        ensures left { IfErr result (λ l. (parts : ℕ)
+            → HasLeft parts parts self.old.pass self.new.pass l.held) }
         ensures starved { self.new.starved ≡ false → self.old.starved ≡ false }
         ensures number { self.new.number ≡ self.old.number }
     {

@@ -24,7 +24,7 @@ pub send_in-requires-clause-room : goal.send_in-requires-clause-room
 send_in-requires-clause-room c =
     let given = c.in-Ok.ensures.given in
     let room = one-of-all (λ (b : Frame). c.args.with.now.job.now.size + 24 ≤ length b.bytes.items) c.args.with.now.queue.now.given c.in-Ok.held.index
-        given.first c.requires.ready.2 given.was in
+    given.first c.requires.ready.2 given.was in
     omega (arith, room, given.same.size)
 
 -- the send met Spent

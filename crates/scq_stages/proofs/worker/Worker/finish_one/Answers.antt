@@ -93,7 +93,7 @@ pub returns-in_ok-end_first-in-Ok-clause-some : goal.returns-in_ok-end_first-in-
 returns-in_ok-end_first-in-Ok-clause-some g c is =
     let given = c.in_ok-end_first-in-Ok.ensures.given in
     let got = vain-got g.B.Buffer.contents first c.in-Ok.place given.0 c.args.self.now.pass c.take.new.pass c.end_first.new.self.pass c.in-Ok.held
-        c.in-Ok.ensures.took given.1 in
+    c.in-Ok.ensures.took given.1 in
     (record { rises = search rules; below = search rules; more = got.1 }, got.0)
 
 pub returns-in-Err-Empty-clause-only : goal.returns-in-Err-Empty-clause-only

@@ -118,7 +118,7 @@ pub returns-in_ok-end_second-in-Ok-clause-some : goal.returns-in_ok-end_second-i
 returns-in_ok-end_second-in-Ok-clause-some g c is =
     let given = c.in_ok-end_second-in-Ok.ensures.given in
     let got = vain-got g.B.Buffer.contents second c.in-Ok.place given.0 c.args.self.now.pass c.take.new.pass c.end_second.new.self.pass c.in-Ok.held
-        c.in-Ok.ensures.took given.1 in
+    c.in-Ok.ensures.took given.1 in
     (record { rises = search rules; below = search rules; more = got.1 }, got.0)
 
 pub returns-in-Err-Empty-clause-only : goal.returns-in-Err-Empty-clause-only
