@@ -12,7 +12,27 @@ use Rattle.scq_stages.specs.AllStages.{NothingIsStranded}
 use Rattle.scq_stages.proofs.DeskWorks.{passes_at}
 use Rattle.scq_desk.proofs.Settled.{all-behind, some-and, some-of}
 use Rattle.scq_stages.specs.declared.worker.Worker.{Worker}
+use Rattle.scq_files.proofs.DeskLemmas.{still-dealt}
+use Rattle.scq_files.proofs.ReadLemmas.{stops-unread}
 use Rattle.scq_stages.proofs.staging.stage_work.Goals as goal
+
+pub wind_up-requires-clause-dealt : goal.wind_up-requires-clause-dealt
+wind_up-requires-clause-dealt g c κs within =
+    still-dealt 1 c.lay_out-laid.result.0.was.value.items c.lay_out-laid.result.1.items c.run_all-desks.result.items
+    c.run_all-desks.ensures.count c.run_all-desks.ensures.same c.lay_out-laid.ensures.dealt
+
+-- no source was read where memory was wanted for a queue
+pub returns-in_default-clause-stops : goal.returns-in_default-clause-stops
+returns-in_default-clause-stops g c =
+    let job = c.args.job.now in
+    stops-unread job.workers job.size g.S.Source.faults g.S.Source.ends g.S.Source.left c.args.sources.items
+    c.starved.result.sources.items (ap (λ v. v.items) c.starved.ensures.sources)
+
+pub returns-in-Err-clause-stops : goal.returns-in-Err-clause-stops
+returns-in-Err-clause-stops g c =
+    let job = c.args.job.now in
+    stops-unread job.workers job.size g.S.Source.faults g.S.Source.ends g.S.Source.left c.args.sources.items
+    c.starved-in-Err.result.sources.items (ap (λ v. v.items) c.starved-in-Err.ensures.sources)
 
 pub returns-in-Ok-make_queue-clause-moved : goal.returns-in-Ok-make_queue-clause-moved
 returns-in-Ok-make_queue-clause-moved g c = rw (sym (ap (λ v. v.items) c.lay_out-laid.ensures.was)) c.wind_up.ensures.moved

@@ -38,7 +38,7 @@ returns-in-Err-clause-run g c =
     subst (λ (w : Worker _). HasRun c.args.queue.now job.topics job.size job.longest faults end_count left d.files.items w.pass w.members.items
     w.starved later.kept) (sym c.keep.ensures.same)
     (late-out c.args.queue.now job.topics job.size job.longest faults end_count left d.files.items d.worker.worker.pass now.pass
-    d.worker.worker.members.items now.members.items d.worker.worker.starved now.starved d.worker.kept c.requires.sweep later.worker.kept c.in-Err.at_limit.held
+    d.worker.worker.members.items now.members.items d.worker.worker.starved now.starved d.worker.kept c.requires.sweep later.kept c.in-Err.at_limit.held
     c.in-Err.ensures.left c.keep.ensures.kept)
 
 pub returns-in-Err-clause-number : goal.returns-in-Err-clause-number
