@@ -1,7 +1,8 @@
 -- The places of queues, event by event, and the refusals that they tell to be right
 use Rattle.std.proofs.Common.{◌≡◌, ℕ, suc, ◌+◌, ◌<◌, ◌≤◌, ◌⊎◌, ◌↔◌, inl, inr, Bool, true, false, not, IsTrue, List, Option, Some, None, is_some, unwrap_or, nat_eq, cond}
 use Rattle.std.proofs.Common.{slice_get, length, if◌then◌else◌, refl, sym, ◌∙◌, subst, ap, arith}
-use Rattle.std.specs.HashMap.{get, IsEmpty}
+use Rattle.std.specs.Ordering.{nat_cmp}
+use Rattle.std.specs.BTreeMap.{get, is_at, IsEmpty}
 use Rattle.std.specs.Map.{lookup}
 use Rattle.std.proofs.lemmas.Bool.{cases_eq, cases_lt}
 use Rattle.std.proofs.lemmas.Bool.Decides.{eqb_tells}
@@ -130,17 +131,17 @@ places_more room opening events queue e old new b c takes_test frees_test taken 
 
 -- one queue is kept, and the others as they were
 kept_queue : (old new : AllPlaces) (number other : ℕ) (after : Places)
-    → ((q : ℕ) → get nat_eq new.known q ≡ cond (nat_eq number q) (Some after) (get nat_eq old.known q))
+    → ((q : ℕ) → get nat_cmp new.known q ≡ cond (nat_eq number q) (Some after) (get nat_cmp old.known q))
     → ((number ≡ other) × (places_in new other ≡ after)) ⊎ ((other ≡ number → ⊥) × (places_in new other ≡ places_in old other))
 kept_queue old new number other after known = elim (eqb_tells number other) [
-  | inl s ↦ (let there : get nat_eq new.known other ≡ Some after = rw s.0 at (known other) in
+  | inl s ↦ (let there : get nat_cmp new.known other ≡ Some after = rw s.0 at (known other) in
       inl (s.1, ap (λ o. unwrap_or o untouched) there))
-  | inr s ↦ (let there : get nat_eq new.known other ≡ get nat_eq old.known other = rw s.0 at (known other) in
+  | inr s ↦ (let there : get nat_cmp new.known other ≡ get nat_cmp old.known other = rw s.0 at (known other) in
       inr (λ same. s.1 (sym same), ap (λ o. unwrap_or o untouched) there))
 ]
 
 pub all_more : (room : ℕ) (opening : List (List ℕ)) (events : List Event) (number e : ℕ) (old new : AllPlaces) (after : Places) → IsQueueOf events e number
-    → ((q : ℕ) → get nat_eq new.known q ≡ cond (nat_eq number q) (Some after) (get nat_eq old.known q))
+    → ((q : ℕ) → get nat_cmp new.known q ≡ cond (nat_eq number q) (Some after) (get nat_cmp old.known q))
     → ArePlacesOf room opening events number (e + 1) after
     → ArePlacesAt room opening events e old → ArePlacesAt room opening events (e + 1) new
 all_more room opening events number e old new after of known now are = record {
@@ -169,7 +170,7 @@ all_start room opening events all none = record {
 }
 
 pub none_kept : (all : AllPlaces) → IsEmpty all.known → (q : ℕ) → places_in all q ≡ untouched
-none_kept all empty q = ap (λ o. unwrap_or o untouched) (ap (λ es. lookup (nat_eq q) es) empty)
+none_kept all empty q = ap (λ o. unwrap_or o untouched) (ap (λ es. lookup (is_at (nat_cmp q)) es) empty)
 
 -- whether no place was free since position s
 pub full_since : (room : ℕ) (opening : List (List ℕ)) (events : List Event) (queue s e : ℕ) (places : Places) (b : Bool) → s < e

@@ -1,6 +1,8 @@
 pub mod Reading
 pub mod Holding
+pub mod Orders
 mod Rows
+mod CallLemmas
 mod PutLemmas
 mod GotLemmas
 mod TableLemmas

@@ -3,7 +3,8 @@ use Rattle.std.proofs.Common.{◌≡◌, ℕ, zero, suc, ◌+◌, ◌≤◌, inl
 use Rattle.std.proofs.Common.{nat_eq, cond, if◌then◌else◌, MatchOption, sym, ◌∙◌, subst, ap, refl, arith, add-one}
 use Rattle.std.proofs.lemmas.Bool.{cases_eq}
 use Rattle.std.proofs.lemmas.Bool.Decides.{eqb_tells}
-use Rattle.std.specs.HashMap.{get}
+use Rattle.std.specs.Ordering.{nat_cmp}
+use Rattle.std.specs.BTreeMap.{get}
 use Rattle.scq_hist.specs.Calls.{puts_before, put_start, IsPut}
 use Rattle.scq_hist.specs.Lookups.{NoPutBefore}
 use Rattle.scq_hist.specs.declared.events.Call.TheVariants.{Put, Get}
@@ -85,9 +86,9 @@ starts_same events e k n None none old = none_more events e k n old (λ queue co
 starts_same events e k n (Some s) none old = old
 
 pub puts_more_put : (events : List Event) (e seat number : ℕ) (old new : Puts) (event : Event) → slice_get events e ≡ Some event → IsPutStart event seat
-    → IsPuts events e old → number ≡ unwrap_or (get nat_eq old.counts seat) 0 + 1
+    → IsPuts events e old → number ≡ unwrap_or (get nat_cmp old.counts seat) 0 + 1
     → new.numbers.items ≡ old.numbers.items ++ number ∷ []
-    → ((q : ℕ) → get nat_eq new.counts q ≡ cond (nat_eq seat q) (Some number) (get nat_eq old.counts q))
+    → ((q : ℕ) → get nat_cmp new.counts q ≡ cond (nat_eq seat q) (Some number) (get nat_cmp old.counts q))
     → ((k n : ℕ) → place_in new.starts k n ≡ (if same_name (seat, number) (k, n) then Some e else place_in old.starts k n))
     → IsPuts events (e + 1) new
 puts_more_put events e seat number old new event there put is here numbers counts starts =
@@ -102,11 +103,11 @@ puts_more_put events e seat number old new event there put is here numbers count
       many = omega arith;
       numbers = rw numbers (row_more old.numbers.items number e (λ k. put_number events k (slice_get events k)) is.many is.numbers (rw at counted));
       counts = λ q. elim (eqb_tells seat q) [
-        | inl s ↦ (let now : get nat_eq new.counts q ≡ Some number = rw s.0 at (counts q) in
+        | inl s ↦ (let now : get nat_cmp new.counts q ≡ Some number = rw s.0 at (counts q) in
             let more = rw s.0 at (counts_more events e seat q queue content at) in
             let mine : puts_before events seat e ≡ puts_before events q e = ap (λ z. puts_before events z e) s.1 in
             ap (λ o. unwrap_or o 0) now ∙ (omega arith))
-        | inr s ↦ (let now : get nat_eq new.counts q ≡ get nat_eq old.counts q = rw s.0 at (counts q) in
+        | inr s ↦ (let now : get nat_cmp new.counts q ≡ get nat_cmp old.counts q = rw s.0 at (counts q) in
             ap (λ o. unwrap_or o 0) now ∙ is.counts q ∙ rw s.0 at (counts_more events e seat q queue content at))
       ];
       starts = λ k n. starts_more events e k n seat number queue content (place_in old.starts k n) (place_in new.starts k n) at counted

@@ -1,7 +1,8 @@
 -- One event more, and what is known of each queue
 use Rattle.std.proofs.Common.{◌≡◌, ℕ, suc, ◌+◌, ◌<◌, ◌≤◌, ◌⊎◌, ◌↔◌, inl, inr, Bool, true, false, IsTrue, List, Some, None, unwrap_or, nat_eq, cond}
 use Rattle.std.proofs.Common.{if◌then◌else◌, refl, sym, ◌∙◌, subst, ap, arith}
-use Rattle.std.specs.HashMap.{get, IsEmpty}
+use Rattle.std.specs.Ordering.{nat_cmp}
+use Rattle.std.specs.BTreeMap.{get, is_at, IsEmpty}
 use Rattle.std.specs.Map.{lookup}
 use Rattle.std.proofs.lemmas.Bool.{cases_eq, cases_lt}
 use Rattle.std.proofs.lemmas.Bool.Decides.{eqb_tells}
@@ -119,21 +120,21 @@ queue_more opening events number e old new lawful claimed unclaimed tally pendin
 
 -- one queue is kept, and the others as they were
 kept_queue : (old new : Queues) (number other : ℕ) (after : Queue) → new.tokens ≡ old.tokens
-    → ((q : ℕ) → get nat_eq new.known q ≡ cond (nat_eq number q) (Some after) (get nat_eq old.known q))
+    → ((q : ℕ) → get nat_cmp new.known q ≡ cond (nat_eq number q) (Some after) (get nat_cmp old.known q))
     → ((number ≡ other) × (queue_in new other ≡ after)) ⊎ ((other ≡ number → ⊥) × (queue_in new other ≡ queue_in old other))
 kept_queue old new number other after tokens known = elim (eqb_tells number other) [
-  | inl s ↦ (let there : get nat_eq new.known other ≡ Some after = rw s.0 at (known other) in
+  | inl s ↦ (let there : get nat_cmp new.known other ≡ Some after = rw s.0 at (known other) in
       inl (s.1, ap (λ o. unwrap_or o (unseen new.tokens other)) there))
-  | inr s ↦ (let there : get nat_eq new.known other ≡ get nat_eq old.known other = rw s.0 at (known other) in
+  | inr s ↦ (let there : get nat_cmp new.known other ≡ get nat_cmp old.known other = rw s.0 at (known other) in
       inr (
         λ same. s.1 (sym same),
-        ap (λ o. unwrap_or o (unseen new.tokens other)) there ∙ ap (λ t. unwrap_or (get nat_eq old.known other) (unseen t other)) tokens,
+        ap (λ o. unwrap_or o (unseen new.tokens other)) there ∙ ap (λ t. unwrap_or (get nat_cmp old.known other) (unseen t other)) tokens,
       ))
 ]
 
 pub queues_more : (opening : List (List ℕ)) (events : List Event) (number e : ℕ) (old new : Queues) (after : Queue) → IsLawful events
     → IsQueueOf events e number
-    → new.tokens ≡ old.tokens → ((q : ℕ) → get nat_eq new.known q ≡ cond (nat_eq number q) (Some after) (get nat_eq old.known q))
+    → new.tokens ≡ old.tokens → ((q : ℕ) → get nat_cmp new.known q ≡ cond (nat_eq number q) (Some after) (get nat_cmp old.known q))
     → (IsQueueAt opening events number e (queue_in old number) → IsQueueAt opening events number (e + 1) after)
     → AreQueuesAt opening events e old → AreQueuesAt opening events (e + 1) new
 queues_more opening events number e old new after lawful of tokens known step are = record {
@@ -146,7 +147,7 @@ queues_more opening events number e old new after lawful of tokens known step ar
 }
 
 pub small_more : (number e : ℕ) (old new : Queues) (after : Queue) → new.tokens ≡ old.tokens
-    → ((q : ℕ) → get nat_eq new.known q ≡ cond (nat_eq number q) (Some after) (get nat_eq old.known q))
+    → ((q : ℕ) → get nat_cmp new.known q ≡ cond (nat_eq number q) (Some after) (get nat_cmp old.known q))
     → after.tally.ungot ≤ (queue_in old number).tally.ungot + 1 → after.pending ≤ (queue_in old number).pending + 1
     → AreSmall e old → AreSmall (e + 1) new
 small_more number e old new after tokens known few few_gets small =
@@ -190,8 +191,8 @@ unseen_at opening events tokens number is = record {
 }
 
 -- no queue was seen yet
-none_known : (queues : Queues) → IsEmpty queues.known → (q : ℕ) → get nat_eq queues.known q ≡ None
-none_known queues empty q = ap (λ es. lookup (nat_eq q) es) empty
+none_known : (queues : Queues) → IsEmpty queues.known → (q : ℕ) → get nat_cmp queues.known q ≡ None
+none_known queues empty q = ap (λ es. lookup (is_at (nat_cmp q)) es) empty
 
 pub queues_start : (opening : List (List ℕ)) (events : List Event) (queues : Queues) → IsEmpty queues.known
     → IsTally events (IsFinishedAt opening events 0 0) queues.tokens.ungot queues.tokens.claimed_from → AreQueuesAt opening events 0 queues

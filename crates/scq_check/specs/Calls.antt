@@ -1,7 +1,8 @@
 -- For private calls: where the calls of events started
 use Rattle.std.specs.Prelude.{◌≡◌, ℕ, ◌<◌, List, Option, Some, None, length, slice_get, slice_index}
-use Rattle.std.specs.Prelude.{unwrap_or, nat_eq}
-use Rattle.std.specs.HashMap.{get}
+use Rattle.std.specs.Prelude.{unwrap_or}
+use Rattle.std.specs.Ordering.{nat_cmp}
+use Rattle.std.specs.BTreeMap.{get}
 use Rattle.scq_hist.specs.Calls.{under_way}
 use Rattle.scq_hist.specs.declared.events.Call.{Call}
 use Rattle.scq_hist.specs.declared.events.Event.{Event}
@@ -20,7 +21,7 @@ pub record IsCalls (events : List Event) (m : ℕ) (calls : Calls) : Type 0 wher
   pub many : length calls.starts.items ≡ m
   pub starts : (e : ℕ) → e < m
       → slice_index calls.starts.items e ≡ own_start events e (slice_get events e)
-  pub last : (seat : ℕ) → get nat_eq calls.under_way seat ≡ under_way events seat m
+  pub last : (seat : ℕ) → get nat_cmp calls.under_way seat ≡ under_way events seat m
 
 -- the seat has this call under way at moment m
 pub record IsCallUnderWay (events : List Event) (seat m : ℕ) (call : Call) : Type 0 where

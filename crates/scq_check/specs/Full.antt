@@ -3,8 +3,9 @@
 -- that wasn't refused takes one at the earliest when it starts, and a get that has got a put gives
 -- one back at the latest when it ends
 use Rattle.std.specs.Prelude.{◌≡◌, ℕ, ◌+◌, ◌<◌, ◌≤◌, ◌⊎◌, ◌==◌, if◌then◌else◌, List, Some, length}
-use Rattle.std.specs.Prelude.{slice_get, unwrap_or, nat_eq, true, false, Bool}
-use Rattle.std.specs.HashMap.{get}
+use Rattle.std.specs.Prelude.{slice_get, unwrap_or, true, false, Bool}
+use Rattle.std.specs.Ordering.{nat_cmp}
+use Rattle.std.specs.BTreeMap.{get}
 use Rattle.scq_hist.specs.Calls.{IsCall, IsPut, Names}
 use Rattle.scq_hist.specs.Counts.{IsCount}
 use Rattle.scq_hist.specs.declared.events.Call.TheVariants.{Put, Get}
@@ -99,7 +100,7 @@ untouched = record { taken = 0; freed = 0; full_till = 0 }
 
 -- what is kept of a queue
 abbrev pub places_in : AllPlaces → ℕ → Places
-places_in all queue = unwrap_or (get nat_eq all.known queue) untouched
+places_in all queue = unwrap_or (get nat_cmp all.known queue) untouched
 
 -- a moment up to m at which no place was free
 pub record IsFullBy (room : ℕ) (opening : List (List ℕ)) (events : List Event)

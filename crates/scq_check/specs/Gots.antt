@@ -1,6 +1,7 @@
 -- For private calls: the first Got that names each put
-use Rattle.std.specs.Prelude.{◌≡◌, ℕ, ◌<◌, Bool, false, ◌==◌, List, Option, nat_eq, MatchOption}
-use Rattle.std.specs.HashMap.{get}
+use Rattle.std.specs.Prelude.{◌≡◌, ℕ, ◌<◌, Bool, false, ◌==◌, List, Option, MatchOption}
+use Rattle.std.specs.Ordering.{nat_cmp}
+use Rattle.std.specs.BTreeMap.{get}
 use Rattle.scq_hist.specs.Calls.{Names}
 use Rattle.scq_hist.specs.Lookups.{IsFirstNamed}
 use Rattle.scq_hist.specs.declared.events.Event.{Event}
@@ -18,7 +19,7 @@ is_same_put _ _ = false
 
 -- the position that is kept of a name
 abbrev pub found_in : Gots → PutName → Option ℕ
-found_in gots (Opening number) = get nat_eq gots.of_tokens number
+found_in gots (Opening number) = get nat_cmp gots.of_tokens number
 found_in gots (Of seat number) = place_in gots.of_seats seat number
 
 -- none of the first m events is an End with Got that names the put

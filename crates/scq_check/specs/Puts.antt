@@ -1,7 +1,8 @@
 -- For private calls: the numbers of puts, and where they start
 use Rattle.std.specs.Prelude.{◌≡◌, ℕ, suc, ◌<◌, List, Option, Some, length, slice_get, slice_index}
-use Rattle.std.specs.Prelude.{unwrap_or, nat_eq, MatchOption}
-use Rattle.std.specs.HashMap.{get}
+use Rattle.std.specs.Prelude.{unwrap_or, MatchOption}
+use Rattle.std.specs.Ordering.{nat_cmp}
+use Rattle.std.specs.BTreeMap.{get}
 use Rattle.scq_hist.specs.Calls.{puts_before, IsPut}
 use Rattle.scq_hist.specs.Lookups.{NoPutBefore}
 use Rattle.scq_hist.specs.declared.events.Call.TheVariants.{Put}
@@ -37,7 +38,7 @@ pub record IsPuts (events : List Event) (m : ℕ) (puts : Puts) : Type 0 where
   pub many : length puts.numbers.items ≡ m
   pub numbers : (e : ℕ) → e < m
       → slice_index puts.numbers.items e ≡ put_number events e (slice_get events e)
-  pub counts : (seat : ℕ) → unwrap_or (get nat_eq puts.counts seat) 0 ≡ puts_before events seat m
+  pub counts : (seat : ℕ) → unwrap_or (get nat_cmp puts.counts seat) 0 ≡ puts_before events seat m
   pub starts : (seat number : ℕ)
       → MatchOption (place_in puts.starts seat number) (NoPutBefore events seat number m)
       (StartsPut events seat number)

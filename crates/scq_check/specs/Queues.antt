@@ -1,7 +1,8 @@
 -- For private calls: what is known of each queue at a moment
 use Rattle.std.specs.Prelude.{◌≡◌, ℕ, ◌+◌, ◌<◌, ◌≤◌, ◌⊎◌, ◌==◌, if◌then◌else◌, List, Some, length}
-use Rattle.std.specs.Prelude.{slice_get, unwrap_or, nat_eq}
-use Rattle.std.specs.HashMap.{get}
+use Rattle.std.specs.Prelude.{slice_get, unwrap_or}
+use Rattle.std.specs.Ordering.{nat_cmp}
+use Rattle.std.specs.BTreeMap.{get}
 use Rattle.scq_hist.specs.Calls.{IsFinishedAt, IsPending}
 use Rattle.scq_hist.specs.Aspects.{AllClaimed}
 use Rattle.scq_hist.specs.Counts.{IsCount}
@@ -27,7 +28,7 @@ unseen tokens number = record {
 
 -- what is kept of a queue
 abbrev pub queue_in : Queues → ℕ → Queue
-queue_in queues number = unwrap_or (get nat_eq queues.known number) (unseen queues.tokens number)
+queue_in queues number = unwrap_or (get nat_cmp queues.known number) (unseen queues.tokens number)
 
 -- at moment m all finished puts of the queue are claimed
 pub record IsRightAt (opening : List (List ℕ)) (events : List Event) (number m : ℕ) : Type 0 where

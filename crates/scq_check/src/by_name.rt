@@ -5,12 +5,12 @@ ghost use Rattle.scq_check.specs.ByName.{same_name, place_in};
 
 use scq_word::NoMemory;
 use std::alloc::Global;
-use std::collections::HashMap;
+use std::collections::BTreeMap;
 
 /// At most one position for each name: a seat, and the number of one of its puts.
 #[derive(Drop)]
 pub(crate) struct ByName {
-    places: HashMap<(u32, u64), usize>,
+    places: BTreeMap<(u32, u64), usize>,
 }
 
 impl ByName {
@@ -18,7 +18,7 @@ impl ByName {
         ensures { (seat number : ℕ) → place_in result seat number ≡ None }
     {
         ByName {
-            places: HashMap::new(alloc),
+            places: BTreeMap::new(alloc),
         }
     }
 

@@ -8,14 +8,14 @@ ghost use Rattle.scq_check.specs.Calls.{own_start, IsCalls, IsCallUnderWay};
 use scq_hist::{Call, Event};
 use scq_word::NoMemory;
 use std::alloc::Global;
-use std::collections::HashMap;
+use std::collections::BTreeMap;
 
 /// For each event the position of the Start of its call, and of each seat that of the call which it
 /// has under way after them.
 #[derive(Drop)]
 pub(crate) struct Calls {
     starts: Vec<usize>,
-    under_way: HashMap<u32, usize>,
+    under_way: BTreeMap<u32, usize>,
 }
 
 impl Calls {
@@ -25,7 +25,7 @@ impl Calls {
     {
         Ok(Calls {
             starts: Vec::with_capacity(alloc, events.len())?,
-            under_way: HashMap::new(alloc),
+            under_way: BTreeMap::new(alloc),
         })
     }
 

@@ -18,7 +18,7 @@ use crate::tables::Tables;
 use scq_hist::{Call, Event, Reply};
 use scq_word::{Bytes, NoMemory};
 use std::alloc::Global;
-use std::collections::HashMap;
+use std::collections::BTreeMap;
 
 /// The places of a queue at a moment: how many puts that weren't refused have started, how many
 /// gets that have got a put have ended, and the last moment found so far at which no place was free
@@ -33,7 +33,7 @@ pub(crate) struct Places {
 /// The places of all queues of whose calls there was an event.
 #[derive(Drop)]
 pub(crate) struct AllPlaces {
-    known: HashMap<u32, Places>,
+    known: BTreeMap<u32, Places>,
 }
 
 // The seat of the put of this queue that starts at this position.
@@ -193,7 +193,7 @@ impl AllPlaces {
         ensures { (queue : ℕ) → places_in result queue ≡ untouched }
     {
         AllPlaces {
-            known: HashMap::new(alloc),
+            known: BTreeMap::new(alloc),
         }
     }
 

@@ -11,12 +11,12 @@ use crate::by_name::ByName;
 use scq_hist::{Event, PutName, Reply};
 use scq_word::NoMemory;
 use std::alloc::Global;
-use std::collections::HashMap;
+use std::collections::BTreeMap;
 
 /// The position of the first End with Got that names each put, among the events so far.
 #[derive(Drop)]
 pub(crate) struct Gots {
-    of_tokens: HashMap<u32, usize>,
+    of_tokens: BTreeMap<u32, usize>,
     of_seats: ByName,
 }
 
@@ -38,7 +38,7 @@ impl Gots {
         ensures { IfOk result (IsGots events.now (length events.now)) }
     {
         let mut gots = Gots {
-            of_tokens: HashMap::new(alloc),
+            of_tokens: BTreeMap::new(alloc),
             of_seats: ByName::new(alloc),
         };
         for e in 0..events.len() {
@@ -78,6 +78,7 @@ impl Gots {
         self.get(name).is_some()
     }
 
+    #[tactic(auto, using(crate::proofs::Orders::same_number))]
     fn set(&mut self, name: PutName, e: usize) -> Result<(), NoMemory>
         ensures { OnOk result ((other : PutName)
             → found_in self.new other

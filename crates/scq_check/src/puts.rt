@@ -8,14 +8,14 @@ use crate::by_name::ByName;
 use scq_hist::{Call, Event};
 use scq_word::NoMemory;
 use std::alloc::Global;
-use std::collections::HashMap;
+use std::collections::BTreeMap;
 
 /// For each event the number of the put that starts there, how many puts each seat began, and
 /// where.
 #[derive(Drop)]
 pub(crate) struct Puts {
     numbers: Vec<u64>,
-    counts: HashMap<u32, u64>,
+    counts: BTreeMap<u32, u64>,
     starts: ByName,
 }
 
@@ -38,7 +38,7 @@ impl Puts {
     {
         let mut puts = Puts {
             numbers: Vec::with_capacity(alloc, events.len())?,
-            counts: HashMap::new(alloc),
+            counts: BTreeMap::new(alloc),
             starts: ByName::new(alloc),
         };
         for e in 0..events.len() {

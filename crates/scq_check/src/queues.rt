@@ -14,7 +14,7 @@ use crate::tables::Tables;
 use scq_hist::{Event, PutName};
 use scq_word::{Bytes, NoMemory};
 use std::alloc::Global;
-use std::collections::HashMap;
+use std::collections::BTreeMap;
 
 /// Of some finished puts: how many no End has got, and the first moment by which the gets of the
 /// others have started.
@@ -38,7 +38,7 @@ pub(crate) struct Queue {
 #[derive(Drop)]
 pub(crate) struct Queues {
     tokens: Tally,
-    known: HashMap<u32, Queue>,
+    known: BTreeMap<u32, Queue>,
 }
 
 // The tally of one put more.
@@ -216,7 +216,7 @@ impl Queues {
     {
         Queues {
             tokens: opening_tally(tables, opening, events),
-            known: HashMap::new(alloc),
+            known: BTreeMap::new(alloc),
         }
     }
 

@@ -1,6 +1,7 @@
 -- The files of seats, event by event
 use Rattle.std.proofs.Common.{◌≡◌, ℕ, ◌+◌, ◌<◌, ◌≤◌, inl, inr, List, Option, Some, None, length, slice_get, nat_eq, cond, MatchOption, refl, sym, ◌∙◌, ap, subst, arith}
-use Rattle.std.specs.HashMap.{get, IsEmpty}
+use Rattle.std.specs.Ordering.{nat_cmp}
+use Rattle.std.specs.BTreeMap.{get, is_at, IsEmpty}
 use Rattle.std.specs.Map.{lookup}
 use Rattle.std.proofs.lemmas.Bool.{cases_eq, cases_lt}
 use Rattle.std.proofs.lemmas.Bool.Decides.{eqb_tells}
@@ -12,7 +13,7 @@ use Rattle.scq_judge.specs.declared.seats.Homes.{Homes}
 
 pub homes_start : (events : List Stamped) (homes : Homes) → IsEmpty homes.known → AreHomes events 0 homes
 homes_start events homes empty = record {
-  each = λ seat. subst (λ o. MatchOption o (NoneBefore events 0 seat) (IsHome events 0 seat)) (sym (ap (λ es. lookup (nat_eq seat) es) empty))
+  each = λ seat. subst (λ o. MatchOption o (NoneBefore events 0 seat) (IsHome events 0 seat)) (sym (ap (λ es. lookup (is_at (nat_cmp seat)) es) empty))
       (record { none = λ k place lt. absurd (omega arith) });
 }
 
@@ -24,19 +25,19 @@ one_at events i s t a b x y =
     (x.seat_is ∙ ap (λ (e : Stamped). seat_of e.event) same ∙ sym y.seat_is, x.place_is ∙ ap (λ (e : Stamped). e.place) same ∙ sym y.place_is)
 
 -- the seat has no home yet
-pub home_none : (events : List Stamped) (i seat : ℕ) (place : Place) (homes : Homes) → get nat_eq homes.known seat ≡ None → IsAt events i seat place
+pub home_none : (events : List Stamped) (i seat : ℕ) (place : Place) (homes : Homes) → get nat_cmp homes.known seat ≡ None → IsAt events i seat place
     → AreHomes events i homes → IsAtHome events i
 home_none events i seat place homes none here are k s a b lt at_k at_i =
     let empty : NoneBefore events i seat = subst (λ o. MatchOption o (NoneBefore events i seat) (IsHome events i seat)) none (are.each seat) in
     let same = one_at events i seat s place b here at_i in
     absurd (empty.none k a lt (subst (λ z. IsAt events k z a) (sym same.0) at_k))
 
-home_of : (events : List Stamped) (i seat : ℕ) (home : Place) (homes : Homes) → get nat_eq homes.known seat ≡ Some home → AreHomes events i homes
+home_of : (events : List Stamped) (i seat : ℕ) (home : Place) (homes : Homes) → get nat_cmp homes.known seat ≡ Some home → AreHomes events i homes
     → IsHome events i seat home
 home_of events i seat home homes is are = subst (λ o. MatchOption o (NoneBefore events i seat) (IsHome events i seat)) is (are.each seat)
 
 -- the home is in the event's file, or it isn't
-pub home_decides : (events : List Stamped) (i seat : ℕ) (place home : Place) (homes : Homes) (told : Option Place) → get nat_eq homes.known seat ≡ Some home
+pub home_decides : (events : List Stamped) (i seat : ℕ) (place home : Place) (homes : Homes) (told : Option Place) → get nat_cmp homes.known seat ≡ Some home
     → MatchOption told (home.file ≡ place.file) (λ other. (other ≡ home) × (¬ (home.file ≡ place.file)))
     → IsAt events i seat place → AreHomes events i homes → MatchOption told (IsAtHome events i) (IsAway events i)
 home_decides events i seat place home homes None is file here are = λ k s a b lt at_k at_i.
@@ -98,36 +99,36 @@ new_home events i seat place here empty = record {
 }
 
 -- after one event more, of a seat that has a home
-pub homes_kept : (events : List Stamped) (i seat : ℕ) (place home : Place) (homes : Homes) → get nat_eq homes.known seat ≡ Some home → IsAt events i seat place
+pub homes_kept : (events : List Stamped) (i seat : ℕ) (place home : Place) (homes : Homes) → get nat_cmp homes.known seat ≡ Some home → IsAt events i seat place
     → IsAtHome events i → AreHomes events i homes → AreHomes events (i + 1) homes
 homes_kept events i seat place home homes some here at_home are = record {
   each = λ q. elim (eqb_tells seat q) [
-    | inl s ↦ subst (λ z. MatchOption (get nat_eq homes.known z) (NoneBefore events (i + 1) z) (IsHome events (i + 1) z)) s.1
+    | inl s ↦ subst (λ z. MatchOption (get nat_cmp homes.known z) (NoneBefore events (i + 1) z) (IsHome events (i + 1) z)) s.1
         (subst (λ o. MatchOption o (NoneBefore events (i + 1) seat) (IsHome events (i + 1) seat)) (sym some)
         (own_home events i seat place home here at_home (home_of events i seat home homes some are)))
-    | inr s ↦ others events i q seat place (get nat_eq homes.known q) here s.1 (are.each q)
+    | inr s ↦ others events i q seat place (get nat_cmp homes.known q) here s.1 (are.each q)
   ];
 }
 
 -- and of one that has none
-pub homes_more : (events : List Stamped) (i seat : ℕ) (place : Place) (old new : Homes) → get nat_eq old.known seat ≡ None → IsAt events i seat place
-    → ((q : ℕ) → get nat_eq new.known q ≡ cond (nat_eq seat q) (Some place) (get nat_eq old.known q))
+pub homes_more : (events : List Stamped) (i seat : ℕ) (place : Place) (old new : Homes) → get nat_cmp old.known seat ≡ None → IsAt events i seat place
+    → ((q : ℕ) → get nat_cmp new.known q ≡ cond (nat_eq seat q) (Some place) (get nat_cmp old.known q))
     → AreHomes events i old → AreHomes events (i + 1) new
 homes_more events i seat place old new none here now are = record {
   each = λ q. elim (eqb_tells seat q) [
-    | inl s ↦ (let there : get nat_eq new.known q ≡ Some place = rw s.0 at (now q) in
+    | inl s ↦ (let there : get nat_cmp new.known q ≡ Some place = rw s.0 at (now q) in
         subst (λ o. MatchOption o (NoneBefore events (i + 1) q) (IsHome events (i + 1) q)) (sym there)
         (subst (λ z. IsHome events (i + 1) z place) s.1 (new_home events i seat place here
         (subst (λ o. MatchOption o (NoneBefore events i seat) (IsHome events i seat)) none (are.each seat)))))
-    | inr s ↦ (let there : get nat_eq new.known q ≡ get nat_eq old.known q = rw s.0 at (now q) in
+    | inr s ↦ (let there : get nat_cmp new.known q ≡ get nat_cmp old.known q = rw s.0 at (now q) in
         subst (λ o. MatchOption o (NoneBefore events (i + 1) q) (IsHome events (i + 1) q)) (sym there)
-        (others events i q seat place (get nat_eq old.known q) here s.1 (are.each q)))
+        (others events i q seat place (get nat_cmp old.known q) here s.1 (are.each q)))
   ];
 }
 
 -- all events have gone by
 pub homes_all : (events : List Stamped) (i : ℕ) (homes : Homes) → length events ≤ i → AreHomes events i homes → HaveOwnFiles events
-homes_all events i homes past are j k seat a b at_j at_k = by (get nat_eq homes.known seat) (are.each seat) where
+homes_all events i homes past are j k seat a b at_j at_k = by (get nat_cmp homes.known seat) (are.each seat) where
   j_lt : j < i
   j_lt = let lt = slice_get_within events j at_j.event at_j.stands in omega arith
 

@@ -1,7 +1,8 @@
 -- What a report counts of a history
 use Rattle.std.specs.Prelude.{◌≡◌, ℕ, ◌+◌, ◌<◌, ◌≤◌, ◌⊎◌, ◌↔◌, Bool, IsTrue, List, Option, Some}
-use Rattle.std.specs.Prelude.{None, is_some, slice_get, nat_eq}
-use Rattle.std.specs.HashMap.{get}
+use Rattle.std.specs.Prelude.{None, is_some, slice_get}
+use Rattle.std.specs.Ordering.{nat_cmp}
+use Rattle.std.specs.BTreeMap.{get}
 use Rattle.scq_hist.specs.Calls.{under_way}
 use Rattle.scq_hist.specs.Counts.{IsCount}
 use Rattle.scq_hist.specs.declared.events.Call.TheVariants.{Put, Get}
@@ -53,7 +54,7 @@ pub record IsNamedBefore (named : Named) (events : List Event) (m number : ℕ) 
   pub is : named_by named (slice_get events s) ≡ Some number
 
 abbrev pub is_in : Seen → ℕ → Bool
-is_in seen number = is_some (get nat_eq seen.numbers number)
+is_in seen number = is_some (get nat_cmp seen.numbers number)
 
 pub record AreSeen (named : Named) (events : List Event) (m : ℕ) (seen : Seen)
     (c : ℕ) : Type 0 where

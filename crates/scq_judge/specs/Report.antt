@@ -47,7 +47,7 @@ abbrev pub failures_text : List ℕ → Told → Option ℕ → ℕ → List ℕ
 failures_text name t None count = name ++ codes " holds"
 failures_text name t (Some e) count =
     name ++ codes " fails at " ++ event_at_text t e ++ codes ", " ++ decimal count
-        ++ codes " in all"
+    ++ codes " in all"
 
 abbrev pub verdict_text : List ℕ → Told → Failures → List ℕ
 verdict_text name t failures = failures_text name t failures.first failures.count
@@ -109,7 +109,7 @@ waiting_line name t failures waiting =
 abbrev pub order_line : List ℕ → Told → Failures → Option Waiting → Option Origin → List ℕ
 order_line name t failures waiting overtaker =
     verdict_text name t failures ++ waiting_text t waiting ++ overtaker_text t overtaker
-        ++ codes "\n"
+    ++ codes "\n"
 
 -- the line on refusals, where they are judged
 abbrev pub full_line : Told → Option Failures → List ℕ

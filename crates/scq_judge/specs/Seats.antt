@@ -1,6 +1,7 @@
 -- Each seat's events stand in one file
-use Rattle.std.specs.Prelude.{◌≡◌, ℕ, ◌<◌, List, Some, slice_get, nat_eq, MatchOption}
-use Rattle.std.specs.HashMap.{get}
+use Rattle.std.specs.Prelude.{◌≡◌, ℕ, ◌<◌, List, Some, slice_get, MatchOption}
+use Rattle.std.specs.Ordering.{nat_cmp}
+use Rattle.std.specs.BTreeMap.{get}
 use Rattle.scq_hist.specs.declared.events.Event.{Event}
 use Rattle.scq_hist.specs.declared.events.Event.TheVariants.{Start, End}
 use Rattle.scq_judge.specs.declared.recorded.Place.{Place}
@@ -47,7 +48,7 @@ pub record IsHome (events : List Stamped) (i seat : ℕ) (home : Place) : Type 0
 -- so of each seat
 pub record AreHomes (events : List Stamped) (i : ℕ) (homes : Homes) : Type 0 where
   pub each : (seat : ℕ)
-      → MatchOption (get nat_eq homes.known seat) (NoneBefore events i seat) (IsHome events i seat)
+      → MatchOption (get nat_cmp homes.known seat) (NoneBefore events i seat) (IsHome events i seat)
 
 -- the event at position i stands in the file of its seat's events before it
 abbrev pub IsAtHome : List Stamped → ℕ → Type 0

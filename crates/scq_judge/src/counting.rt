@@ -10,7 +10,7 @@ ghost use Rattle.scq_judge.specs.Counted.{named_by, is_in};
 use scq_hist::{Call, Event};
 use scq_word::NoMemory;
 use std::alloc::Global;
-use std::collections::HashMap;
+use std::collections::BTreeMap;
 
 /// How many events, queues, seats and calls a history has, and how many of its calls overlap
 /// another.
@@ -33,7 +33,7 @@ pub(crate) enum Named {
 /// Numbers that were seen.
 #[derive(Drop)]
 pub(crate) struct Seen {
-    numbers: HashMap<u32, bool>,
+    numbers: BTreeMap<u32, bool>,
 }
 
 impl Seen {
@@ -41,7 +41,7 @@ impl Seen {
         ensures { (number : ℕ) → is_in result number ≡ false }
     {
         Seen {
-            numbers: HashMap::new(alloc),
+            numbers: BTreeMap::new(alloc),
         }
     }
 

@@ -1,8 +1,8 @@
 //! Seats whose events stand in two files.
 
 ghost use Rattle.std.specs.Prelude.{◌≡◌, ◌+◌, ◌<◌, ℕ, List, length, IfOk, OnOk, MatchOption};
-ghost use Rattle.std.specs.Prelude.{nat_eq};
-ghost use Rattle.std.specs.HashMap.{get};
+ghost use Rattle.std.specs.BTreeMap.{get};
+ghost use Rattle.std.specs.Ordering.{nat_cmp};
 ghost use Rattle.scq_judge.specs.Seats.{seat_of, IsAt, HaveOwnFiles, HasSeatOfAnother, AreHomes};
 ghost use Rattle.scq_judge.specs.Seats.{IsAtHome, IsAway};
 ghost use Rattle.scq_judge.specs.declared.recorded.Stamped.{Stamped as TheStamped};
@@ -11,7 +11,7 @@ use crate::recorded::{Place, Stamped};
 use scq_hist::Event;
 use scq_word::NoMemory;
 use std::alloc::Global;
-use std::collections::HashMap;
+use std::collections::BTreeMap;
 
 /// Where an event stands, and where one stands of the same seat in another file.
 #[derive(Clone, Copy)]
@@ -23,7 +23,7 @@ pub(crate) struct Apart {
 /// Where the first event of each seat stands.
 #[derive(Drop)]
 pub(crate) struct Homes {
-    known: HashMap<u32, Place>,
+    known: BTreeMap<u32, Place>,
 }
 
 fn seat_of(event: &Event) -> u32
@@ -61,12 +61,12 @@ impl Homes {
         ensures { (events : List TheStamped) → AreHomes events 0 result }
     {
         Homes {
-            known: HashMap::new(alloc),
+            known: BTreeMap::new(alloc),
         }
     }
 
     fn get(&self, seat: u32) -> Option<Place>
-        ensures { result ≡ get nat_eq self.now.known seat }
+        ensures { result ≡ get nat_cmp self.now.known seat }
     {
         self.known.get(&seat).copied()
     }

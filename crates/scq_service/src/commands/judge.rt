@@ -49,12 +49,14 @@ pub fn run_judge<F: Files, K: Sink>(
         let (sources, report) = report_on(alloc, room, names, sources);
         match report {
             Ok(text) => match write_all(out, text.bytes()) {
-                Ok(()) => Outcome::whole(sources).behind(got, None, None, None),
+                Ok(()) => Outcome::whole(sources).behind(got, None, None, None, None),
                 Err(Failed) => Outcome::at(sources, Fault::WriteFault).behind(
-                    got, None, None, None,
+                    got, None, None, None, None,
                 ),
             },
-            Err(fault) => Outcome::at(sources, Fault::from(fault)).behind(got, None, None, None),
+            Err(fault) => Outcome::at(sources, Fault::from(fault)).behind(
+                got, None, None, None, None,
+            ),
         }
     } else {
         let file = sources.len() as u32 + 1;

@@ -41,12 +41,14 @@ pub fn run_text<F: Files, K: Sink>(
     match read_one(alloc, name, files) {
         Ok(whole) => match tell(alloc, command, whole.text.bytes()) {
             Ok(told) => match write_all(out, told.bytes()) {
-                Ok(()) => Outcome::whole(whole.sources).behind(whole.got, None, None, None),
+                Ok(()) => Outcome::whole(whole.sources).behind(whole.got, None, None, None, None),
                 Err(Failed) => Outcome::at(whole.sources, Fault::WriteFault).behind(
-                    whole.got, None, None, None,
+                    whole.got, None, None, None, None,
                 ),
             },
-            Err(fault) => Outcome::at(whole.sources, fault).behind(whole.got, None, None, None),
+            Err(fault) => Outcome::at(whole.sources, fault).behind(
+                whole.got, None, None, None, None,
+            ),
         },
         Err(outcome) => outcome,
     }
@@ -91,7 +93,7 @@ fn read_one<F: Files>(
     let got = Snapshot::of(&sources);
     match read_all(alloc, &mut sources[0], MOST_TEXT) {
         Ok(text) => Ok(Whole { sources, got, text }),
-        Err(fault) => Err(Outcome::of_text(sources, fault).behind(got, None, None, None)),
+        Err(fault) => Err(Outcome::of_text(sources, fault).behind(got, None, None, None, None)),
     }
 }
 

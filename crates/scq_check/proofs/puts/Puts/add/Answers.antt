@@ -1,12 +1,14 @@
-use Rattle.std.proofs.Common.{rules, arith, refl, ap, ◌∙◌, ◌≡◌, ◌≤◌, ◌+◌, unwrap_or, nat_eq}
-use Rattle.std.specs.HashMap.{get}
+use Rattle.std.proofs.Common.{rules, arith, refl, ap, ◌∙◌, ◌≡◌, ◌≤◌, ◌+◌, unwrap_or}
+use Rattle.std.specs.Ordering.{nat_cmp}
+use Rattle.std.specs.BTreeMap.{get}
 use Rattle.scq_hist.proofs.NamesLemmas.{read}
 use Rattle.scq_check.proofs.PutLemmas.{puts_few, puts_more_put, puts_more_other}
+use Rattle.scq_check.proofs.Orders.{by_number}
 use Rattle.scq_check.proofs.puts.Puts.add.Goals as goal
 
 pub overflow_add-number : goal.overflow_add-number
 overflow_add-number c =
-    let count : c.unwrap_or-number.result ≡ unwrap_or (get nat_eq c.args.self.now.counts c.in-Some.seat) 0 =
+    let count : c.unwrap_or-number.result ≡ unwrap_or (get nat_cmp c.args.self.now.counts c.in-Some.seat) 0 =
     c.unwrap_or-number.ensures ∙ ap (λ o. unwrap_or o 0) (c.copied.ensures ∙ c.get.ensures.value) in
     let before = c.requires.before.counts c.in-Some.seat in
     let few = puts_few c.args.events.now c.in-Some.seat c.args.e in
@@ -19,7 +21,7 @@ returns-in_ok-push-in-Some c =
     puts_more_put _ _ _ _ _ _ _ (read _ _ _ _ c.requires.within c.index-events-e.is refl) c.in-Some.ensures c.requires.before
     (ap (λ n. n + 1) (c.unwrap_or-number.ensures ∙ ap (λ o. unwrap_or o 0) (c.copied.ensures ∙ c.get.ensures.value)))
     c.in_ok-push-in-Some.ensures.items
-    c.in_ok-insert-in-Some.ensures.updates.0
+    (λ q. by_number _ q _ _ _ (c.in_ok-insert-in-Some.ensures.updates.0 q))
     c.in_ok-set-in-Some.ensures
 
 pub returns-in_ok-push-in-None : goal.returns-in_ok-push-in-None
