@@ -118,7 +118,7 @@ int main(void) {
     for (int i = 0; i < LOGGERS + PARSERS; i++) {
         const int is_parser = i >= LOGGERS;
         jobs[i].number = i;
-        jobs[i].from = raw[i];
+        if (is_parser) jobs[i].from = raw[i];
         jobs[i].to.port = is_parser ? parsed[i - LOGGERS] : raw[i];
         if (pthread_create(&threads[i], NULL, is_parser ? parse_all : log_all, &jobs[i]) != 0)
             return 1;
