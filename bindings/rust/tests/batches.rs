@@ -69,7 +69,7 @@ fn tickets_run_out_in_the_middle() {
 
 #[test]
 fn buffers_go_from_thread_to_thread() {
-    const LAST: u32 = 2_000;
+    const LAST: u32 = 500;
     let mut ports = ports(Setup { order: 4, hold: 4, ..SMALL }, 2);
     let (one, two) = (ports.remove(0), ports.remove(0));
     let sender = thread::spawn(move || {
