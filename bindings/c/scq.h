@@ -492,7 +492,9 @@ uint32_t scq_give_back(scq_port *port, uint32_t index);
  * Asks: that n slots begin at the pointer; it isn't null where n is 0 either.
  * Tested: what the call of one buffer tests; with n = 0 only that the port is open.
  *
- * Lends up to n buffers: writes to out[0], out[1].. where they lie. */
+ * Lends up to n buffers: writes to out[0], out[1].. where they lie.
+ *
+ * Answers: SCQ_OK; SCQ_CLOSED; SCQ_NO_ROOM; SCQ_FULL; SCQ_SPENT. */
 static inline SCQ_ANSWERED uint32_t scq_lend_many(scq_port *port, scq_held *out, size_t n,
     size_t *done) {
     const uint32_t answer = scq_lend_index_many(port, out, n, done);
@@ -502,7 +504,9 @@ static inline SCQ_ANSWERED uint32_t scq_lend_many(scq_port *port, scq_held *out,
 }
 
 /* Takes up to n buffers off a topic: writes to out[0], out[1].. where they lie and the places at which
- * they were sent, which rise. */
+ * they were sent, which rise.
+ *
+ * Answers: SCQ_OK; SCQ_CLOSED; SCQ_NO_TOPIC; SCQ_NO_ROOM; SCQ_EMPTY; SCQ_SPENT. */
 static inline SCQ_ANSWERED uint32_t scq_take_many(scq_port *port, uint32_t topic, scq_held *out,
     size_t n, size_t *done) {
     const uint32_t answer = scq_take_index_many(port, topic, out, n, done);
@@ -512,12 +516,16 @@ static inline SCQ_ANSWERED uint32_t scq_take_many(scq_port *port, uint32_t topic
 }
 
 /* Sends the buffers with the indices of held[0], held[1].., up to n, on a topic, and writes to the
- * `place` of each at which place. The port doesn't hold the first *done of them any more. */
+ * `place` of each at which place. The port doesn't hold the first *done of them any more.
+ *
+ * Answers: SCQ_OK; SCQ_CLOSED; SCQ_NO_TOPIC; SCQ_RETIRED; SCQ_NOT_HELD; SCQ_SPENT. */
 SCQ_ANSWERED uint32_t scq_send_many(scq_port *port, scq_held *held, size_t n, uint32_t topic,
     size_t *done);
 
 /* Gives the buffers with the indices of held[0], held[1].. back, up to n. The port doesn't hold the
- * first *done of them any more. */
+ * first *done of them any more.
+ *
+ * Answers: SCQ_OK; SCQ_CLOSED; SCQ_NOT_HELD; SCQ_SPENT. */
 uint32_t scq_give_back_many(scq_port *port, const scq_held *held, size_t n, size_t *done);
 
 /* Retires the port: it sends no more, on any topic. It still lends, takes and gives back. A close retires too.

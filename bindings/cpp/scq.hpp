@@ -1,7 +1,7 @@
 // scq: fixed buffers that threads pass to one another, without locks. The calls of
 // bindings/c/scq.h, with owners: a Port closes itself, and the Lent and Taken that it gives are
-// given back where they end. A Ring has values of any type in place of bytes. C++11 or later;
-// include it with scq.h beside it, and link with libscq.a.
+// given back where they end. A Batch has several buffers, and a Ring values of any type in place of
+// bytes. C++11 or later; include it with scq.h beside it, and link with libscq.a.
 //
 //     scq::Port ports[2];
 //     if (scq::Queue::open(scq::Setup(), ports) != scq::Answer::Ok) return 1;
@@ -17,7 +17,8 @@
 // held. A Lent and a Taken may be moved, as may their Port, in any order, and may outlive it: a
 // call that comes too late is answered, as in C. What is left to you:
 //
-// - One thread at a time uses a port and the buffers that it holds.
+// - One thread at a time uses a port, the buffers that it holds and its batches: so a Batch, also one
+//   without buffers, ends before its port goes to another thread, or in that thread.
 // - A pointer that you got of a buffer isn't used once the buffer is sent, given back, or its port
 //   closed; and operator[] is for a number below size(), which is 0 where there is no buffer.
 // - After fork the child uses none of its parent's.
@@ -475,7 +476,9 @@ public:
     explicit Batch(const Port &port) noexcept : shared_(port.shared_) {}
     Batch(const Batch &) = delete;
     Batch &operator=(const Batch &) = delete;
-    ~Batch() { give_back(); }
+    ~Batch() {
+        if (size_ != 0) give_back();
+    }
 
     // How many buffers there are: none once the port is closed.
     std::size_t size() const noexcept { return shared_.is_open() ? size_ : 0; }
@@ -484,7 +487,8 @@ public:
     Bytes operator[](std::size_t at) const noexcept { return Bytes{held_[at].at, held_[at].len}; }
     std::uint64_t place(std::size_t at) const noexcept { return held_[at].place; }
 
-    // Lends up to `count` buffers more, but no more than there is room for.
+    // Lends up to `count` buffers more, but no more than there is room for: Ok, Full, Spent, NoRoom
+    // or Closed.
     SCQ_NODISCARD Several lend(std::size_t count = most) noexcept {
         Several came{Answer::Closed, 0};
         if (shared_.is_none()) return came;
@@ -494,7 +498,8 @@ public:
         return came;
     }
 
-    // Takes up to `count` buffers more off a topic, but no more than there is room for.
+    // Takes up to `count` buffers more off a topic, but no more than there is room for: Ok, Empty,
+    // Spent, NoTopic, NoRoom or Closed.
     SCQ_NODISCARD Several take(std::uint32_t topic, std::size_t count = most) noexcept {
         Several came{Answer::Closed, 0};
         if (shared_.is_none()) return came;
@@ -504,8 +509,8 @@ public:
         return came;
     }
 
-    // Sends all buffers on a topic, in their order. What was sent is gone from here; what was refused
-    // stays, in its order.
+    // Sends all buffers on a topic, in their order: Ok, Spent, NoTopic, Retired or Closed. What was
+    // sent is gone from here; what wasn't stays, in its order.
     SCQ_NODISCARD Several send(std::uint32_t topic) noexcept {
         Several sent{Answer::Closed, 0};
         if (shared_.is_none()) return sent;
@@ -515,7 +520,7 @@ public:
         return sent;
     }
 
-    // Gives all buffers back. What is refused stays.
+    // Gives all buffers back: Ok, Spent or Closed. What wasn't given back stays.
     Several give_back() noexcept {
         Several given{Answer::Closed, 0};
         if (shared_.is_none()) return given;

@@ -2,7 +2,8 @@
  * that one epoll waits for both. A thread sends numbers by the queue, another by the socket, and the
  * loop sums them.
  *
- *     ./event_loop */
+ *     cc -pthread -I.. event_loop.c libscq.a -o event_loop
+ */
 #define _GNU_SOURCE
 #include "scq_bell.h"
 

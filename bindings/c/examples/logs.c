@@ -1,8 +1,8 @@
 /* A pipeline of log lines: loggers pack lines into buffers, parsers go through them and pack what
  * they made of them into buffers of a second queue, and a writer goes through those. Each stage is
  * a queue of its own, so that its end is known by retiring alone: who sends no more closes its
- * port, and who only takes retires at once. There is no counter, and two calls are paid for some
- * fifty lines.
+ * port, and who only takes retires at once. There is no counter, and some seventy lines cost a lend
+ * and a send, and a take and a give-back.
  *
  *     cc -pthread -I.. logs.c libscq.a -o logs
  */
@@ -118,7 +118,7 @@ int main(void) {
     for (int i = 0; i < LOGGERS + PARSERS; i++) {
         const int is_parser = i >= LOGGERS;
         jobs[i].number = i;
-        jobs[i].from = raw[i];
+        if (is_parser) jobs[i].from = raw[i];
         jobs[i].to.port = is_parser ? parsed[i - LOGGERS] : raw[i];
         if (pthread_create(&threads[i], NULL, is_parser ? parse_all : log_all, &jobs[i]) != 0)
             return 1;

@@ -1,7 +1,7 @@
 /* A pipeline of four threads that waits: one reads lines, two turn them into capitals where they lie,
  * one writes them. Nobody asks again and again: who has nothing to do sleeps until the bell is rung.
  *
- *     ./pipeline [FILE]
+ *     cc -pthread -I.. pipeline.c libscq.a -o pipeline && ./pipeline [FILE]
  *
  * Without a file it has two lines of its own. Lines are written as they come out of the two threads; one
  * of more than SIZE - 1 bytes goes as several. */

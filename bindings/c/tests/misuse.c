@@ -308,26 +308,32 @@ static void tick(int signal) {
     }
 }
 
-/* A signal handler has a port of its own. */
+/* A signal handler has a port of its own. The next signal is asked for once the last has come, so
+ * that each turn takes what the handler sent, however slow the machine is; and one has to come. */
 static void signal_other_port(void) {
-    const struct itimerval every = {{0, 200}, {0, 200}}, off = {{0, 0}, {0, 0}};
+    const struct itimerval once = {{0, 0}, {0, 200}}, off = {{0, 0}, {0, 0}};
     struct sigaction action;
     struct timespec from, now;
+    sig_atomic_t seen = -1;
     memset(&action, 0, sizeof action);
     action.sa_handler = tick;
     action.sa_flags = SA_RESTART;
     CHECK(sigaction(SIGALRM, &action, NULL) == 0);
     open_n(6, 2, 64, 4, 2);
-    CHECK(setitimer(ITIMER_REAL, &every, NULL) == 0);
     CHECK(clock_gettime(CLOCK_MONOTONIC, &from) == 0);
     do {
+        if (seen != ticks) {
+            seen = ticks;
+            CHECK(setitimer(ITIMER_REAL, &once, NULL) == 0);
+        }
         lend_one(), send_one();
         CHECK(scq_take(&p[0], 0, &g) == SCQ_OK && scq_give_back(&p[0], g.index) == SCQ_OK);
         while (scq_take(&p[0], 1, &g) == SCQ_OK) CHECK(scq_give_back(&p[0], g.index) == SCQ_OK);
         CHECK(clock_gettime(CLOCK_MONOTONIC, &now) == 0);
-    } while ((now.tv_sec - from.tv_sec) * 1000 + (now.tv_nsec - from.tv_nsec) / 1000000 < 100);
+    } while (ticks == 0 ||
+             (now.tv_sec - from.tv_sec) * 1000 + (now.tv_nsec - from.tv_nsec) / 1000000 < 100);
     CHECK(setitimer(ITIMER_REAL, &off, NULL) == 0);
-    CHECK(ticks > 0 && wrong_ticks == 0);
+    CHECK(wrong_ticks == 0);
     close_both();
 }
 

@@ -1,8 +1,8 @@
 // Packets through two stages, up to 32 at a time: receivers fill buffers, checkers test them where
-// they lie and send them on, and a counter sums them. A checker that throws in the middle of a
-// batch loses the batch, which is given back. Who sends no more closes its port or retires; the
-// checkers know by a counter that nothing is to come, as they send too, and who comes last by
-// retired().
+// they lie and send them on, and the last stage counts them. A checker that throws in the middle of
+// a batch loses the batch, which is given back. That a stage is over the checkers know by how many
+// receivers are left: they send too, so not all ports have retired by then. The last stage knows it
+// by retired(), as all others have closed their ports.
 //
 //     c++ -pthread -I.. -I../../c packets.cpp libscq.a -o packets
 #include "scq.hpp"

@@ -207,8 +207,10 @@ impl<'p, const N: usize> Batch<'p, N> {
 
 impl<const N: usize> Drop for Batch<'_, N> {
     fn drop(&mut self) {
-        // Where that is refused the port keeps them.
-        let _ = self.give_back();
+        if !self.is_empty() {
+            // Where that is refused the port keeps them.
+            let _ = self.give_back();
+        }
     }
 }
 

@@ -1,5 +1,6 @@
 //! Several buffers at a time, and what a port tells of its queue.
 use scq::{Batch, Port, Queue, Setup, Several, Stopped};
+use std::thread;
 
 const SMALL: Setup = Setup { order: 2, topics: 2, size: 8, hold: 3, limit: Setup::MAX_LIMIT };
 
@@ -64,4 +65,37 @@ fn tickets_run_out_in_the_middle() {
     };
     assert_eq!(last.stopped, Some(Stopped::Spent));
     assert!(last.done < 2 && ports[0].spent().is_some());
+}
+
+#[test]
+fn buffers_go_from_thread_to_thread() {
+    const LAST: u32 = 500;
+    let mut ports = ports(Setup { order: 4, hold: 4, ..SMALL }, 2);
+    let (one, two) = (ports.remove(0), ports.remove(0));
+    let sender = thread::spawn(move || {
+        let mut next = 1;
+        while next <= LAST {
+            let mut batch: Batch<'_, 4> = Batch::new(&one);
+            let came = batch.lend((LAST - next + 1) as usize);
+            assert!(matches!(came.stopped, None | Some(Stopped::Full)));
+            for bytes in batch.iter_mut() {
+                bytes[..4].copy_from_slice(&next.to_ne_bytes());
+                next += 1;
+            }
+            assert_eq!(batch.send(0), went(came.done));
+            thread::yield_now();
+        }
+    });
+    let mut next: u32 = 1;
+    while next <= LAST {
+        let mut batch: Batch<'_, 4> = Batch::new(&two);
+        let came = batch.take(0, 4);
+        assert!(matches!(came.stopped, None | Some(Stopped::Empty)));
+        for bytes in batch.iter() {
+            assert_eq!(bytes[..4], next.to_ne_bytes());
+            next += 1;
+        }
+        thread::yield_now();
+    }
+    sender.join().expect("the sender ends");
 }
