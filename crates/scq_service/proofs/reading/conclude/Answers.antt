@@ -162,13 +162,13 @@ returns-in-Err-clause-ends g c =
 
 -- what is seen of the workers' queue is handed on
 pub returns-then-all-clause-left : goal.returns-then-all-clause-left
-returns-then-all-clause-left g c = rw (c.behind.ensures.left.0, c.behind.ensures.left.1.0, c.behind.ensures.left.1.1) c.requires.left
+returns-then-all-clause-left g c = rw (c.behind.ensures.left.0, c.behind.ensures.left.1, c.behind.ensures.left.2) c.requires.left
 
 pub returns-else-all-clause-left : goal.returns-else-all-clause-left
-returns-else-all-clause-left g c = rw (c.behind-else-all.ensures.left.0, c.behind-else-all.ensures.left.1.0, c.behind-else-all.ensures.left.1.1) c.requires.left
+returns-else-all-clause-left g c = rw (c.behind-else-all.ensures.left.0, c.behind-else-all.ensures.left.1, c.behind-else-all.ensures.left.2) c.requires.left
 
 pub returns-in-Err-clause-left : goal.returns-in-Err-clause-left
-returns-in-Err-clause-left g c = rw (c.behind-in-Err.ensures.left.0, c.behind-in-Err.ensures.left.1.0, c.behind-in-Err.ensures.left.1.1) c.requires.left
+returns-in-Err-clause-left g c = rw (c.behind-in-Err.ensures.left.0, c.behind-in-Err.ensures.left.1, c.behind-in-Err.ensures.left.2) c.requires.left
 
 pub returns-then-all-clause-seen : goal.returns-then-all-clause-seen
 returns-then-all-clause-seen g c none =
@@ -191,7 +191,7 @@ pub returns-then-all-clause-same : goal.returns-then-all-clause-same
 returns-then-all-clause-same g c =
     let M : Result Worked WorkFault → Type 0 =
     λ r. IfOk r (λ w. IsSomeAnd c.args.end.passes (λ passes. passes.value.items ≡ w.passes.value.items)) in
-    rw (c.behind.ensures.worked ∙ c.answered.ensures.worked, c.behind.ensures.left.1.0) (subst M c.in-Ok.is c.requires.same)
+    rw (c.behind.ensures.worked ∙ c.answered.ensures.worked, c.behind.ensures.left.1) (subst M c.in-Ok.is c.requires.same)
 
 pub returns-else-all-clause-same : goal.returns-else-all-clause-same
 returns-else-all-clause-same g c = rw (c.behind-else-all.ensures.worked ∙ c.at.ensures.worked) tt
