@@ -13,7 +13,7 @@ ghost use Rattle.scq_work.specs.AllWorkers.{HasWorked, NothingIsStranded};
 ghost use Rattle.scq_files.specs.Ends.{AreGiven, HasMoved, all_left, messages_in};
 ghost use Rattle.scq_work.specs.Ends.{HasCause};
 ghost use Rattle.scq_files.specs.Reading.{IsWhole};
-ghost use Rattle.scq_work.specs.Waiting.{HaveWaited};
+ghost use Rattle.scq_rest.specs.Waiting.{HaveWaited};
 ghost use Rattle.scq_service.specs.Answers.{HaveCome, HaveAllCome, AreOfParts, IsWork, IsWorkOf};
 ghost use Rattle.scq_service.specs.Answers.{WorkedAt};
 ghost use Rattle.scq_service.specs.Ends.{HasGotSources, ReadsOver, inputs_of};
@@ -54,7 +54,7 @@ pub(crate) fn get_sources<F: Files>(
 
 /// Gets the sources of the files, up to the first that isn't got, and answers the messages of those
 /// that it got. Each source is asked for once and read at most once.
-pub fn read_files<R: Threads + Sync, F: Files, G: Gate>(
+pub fn read_files<R: Threads + Sync, F: Files, G: Gate + Sync>(
     rt: &R,
     alloc: Global,
     job: &Job,
@@ -105,7 +105,7 @@ pub fn read_files<R: Threads + Sync, F: Files, G: Gate>(
 }
 
 /// The same by workers that rest in place of leaving early.
-pub fn read_files_waiting<R: Threads + Wait + Sync, F: Files, G: Gate>(
+pub fn read_files_waiting<R: Threads + Wait + Sync, F: Files, G: Gate + Sync>(
     rt: &R,
     alloc: Global,
     job: &Job,

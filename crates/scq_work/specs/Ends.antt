@@ -10,7 +10,7 @@ use Rattle.scq_collect.specs.Merging.{members_in}
 use Rattle.scq_files.specs.Ends.{AreGiven, HasMoved, all_left, messages_in}
 use Rattle.scq_files.specs.Reading.{IsWhole}
 use Rattle.scq_work.specs.AllWorkers.{HasWorked, NothingIsStranded}
-use Rattle.scq_work.specs.declared.job.Job.{Job}
+use Rattle.scq_worker.specs.declared.job.Job.{Job}
 use Rattle.scq_work.specs.declared.worked.WorkEnd.{WorkEnd}
 use Rattle.scq_desk.specs.Faults as workers
 use Rattle.scq_desk.specs.declared.fault.EndFault.{EndFault}

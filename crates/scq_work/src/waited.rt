@@ -16,14 +16,12 @@ ghost use Rattle.scq_work.specs.Ends.{EndsWork, HasCause, MemoryIsFirst};
 ghost use Rattle.scq_files.specs.Reading.{IsWhole};
 ghost use Rattle.scq_desk.specs.Rooms.{IsRoomFor};
 ghost use Rattle.scq_park.specs.Crews.{first_posts};
-ghost use Rattle.scq_work.specs.Resting.{HasRoom};
-ghost use Rattle.scq_work.specs.Waiting.{HaveWaited};
+ghost use Rattle.scq_rest.specs.Resting.{HasRoom};
+ghost use Rattle.scq_rest.specs.Waiting.{HaveWaited};
 
-use crate::resting::{RestingRoom, make_resting_room, run_resting};
 use crate::winding::wind_up;
-use crate::worker::Worker;
 use crate::working::setup_of;
-use crate::{Gate, Job, WorkEnd, WorkFault};
+use crate::{WorkEnd, WorkFault};
 use scq_block::{Block, Frame};
 use scq_collect::Answered;
 use scq_desk::{Room, lay_out, make_room};
@@ -31,7 +29,9 @@ use scq_outside::Source;
 use scq_park::{Crew, Rested, Stand};
 use scq_passes::make_queue;
 use scq_queue::{Pass, Queue};
+use scq_rest::{RestingRoom, make_resting_room, run_resting};
 use scq_word::NoMemory;
+use scq_worker::{Gate, Job, Worker};
 use std::alloc::Global;
 use std::sync::Wait;
 use std::thread::Threads;
@@ -111,7 +111,7 @@ fn make_all<S: Source>(alloc: Global, job: &Job, files: usize) -> Result<Made<S>
 /// Answers the messages of all sources as `work` does, but that a worker that finds nothing to take
 /// rests until another wakes it, and leaves only once it was told that all have retired. Where no
 /// wake comes it never returns.
-pub fn work_waiting<R: Threads + Wait + Sync, S: Source, G: Gate>(
+pub fn work_waiting<R: Threads + Wait + Sync, S: Source, G: Gate + Sync>(
     rt: &R,
     alloc: Global,
     job: &Job,
@@ -185,7 +185,7 @@ pub fn work_waiting<R: Threads + Wait + Sync, S: Source, G: Gate>(
 }
 
 /// The same, once there are a crew, room and a queue.
-fn wait_in<R: Threads + Wait + Sync, S: Source, G: Gate>(
+fn wait_in<R: Threads + Wait + Sync, S: Source, G: Gate + Sync>(
     rt: &R,
     alloc: Global,
     job: &Job,

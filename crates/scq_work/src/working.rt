@@ -18,11 +18,12 @@ ghost use Rattle.scq_files.specs.Reading.{IsWhole};
 
 use crate::apart::run_apart;
 use crate::winding::wind_up;
-use crate::{Gate, Job, WorkEnd, WorkFault, Worked};
+use crate::{WorkEnd, WorkFault, Worked};
 use scq_desk::{lay_out, make_room};
 use scq_outside::Source;
 use scq_passes::make_queue;
 use scq_word::{NoMemory, Setup};
+use scq_worker::{Gate, Job};
 use std::alloc::Global;
 use std::thread::Threads;
 
@@ -45,7 +46,7 @@ pub(crate) fn setup_of(job: &Job) -> Setup
 /// Answers the messages of all sources by the job's workers, each of which reads its own files:
 /// file f, from 1, is that of worker (f - 1) mod the number of workers. They share a queue of
 /// buffers. The sources come back in their order in every case.
-pub fn work<R: Threads + Sync, S: Source, G: Gate>(
+pub fn work<R: Threads + Sync, S: Source, G: Gate + Sync>(
     rt: &R,
     alloc: Global,
     job: &Job,

@@ -10,9 +10,9 @@ use Rattle.scq_passes.specs.Records.{IsReturn}
 use Rattle.scq_passes.specs.Together.{NoneSpent}
 use Rattle.scq_work.specs.AllWorkers.{NothingIsStranded}
 use Rattle.scq_files.specs.declared.desk.Desk.{Desk}
-use Rattle.scq_work.specs.Seats.{Seated}
+use Rattle.scq_worker.specs.Seats.{Seated}
 use Rattle.scq_desk.proofs.Settled.{all-behind, some-and, some-of}
-use Rattle.scq_work.specs.declared.worker.Worker.{Worker}
+use Rattle.scq_worker.specs.declared.worker.Worker.{Worker}
 use Rattle.scq_work.proofs.working.work.Goals as goal
 
 pub returns-in-Ok-make_queue-clause-moved : goal.returns-in-Ok-make_queue-clause-moved

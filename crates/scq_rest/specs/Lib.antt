@@ -1,0 +1,4 @@
+pub mod Waiting
+pub mod Threads
+pub mod Places
+pub mod Resting
