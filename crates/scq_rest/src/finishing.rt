@@ -1,27 +1,26 @@
 //! What a worker that may rest does once it has retired.
 ghost use Rattle.std.specs.Prelude.{◌≡◌, ◌+◌, length};
+ghost use Rattle.scq_block.specs.Frames.{bytes_of};
 ghost use Rattle.scq_worker.specs.Desks.{HasProduced, HasRun, IsToSweep};
 ghost use Rattle.scq_rest.specs.Waiting.{HasWaited};
 
 use crate::sweeping::sweep_and_rest;
-use scq_desk::Seat;
-use scq_files::Desk;
+use scq_block::Frame;
 use scq_outside::Source;
 use scq_park::{Crew, Stand};
 use scq_queue::Queue;
-use scq_word::BufferMut;
-use scq_worker::{Gate, Job, Worker};
+use scq_worker::{Gate, Job, Point, Takes, WorkDesk};
 use std::alloc::Global;
 use std::sync::Wait;
 
 /// Once it has retired: it sweeps, and rests after each sweep that took nothing, until all have
 /// retired. Where no wake comes it never returns.
-pub fn finish<B: BufferMut, S: Source, G: Gate, R: Wait>(
-    desk: &mut Desk<Seat<Worker<B>, B>, S>,
+pub fn finish<S: Source, G: Gate, R: Wait>(
+    desk: &mut WorkDesk<S>,
     rt: &R,
     alloc: Global,
     job: &Job,
-    queue: &Queue<B>,
+    queue: &Queue<Frame>,
     gate: &G,
     crew: &Crew,
     stand: &mut Stand,
@@ -34,7 +33,7 @@ pub fn finish<B: BufferMut, S: Source, G: Gate, R: Wait>(
     ensures run { HasRun queue.now job.now.topics job.now.size job.now.longest S.faults S.ends
         S.left desk.new.files.items desk.new.worker.worker.pass
         desk.new.worker.worker.members.items desk.new.worker.worker.starved desk.new.worker.kept }
-    ensures waited { HasWaited B.contents (length job.now.topics
+    ensures waited { HasWaited bytes_of (length job.now.topics
         + 1) stand.new.rests desk.new.worker.worker.pass }
     ensures number { desk.new.worker.worker.pass.number ≡ desk.old.worker.worker.pass.number }
     ensures stand { (stand.new.crew ≡ stand.old.crew) × (stand.new.worker ≡ stand.old.worker) }
@@ -46,12 +45,12 @@ pub fn finish<B: BufferMut, S: Source, G: Gate, R: Wait>(
 }
 
 /// It sweeps and rests until all have retired.
-fn rest_out<B: BufferMut, S: Source, G: Gate, R: Wait>(
-    desk: &mut Desk<Seat<Worker<B>, B>, S>,
+fn rest_out<S: Source, G: Gate, R: Wait>(
+    desk: &mut WorkDesk<S>,
     rt: &R,
     alloc: Global,
     job: &Job,
-    queue: &Queue<B>,
+    queue: &Queue<Frame>,
     gate: &G,
     crew: &Crew,
     stand: &mut Stand,
@@ -64,13 +63,20 @@ fn rest_out<B: BufferMut, S: Source, G: Gate, R: Wait>(
     ensures run { HasRun queue.now job.now.topics job.now.size job.now.longest S.faults S.ends
         S.left desk.new.files.items desk.new.worker.worker.pass
         desk.new.worker.worker.members.items desk.new.worker.worker.starved desk.new.worker.kept }
-    ensures waited { HasWaited B.contents (length job.now.topics
+    ensures waited { HasWaited bytes_of (length job.now.topics
         + 1) stand.new.rests desk.new.worker.worker.pass }
     ensures number { desk.new.worker.worker.pass.number ≡ desk.old.worker.worker.pass.number }
     ensures stand { (stand.new.crew ≡ stand.old.crew) × (stand.new.worker ≡ stand.old.worker) }
 {
-    let worker = &mut desk.worker.worker;
-    if let Err(at_limit) = sweep_and_rest(worker, rt, alloc, job, queue, gate, crew, stand) {
-        desk.worker.keep(at_limit);
+    let with = Takes {
+        alloc,
+        job,
+        queue,
+        gate,
+    };
+    let topics = job.topics.len() + 1;
+    match sweep_and_rest(&mut desk.worker.worker, &with, topics, rt, crew, stand) {
+        Ok(()) => gate.at(desk.worker.worker.number, Point::BeforeLeave),
+        Err(at_limit) => desk.worker.keep(at_limit),
     }
 }

@@ -1,56 +1,43 @@
-//! How a worker waits in place of leaving early.
-ghost use Rattle.std.specs.Prelude.{◌≡◌, ℕ, ◌+◌, ◌<◌, false, length, Some, IfErr, OnOk};
+//! How a worker waits in place of leaving early, whoever it is.
+ghost use Rattle.std.specs.Prelude.{◌≡◌, ℕ, ◌+◌, ◌<◌, Some, IfErr, OnOk};
 ghost use Rattle.scq_queue.specs.Passes.{known_on};
-ghost use Rattle.scq_passes.specs.Records.{IsReturn};
 ghost use Rattle.scq_passes.specs.Waiting.{SweepsInVain, HasSweptTold};
-ghost use Rattle.scq_passes.specs.Calls.{Suits, HasTaken, HasLeft};
-ghost use Rattle.scq_worker.specs.Working.{HasAnswered};
+ghost use Rattle.scq_passes.specs.Calls.{HasTakenFollowed, Suits};
 
 use scq_park::{Crew, Stand};
-use scq_passes::AtLimit;
-use scq_queue::Queue;
-use scq_word::BufferMut;
-use scq_worker::{Gate, Job, Point, Worker};
-use std::alloc::Global;
+use scq_passes::{AtLimit, Taker, sweep};
+use scq_word::Buffer;
 use std::sync::Wait;
 
-/// Sweeps until all have retired, and rests after each sweep that took nothing. It leaves only
-/// after a sweep before which all had retired: where no wake comes it never returns.
-pub fn sweep_and_rest<B: BufferMut, G: Gate, R: Wait>(
-    worker: &mut Worker<B>,
+/// Sweeps so many topics until all have retired, and rests after each sweep that took nothing. It
+/// leaves only after a sweep before which all had retired: where no wake comes it never returns.
+pub fn sweep_and_rest<C, B: Buffer, T: Taker<C, B>, R: Wait>(
+    taker: &mut T,
+    with: &C,
+    topics: u32,
     rt: &R,
-    alloc: Global,
-    job: &Job,
-    queue: &Queue<B>,
-    gate: &G,
     crew: &Crew,
     stand: &mut Stand,
 ) -> Result<(), AtLimit<B>>
-    requires suits { Suits queue.now (length job.now.topics) worker.old.pass }
+    requires suits { Suits (T.queue with.now) (T.declared with.now) (T.pass taker.old) }
+    requires topics { topics ≡ T.declared with.now + 1 }
     requires stand { stand.old.crew ≡ crew.now }
-    ensures taken { OnOk result (HasTaken worker.old.pass worker.new.pass) }
-    ensures empty { OnOk result ((t : ℕ) → t < length job.now.topics + 1
-        → (known_on t worker.new.pass).finished < (known_on t worker.new.pass).head) }
-    ensures swept { OnOk result (HasSweptTold B.contents queue.now IsReturn
-        (length job.now.topics + 1) worker.old.pass worker.new.pass) }
-    ensures told { OnOk result (worker.new.pass.gate ≡ Some 0) }
-    ensures vain { OnOk result
-        (SweepsInVain (length job.now.topics + 1) 0 stand.old.rests worker.old.pass
-        → SweepsInVain (length job.now.topics + 1) 1 stand.new.rests worker.new.pass) }
-    ensures answered { OnOk result (worker.new.starved ≡ false
-        → HasAnswered job.now.topics worker.old.pass worker.new.pass worker.old.members.items
-        worker.new.members.items) }
-    ensures left { IfErr result (λ l. (parts : ℕ)
-        → HasLeft parts parts worker.old.pass worker.new.pass l.held) }
-    ensures starved { worker.new.starved ≡ false → worker.old.starved ≡ false }
-    ensures number { worker.new.number ≡ worker.old.number }
+    ensures taken { OnOk result (HasTakenFollowed T.follows (T.pass taker.old) (T.pass taker.new)) }
+    ensures made { OnOk result (T.made with.now taker.old taker.new) }
+    ensures past { OnOk result ((t : ℕ) → t < topics
+        → (known_on t (T.pass taker.new)).finished < (known_on t (T.pass taker.new)).head) }
+    ensures swept { OnOk result (HasSweptTold B.contents (T.queue with.now) T.follows topics
+        (T.pass taker.old) (T.pass taker.new)) }
+    ensures told { OnOk result ((T.pass taker.new).gate ≡ Some 0) }
+    ensures vain { OnOk result (SweepsInVain topics 0 stand.old.rests (T.pass taker.old)
+        → SweepsInVain topics 1 stand.new.rests (T.pass taker.new)) }
+    ensures left { IfErr result (λ l. T.left with.now taker.old taker.new l.held) }
     ensures stand { (stand.new.crew ≡ stand.old.crew) × (stand.new.worker ≡ stand.old.worker) }
 {
     'sweeps: for _ in rt.forever() {
-        let over = queue.closed(&mut worker.pass);
-        let some = worker.sweep(alloc, job, queue, gate)?;
+        let over = taker.closed(with);
+        let some = sweep(taker, with, topics)?;
         if over {
-            gate.at(worker.number, Point::BeforeLeave);
             return Ok(());
         }
         if !some {

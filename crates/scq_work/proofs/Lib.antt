@@ -5,3 +5,4 @@ pub mod Orders
 mod AllGave
 mod AllRun
 mod PartMembers
+mod Starved

@@ -4,7 +4,7 @@ use Rattle.scq_topics.specs.declared.kind.Kind.{Kind}
 use Rattle.scq_collect.specs.declared.answered.Answered.{Answered}
 use Rattle.scq_band.specs.Standing.{Identity}
 use Rattle.scq_queue.specs.Passes.{PassStanding, HeldStanding, first_pass, known_on}
-use Rattle.scq_files.specs.OwnFiles.{all_given}
+use Rattle.scq_files.specs.OwnFiles.{StopsAtAFault, all_given}
 use Rattle.scq_worker.specs.Desks.{IsToSweep, HasProduced, HasRun}
 use Rattle.scq_worker.specs.Passing.{parts_in}
 use Rattle.scq_passes.specs.Leaving.{HasLeftSwept, HasSweptLast}
@@ -36,13 +36,14 @@ module _ {B S : Type 0} (shared : Identity B) (topics : List (List ℕ × Kind))
     (files : List (OwnFile S)) where
   -- it has passed all on, and retired
   pub produced-awake : (p q : PassStanding B) (was is : List Answered) (before after : Bool) (kept : Option (HeldStanding B))
-      → AllRead topics longest faults end_count left files → Suits shared (length topics) p → IsAtWork topics (parts_in size (all_given files)) p was before
+      → AllRead topics longest faults end_count left files → StopsAtAFault files → Suits shared (length topics) p → IsAtWork topics (parts_in size (all_given files)) p was before
       → HelpsInVain (length topics + 1) p → q ≡ after_retire p → is ≡ was → after ≡ before → kept ≡ None
       → HasProduced shared topics size longest faults end_count left files q is after kept
-  produced-awake p q was is before after kept read suits work vain retired members starved none =
+  produced-awake p q was is before after kept read stops suits work vain retired members starved none =
       record {
         awake = λ awake. record {
           read = read;
+          stops = stops;
           before = p;
           retired = retired;
           suits = suits;
@@ -56,14 +57,14 @@ module _ {B S : Type 0} (shared : Identity B) (topics : List (List ℕ × Kind))
 
   -- it met a ticket past the limit, and retired
   pub produced-stopped : (p q : PassStanding B) (is : List Answered) (after : Bool) (kept held : Option (HeldStanding B))
-      → AllRead topics longest faults end_count left files → HasStopped shared (length (parts_in size (all_given files))) p held
+      → AllRead topics longest faults end_count left files → StopsAtAFault files → HasStopped shared (length (parts_in size (all_given files))) p held
       → q ≡ after_retire p → kept ≡ held
       → HasProduced shared topics size longest faults end_count left files q is after kept
-  produced-stopped p q is after kept held read end retired same =
+  produced-stopped p q is after kept held read stops end retired same =
       record {
         awake = λ awake. absurd (none-or q.spent end.spent.0 (ap (λ (x : PassStanding B). x.spent) retired ∙ end.spent.1) awake);
         done = λ ticket spent.
-            run-stopped shared topics size longest faults end_count left files p q is after kept held read end retired same;
+            run-stopped shared topics size longest faults end_count left files p q is after kept held read stops end retired same;
       }
 
   module _ (p q : PassStanding B) (was is : List Answered) (before after : Bool) (kept : Option (HeldStanding B))
@@ -76,7 +77,7 @@ module _ {B S : Type 0} (shared : Identity B) (topics : List (List ℕ × Kind))
     pub swept-out : HasTaken p q → ((k : ℕ) → k < length topics + 1 → (known_on k q).finished < (known_on k q).head) → (after ≡ false → before ≡ false)
         → (after ≡ false → HasAnswered topics p q was is) → HasRun shared topics size longest faults end_count left files q is after kept
     swept-out taken empty fed more =
-        run-left shared topics size longest faults end_count left files t.before q was is before after kept t.read t.suits t.work
+        run-left shared topics size longest faults end_count left files t.before q was is before after kept t.read t.stops t.suits t.work
         (subst (λ (x : PassStanding B). HasTaken x q) t.retired taken) empty fed
         (λ all. answered-awake topics t.before q was is (subst (λ (x : PassStanding B). HasAnswered topics x q was is) t.retired (more all))) t.none
 
@@ -85,7 +86,7 @@ module _ {B S : Type 0} (shared : Identity B) (topics : List (List ℕ × Kind))
         → HasRun shared topics size longest faults end_count left files q is after now
     late-out now held end same =
         let n = length (parts_in size (all_given files)) in
-        run-late shared topics size longest faults end_count left files t.before q was is before after now held t.read t.suits t.work
+        run-late shared topics size longest faults end_count left files t.before q was is before after now held t.read t.stops t.suits t.work
         (subst (λ (x : PassStanding B). HasLeft n n x q held) t.retired (end n)) same
 
     -- its queue, once it has swept

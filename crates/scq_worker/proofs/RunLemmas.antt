@@ -9,7 +9,7 @@ use Rattle.scq_collect.specs.declared.answered.Answered.{Answered}
 use Rattle.scq_band.specs.Standing.{Identity}
 use Rattle.scq_band.proofs.Opening.{numbers_length}
 use Rattle.scq_queue.specs.Passes.{PassStanding, HeldStanding, first_pass, known_on}
-use Rattle.scq_files.specs.OwnFiles.{all_given}
+use Rattle.scq_files.specs.OwnFiles.{StopsAtAFault, all_given}
 use Rattle.scq_worker.specs.Desks.{HasRun}
 use Rattle.scq_files.specs.Given.{given_in}
 use Rattle.scq_passes.specs.Becoming.{none}
@@ -95,16 +95,17 @@ module _ {B : Type 0} where
   pub run-left : {S : Type 0} (shared : Identity B) (topics : List (List ℕ × Kind)) (size longest : ℕ) (faults end_count : S → ℕ) (left : S → Option (List ℕ))
       (files : List (OwnFile S))
       (p q : PassStanding B) (was is : List Answered) (before after : Bool) (kept : Option (HeldStanding B))
-      → AllRead topics longest faults end_count left files → Suits shared (length topics) p → IsAtWork topics (parts_in size (all_given files)) p was before
+      → AllRead topics longest faults end_count left files → StopsAtAFault files → Suits shared (length topics) p → IsAtWork topics (parts_in size (all_given files)) p was before
       → HasTaken (after_retire p) q → ((t : ℕ) → t < length topics + 1 → (known_on t q).finished < (known_on t q).head)
       → (after ≡ false → before ≡ false) → (after ≡ false → HasAnswered topics p q was is) → kept ≡ None
       → HasRun shared topics size longest faults end_count left files q is after kept
-  run-left shared topics size longest faults end_count left files p q was is before after kept read suits work taken empty fed_before more nothing =
+  run-left shared topics size longest faults end_count left files p q was is before after kept read stops suits work taken empty fed_before more nothing =
       let sweeping = sweeping-taken (length topics + 1) (after_retire p) q
       (sweeping-retired (length topics + 1) p (sweeping-first (length topics + 1) p work.producing)) taken in
       let long : length q.numbers ≡ length topics + 2 = taken.knows.rings ∙ suits.numbers in
       record {
         read = read;
+        stops = stops;
         few_calls = few_calls-on_time (length (parts_in size (all_given files))) q
             (few_calls-taken (length (parts_in size (all_given files))) (after_retire p) q
             (few_calls-retired 0 (length (parts_in size (all_given files))) p work.few_calls) taken);
@@ -131,13 +132,14 @@ module _ {B : Type 0} where
   pub run-late : {S : Type 0} (shared : Identity B) (topics : List (List ℕ × Kind)) (size longest : ℕ) (faults end_count : S → ℕ) (left : S → Option (List ℕ))
       (files : List (OwnFile S))
       (p q : PassStanding B) (was is : List Answered) (before after : Bool) (kept held : Option (HeldStanding B))
-      → AllRead topics longest faults end_count left files → Suits shared (length topics) p → IsAtWork topics (parts_in size (all_given files)) p was before
+      → AllRead topics longest faults end_count left files → StopsAtAFault files → Suits shared (length topics) p → IsAtWork topics (parts_in size (all_given files)) p was before
       → HasLeft (length (parts_in size (all_given files))) (length (parts_in size (all_given files))) (after_retire p) q held → kept ≡ held
       → HasRun shared topics size longest faults end_count left files q is after kept
-  run-late shared topics size longest faults end_count left files p q was is before after kept held read suits work end same =
+  run-late shared topics size longest faults end_count left files p q was is before after kept held read stops suits work end same =
       subst (λ k. HasRun shared topics size longest faults end_count left files q is after k) (sym same)
       (record {
         read = read;
+        stops = stops;
         few_calls = end.few_calls (few_calls-retired 0 (length (parts_in size (all_given files))) p work.few_calls);
         queue = end.own.0 ∙ suits.queue;
         retired = (length p.calls, end.own.2);
@@ -154,14 +156,15 @@ module _ {B : Type 0} where
       (left : S → Option (List ℕ))
       (files : List (OwnFile S))
       (p q : PassStanding B) (is : List Answered) (after : Bool) (kept held : Option (HeldStanding B))
-      → AllRead topics longest faults end_count left files → HasStopped shared (length (parts_in size (all_given files))) p held
+      → AllRead topics longest faults end_count left files → StopsAtAFault files → HasStopped shared (length (parts_in size (all_given files))) p held
       → q ≡ after_retire p → kept ≡ held
       → HasRun shared topics size longest faults end_count left files q is after kept
-  run-stopped shared topics size longest faults end_count left files p q is after kept held read end retired same =
+  run-stopped shared topics size longest faults end_count left files p q is after kept held read stops end retired same =
       subst (λ k. HasRun shared topics size longest faults end_count left files q is after k) (sym same)
       (subst (λ (x : PassStanding B). HasRun shared topics size longest faults end_count left files x is after held) (sym retired)
       (record {
         read = read;
+        stops = stops;
         few_calls = few_calls-retired 1 (length (parts_in size (all_given files))) p end.few_calls;
         queue = end.queue;
         retired = (length p.calls, refl);

@@ -7,7 +7,7 @@ use Rattle.scq_collect.specs.declared.answered.Answered.{Answered}
 use Rattle.scq_band.specs.Standing.{Identity}
 use Rattle.scq_queue.specs.Passes.{PassStanding, HeldStanding}
 use Rattle.scq_files.specs.Given.{given_in}
-use Rattle.scq_files.specs.OwnFiles.{all_given}
+use Rattle.scq_files.specs.OwnFiles.{StopsAtAFault, all_given}
 use Rattle.scq_worker.specs.Passing.{parts_in}
 use Rattle.scq_files.specs.Reading.{IsRead}
 use Rattle.scq_passes.specs.Records.{HelpsOnceAfterEachFull}
@@ -28,6 +28,7 @@ pub record IsToSweep {B S : Type 0} (shared : Identity B) (topics : List (List �
   pub read : All (λ f.
       IsRead topics longest faults end_count left f.number f.was.value f.source
       (given_in f.given.value) f.end) files
+  pub stops : StopsAtAFault files
   pub before : PassStanding B
   pub retired : pass ≡ after_retire before
   pub suits : Suits shared (length topics) before
@@ -46,6 +47,7 @@ pub record HasRun {B S : Type 0} (shared : Identity B) (topics : List (List ℕ 
   pub read : All (λ f.
       IsRead topics longest faults end_count left f.number f.was.value f.source
       (given_in f.given.value) f.end) files
+  pub stops : StopsAtAFault files
   pub few_calls : HasFewCalls 1 (length (parts_in size (all_given files))) pass
   pub queue : pass.queue ≡ shared
   pub retired : (calls : ℕ) × (pass.retired ≡ Some calls)

@@ -13,4 +13,4 @@ pub use bell::{Bell, NoBell};
 pub use desk::{WorkDesk, produce, run};
 pub use gate::{FreeGate, Gate, Point};
 pub use job::Job;
-pub use worker::Worker;
+pub use worker::{Takes, Worker};

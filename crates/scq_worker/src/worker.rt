@@ -5,19 +5,23 @@ ghost use Rattle.scq_collect.specs.Joined.{text_of_part};
 ghost use Rattle.scq_frames.specs.Parts.{IsNumbered, parts_of, part_of};
 ghost use Rattle.scq_frames.specs.Views.{part_of_view};
 ghost use Rattle.scq_queue.specs.Lists.{Placed};
-ghost use Rattle.scq_queue.specs.Passes.{known_on, IsHeldBy, after_put, after_spent_put};
+ghost use Rattle.scq_queue.specs.Passes.{IsHeldBy, after_put, after_spent_put};
 ghost use Rattle.scq_queue.specs.Passes.{having_seen};
 ghost use Rattle.scq_passes.specs.Records.{is_take};
 ghost use Rattle.scq_worker.specs.Members.{answered, is_taken, is_direct, AnswersSoFar};
 ghost use Rattle.scq_worker.specs.Passing.{Sends};
-ghost use Rattle.scq_passes.specs.Leaving.{FoundTopicEmpty, HasOnlyCalled, TookNothing};
-ghost use Rattle.scq_passes.specs.Waiting.{TookInVain, TookMore};
+ghost use Rattle.scq_passes.specs.Leaving.{HasOnlyCalled, TookNothing};
+ghost use Rattle.scq_passes.specs.Taking.{HasEmptied, HasTakenFrom};
+ghost use Rattle.scq_passes.specs.Waiting.{TookInVain};
 ghost use Rattle.scq_passes.specs.Calls.{Suits, HasTaken, HasLeft};
 ghost use Rattle.scq_worker.specs.Working.{HasAnswered};
 
 mod passing;
 mod reading;
 mod sweeping;
+
+pub(crate) use reading::Calls;
+pub use sweeping::Takes;
 
 use crate::bell::Bell;
 use crate::{Gate, Job, Point};
@@ -154,15 +158,11 @@ impl<B: BufferMut> Worker<B> {
             → HasAnswered job.now.topics self.old.pass self.new.pass self.old.members.items
             self.new.members.items) }
         ensures some { result ≡ Ok true
-            → ((known_on topic self.old.pass).head < (known_on topic self.new.pass).head)
-            × ((known_on topic self.old.pass).head < queue.now.setup.limit) }
-        ensures empty { result ≡ Ok false
-            → (known_on topic self.new.pass).finished < (known_on topic self.new.pass).head }
-        ensures found { result ≡ Ok false → FoundTopicEmpty topic self.old.pass self.new.pass }
-        ensures nothing { result ≡ Ok false → TookNothing self.old.pass self.new.pass }
+            → HasTakenFrom queue.now.setup.limit topic self.old.pass self.new.pass
+            × TookInVain 0 self.old.pass self.new.pass }
+        ensures none { result ≡ Ok false → HasEmptied topic self.old.pass self.new.pass
+            × TookNothing self.old.pass self.new.pass }
         ensures vain { OnOk result (TookInVain 1 self.old.pass self.new.pass) }
-        ensures more { result ≡ Ok true
-            → TookInVain 0 self.old.pass self.new.pass × TookMore self.old.pass self.new.pass }
         ensures only { OnOk result
             (HasOnlyCalled B.contents queue.now self.old.pass self.new.pass) }
         ensures left { IfErr result (λ l. (parts : ℕ)

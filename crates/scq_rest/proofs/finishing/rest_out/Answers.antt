@@ -1,4 +1,5 @@
 use Rattle.std.proofs.Common.{◌+◌, ◌∙◌, ap, sym, subst, length}
+use Rattle.scq_block.specs.Frames.{bytes_of}
 use Rattle.scq_queue.specs.Passes.{PassStanding}
 use Rattle.scq_worker.specs.Desks.{HasRun}
 use Rattle.scq_rest.specs.Waiting.{HasWaited}
@@ -14,19 +15,19 @@ sweep_and_rest-requires-clause-suits g c κs within =
     sweep-suits c.args.queue.now job.topics job.size job.longest g.S.Source.faults g.S.Source.ends g.S.Source.left d.files.items d.worker.worker.pass d.worker.worker.pass
     d.worker.worker.members.items d.worker.worker.members.items d.worker.worker.starved d.worker.worker.starved d.worker.kept c.requires.sweep
 
-pub returns-in_default-clause-run : goal.returns-in_default-clause-run
-returns-in_default-clause-run g c =
+pub returns-in-Ok-clause-run : goal.returns-in-Ok-clause-run
+returns-in-Ok-clause-run g c =
     let job = c.args.job.now in
     let d = c.args.desk.now in
-    let now = c.sweep_and_rest.new.worker in
-    let end = c.in_default.ensures in
+    let now = c.sweep_and_rest.new.taker in
+    let end = c.in-Ok.ensures in
     swept-out c.args.queue.now job.topics job.size job.longest g.S.Source.faults g.S.Source.ends g.S.Source.left d.files.items d.worker.worker.pass now.pass
-    d.worker.worker.members.items now.members.items d.worker.worker.starved now.starved d.worker.kept c.requires.sweep end.taken end.empty c.sweep_and_rest.ensures.starved
-    end.answered
+    d.worker.worker.members.items now.members.items d.worker.worker.starved now.starved d.worker.kept c.requires.sweep end.taken end.past end.made.fed
+    end.made.answered
 
-pub returns-in_default-clause-number : goal.returns-in_default-clause-number
-returns-in_default-clause-number g c =
-    ap (λ (p : PassStanding _). p.number) c.in_default.ensures.taken.pass
+pub returns-in-Ok-clause-number : goal.returns-in-Ok-clause-number
+returns-in-Ok-clause-number g c =
+    ap (λ (p : PassStanding _). p.number) c.in-Ok.ensures.taken.pass
 
 pub returns-in-Err-clause-run : goal.returns-in-Err-clause-run
 returns-in-Err-clause-run g c =
@@ -35,7 +36,7 @@ returns-in-Err-clause-run g c =
     let end_count = g.S.Source.ends in
     let left = g.S.Source.left in
     let d = c.args.desk.now in
-    let now = c.sweep_and_rest.new.worker in
+    let now = c.sweep_and_rest.new.taker in
     let later = c.keep.new.self in
     subst (λ (w : Worker _). HasRun c.args.queue.now job.topics job.size job.longest faults end_count left d.files.items w.pass w.members.items
     w.starved later.kept) (sym c.keep.ensures.same)
@@ -47,20 +48,20 @@ pub returns-in-Err-clause-number : goal.returns-in-Err-clause-number
 returns-in-Err-clause-number g c =
     ap (λ (w : Worker _). w.pass.number) c.keep.ensures.same ∙ (c.in-Err.ensures.left 0).own.1
 
-pub returns-in_default-clause-waited : goal.returns-in_default-clause-waited
-returns-in_default-clause-waited g c =
+pub returns-in-Ok-clause-waited : goal.returns-in-Ok-clause-waited
+returns-in-Ok-clause-waited g c =
     let job = c.args.job.now in
     let d = c.args.desk.now in
-    let now = c.sweep_and_rest.new.worker in
+    let now = c.sweep_and_rest.new.taker in
     waited-told c.args.queue.now job.topics job.size job.longest g.S.Source.faults g.S.Source.ends g.S.Source.left d.files.items d.worker.worker.pass now.pass
-    d.worker.worker.members.items now.members.items d.worker.worker.starved now.starved d.worker.kept c.requires.sweep g.B.Buffer.contents c.args.stand.now.rests
-    c.sweep_and_rest.new.stand.rests c.in_default.ensures.taken c.in_default.ensures.swept c.in_default.ensures.told c.in_default.ensures.vain
+    d.worker.worker.members.items now.members.items d.worker.worker.starved now.starved d.worker.kept c.requires.sweep bytes_of c.args.stand.now.rests
+    c.sweep_and_rest.new.stand.rests c.in-Ok.ensures.taken c.in-Ok.ensures.swept c.in-Ok.ensures.told c.in-Ok.ensures.vain
 
 pub returns-in-Err-clause-waited : goal.returns-in-Err-clause-waited
 returns-in-Err-clause-waited g c =
-    let contents = g.B.Buffer.contents in
+    let contents = bytes_of in
     let all = length c.args.job.now.topics + 1 in
     let rests = c.sweep_and_rest.new.stand.rests in
     let left = c.in-Err.ensures.left 0 in
     subst (λ (w : Worker _). HasWaited contents all rests w.pass) (sym c.keep.ensures.same)
-    (waited-spent contents all rests left.spent.0 c.sweep_and_rest.new.worker.pass left.spent.1)
+    (waited-spent contents all rests left.spent.0 c.sweep_and_rest.new.taker.pass left.spent.1)

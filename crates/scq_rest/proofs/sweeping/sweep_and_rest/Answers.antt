@@ -1,77 +1,93 @@
-use Rattle.std.proofs.Common.{rules, ◌≡◌, ◌+◌, ◌∙◌, ap, sym, subst, arith, refl, ℕ, true, false, length, Ok, Some}
+use Rattle.std.proofs.Common.{rules, ◌≡◌, ◌+◌, ◌∙◌, ap, sym, subst, arith, refl, true, length, Ok, Some}
 use Rattle.std.specs.Prelude.{IfErr, Result, Err}
 use Rattle.std.proofs.lemmas.Bool.{eqb-true}
 use Rattle.scq_park.specs.Crews.{Post}
 use Rattle.scq_queue.specs.Lists.{takes_of}
 use Rattle.scq_queue.specs.Passes.{PassStanding}
-use Rattle.scq_passes.specs.Records.{IsReturn}
 use Rattle.scq_passes.specs.Leaving.{IsSweep, no_sweep, and_some, and_idle}
-use Rattle.scq_passes.specs.Calls.{HasTaken, HasLeft}
-use Rattle.scq_worker.specs.Working.{HasAnswered}
-use Rattle.scq_passes.proofs.PassLemmas.{taken-nothing, taken-along, looked}
-use Rattle.scq_passes.proofs.LeftLemmas.{left-taken}
+use Rattle.scq_passes.specs.Calls.{HasTakenFollowed}
+use Rattle.scq_passes.proofs.PassLemmas.{suits-taken, taken-nothing, taken-along, looked}
 use Rattle.scq_passes.proofs.Sweeps.{sweep-of, some-left, took-nothing, took-some}
 use Rattle.scq_passes.proofs.Vain.{vain-swept, takes-rise}
-use Rattle.scq_worker.proofs.WorkerSteps.{answered-along, answered-nothing}
 use Rattle.scq_rest.proofs.sweeping.sweep_and_rest.Goals as goal
-use Rattle.scq_rest.proofs.sweeping.sweep_and_rest.Goals.{In_ok-some}
+use Rattle.scq_rest.proofs.sweeping.sweep_and_rest.Goals.{After-closed-over, In_ok-some}
+
+-- it asked whether all had retired
+look : (g : _) (c : After-closed-over g) → HasTakenFollowed g.T.Taker.follows (g.T.Taker.pass c.sweeps.taker) (g.T.Taker.pass c.closed-over.new.self)
+look g c =
+    let said = c.closed-over.ensures.looked in
+    subst (λ (q : PassStanding _). HasTakenFollowed g.T.Taker.follows (g.T.Taker.pass c.sweeps.taker) q) (sym said.1)
+    (looked (g.T.Taker.pass c.sweeps.taker) said.0 (g.T.Taker.pass c.closed-over.new.self).seen)
+
+asked : (g : _) (c : After-closed-over g) → HasTakenFollowed g.T.Taker.follows (g.T.Taker.pass c.args.taker.now) (g.T.Taker.pass c.closed-over.new.self)
+asked g c = taken-along _ _ _ c.sweeps.invariant.taken (look g c)
+
+made-asked : (g : _) (c : After-closed-over g) → g.T.Taker.made c.args.with.now c.args.taker.now c.closed-over.new.self
+made-asked g c = g.met.T.Taker.made_along _ _ _ _ c.sweeps.invariant.taken (look g c) c.sweeps.invariant.made c.closed-over.ensures.made
+
+-- and then swept
+swept-once : (g : _) (c : In_ok-some g) → IsSweep g.B.Buffer.contents (g.T.Taker.queue c.args.with.now) g.T.Taker.follows c.args.topics
+    c.closed-over.ensures.looked.0 (g.T.Taker.pass c.sweeps.taker) (g.T.Taker.pass c.sweep.new.taker)
+swept-once g c =
+    let pass = g.T.Taker.pass in
+    let said = c.closed-over.ensures.looked in
+    let read = c.closed-over.ensures.in_run said.0 (ap (λ (x : PassStanding _). x.gate) said.1) in
+    let its = c.in_ok-some.ensures in
+    sweep-of c.args.topics said.0 (pass c.sweeps.taker) (pass c.closed-over.new.self) (pass c.sweep.new.taker) said.1 read its.taken its.only
+    its.emptied.found
 
 pub sweeps-init : goal.sweeps-init
-sweeps-init g c = record {
-  next = tt;
-  finite = tt;
-  taken = taken-nothing c.args.worker.now.pass;
-  answered = λ fed. answered-nothing c.args.job.now.topics c.args.worker.now.pass c.args.worker.now.members.items;
-  starved = λ fed. fed;
-  number = refl;
-  vain = λ was. was;
-  sweeps = (0, no_sweep c.args.worker.now.pass);
-  crew = refl;
-  worker = refl;
-}
+sweeps-init g c =
+    let p = g.T.Taker.pass c.args.taker.now in
+    record {
+      next = tt;
+      finite = tt;
+      taken = taken-nothing p;
+      made = g.met.T.Taker.made_none c.args.with.now c.args.taker.now;
+      vain = λ was. was;
+      sweeps = (0, no_sweep p);
+      crew = refl;
+      worker = refl;
+    }
+
+pub closed-over-requires : goal.closed-over-requires
+closed-over-requires g c = suits-taken _ _ _ _ c.requires.suits c.sweeps.invariant.taken
+
+pub sweep-requires-clause-suits : goal.sweep-requires-clause-suits
+sweep-requires-clause-suits g c κs within =
+    suits-taken _ _ _ _ c.requires.suits (asked g (goal.at.sweep-requires-clause-suits g c).After-closed-over)
 
 pub returns-in_err-some-clause-left : goal.returns-in_err-some-clause-left
 returns-in_err-some-clause-left g c =
-    let p = c.args.worker.now.pass in
-    let at = c.sweeps.worker.pass in
-    let said = c.closed-over.ensures.looked in
-    let look : HasTaken at c.closed-over.new.pass = subst (λ (q : PassStanding _). HasTaken at q) (sym said.1) (looked at said.0 c.closed-over.new.pass.seen) in
+    let at = (goal.at.returns-in_err-some-clause-left g c).After-closed-over in
     let is : c.from_residual.result ≡ Err c.in_err-some.field-0.0 = search rules in
-    subst (λ (r : Result _ _). IfErr r (λ l. (messages : ℕ) → HasLeft messages messages p c.sweep.new.worker.pass l.held)) (sym is)
-    (λ messages. left-taken messages messages p c.closed-over.new.pass c.sweep.new.worker.pass _
-    (taken-along p at c.closed-over.new.pass c.sweeps.invariant.taken look) (c.in_err-some.ensures.left messages))
+    subst (λ (r : Result _ _). IfErr r (λ l. g.T.Taker.left c.args.with.now c.args.taker.now c.sweep.new.taker l.held)) (sym is)
+    (g.met.T.Taker.left_along _ _ _ _ _ (asked g at) (made-asked g at) c.in_err-some.ensures.left)
 
 pub returns-then-over-clause-taken : goal.returns-then-over-clause-taken
 returns-then-over-clause-taken g c =
-    let p = c.args.worker.now.pass in
-    let at = c.sweeps.worker.pass in
-    let said = c.closed-over.ensures.looked in
-    let look : HasTaken at c.closed-over.new.pass = subst (λ (q : PassStanding _). HasTaken at q) (sym said.1) (looked at said.0 c.closed-over.new.pass.seen) in
-    taken-along p c.closed-over.new.pass c.sweep.new.worker.pass (taken-along p at c.closed-over.new.pass c.sweeps.invariant.taken look)
-    c.in_ok-some.ensures.taken
+    taken-along _ _ _ (asked g (goal.at.returns-then-over-clause-taken g c).After-closed-over) c.in_ok-some.ensures.taken
 
--- it asked whether all had retired, and then swept
-swept-once : (g : _) (c : In_ok-some g) → IsSweep g.B.Buffer.contents c.args.queue.now IsReturn (length c.args.job.now.topics + 1)
-    c.closed-over.ensures.looked.0 c.sweeps.worker.pass c.sweep.new.worker.pass
-swept-once g c =
-    let said = c.closed-over.ensures.looked in
-    let read = c.closed-over.ensures.in_run said.0 (ap (λ (x : PassStanding _). x.gate) said.1) in
-    sweep-of (length c.args.job.now.topics + 1) said.0 c.sweeps.worker.pass c.closed-over.new.pass c.sweep.new.worker.pass said.1 read
-    c.in_ok-some.ensures.taken c.in_ok-some.ensures.only c.in_ok-some.ensures.found
+pub returns-then-over-clause-made : goal.returns-then-over-clause-made
+returns-then-over-clause-made g c =
+    let at = (goal.at.returns-then-over-clause-made g c).After-closed-over in
+    let its = c.in_ok-some.ensures in
+    g.met.T.Taker.made_along _ _ _ _ (asked g at) its.taken (made-asked g at) its.made
+
+pub returns-then-over-clause-past : goal.returns-then-over-clause-past
+returns-then-over-clause-past g c = c.in_ok-some.ensures.emptied.past
 
 pub returns-then-over-clause-swept : goal.returns-then-over-clause-swept
 returns-then-over-clause-swept g c =
-    let at = c.sweeps.worker.pass in
-    let now = c.sweep.new.worker.pass in
-    let all = length c.args.job.now.topics + 1 in
+    let pass = g.T.Taker.pass in
     let said = c.closed-over.ensures.looked in
     let none : said.0 ≡ 0 = eqb-true said.0 0 (sym said.2 ∙ c.if-over.true) in
     record {
       idle = c.sweeps.invariant.sweeps.0;
-      begun = at;
+      begun = pass c.sweeps.taker;
       before = c.sweeps.invariant.sweeps.1;
-      sweep = subst (λ n. IsSweep g.B.Buffer.contents c.args.queue.now IsReturn all n at now) none
-          (swept-once g (goal.at.returns-then-over-clause-swept g c).In_ok-some);
+      sweep = subst (λ n. IsSweep g.B.Buffer.contents (g.T.Taker.queue c.args.with.now) g.T.Taker.follows c.args.topics n (pass c.sweeps.taker)
+          (pass c.sweep.new.taker)) none (swept-once g (goal.at.returns-then-over-clause-swept g c).In_ok-some);
     }
 
 pub returns-then-over-clause-told : goal.returns-then-over-clause-told
@@ -82,54 +98,45 @@ returns-then-over-clause-told g c =
 
 pub returns-then-over-clause-vain : goal.returns-then-over-clause-vain
 returns-then-over-clause-vain g c was =
-    let at = c.sweeps.worker.pass in
-    let mid = c.closed-over.new.pass in
-    let now = c.sweep.new.worker.pass in
-    let all = length c.args.job.now.topics + 1 in
+    let pass = g.T.Taker.pass in
+    let at = pass c.sweeps.taker in
+    let asks = pass c.closed-over.new.self in
+    let now = pass c.sweep.new.taker in
     let said = c.closed-over.ensures.looked in
     let calls = ap (λ (x : PassStanding _). x.calls) said.1 in
-    let took = c.in_ok-some.ensures.taken in
-    let rise = takes-rise mid now took in
+    let its = c.in_ok-some.ensures in
+    let rise = takes-rise asks now its.taken in
     let same = ap (λ l. length (takes_of l)) calls in
-    vain-swept all 0 c.sweeps.stand.rests 1 c.sweeps.stand.rests at mid now calls (ap (λ (x : PassStanding _). x.fulls) said.1)
-    (ap (λ (x : PassStanding _). x.fulls) took.pass) c.in_ok-some.ensures.vain (omega (arith, rise, same)) (c.sweeps.invariant.vain was)
+    vain-swept c.args.topics 0 c.sweeps.stand.rests 1 c.sweeps.stand.rests at asks now calls (ap (λ (x : PassStanding _). x.fulls) said.1)
+    (ap (λ (x : PassStanding _). x.fulls) its.taken.pass) its.emptied.vain (omega (arith, rise, same)) (c.sweeps.invariant.vain was)
 
 -- it took nothing, and rested
 pub sweeps-preserved-then-not-some : goal.sweeps-preserved-then-not-some
 sweeps-preserved-then-not-some g c =
-    let p = c.args.worker.now.pass in
-    let at = c.sweeps.worker.pass in
-    let mid = c.closed-over.new.pass in
-    let now = c.sweep.new.worker.pass in
+    let pass = g.T.Taker.pass in
+    let at = pass c.sweeps.taker in
+    let asks = pass c.closed-over.new.self in
+    let now = pass c.sweep.new.taker in
     let inv = c.sweeps.invariant in
-    let topics = c.args.job.now.topics in
-    let all = length topics + 1 in
-    let xs = c.sweeps.worker.members.items in
     let said = c.closed-over.ensures.looked in
-    let look : HasTaken at mid = subst (λ (q : PassStanding _). HasTaken at q) (sym said.1) (looked at said.0 mid.seen) in
-    let asked : HasAnswered topics at mid xs xs =
-    subst (λ (q : PassStanding _). HasAnswered topics at q xs xs) (sym said.1) (record { takes = λ h. h; directs = refl }) in
     let calls = ap (λ (x : PassStanding _). x.calls) said.1 in
-    let took = c.in_ok-some.ensures.taken in
-    let rise = takes-rise mid now took in
+    let its = c.in_ok-some.ensures in
+    let rise = takes-rise asks now its.taken in
     let same = ap (λ l. length (takes_of l)) calls in
     let rested = ap (λ (s : Post). s.rests) c.rest.ensures in
+    let at_look = (goal.at.sweeps-preserved-then-not-some g c).After-closed-over in
     record {
       next = tt;
       finite = tt;
-      taken = taken-along p mid now (taken-along p at mid inv.taken look) took;
-      answered = λ fed. answered-along topics p mid now c.args.worker.now.members.items xs c.sweep.new.worker.members.items
-          (answered-along topics p at mid c.args.worker.now.members.items xs xs (inv.answered (c.sweep.ensures.starved fed)) asked)
-          (c.in_ok-some.ensures.answered fed);
-      starved = λ fed. inv.starved (c.sweep.ensures.starved fed);
-      number = c.sweep.ensures.number ∙ inv.number;
-      vain = λ was. vain-swept all 0 c.sweeps.stand.rests 0 c.rest.new.stand.rests at mid now calls (ap (λ (x : PassStanding _). x.fulls) said.1)
-          (ap (λ (x : PassStanding _). x.fulls) took.pass) c.in_ok-some.ensures.vain (omega (arith, rise, same, rested)) (inv.vain was);
+      taken = taken-along _ _ _ (asked g at_look) its.taken;
+      made = g.met.T.Taker.made_along _ _ _ _ (asked g at_look) its.taken (made-asked g at_look) its.made;
+      vain = λ was. vain-swept c.args.topics 0 c.sweeps.stand.rests 0 c.rest.new.stand.rests at asks now calls (ap (λ (x : PassStanding _). x.fulls) said.1)
+          (ap (λ (x : PassStanding _). x.fulls) its.taken.pass) its.emptied.vain (omega (arith, rise, same, rested)) (inv.vain was);
       sweeps = (
         inv.sweeps.0 + 1,
         and_idle said.0 inv.sweeps.1 (swept-once g (goal.at.sweeps-preserved-then-not-some g c).In_ok-some)
             (some-left said.0 (sym said.2 ∙ c.if-over.false))
-            (took-nothing said.0 at mid now said.1 (c.in_ok-some.ensures.nothing (ap Ok c.if-not-some.true))) tt,
+            (took-nothing said.0 at asks now said.1 (its.nothing (ap Ok c.if-not-some.true))) tt,
       );
       crew = ap (λ (s : Post). s.crew) c.rest.ensures ∙ inv.crew;
       worker = ap (λ (s : Post). s.worker) c.rest.ensures ∙ inv.worker;
@@ -138,38 +145,29 @@ sweeps-preserved-then-not-some g c =
 -- it took something
 pub sweeps-preserved : goal.sweeps-preserved
 sweeps-preserved g c =
-    let p = c.args.worker.now.pass in
-    let at = c.sweeps.worker.pass in
-    let mid = c.closed-over.new.pass in
-    let now = c.sweep.new.worker.pass in
+    let pass = g.T.Taker.pass in
+    let at = pass c.sweeps.taker in
+    let asks = pass c.closed-over.new.self in
+    let now = pass c.sweep.new.taker in
     let inv = c.sweeps.invariant in
-    let topics = c.args.job.now.topics in
-    let all = length topics + 1 in
-    let xs = c.sweeps.worker.members.items in
     let said = c.closed-over.ensures.looked in
-    let look : HasTaken at mid = subst (λ (q : PassStanding _). HasTaken at q) (sym said.1) (looked at said.0 mid.seen) in
-    let asked : HasAnswered topics at mid xs xs =
-    subst (λ (q : PassStanding _). HasAnswered topics at q xs xs) (sym said.1) (record { takes = λ h. h; directs = refl }) in
     let calls = ap (λ (x : PassStanding _). x.calls) said.1 in
-    let took = c.in_ok-some.ensures.taken in
+    let its = c.in_ok-some.ensures in
     let full : c.in_ok-some.some ≡ true = c.if-not-some.false in
-    let more = c.in_ok-some.ensures.more (ap Ok full) in
+    let more = its.more (ap Ok full) in
     let same = ap (λ l. length (takes_of l)) calls in
+    let at_look = (goal.at.sweeps-preserved g c).After-closed-over in
     record {
       next = tt;
       finite = tt;
-      taken = taken-along p mid now (taken-along p at mid inv.taken look) took;
-      answered = λ fed. answered-along topics p mid now c.args.worker.now.members.items xs c.sweep.new.worker.members.items
-          (answered-along topics p at mid c.args.worker.now.members.items xs xs (inv.answered (c.sweep.ensures.starved fed)) asked)
-          (c.in_ok-some.ensures.answered fed);
-      starved = λ fed. inv.starved (c.sweep.ensures.starved fed);
-      number = c.sweep.ensures.number ∙ inv.number;
-      vain = λ was. vain-swept all 0 c.sweeps.stand.rests 0 c.sweeps.stand.rests at mid now calls (ap (λ (x : PassStanding _). x.fulls) said.1)
-          (ap (λ (x : PassStanding _). x.fulls) took.pass) c.in_ok-some.ensures.vain (omega (arith, more, same)) (inv.vain was);
+      taken = taken-along _ _ _ (asked g at_look) its.taken;
+      made = g.met.T.Taker.made_along _ _ _ _ (asked g at_look) its.taken (made-asked g at_look) its.made;
+      vain = λ was. vain-swept c.args.topics 0 c.sweeps.stand.rests 0 c.sweeps.stand.rests at asks now calls (ap (λ (x : PassStanding _). x.fulls) said.1)
+          (ap (λ (x : PassStanding _). x.fulls) its.taken.pass) its.emptied.vain (omega (arith, more, same)) (inv.vain was);
       sweeps = (
         0,
         and_some said.0 inv.sweeps.1 (swept-once g (goal.at.sweeps-preserved g c).In_ok-some)
-            (some-left said.0 (sym said.2 ∙ c.if-over.false)) (took-some said.0 at mid now said.1 more),
+            (some-left said.0 (sym said.2 ∙ c.if-over.false)) (took-some said.0 at asks now said.1 more),
       );
       crew = inv.crew;
       worker = inv.worker;

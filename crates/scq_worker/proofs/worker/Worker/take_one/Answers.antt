@@ -1,4 +1,4 @@
-use Rattle.std.proofs.Common.{◌≡◌, ◌<◌, ◌++◌, ◌∷◌, ◌∙◌, ap, subst, arith, suc, [], length, None}
+use Rattle.std.proofs.Common.{rules, ◌≡◌, ◌<◌, ◌++◌, ◌∷◌, ◌∙◌, ap, subst, arith, suc, [], length, None}
 use Rattle.std.specs.Prelude.{count_by}
 use Rattle.std.proofs.lemmas.List.Sums.{sum_by-append}
 use Rattle.scq_core.specs.declared.ended.Ended.TheVariants.{Nothing}
@@ -8,8 +8,8 @@ use Rattle.scq_queue.specs.Passes.{PassStanding, WasGivenBack, having_seen, afte
 use Rattle.scq_passes.specs.Records.{is_take}
 use Rattle.scq_passes.specs.Waiting.{TookInVain, TookMore}
 use Rattle.scq_passes.proofs.InRun.{only-along, only-back, only-got, only-nothing}
-use Rattle.scq_passes.proofs.PassLemmas.{took-one, found-none, found-past}
-use Rattle.scq_passes.proofs.Sweeps.{found-now, found-takes}
+use Rattle.scq_passes.proofs.PassLemmas.{took-one, found-none}
+use Rattle.scq_passes.proofs.Taking.{found-nothing}
 use Rattle.scq_passes.proofs.Vain.{vain-none, vain-got}
 use Rattle.scq_passes.proofs.LeftLemmas.{left-at-get, left-at-return}
 use Rattle.scq_worker.proofs.worker.Worker.take_one.Goals as goal
@@ -43,20 +43,10 @@ returns-in-Err-Empty-clause-one g c t =
     let calls : c.take.new.pass.calls ≡ c.args.self.now.pass.calls ++ Nothing (suc c.args.topic) ∷ [] = ap (λ (x : PassStanding _). x.calls) found.pass in
     ap (count_by (is_take t)) calls ∙ sum_by-append _ c.args.self.now.pass.calls (Nothing (suc c.args.topic) ∷ []) ∙ omega arith
 
-pub returns-in-Err-Empty-clause-empty : goal.returns-in-Err-Empty-clause-empty
-returns-in-Err-Empty-clause-empty g c is =
+pub returns-in-Err-Empty-clause-none : goal.returns-in-Err-Empty-clause-none
+returns-in-Err-Empty-clause-none g c is =
     let low : suc c.args.topic < length c.args.self.now.pass.numbers = let n = c.requires.suits.numbers in omega arith in
-    found-past c.args.topic c.in-Err-Empty.field-0-0 c.args.self.now.pass c.take.new.pass low (c.in-Err-Empty.ensures.empty c.in-Err-Empty.field-0-0 (cc))
-
-pub returns-in-Err-Empty-clause-found : goal.returns-in-Err-Empty-clause-found
-returns-in-Err-Empty-clause-found g c is =
-    let found = c.in-Err-Empty.ensures.empty c.in-Err-Empty.field-0-0 (cc) in
-    found-now c.args.topic c.args.self.now.pass c.take.new.pass (ap (λ (x : PassStanding _). x.calls) found.pass)
-
-pub returns-in-Err-Empty-clause-nothing : goal.returns-in-Err-Empty-clause-nothing
-returns-in-Err-Empty-clause-nothing g c is =
-    let found = c.in-Err-Empty.ensures.empty c.in-Err-Empty.field-0-0 (cc) in
-    found-takes c.args.topic c.args.self.now.pass c.take.new.pass (ap (λ (x : PassStanding _). x.calls) found.pass)
+    found-nothing c.args.topic c.in-Err-Empty.field-0-0 c.args.self.now.pass c.take.new.pass low (c.in-Err-Empty.ensures.empty c.in-Err-Empty.field-0-0 (cc))
 
 pub returns-in-Err-Spent-clause-left : goal.returns-in-Err-Spent-clause-left
 returns-in-Err-Spent-clause-left g c messages =
@@ -73,8 +63,10 @@ once g c =
 pub returns-in-Ok-give_back-clause-vain : goal.returns-in-Ok-give_back-clause-vain
 returns-in-Ok-give_back-clause-vain g c = let few = (once g c).0 in omega (arith, few)
 
-pub returns-in-Ok-give_back-clause-more : goal.returns-in-Ok-give_back-clause-more
-returns-in-Ok-give_back-clause-more g c is = once g c
+pub returns-in-Ok-give_back-clause-some : goal.returns-in-Ok-give_back-clause-some
+returns-in-Ok-give_back-clause-some g c is =
+    let got = once g c in
+    (record { rises = search rules; below = search rules; more = got.1 }, got.0)
 
 pub returns-in-Err-Empty-clause-vain : goal.returns-in-Err-Empty-clause-vain
 returns-in-Err-Empty-clause-vain g c =

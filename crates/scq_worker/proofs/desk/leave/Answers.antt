@@ -1,9 +1,10 @@
 use Rattle.std.proofs.Common.{◌≡◌, ◌∙◌, ap, sym, subst, None}
+use Rattle.scq_block.specs.Frames.{bytes_of}
 use Rattle.scq_queue.specs.Passes.{PassStanding}
 use Rattle.scq_worker.specs.Desks.{HasRun}
 use Rattle.scq_worker.specs.declared.worker.Worker.{Worker}
 use Rattle.scq_worker.proofs.Produced.{sweep-suits, swept-out, late-out, left-swept, none-or}
-use Rattle.scq_worker.proofs.desk.sweep_out.Goals as goal
+use Rattle.scq_worker.proofs.desk.leave.Goals as goal
 
 pub sweep_out-requires-clause-suits : goal.sweep_out-requires-clause-suits
 sweep_out-requires-clause-suits g c κs within =
@@ -12,19 +13,19 @@ sweep_out-requires-clause-suits g c κs within =
     sweep-suits c.args.queue.now job.topics job.size job.longest g.S.Source.faults g.S.Source.ends g.S.Source.left d.files.items d.worker.worker.pass d.worker.worker.pass
     d.worker.worker.members.items d.worker.worker.members.items d.worker.worker.starved d.worker.worker.starved d.worker.kept c.requires.sweep
 
-pub returns-in_default-clause-run : goal.returns-in_default-clause-run
-returns-in_default-clause-run g c =
+pub returns-in-Ok-clause-run : goal.returns-in-Ok-clause-run
+returns-in-Ok-clause-run g c =
     let job = c.args.job.now in
     let d = c.args.desk.now in
-    let now = c.sweep_out.new.self in
-    let end = c.in_default.ensures in
+    let now = c.sweep_out.new.taker in
+    let end = c.in-Ok.ensures in
     swept-out c.args.queue.now job.topics job.size job.longest g.S.Source.faults g.S.Source.ends g.S.Source.left d.files.items d.worker.worker.pass now.pass
-    d.worker.worker.members.items now.members.items d.worker.worker.starved now.starved d.worker.kept c.requires.sweep end.taken end.empty c.sweep_out.ensures.starved
-    end.answered
+    d.worker.worker.members.items now.members.items d.worker.worker.starved now.starved d.worker.kept c.requires.sweep end.taken end.past end.made.fed
+    end.made.answered
 
-pub returns-in_default-clause-number : goal.returns-in_default-clause-number
-returns-in_default-clause-number g c =
-    ap (λ (p : PassStanding _). p.number) c.in_default.ensures.taken.pass
+pub returns-in-Ok-clause-number : goal.returns-in-Ok-clause-number
+returns-in-Ok-clause-number g c =
+    ap (λ (p : PassStanding _). p.number) c.in-Ok.ensures.taken.pass
 
 pub returns-in-Err-clause-run : goal.returns-in-Err-clause-run
 returns-in-Err-clause-run g c =
@@ -33,7 +34,7 @@ returns-in-Err-clause-run g c =
     let end_count = g.S.Source.ends in
     let left = g.S.Source.left in
     let d = c.args.desk.now in
-    let now = c.sweep_out.new.self in
+    let now = c.sweep_out.new.taker in
     let later = c.keep.new.self in
     subst (λ (w : Worker _). HasRun c.args.queue.now job.topics job.size job.longest faults end_count left d.files.items w.pass w.members.items
     w.starved later.kept) (sym c.keep.ensures.same)
@@ -45,17 +46,17 @@ pub returns-in-Err-clause-number : goal.returns-in-Err-clause-number
 returns-in-Err-clause-number g c =
     ap (λ (w : Worker _). w.pass.number) c.keep.ensures.same ∙ (c.in-Err.ensures.left 0).own.1
 
-pub returns-in_default-clause-behind : goal.returns-in_default-clause-behind
-returns-in_default-clause-behind g c awake =
+pub returns-in-Ok-clause-behind : goal.returns-in-Ok-clause-behind
+returns-in-Ok-clause-behind g c awake =
     let job = c.args.job.now in
     let d = c.args.desk.now in
-    let now = c.sweep_out.new.self in
-    let end = c.in_default.ensures in
+    let now = c.sweep_out.new.taker in
+    let end = c.in-Ok.ensures in
     left-swept c.args.queue.now job.topics job.size job.longest g.S.Source.faults g.S.Source.ends g.S.Source.left d.files.items d.worker.worker.pass now.pass
-    d.worker.worker.members.items now.members.items d.worker.worker.starved now.starved d.worker.kept c.requires.sweep g.B.Buffer.contents end.taken end.swept
+    d.worker.worker.members.items now.members.items d.worker.worker.starved now.starved d.worker.kept c.requires.sweep bytes_of end.taken end.swept
 
 pub returns-in-Err-clause-behind : goal.returns-in-Err-clause-behind
 returns-in-Err-clause-behind g c awake =
     let left = c.in-Err.ensures.left 0 in
     let none = subst (λ (w : Worker _). w.pass.spent ≡ None) c.keep.ensures.same awake in
-    absurd (none-or c.sweep_out.new.self.pass.spent left.spent.0 left.spent.1 none)
+    absurd (none-or c.sweep_out.new.taker.pass.spent left.spent.0 left.spent.1 none)
