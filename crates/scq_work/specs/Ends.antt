@@ -44,10 +44,8 @@ pub record EndsWork {S : Type 0} (j : Job) (faults end_count : S → ℕ) (left 
   pub count : length end.sources.items ≡ length sources
   pub moved : (k : ℕ) (d : S) → k < length sources
       → HasMoved faults left (slice_index_or sources k d) (slice_index_or end.sources.items k d)
-
   -- no worker read a file behind one of its own at which it stopped
   pub stops : StopsAtFaults j.workers j.longest faults end_count left sources end.sources.items
-
   -- each source was read to its end, and where the bytes of all are visible the answers are those
   -- to all parts of their messages
   pub whole : OnOk end.result ((k : ℕ) (d : S) → k < length sources
@@ -56,7 +54,6 @@ pub record EndsWork {S : Type 0} (j : Job) (faults end_count : S → ℕ) (left 
   pub answers : IfOk end.result (λ w. IfSome (all_left left sources) (λ contents.
       IsPermutation (map without_way (members_in w.answered.items))
       (part_answers j.topics j.size (messages_to j.topics 1 contents))))
-
   -- the lists answer for the messages that the files gave, and the passes for what was sent and
   -- taken: of contents that are visible, and of every source
   pub told : IfOk end.result (λ w.
@@ -65,7 +62,6 @@ pub record EndsWork {S : Type 0} (j : Job) (faults end_count : S → ℕ) (left 
   pub worked : IfOk end.result (λ w.
       (given : List (List Message)) × AreGiven j.topics j.longest left 1 sources given
       × HasWorked j.topics j.size j.workers given w)
-
   -- whatever the answer is, the queue was closed with each buffer free: each pass has retired, what
   -- was sent was taken, and the block was merged. Only where there was no memory for a queue there
   -- was none
@@ -74,7 +70,6 @@ pub record EndsWork {S : Type 0} (j : Job) (faults end_count : S → ℕ) (left 
       + 1) j.workers p.value.items f.value.items l.items)))
   pub none : end.left ≡ None → IsErrOf end.result NoMemory
   pub same : IfOk end.result (λ w. IsSomeAnd end.passes (λ p. p.value.items ≡ w.passes.value.items))
-
   -- a fault is that of its file, and those in front of it were read to their ends. Where there is
   -- one of a file, each source is as one whose reading didn't stop for want of memory
   pub cause : IfErr end.result (HasCause j.longest faults end_count left sources end.sources.items)

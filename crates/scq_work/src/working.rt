@@ -6,9 +6,9 @@ ghost use Rattle.scq_passes.specs.Leaving.{HasLeftSwept};
 ghost use Rattle.scq_passes.specs.Records.{IsReturn};
 ghost use Rattle.scq_work.specs.Ends.{EndsWork};
 
+use crate::WorkEnd;
 use crate::apart::run_apart;
 use crate::winding::wind_up;
-use crate::WorkEnd;
 use scq_desk::{lay_out, make_room};
 use scq_outside::Source;
 use scq_passes::make_queue;
