@@ -20,11 +20,9 @@ mod passing;
 mod reading;
 mod sweeping;
 
-pub(crate) use reading::Calls;
-pub use sweeping::Takes;
-
 use crate::bell::Bell;
 use crate::{Gate, Job, Point};
+pub(crate) use reading::Calls;
 use scq_collect::{Answered, Way};
 use scq_desk::Sits;
 use scq_frames::{Message, View, decode, encode, view_of};
@@ -33,6 +31,7 @@ use scq_queue::{Held, Pass, Queue, TakeRefusal};
 use scq_topics::{ReplyBytes, reply};
 use scq_word::{Buffer, BufferMut, NoMemory};
 use std::alloc::Global;
+pub use sweeping::Takes;
 
 /// A worker: the pass by which it makes its calls, what it has answered, and whether it wanted
 /// memory.

@@ -54,7 +54,9 @@ impl<'a, G: Gate, T, W: Bell<T>> Handler<Calls<'a, G, W>, T> for Worker<Frame> {
         beside: &mut T,
         message: &Message,
     ) -> Result<(), AtLimit<Frame>> {
-        self.pass_on(with.alloc, with.job, with.queue, with.gate, with.bell, beside, message)
+        self.pass_on(
+            with.alloc, with.job, with.queue, with.gate, with.bell, beside, message,
+        )
     }
 
     fn starved(&self) -> bool
@@ -63,23 +65,32 @@ impl<'a, G: Gate, T, W: Bell<T>> Handler<Calls<'a, G, W>, T> for Worker<Frame> {
         self.starved
     }
 
-    ghost none_handled = { λ c t w ready.
-        (gone-none (λ w. w.pass) (λ w. w.starved)
-        (IsAt c.queue.now c.job.now.topics c.job.now.size) c.queue.now (length c.job.now.topics)
-        w ready.0 ready.1, refl) };
+    ghost none_handled = { λ c t w ready. (
+      gone-none (λ w. w.pass) (λ w. w.starved)
+          (IsAt c.queue.now c.job.now.topics c.job.now.size) c.queue.now (length c.job.now.topics)
+          w ready.0 ready.1,
+      refl,
+    ) };
 
-    ghost stays_ready = { λ c ms t s old new ready its.
-        (its.0.suits, its.0.stays, ready.2,
-        subst (λ k. W.fits c.bell.now k c.job.now.workers) (sym its.1) ready.3) };
+    ghost stays_ready = { λ c ms t s old new ready its. (
+      its.0.suits,
+      its.0.stays,
+      ready.2,
+      subst (λ k. W.fits c.bell.now k c.job.now.workers) (sym its.1) ready.3,
+    ) };
 
-    ghost more_handled = { λ c ms ns t s u old mid new one more.
-        (gone-along (λ w. w.pass) (λ w. w.starved)
-        (IsAt c.queue.now c.job.now.topics c.job.now.size) c.queue.now (length c.job.now.topics)
-        ms ns old mid new one.0 more.0, more.1 ∙ one.1) };
+    ghost more_handled = { λ c ms ns t s u old mid new one more. (
+      gone-along (λ w. w.pass) (λ w. w.starved)
+          (IsAt c.queue.now c.job.now.topics c.job.now.size) c.queue.now (length c.job.now.topics)
+          ms ns old mid new one.0 more.0,
+      more.1 ∙ one.1,
+    ) };
 
-    ghost then_stopped = { λ c ms ns t s u old mid new stop one more.
-        (gone-stopped (λ w. w.pass) (λ w. w.starved)
-        (IsAt c.queue.now c.job.now.topics c.job.now.size) c.queue.now (length c.job.now.topics)
-        (IsOver c.queue.now c.job.now.topics c.job.now.size)
-        ms ns old mid new stop.held one.0 more.0, more.1 ∙ one.1) };
+    ghost then_stopped = { λ c ms ns t s u old mid new stop one more. (
+      gone-stopped (λ w. w.pass) (λ w. w.starved)
+          (IsAt c.queue.now c.job.now.topics c.job.now.size) c.queue.now (length c.job.now.topics)
+          (IsOver c.queue.now c.job.now.topics c.job.now.size)
+          ms ns old mid new stop.held one.0 more.0,
+      more.1 ∙ one.1,
+    ) };
 }

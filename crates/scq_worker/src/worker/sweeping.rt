@@ -50,16 +50,16 @@ impl<'a, G: Gate> Taker<Takes<'a, G>, Frame> for Worker<Frame> {
     ghost gives_back = { λ topic bytes ring later by. by.0 };
 
     ghost made_none = { λ c old. record {
-        answered = λ fed. record { takes = λ so. so; directs = refl };
-        fed = λ fed. fed;
+      answered = λ fed. record { takes = λ so. so; directs = refl };
+      fed = λ fed. fed;
     } };
 
     ghost made_along = { λ c old mid new taken later one more. record {
-        answered = λ fed. record {
-            takes = λ so. (more.answered fed).takes ((one.answered (more.fed fed)).takes so);
-            directs = (more.answered fed).directs ∙ (one.answered (more.fed fed)).directs;
-        };
-        fed = λ fed. one.fed (more.fed fed);
+      answered = λ fed. record {
+        takes = λ so. (more.answered fed).takes ((one.answered (more.fed fed)).takes so);
+        directs = (more.answered fed).directs ∙ (one.answered (more.fed fed)).directs;
+      };
+      fed = λ fed. one.fed (more.fed fed);
     } };
 
     ghost left_along = { λ c old mid new kept taken made left parts.

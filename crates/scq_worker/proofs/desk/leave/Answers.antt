@@ -1,6 +1,8 @@
-use Rattle.std.proofs.Common.{◌≡◌, ◌∙◌, ap, sym, subst, None}
+use Rattle.std.proofs.Common.{◌≡◌, ◌∙◌, ap, sym, subst, ℕ, ◌+◌, ◌<◌, None}
 use Rattle.scq_block.specs.Frames.{bytes_of}
-use Rattle.scq_queue.specs.Passes.{PassStanding}
+use Rattle.scq_queue.specs.Passes.{PassStanding, known_on}
+use Rattle.scq_passes.specs.Leaving.{HasSweptLast}
+use Rattle.scq_passes.specs.Records.{IsReturn}
 use Rattle.scq_worker.specs.Desks.{HasRun}
 use Rattle.scq_worker.specs.declared.worker.Worker.{Worker}
 use Rattle.scq_worker.proofs.Produced.{sweep-suits, swept-out, late-out, left-swept, none-or}
@@ -20,7 +22,8 @@ returns-in-Ok-clause-run g c =
     let now = c.sweep_out.new.taker in
     let end = c.in-Ok.ensures in
     swept-out c.args.queue.now job.topics job.size job.longest g.S.Source.faults g.S.Source.ends g.S.Source.left d.files.items d.worker.worker.pass now.pass
-    d.worker.worker.members.items now.members.items d.worker.worker.starved now.starved d.worker.kept c.requires.sweep end.taken end.past end.made.fed
+    d.worker.worker.members.items now.members.items d.worker.worker.starved now.starved d.worker.kept c.requires.sweep end.taken
+    (subst (λ n. (t : ℕ) → t < n + 1 → (known_on t now.pass).finished < (known_on t now.pass).head) c.len.ensures.value end.past) end.made.fed
     end.made.answered
 
 pub returns-in-Ok-clause-number : goal.returns-in-Ok-clause-number
@@ -53,7 +56,8 @@ returns-in-Ok-clause-behind g c awake =
     let now = c.sweep_out.new.taker in
     let end = c.in-Ok.ensures in
     left-swept c.args.queue.now job.topics job.size job.longest g.S.Source.faults g.S.Source.ends g.S.Source.left d.files.items d.worker.worker.pass now.pass
-    d.worker.worker.members.items now.members.items d.worker.worker.starved now.starved d.worker.kept c.requires.sweep bytes_of end.taken end.swept
+    d.worker.worker.members.items now.members.items d.worker.worker.starved now.starved d.worker.kept c.requires.sweep bytes_of end.taken
+    (subst (λ n. HasSweptLast bytes_of c.args.queue.now IsReturn (n + 1) 64 d.worker.worker.pass now.pass) c.len.ensures.value end.swept)
 
 pub returns-in-Err-clause-behind : goal.returns-in-Err-clause-behind
 returns-in-Err-clause-behind g c awake =

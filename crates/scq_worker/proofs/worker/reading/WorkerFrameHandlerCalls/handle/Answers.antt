@@ -8,7 +8,7 @@ use Rattle.scq_worker.specs.Passing.{parts_in}
 use Rattle.scq_worker.specs.Reading.{HasStoppedAt}
 use Rattle.scq_worker.specs.Working.{IsAtWork, HasStopped}
 use Rattle.scq_worker.proofs.MessageParts.{parts-behind}
-use Rattle.scq_worker.proofs.worker.reading.WorkerFrameHandlerCallsT.handle.Goals as goal
+use Rattle.scq_worker.proofs.worker.reading.WorkerFrameHandlerCalls.handle.Goals as goal
 
 -- the parts of one message more
 one-more : (size : ℕ) (before : List Message) (m : Message) → parts_in size before ++ all_parts size m ≡ parts_in size (before ++ m ∷ [])
