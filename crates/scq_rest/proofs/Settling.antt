@@ -4,12 +4,12 @@ use Rattle.std.specs.Prelude.{slice_get, slice_index_or, IfSome, IsSome, IsSomeA
 use Rattle.std.specs.List.{All, AllZip}
 use Rattle.std.proofs.lemmas.Bool.{cases_lt}
 use Rattle.std.proofs.lemmas.List.{get_or-map, length-map}
-use Rattle.std.proofs.lemmas.List.Elements.{All-nil, All-cons, All-head, All-tail}
+use Rattle.std.proofs.lemmas.List.Elements.{All-nil, All-cons, All-push, All-head, All-tail}
 use Rattle.atomic_table.specs.Seated.{TableId}
 use Rattle.scq_block.specs.declared.frame.Frame.{Frame}
 use Rattle.scq_queue.specs.Passes.{PassStanding, was_told}
 use Rattle.scq_park.specs.declared.rested.Rested.{Rested}
-use Rattle.scq_park.specs.Crews.{Post, AreInOrder, AreAll, counted, plus, woken, ended, rested_of, no_wakes}
+use Rattle.scq_park.specs.Crews.{Post, AreInOrder, AreAll, counted, plus, woken, ended, rested_of, no_wakes, first_post, first_posts}
 use Rattle.scq_worker.specs.Seats.{IsFresh, Seated}
 use Rattle.scq_files.specs.OwnFiles.{IsNew, ids_of}
 use Rattle.scq_rest.specs.Resting.{AreSettled}
@@ -18,7 +18,7 @@ use Rattle.scq_passes.specs.Together.{NoneSpent}
 use Rattle.scq_passes.specs.Waiting.{SweepsInVain}
 use Rattle.scq_block.specs.Frames.{bytes_of}
 use Rattle.scq_passes.specs.Records.{IsReturn}
-use Rattle.scq_passes.specs.Waiting.{HasLeftTold}
+use Rattle.scq_rest.specs.Sweeping.{HasLeftTold}
 use Rattle.scq_rest.specs.Waiting.{HasWaited, EachWaited, HaveWaited}
 use Rattle.scq_files.specs.declared.desk.Desk.{Desk}
 use Rattle.scq_rest.specs.declared.threads.Work.{Work}
@@ -44,6 +44,14 @@ all-shown P f xs ys is all = by xs (subst (All P) (sym is) all) where
   by [] h = All-nil (λ x. P (f x))
   by (x ∷ xs) h = All-cons (λ y. P (f y)) x xs (All-head P (f x) (map f xs) h) (by xs (All-tail P (f x) (map f xs) h))
 
+-- a new stand of this crew
+abbrev pub IsFirst : List TableId → Post → Type 0
+IsFirst crew p = p ≡ first_post crew p.worker
+
+pub firsts-new : (crew : List TableId) (n : ℕ) → All (IsFirst crew) (first_posts crew n)
+firsts-new crew zero = All-nil (IsFirst crew)
+firsts-new crew (suc n) = All-push (IsFirst crew) (first_posts crew n) (first_post crew n) (firsts-new crew n) refl
+
 module _ {S : Type 0} where
   abbrev pub desk_of : Work S → Desk (Seated Frame) S
   desk_of w = w.desk
@@ -53,13 +61,13 @@ module _ {S : Type 0} where
 
   -- each worker is given what it begins with
   pub all-given : (t : Task S) (xs : List (Work S)) (desks : List (Desk (Seated Frame) S)) (stands : List Post) → desks ≡ map desk_of xs → stands ≡ map stand_of xs
-      → All (λ (d : Desk (Seated Frame) S). IsFresh t.queue d.worker) desks → All (λ (d : Desk (Seated Frame) S). All IsNew d.files.items) desks → All (λ (p : Post). p.crew ≡ t.crew) stands
+      → All (λ (d : Desk (Seated Frame) S). IsFresh t.queue d.worker) desks → All (λ (d : Desk (Seated Frame) S). All IsNew d.files.items) desks → All (IsFirst t.crew) stands
       → All (IsGiven t) xs
-  all-given t xs desks stands desks_are stands_are fresh unread own k x less =
+  all-given t xs desks stands desks_are stands_are fresh unread new k x less =
       record {
         fresh = all-shown (λ (d : Desk (Seated Frame) S). IsFresh t.queue d.worker) desk_of xs desks (sym desks_are) fresh k x less;
         unread = all-shown (λ (d : Desk (Seated Frame) S). All IsNew d.files.items) desk_of xs desks (sym desks_are) unread k x less;
-        stand = all-shown (λ (p : Post). p.crew ≡ t.crew) stand_of xs stands (sym stands_are) own k x less;
+        stand = all-shown (IsFirst t.crew) stand_of xs stands (sym stands_are) new k x less;
       }
 
   -- the files and the pass's number of the desk at a place are those that it had
@@ -182,15 +190,20 @@ closed-told topics (s ∷ ps) (q ∷ passes) long none each =
     All-cons (λ (b : Bool). b ≡ true) (was_told q.gate) (map (λ (p : PassStanding Frame). was_told p.gate) passes) (ap was_told told)
     (closed-told topics ps passes (omega arith) (All-tail (λ (x : PassStanding Frame). x.spent ≡ None) q passes none) (λ v t x stand its. each (suc v) t x stand its))
 
--- each left after the first sweep before which all had retired
-all-left : (topics : ℕ) (ps : List Post) (passes : List (PassStanding Frame)) → length ps ≡ length passes → NoneSpent passes → EachWaited topics ps passes
-    → All (HasLeftTold bytes_of IsReturn topics) passes
-all-left topics ps [] long none each = All-nil (HasLeftTold bytes_of IsReturn topics)
-all-left topics [] (q ∷ passes) long none each = absurd (omega arith)
-all-left topics (s ∷ ps) (q ∷ passes) long none each =
+-- each rested once behind each sweep that took nothing, and left after the first sweep before which all had retired
+each-left : (topics : ℕ) (ps : List Post) (ns : List ℕ) (passes : List (PassStanding Frame)) → NoneSpent passes → EachWaited topics ps passes
+    → (w : ℕ) (p : PassStanding Frame) (r : Rested) → slice_get passes w ≡ Some p → slice_get (ended ps ns) w ≡ Some r
+    → (rests : ℕ) × (r.rests ≡ counted rests) × HasLeftTold bytes_of IsReturn topics rests p
+each-left topics [] ns passes none each w p r pass rest = absurd (cc)
+each-left topics (s ∷ ps) [] passes none each w p r pass rest = absurd (cc)
+each-left topics (s ∷ ps) (n ∷ ns) [] none each w p r pass rest = absurd (cc)
+each-left topics (s ∷ ps) (n ∷ ns) (q ∷ passes) none each zero p r pass rest =
+    let same : q ≡ p = cc in
+    let its : rested_of s.rests n ≡ r = cc in
     let left = (each zero s q refl refl).left (All-head (λ (x : PassStanding Frame). x.spent ≡ None) q passes none) in
-    All-cons (HasLeftTold bytes_of IsReturn topics) q passes left
-    (all-left topics ps passes (omega arith) (All-tail (λ (x : PassStanding Frame). x.spent ≡ None) q passes none) (λ v t x stand its. each (suc v) t x stand its))
+    (s.rests, sym (ap (λ (x : Rested). x.rests) its), subst (λ (x : PassStanding Frame). HasLeftTold bytes_of IsReturn topics s.rests x) same left)
+each-left topics (s ∷ ps) (n ∷ ns) (q ∷ passes) none each (suc w) p r pass rest =
+    each-left topics ps ns passes (All-tail (λ (x : PassStanding Frame). x.spent ≡ None) q passes none) (λ v t x stand its. each (suc v) t x stand its) w p r pass rest
 
 pub have-waited : (topics workers : ℕ) (crew : List TableId) (ps : List Post) (passes : List (PassStanding Frame)) (saw : List Bool) (rested : List Rested)
     → AreSettled crew topics ps passes → NoneSpent passes → length passes ≡ workers
@@ -207,7 +220,9 @@ have-waited topics workers crew ps passes saw rested settled none long saw_is re
       told = saw_is;
       closed = subst (All (λ (s : Bool). s ≡ true)) (sym saw_is) (closed-told topics ps passes settled.many none settled.waited);
       woken = woke;
-      left = all-left topics ps passes settled.many none settled.waited;
+      left = λ w p r pass rest.
+          each-left topics ps (woken (no_wakes crew) ps) passes none settled.waited w p r pass
+          (subst (λ (rs : List Rested). slice_get rs w ≡ Some r) rested_is rest);
       vain = λ w p r pass rest.
           vain-told topics ps (woken (no_wakes crew) ps) passes none settled.waited w p r pass
           (subst (λ (rs : List Rested). slice_get rs w ≡ Some r) rested_is rest);

@@ -7,10 +7,11 @@ use Rattle.scq_queue.specs.Passes.{PassStanding, HeldStanding}
 use Rattle.scq_files.specs.declared.own_file.OwnFile.{OwnFile}
 use Rattle.scq_passes.specs.Calls.{HasTaken, after_retire}
 use Rattle.scq_passes.specs.Records.{IsReturn}
-use Rattle.scq_passes.specs.Waiting.{HasLeftTold, HasSweptTold, SweepsInVain}
+use Rattle.scq_passes.specs.Waiting.{SweepsInVain}
 use Rattle.scq_passes.proofs.Vain.{sweeps-begin}
 use Rattle.scq_worker.specs.Desks.{IsToSweep}
 use Rattle.scq_worker.proofs.Produced.{none-or, queue-swept}
+use Rattle.scq_rest.specs.Sweeping.{HasLeftTold, HasSweptTold}
 use Rattle.scq_rest.specs.Waiting.{HasWaited}
 
 module _ {B : Type 0} where
@@ -27,18 +28,18 @@ module _ {B S : Type 0} (shared : Identity B) (topics : List (List ℕ × Kind))
     (files : List (OwnFile S)) where
   module _ (p q : PassStanding B) (was is : List Answered) (before after : Bool) (kept : Option (HeldStanding B))
       (t : IsToSweep shared topics size longest faults end_count left files p was before kept) where
-    left-told : (contents : B → List ℕ) → HasTaken p q → HasSweptTold contents shared IsReturn (length topics + 1) p q
-        → HasLeftTold contents IsReturn (length topics + 1) q
-    left-told contents taken end = record {
+    left-told : (contents : B → List ℕ) (rests : ℕ) → HasTaken p q → HasSweptTold contents shared IsReturn (length topics + 1) rests p q
+        → HasLeftTold contents IsReturn (length topics + 1) rests q
+    left-told contents rests taken end = record {
       before = t.before;
       unasked = t.work.producing.unasked;
-      swept = subst (λ (k : Identity B). HasSweptTold contents k IsReturn (length topics + 1) (after_retire t.before) q)
+      swept = subst (λ (k : Identity B). HasSweptTold contents k IsReturn (length topics + 1) rests (after_retire t.before) q)
           (sym (queue-swept shared topics size longest faults end_count left files p q was is before after kept t taken))
-          (subst (λ (x : PassStanding B). HasSweptTold contents shared IsReturn (length topics + 1) x q) t.retired end);
+          (subst (λ (x : PassStanding B). HasSweptTold contents shared IsReturn (length topics + 1) rests x q) t.retired end);
     }
 
     -- it swept and rested until it was told
-    pub waited-told : (contents : B → List ℕ) (first rests : ℕ) → HasTaken p q → HasSweptTold contents shared IsReturn (length topics + 1) p q
+    pub waited-told : (contents : B → List ℕ) (first rests : ℕ) → HasTaken p q → HasSweptTold contents shared IsReturn (length topics + 1) rests p q
         → q.gate ≡ Some 0 → (SweepsInVain (length topics + 1) 0 first p → SweepsInVain (length topics + 1) 1 rests q)
         → HasWaited contents (length topics + 1) rests q
     waited-told contents first rests taken end told more =
@@ -46,5 +47,5 @@ module _ {B S : Type 0} (shared : Identity B) (topics : List (List ℕ × Kind))
           told = λ awake. told;
           vain = λ awake. more (subst (λ (x : PassStanding B). SweepsInVain (length topics + 1) 0 first x) (sym t.retired)
               (sweeps-begin (length topics + 1) first t.before t.vain));
-          left = λ awake. left-told contents taken end;
+          left = λ awake. left-told contents rests taken end;
         }

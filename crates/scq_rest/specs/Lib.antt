@@ -1,3 +1,4 @@
+pub mod Sweeping
 pub mod Waiting
 pub mod Threads
 pub mod Places

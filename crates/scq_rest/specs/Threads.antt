@@ -5,6 +5,7 @@ use Rattle.scq_block.specs.Frames.{bytes_of}
 use Rattle.scq_block.specs.declared.frame.Frame.{Frame}
 use Rattle.scq_topics.specs.declared.kind.Kind.{Kind}
 use Rattle.scq_band.specs.Standing.{Identity}
+use Rattle.scq_park.specs.Crews.{first_post}
 use Rattle.scq_worker.specs.Seats.{IsFresh}
 use Rattle.scq_files.specs.OwnFiles.{IsNew, ids_of}
 use Rattle.scq_worker.specs.Desks.{HasProduced, HasRun}
@@ -51,11 +52,11 @@ module _ {S : Type 0} where
     pub crew : length t.crew ≡ t.workers
     pub some : 0 < t.workers
 
-  -- what a worker is given: a new pass, files that nobody read, and a stand of the crew
+  -- what a worker is given: a new pass, files that nobody read, and a new stand of the crew
   pub record IsGiven (t : Task S) (w : Work S) : Type 0 where
     pub fresh : IsFresh t.queue w.desk.worker
     pub unread : All IsNew w.desk.files.items
-    pub stand : w.stand.crew ≡ t.crew
+    pub stand : w.stand ≡ first_post t.crew w.stand.worker
 
   -- so a worker can begin
   pub record CanBegin (t : Task S) (w : Work S) : Type 0 where
@@ -68,6 +69,7 @@ module _ {S : Type 0} where
         w.desk.files.items w.desk.worker.worker.pass
         w.desk.worker.worker.members.items w.desk.worker.worker.starved w.desk.worker.kept
     pub stand : w.stand.crew ≡ t.crew
+    pub unrested : w.stand.rests ≡ 0
 
   -- so far it made this of what it was given. Its stand is as it was, but for whom it woke
   pub record HasBegun (t : Task S) (old new : Work S) : Type 0 where

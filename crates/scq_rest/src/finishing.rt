@@ -28,7 +28,7 @@ pub fn finish<S: Source, G: Gate, R: Wait>(
     requires produced { HasProduced queue.now job.now.topics job.now.size job.now.longest S.faults
         S.ends S.left desk.old.files.items desk.old.worker.worker.pass
         desk.old.worker.worker.members.items desk.old.worker.worker.starved desk.old.worker.kept }
-    requires stand { stand.old.crew ≡ crew.now }
+    requires stand { (stand.old.crew ≡ crew.now) × (stand.old.rests ≡ 0) }
     ensures same { desk.new.files.items ≡ desk.old.files.items }
     ensures run { HasRun queue.now job.now.topics job.now.size job.now.longest S.faults S.ends
         S.left desk.new.files.items desk.new.worker.worker.pass
@@ -58,7 +58,7 @@ fn rest_out<S: Source, G: Gate, R: Wait>(
     requires sweep { IsToSweep queue.now job.now.topics job.now.size job.now.longest S.faults S.ends
         S.left desk.old.files.items desk.old.worker.worker.pass
         desk.old.worker.worker.members.items desk.old.worker.worker.starved desk.old.worker.kept }
-    requires stand { stand.old.crew ≡ crew.now }
+    requires stand { (stand.old.crew ≡ crew.now) × (stand.old.rests ≡ 0) }
     ensures same { desk.new.files.items ≡ desk.old.files.items }
     ensures run { HasRun queue.now job.now.topics job.now.size job.now.longest S.faults S.ends
         S.left desk.new.files.items desk.new.worker.worker.pass
@@ -74,8 +74,8 @@ fn rest_out<S: Source, G: Gate, R: Wait>(
         queue,
         gate,
     };
-    let topics = job.topics.len() + 1;
-    match sweep_and_rest(&mut desk.worker.worker, &with, topics, rt, crew, stand) {
+    let worker = &mut desk.worker.worker;
+    match sweep_and_rest(worker, &with, job.topics.len() + 1, rt, crew, stand) {
         Ok(()) => gate.at(desk.worker.worker.number, Point::BeforeLeave),
         Err(at_limit) => desk.worker.keep(at_limit),
     }

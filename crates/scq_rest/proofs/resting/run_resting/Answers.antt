@@ -14,20 +14,24 @@ use Rattle.scq_rest.specs.Resting.{AreSettled}
 use Rattle.scq_rest.specs.Threads.{Task, task, IsGiven, HasDone}
 use Rattle.scq_files.specs.declared.desk.Desk.{Desk}
 use Rattle.scq_rest.specs.declared.threads.Work.{Work}
-use Rattle.scq_rest.proofs.Settling.{zip-length, desk_of, stand_of, all-given, desks-same, each-done, settled}
+use Rattle.scq_rest.proofs.Settling.{zip-length, desk_of, stand_of, IsFirst, firsts-new, all-given, desks-same, each-done, settled}
 use Rattle.scq_rest.proofs.resting.run_resting.Goals as goal
 
 -- the stands of a new crew are all of it
 all-of : (crew : List TableId) (workers : ℕ) (stands : List Post) → stands ≡ first_posts crew workers → length crew ≡ workers → AreAll crew stands
 all-of crew workers stands are long = subst (AreAll crew) (sym are) (firsts_all crew workers (sym long))
 
+-- and each is new
+new-of : (crew : List TableId) (workers : ℕ) (stands : List Post) → stands ≡ first_posts crew workers → All (IsFirst crew) stands
+new-of crew workers stands are = subst (All (IsFirst crew)) (sym are) (firsts-new crew workers)
+
 module _ {S : Type 0} where
   -- each worker is given what it begins with
   each-given : (t : Task S) (desks : List (Desk (Seated Frame) S)) (stands : List Post) (first : Work S) (given : List (Work S))
       → desks ≡ map desk_of (first ∷ given) → stands ≡ map stand_of (first ∷ given) → All (λ (d : Desk (Seated Frame) S). IsFresh t.queue d.worker) desks
-      → All (λ (d : Desk (Seated Frame) S). All IsNew d.files.items) desks → AreAll t.crew stands → All (IsGiven t) (first ∷ given)
-  each-given t desks stands first given desks_are stands_are fresh unread all =
-      all-given t (first ∷ given) desks stands desks_are stands_are fresh unread all.own
+      → All (λ (d : Desk (Seated Frame) S). All IsNew d.files.items) desks → All (IsFirst t.crew) stands → All (IsGiven t) (first ∷ given)
+  each-given t desks stands first given desks_are stands_are fresh unread new =
+      all-given t (first ∷ given) desks stands desks_are stands_are fresh unread new
 
   -- one fewer are given than there are desks
   few-given : (desks : List (Desk (Seated Frame) S)) (first : Work S) (given : List (Work S)) → desks ≡ map desk_of (first ∷ given)
@@ -42,18 +46,18 @@ pair-first-requires-clause-many g c κs within =
 pub run_all-first-requires-clause-first : goal.run_all-first-requires-clause-first
 run_all-first-requires-clause-first g c κs within =
     let t = task c.args.queue.now c.args.job.now c.args.crew.now g.S.Source.faults g.S.Source.ends g.S.Source.left in
-    let all = all-of c.args.crew.now c.args.job.now.workers c.args.stands.items c.requires.stands c.requires.workers.1 in
+    let new = new-of c.args.crew.now c.args.job.now.workers c.args.stands.items c.requires.stands in
     All-head (IsGiven t) c.pair-first.result c.pair-first.new.given.items
     (each-given t c.args.desks.items c.args.stands.items c.pair-first.result c.pair-first.new.given.items c.pair-first.ensures.desks
-    c.pair-first.ensures.stands c.requires.fresh c.requires.unread all)
+    c.pair-first.ensures.stands c.requires.fresh c.requires.unread new)
 
 pub run_all-first-requires-clause-given : goal.run_all-first-requires-clause-given
 run_all-first-requires-clause-given g c κs within =
     let t = task c.args.queue.now c.args.job.now c.args.crew.now g.S.Source.faults g.S.Source.ends g.S.Source.left in
-    let all = all-of c.args.crew.now c.args.job.now.workers c.args.stands.items c.requires.stands c.requires.workers.1 in
+    let new = new-of c.args.crew.now c.args.job.now.workers c.args.stands.items c.requires.stands in
     All-tail (IsGiven t) c.pair-first.result c.pair-first.new.given.items
     (each-given t c.args.desks.items c.args.stands.items c.pair-first.result c.pair-first.new.given.items c.pair-first.ensures.desks
-    c.pair-first.ensures.stands c.requires.fresh c.requires.unread all)
+    c.pair-first.ensures.stands c.requires.fresh c.requires.unread new)
 
 pub run_all-first-requires-clause-flags : goal.run_all-first-requires-clause-flags
 run_all-first-requires-clause-flags g c κs within =

@@ -9,6 +9,7 @@ use Rattle.scq_passes.specs.Calls.{HasTakenFollowed}
 use Rattle.scq_passes.proofs.PassLemmas.{suits-taken, taken-nothing, taken-along, looked}
 use Rattle.scq_passes.proofs.Sweeps.{sweep-of, some-left, took-nothing, took-some}
 use Rattle.scq_passes.proofs.Vain.{vain-swept, takes-rise}
+use Rattle.scq_rest.specs.Sweeping.{idle_sweeps}
 use Rattle.scq_rest.proofs.sweeping.sweep_and_rest.Goals as goal
 use Rattle.scq_rest.proofs.sweeping.sweep_and_rest.Goals.{After-closed-over, In_ok-some}
 
@@ -45,7 +46,7 @@ sweeps-init g c =
       taken = taken-nothing p;
       made = g.met.T.Taker.made_none c.args.with.now c.args.taker.now;
       vain = λ was. was;
-      sweeps = (0, no_sweep p);
+      sweeps = (0, no_sweep p, omega arith);
       crew = refl;
       worker = refl;
     }
@@ -81,14 +82,18 @@ pub returns-then-over-clause-swept : goal.returns-then-over-clause-swept
 returns-then-over-clause-swept g c =
     let pass = g.T.Taker.pass in
     let said = c.closed-over.ensures.looked in
-    let none : said.0 ≡ 0 = eqb-true said.0 0 (sym said.2 ∙ c.if-over.true) in
-    record {
-      idle = c.sweeps.invariant.sweeps.0;
-      begun = pass c.sweeps.taker;
-      before = c.sweeps.invariant.sweeps.1;
-      sweep = subst (λ n. IsSweep g.B.Buffer.contents (g.T.Taker.queue c.args.with.now) g.T.Taker.follows c.args.topics n (pass c.sweeps.taker)
-          (pass c.sweep.new.taker)) none (swept-once g (goal.at.returns-then-over-clause-swept g c).In_ok-some);
-    }
+    let none : said.0 ≡ 0 = eqb-true said.0 0 (sym said.2 ∙ c.if-over.true) in (
+      idle_sweeps c.sweeps.invariant.sweeps.1,
+      c.sweeps.invariant.sweeps.2,
+      record {
+        idle = c.sweeps.invariant.sweeps.0;
+        begun = pass c.sweeps.taker;
+        before = c.sweeps.invariant.sweeps.1;
+        rested = refl;
+        sweep = subst (λ n. IsSweep g.B.Buffer.contents (g.T.Taker.queue c.args.with.now) g.T.Taker.follows c.args.topics n (pass c.sweeps.taker)
+            (pass c.sweep.new.taker)) none (swept-once g (goal.at.returns-then-over-clause-swept g c).In_ok-some);
+      },
+    )
 
 pub returns-then-over-clause-told : goal.returns-then-over-clause-told
 returns-then-over-clause-told g c =
@@ -137,6 +142,7 @@ sweeps-preserved-then-not-some g c =
         and_idle said.0 inv.sweeps.1 (swept-once g (goal.at.sweeps-preserved-then-not-some g c).In_ok-some)
             (some-left said.0 (sym said.2 ∙ c.if-over.false))
             (took-nothing said.0 at asks now said.1 (its.nothing (ap Ok c.if-not-some.true))) tt,
+        omega (arith, rested, inv.sweeps.2),
       );
       crew = ap (λ (s : Post). s.crew) c.rest.ensures ∙ inv.crew;
       worker = ap (λ (s : Post). s.worker) c.rest.ensures ∙ inv.worker;
@@ -168,6 +174,7 @@ sweeps-preserved g c =
         0,
         and_some said.0 inv.sweeps.1 (swept-once g (goal.at.sweeps-preserved g c).In_ok-some)
             (some-left said.0 (sym said.2 ∙ c.if-over.false)) (took-some said.0 at asks now said.1 more),
+        inv.sweeps.2,
       );
       crew = inv.crew;
       worker = inv.worker;

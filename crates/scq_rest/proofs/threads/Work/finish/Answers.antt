@@ -7,7 +7,7 @@ pub finish-requires-clause-produced : goal.finish-requires-clause-produced
 finish-requires-clause-produced g c κs within = c.requires.begun.produced
 
 pub finish-requires-clause-stand : goal.finish-requires-clause-stand
-finish-requires-clause-stand g c κs within = c.requires.begun.stand
+finish-requires-clause-stand g c κs within = (c.requires.begun.stand, c.requires.begun.unrested)
 
 pub returns : goal.returns
 returns g c given one = record {

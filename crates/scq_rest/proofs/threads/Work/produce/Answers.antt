@@ -15,13 +15,14 @@ pub produce-requires-clause-unread : goal.produce-requires-clause-unread
 produce-requires-clause-unread g c κs within = c.requires.given.unread
 
 pub produce-requires-clause-bell : goal.produce-requires-clause-bell
-produce-requires-clause-bell g c κs within = (c.requires.given.stand, c.requires.ready.crew, c.requires.ready.some)
+produce-requires-clause-bell g c κs within = (ap (λ (p : Post). p.crew) c.requires.given.stand, c.requires.ready.crew, c.requires.ready.some)
 
 pub returns : goal.returns
 returns g c = record {
   begun = record {
     produced = c.produce.ensures.produced;
-    stand = ap (λ (p : Post). p.crew) c.produce.ensures.bell ∙ c.requires.given.stand;
+    stand = ap (λ (p : Post). p.crew) c.produce.ensures.bell ∙ ap (λ (p : Post). p.crew) c.requires.given.stand;
+    unrested = ap (λ (p : Post). p.rests) c.produce.ensures.bell ∙ ap (λ (p : Post). p.rests) c.requires.given.stand;
   };
   files = c.produce.ensures.same;
   number = c.produce.ensures.number;
