@@ -1,3 +1,4 @@
 pub mod Seats
 pub mod Rooms
 pub mod Faults
+pub mod GoingOn

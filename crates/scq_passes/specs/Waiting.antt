@@ -1,15 +1,11 @@
--- Workers that wait in place of leaving early: how often they take in vain, and when they leave.
+-- Workers that wait in place of leaving early: how often they take in vain.
 -- `topics` is the number of topic rings.
 use Rattle.std.specs.Prelude.{◌≡◌, ℕ, suc, ◌+◌, ◌*◌, ◌<◌, ◌≤◌, Bool, true, false, List, length}
 use Rattle.std.specs.Prelude.{count_by}
 use Rattle.scq_core.specs.declared.ended.Ended.{Ended}
 use Rattle.scq_core.specs.declared.ended.Ended.TheVariants.{Nothing}
-use Rattle.scq_band.specs.Standing.{Identity}
 use Rattle.scq_queue.specs.Lists.{takes_of}
 use Rattle.scq_queue.specs.Passes.{PassStanding}
-use Rattle.scq_passes.specs.Records.{Puts}
-use Rattle.scq_passes.specs.Leaving.{AreSweeps, IsSweep}
-use Rattle.scq_passes.specs.Calls.{after_retire}
 
 -- whether a call is a take of a topic that found nothing, and how many of a record are
 abbrev pub is_vain : Ended → Bool
@@ -39,20 +35,3 @@ module _ {B : Type 0} where
   abbrev pub SweepsInVain : ℕ → ℕ → ℕ → PassStanding B → Type 0
   SweepsInVain topics begun rests p =
       vain_takes p.calls ≤ topics * (begun + rests + length (takes_of p.calls) + length p.fulls)
-
-  -- it swept, and left after the first sweep before which all had retired. There is no other way to
-  -- leave
-  pub record HasSweptTold (contents : B → List ℕ) (queue : Identity B) (By : Puts) (topics : ℕ)
-      (old new : PassStanding B) : Type 0 where
-    pub idle : ℕ
-    pub begun : PassStanding B
-    pub before : AreSweeps contents queue By topics (λ n. Unit {0}) idle old begun
-    pub sweep : IsSweep contents queue By topics 0 begun new
-
-  -- the pass of a worker that has left so: it had asked nothing before it retired, and from there
-  -- on it swept
-  pub record HasLeftTold (contents : B → List ℕ) (By : Puts) (topics : ℕ) (p : PassStanding B)
-      : Type 0 where
-    pub before : PassStanding B
-    pub unasked : before.gates ≡ 0
-    pub swept : HasSweptTold contents p.queue By topics (after_retire before) p

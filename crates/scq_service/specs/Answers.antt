@@ -23,7 +23,7 @@ use Rattle.scq_words.specs.declared.fault.WordsFault.{WordsFault}
 use Rattle.scq_work.specs.AllWorkers.{HasWorked, NothingIsStranded}
 use Rattle.scq_files.specs.Ends.{AreGiven, all_left, messages_in}
 use Rattle.scq_files.specs.Reading as reading
-use Rattle.scq_work.specs.Waiting.{HaveWaited}
+use Rattle.scq_rest.specs.Waiting.{HaveWaited}
 use Rattle.scq_work.specs.declared.worked.Worked.{Worked}
 use Rattle.scq_service.specs.Contents.{IfVisible, without_names}
 use Rattle.scq_service.specs.Ends.{Inputs, IsUnchanged, IfTold, HasMissed, most_payload}

@@ -1,19 +1,12 @@
 //! The files of a run: their sources, and what the workers' end makes of it.
-ghost use Rattle.std.specs.Prelude.{◌≡◌, ℕ, ◌+◌, ◌<◌, ◌≤◌, List, [], Some, None, IfOk, IfErr};
-ghost use Rattle.std.specs.Prelude.{IfSome, IsErrOf, IsNone, IsSome, IsSomeAnd, OnOk, OnSome};
-ghost use Rattle.std.specs.Prelude.{length, map, slice_index_or, string_bytes, vec_len};
+ghost use Rattle.std.specs.Prelude.{◌≡◌, ◌+◌, ◌≤◌, [], Some, None, length, map, string_bytes};
+ghost use Rattle.std.specs.Prelude.{vec_len, IfSome, IsErrOf, IsNone, IsSome, IsSomeAnd, OnSome};
 ghost use Rattle.std.specs.Prelude.{vec_capacity};
 ghost use Rattle.std.specs.List.{All};
-ghost use Rattle.std.specs.List.Sorted.{IsPermutation};
-ghost use Rattle.scq_frames.specs.declared.message.Message.{Message as TheMessage};
-ghost use Rattle.scq_collect.specs.Collected.{messages_to};
-ghost use Rattle.scq_collect.specs.Joined.{part_answers, without_way};
 ghost use Rattle.scq_collect.specs.Merging.{members_in};
-ghost use Rattle.scq_work.specs.AllWorkers.{HasWorked, NothingIsStranded};
-ghost use Rattle.scq_files.specs.Ends.{AreGiven, HasMoved, all_left, messages_in};
-ghost use Rattle.scq_work.specs.Ends.{HasCause};
-ghost use Rattle.scq_files.specs.Reading.{IsWhole};
-ghost use Rattle.scq_work.specs.Waiting.{HaveWaited};
+ghost use Rattle.scq_work.specs.AllWorkers.{NothingIsStranded};
+ghost use Rattle.scq_work.specs.Ends.{EndsWork};
+ghost use Rattle.scq_rest.specs.Waiting.{HaveWaited};
 ghost use Rattle.scq_service.specs.Answers.{HaveCome, HaveAllCome, AreOfParts, IsWork, IsWorkOf};
 ghost use Rattle.scq_service.specs.Answers.{WorkedAt};
 ghost use Rattle.scq_service.specs.Ends.{HasGotSources, ReadsOver, inputs_of};
@@ -54,7 +47,7 @@ pub(crate) fn get_sources<F: Files>(
 
 /// Gets the sources of the files, up to the first that isn't got, and answers the messages of those
 /// that it got. Each source is asked for once and read at most once.
-pub fn read_files<R: Threads + Sync, F: Files, G: Gate>(
+pub fn read_files<R: Threads + Sync, F: Files, G: Gate + Sync>(
     rt: &R,
     alloc: Global,
     job: &Job,
@@ -105,7 +98,7 @@ pub fn read_files<R: Threads + Sync, F: Files, G: Gate>(
 }
 
 /// The same by workers that rest in place of leaving early.
-pub fn read_files_waiting<R: Threads + Wait + Sync, F: Files, G: Gate>(
+pub fn read_files_waiting<R: Threads + Wait + Sync, F: Files, G: Gate + Sync>(
     rt: &R,
     alloc: Global,
     job: &Job,
@@ -179,34 +172,7 @@ fn conclude<F: Files>(
         (inputs_of F.table F.faults was.now.value files.now got.value.items 0) }
     requires all { HaveAllCome (map string_bytes names.now)
         (inputs_of F.table F.faults was.now.value files.now got.value.items 0) all }
-    requires count { length end.sources.items ≡ length got.value.items }
-    requires moved { (k : ℕ) (d : F.Src) → k < length got.value.items
-        → HasMoved F.Src.faults F.Src.left (slice_index_or got.value.items k d)
-        (slice_index_or end.sources.items k d) }
-    requires whole { OnOk end.result ((k : ℕ) (d : F.Src) → k < length got.value.items
-        → IsWhole job.now.longest F.Src.faults F.Src.ends F.Src.left
-        (slice_index_or got.value.items k d) (slice_index_or end.sources.items k d)) }
-    requires answers { IfOk end.result (λ w.
-        IfSome (all_left F.Src.left got.value.items) (λ contents.
-        IsPermutation (map without_way (members_in w.answered.items))
-        (part_answers job.now.topics job.now.size (messages_to job.now.topics 1 contents)))) }
-    requires told { IfOk end.result (λ w. IfSome (all_left F.Src.left got.value.items) (λ contents.
-        HasWorked job.now.topics job.now.size job.now.workers
-        (messages_in job.now.topics 1 contents) w)) }
-    requires worked { IfOk end.result (λ w.
-        (given : List (List TheMessage))
-        × AreGiven job.now.topics job.now.longest F.Src.left 1 got.value.items given
-        × HasWorked job.now.topics job.now.size job.now.workers given w) }
-    requires left { IfSome end.left (λ left.
-        IsSomeAnd end.passes (λ passes. IsSomeAnd end.frames (λ frames.
-        NothingIsStranded job.now.order (length job.now.topics
-        + 1) job.now.workers passes.value.items frames.value.items left.items))) }
-    requires none { end.left ≡ None → IsErrOf end.result WorkFault.NoMemory }
-    requires same { IfOk end.result (λ w.
-        IsSomeAnd end.passes (λ passes. passes.value.items ≡ w.passes.value.items)) }
-    requires cause { IfErr end.result (λ fault.
-        HasCause job.now.longest F.Src.faults F.Src.ends F.Src.left got.value.items
-        end.sources.items fault) }
+    requires end { EndsWork job.now F.Src.faults F.Src.ends F.Src.left got.value.items end }
     ensures got { HasGotSources F.Src.faults F.Src.left
         (map string_bytes names.now) result.got.value.items
         (inputs_of F.table F.faults was.now.value files.now result.sources.items result.read) }

@@ -28,7 +28,7 @@ use std::thread::Threads;
 /// whole. At a fault it writes one line to `err`, in no memory; a failing `err` changes nothing.
 /// Workers call the gate, which has no meaning. They share a queue of buffers. Where it is asked
 /// for, what each worker sent, took and answered directly is reported to `err` too.
-pub fn serve<R: Threads + Sync, F: Files, K: Sink, G: Gate>(
+pub fn serve<R: Threads + Sync, F: Files, K: Sink, G: Gate + Sync>(
     rt: &R,
     alloc: Global,
     words: &[String],
@@ -144,7 +144,7 @@ impl<S> Ran<S> {
 }
 
 /// Runs what the words ask for, and reports no fault yet.
-fn run<R: Threads + Sync, F: Files, K: Sink, G: Gate>(
+fn run<R: Threads + Sync, F: Files, K: Sink, G: Gate + Sync>(
     rt: &R,
     alloc: Global,
     words: &[String],

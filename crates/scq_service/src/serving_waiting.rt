@@ -26,7 +26,7 @@ use std::thread::Threads;
 /// Runs what the words ask for as `serve` does, but that `run` alone is understood, and that a
 /// worker that finds nothing to take rests until another wakes it. Where no wake comes it never
 /// returns.
-pub fn serve_waiting<R: Threads + Wait + Sync, F: Files, K: Sink, G: Gate>(
+pub fn serve_waiting<R: Threads + Wait + Sync, F: Files, K: Sink, G: Gate + Sync>(
     rt: &R,
     alloc: Global,
     words: &[String],
@@ -105,7 +105,7 @@ pub fn serve_waiting<R: Threads + Wait + Sync, F: Files, K: Sink, G: Gate>(
 }
 
 /// Runs what the words ask for, and reports no fault yet.
-fn run_waiting<R: Threads + Wait + Sync, F: Files, K: Sink, G: Gate>(
+fn run_waiting<R: Threads + Wait + Sync, F: Files, K: Sink, G: Gate + Sync>(
     rt: &R,
     alloc: Global,
     words: &[String],

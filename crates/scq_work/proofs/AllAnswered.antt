@@ -10,8 +10,8 @@ use Rattle.scq_frames.proofs.EncodedLemmas.{part_at-again}
 use Rattle.scq_collect.specs.Joined.{PartAnswer, part_answer, without_way}
 use Rattle.scq_collect.specs.declared.answered.Answered.{Answered}
 use Rattle.scq_queue.specs.Lists.{Placed}
-use Rattle.scq_work.specs.Members.{AnswersTake, AnswersSoFar, IsPassedOver}
-use Rattle.scq_work.specs.Passing.{ArePassedOn, Sends}
+use Rattle.scq_worker.specs.Members.{AnswersTake, AnswersSoFar, IsPassedOver}
+use Rattle.scq_worker.specs.Passing.{ArePassedOn, Sends}
 use Rattle.scq_passes.proofs.PassedOn.{passed-results}
 use Rattle.scq_passes.proofs.Becoming.{so-far-all, so-far-results}
 

@@ -23,10 +23,10 @@ use Rattle.scq_files.specs.declared.desk.Desk.{Desk}
 use Rattle.scq_files.proofs.AllGave as files
 use Rattle.scq_files.proofs.AllGave.{AllRead, by-number, worker_messages}
 use Rattle.scq_files.proofs.Dealt.{all-dealt}
-use Rattle.scq_work.specs.Desks.{HasRun}
-use Rattle.scq_work.specs.Passing.{parts_in}
-use Rattle.scq_work.specs.Seats.{Seated}
-use Rattle.scq_work.proofs.MessageParts.{all-parts-in, flat-parts, own-parts}
+use Rattle.scq_worker.specs.Desks.{HasRun}
+use Rattle.scq_worker.specs.Passing.{parts_in}
+use Rattle.scq_worker.specs.Seats.{Seated}
+use Rattle.scq_worker.proofs.MessageParts.{all-parts-in, flat-parts, own-parts}
 
 -- messages have at most so many parts
 parts-spread : (size : ℕ) (ms : List Message) → 0 < size → length (parts_in size ms) ≤ sum_by most_parts ms

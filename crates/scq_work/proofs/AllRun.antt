@@ -28,15 +28,15 @@ use Rattle.scq_passes.specs.AllPasses.{OfEachWorker, HaveShared}
 use Rattle.scq_work.specs.AllWorkers.{HaveAnswered, HasHelped}
 use Rattle.scq_files.specs.Ends.{AreGiven}
 use Rattle.scq_files.specs.Files.{own_of}
-use Rattle.scq_work.specs.Members.{AnswersItsTakes, AnswersItsFulls}
-use Rattle.scq_work.specs.Passing.{parts_in, HasPassedOn, FollowsCalls}
+use Rattle.scq_worker.specs.Members.{AnswersItsTakes, AnswersItsFulls}
+use Rattle.scq_worker.specs.Passing.{parts_in, HasPassedOn, FollowsCalls}
 use Rattle.scq_files.specs.Reading.{IsRead}
 use Rattle.scq_passes.specs.Records.{HoldsNothingAtEachFull, MeetsNoSpent}
 use Rattle.scq_passes.specs.Together.{SendsAreTakes, NoneSpent, IsBounded, HasSwept}
 use Rattle.scq_passes.specs.Calls.{HasFewCalls, index_of}
-use Rattle.scq_work.specs.Working.{HasListed}
+use Rattle.scq_worker.specs.Working.{HasListed}
 use Rattle.scq_files.specs.declared.desk.Desk.{Desk}
-use Rattle.scq_work.specs.Seats.{Seated}
+use Rattle.scq_worker.specs.Seats.{Seated}
 use Rattle.scq_files.specs.declared.own_file.OwnFile.{OwnFile}
 use Rattle.scq_files.specs.Desks.{AllWhole}
 use Rattle.scq_files.proofs.AllGave.{given_of, worker_messages}
@@ -44,7 +44,7 @@ use Rattle.scq_desk.proofs.Settled.{held_at}
 use Rattle.scq_work.proofs.AllGave.{AllRan, given, is-given, own-given, all-parts-passed, few-in-all}
 use Rattle.scq_work.proofs.Conclusion.{Work, IsWork, passes_in, messages_in, members_of, all-taken, all-answered}
 use Rattle.scq_files.proofs.Lists.{map-map}
-use Rattle.scq_work.proofs.MessageParts.{known-parts, flat-parts}
+use Rattle.scq_worker.proofs.MessageParts.{known-parts, flat-parts}
 use Rattle.scq_passes.proofs.NoneSpent.{passes_of, messages_of, none-spent, all-bounded}
 use Rattle.scq_files.proofs.GivenLemmas.{of-known, given-known}
 use Rattle.scq_work.proofs.Orders.{members-whole}

@@ -16,11 +16,11 @@ use Rattle.scq_collect.specs.declared.answered.Answered.{Answered}
 use Rattle.scq_queue.specs.Lists.{Placed, sends_of, takes_of}
 use Rattle.scq_queue.specs.Passes.{PassStanding}
 use Rattle.scq_queue.specs.Closing.{EachTakeIsASend}
-use Rattle.scq_work.specs.Members.{is_taken, is_direct, AnswersItsTakes}
-use Rattle.scq_work.specs.Passing.{ArePassedOn}
+use Rattle.scq_worker.specs.Members.{is_taken, is_direct, AnswersItsTakes}
+use Rattle.scq_worker.specs.Passing.{ArePassedOn}
 use Rattle.scq_passes.proofs.PassedOn.{passed-send}
 use Rattle.scq_passes.specs.Together.{all_sends, all_takes, SendsAreTakes}
-use Rattle.scq_work.specs.Working.{HasListed}
+use Rattle.scq_worker.specs.Working.{HasListed}
 use Rattle.scq_work.proofs.AllAnswered.{answer_at, passed-answers, IsPart, taken-answers}
 use Rattle.scq_passes.proofs.ManyLists.{flat-map, found-at, from-all, in-all, stands-at, together}
 use Rattle.scq_passes.proofs.SendsAndTakes.{take-was-sent}

@@ -1,14 +1,3 @@
-mod Following
-mod WorkerSteps
-mod Vain
-mod MemberLemmas
-mod MessageParts
-mod PassedOn
-mod RunLemmas
-mod Produced
-mod PlaceLemmas
-mod WorkSent
-mod Settling
 mod AllAnswered
 mod Conclusion
 mod Told
@@ -16,3 +5,4 @@ pub mod Orders
 mod AllGave
 mod AllRun
 mod PartMembers
+mod Starved

@@ -24,7 +24,7 @@ use Rattle.scq_collect.proofs.Orders.{is_position, is_position-flip, ascends, as
 use Rattle.scq_files.specs.Reading.{AreOf}
 use Rattle.scq_files.specs.Ends.{AreGiven, all_left, messages_in}
 use Rattle.scq_files.proofs.GivenLemmas.{given-told}
-use Rattle.scq_work.specs.Passing.{parts_in}
+use Rattle.scq_worker.specs.Passing.{parts_in}
 use Rattle.scq_work.proofs.PartMembers.{IsPartOf, has-part, same-place, part-of-member, member-of-part}
 use Rattle.scq_passes.proofs.ManyLists.{found-at, in-all}
 

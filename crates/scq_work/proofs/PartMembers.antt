@@ -13,7 +13,7 @@ use Rattle.scq_collect.specs.declared.answered.Answered.{Answered}
 use Rattle.scq_collect.specs.Joined.{PartAnswer, part_answer, part_answers, without_way}
 use Rattle.scq_collect.specs.Merging.{IsBefore}
 use Rattle.scq_collect.proofs.Orders.{Ascends, contains-cases, contains-first, contains-more, not-before-itself}
-use Rattle.scq_work.specs.Passing.{parts_in}
+use Rattle.scq_worker.specs.Passing.{parts_in}
 use Rattle.scq_passes.proofs.ManyLists.{found-at, stands-at, from-all, in-all}
 
 -- what stands in a mapped list

@@ -16,8 +16,8 @@ use Rattle.scq_queue.specs.Lists.{sends_of, takes_of}
 use Rattle.scq_queue.specs.Passes.{PassStanding}
 use Rattle.scq_files.specs.Files.{own_of}
 use Rattle.scq_work.specs.declared.worked.Worked.{Worked}
-use Rattle.scq_work.specs.Members.{AnswersItsTakes, AnswersItsFulls}
-use Rattle.scq_work.specs.Passing.{parts_in, HasPassedOn, FollowsCalls}
+use Rattle.scq_worker.specs.Members.{AnswersItsTakes, AnswersItsFulls}
+use Rattle.scq_worker.specs.Passing.{parts_in, HasPassedOn, FollowsCalls}
 use Rattle.scq_passes.specs.Records.{HelpsAfterEachFull, HelpsOnceAfterEachFull}
 use Rattle.scq_passes.specs.Together.{HasRetired}
 use Rattle.scq_passes.specs.AllPasses.{IsSetup, OfEachWorker, HaveShared, lengths_of}

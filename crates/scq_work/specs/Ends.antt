@@ -7,10 +7,10 @@ use Rattle.scq_frames.specs.declared.message.Message.{Message}
 use Rattle.scq_collect.specs.Collected.{messages_to}
 use Rattle.scq_collect.specs.Joined.{part_answers, without_way}
 use Rattle.scq_collect.specs.Merging.{members_in}
-use Rattle.scq_files.specs.Ends.{AreGiven, HasMoved, all_left, messages_in}
+use Rattle.scq_files.specs.Ends.{AreGiven, HasMoved, StopsAtFaults, all_left, messages_in}
 use Rattle.scq_files.specs.Reading.{IsWhole}
 use Rattle.scq_work.specs.AllWorkers.{HasWorked, NothingIsStranded}
-use Rattle.scq_work.specs.declared.job.Job.{Job}
+use Rattle.scq_worker.specs.declared.job.Job.{Job}
 use Rattle.scq_work.specs.declared.worked.WorkEnd.{WorkEnd}
 use Rattle.scq_desk.specs.Faults as workers
 use Rattle.scq_desk.specs.declared.fault.EndFault.{EndFault}
@@ -37,29 +37,41 @@ abbrev pub HasCause : {S : Type 0} → ℕ → (S → ℕ) → (S → ℕ) → (
 HasCause size faults end_count left olds news fault =
     workers.HasCause size faults end_count left olds news (as_end fault)
 
--- what is known of the end of a job's work on these sources, as the contract of `work` says it
+-- what is known of the end of a job's work on these sources, which come back in their order in
+-- every case
 pub record EndsWork {S : Type 0} (j : Job) (faults end_count : S → ℕ) (left : S
     → Option (List ℕ)) (sources : List S) (end : WorkEnd S) : Type 0 where
   pub count : length end.sources.items ≡ length sources
   pub moved : (k : ℕ) (d : S) → k < length sources
       → HasMoved faults left (slice_index_or sources k d) (slice_index_or end.sources.items k d)
+  -- no worker read a file behind one of its own at which it stopped
+  pub stops : StopsAtFaults j.workers j.longest faults end_count left sources end.sources.items
+  -- each source was read to its end, and where the bytes of all are visible the answers are those
+  -- to all parts of their messages
   pub whole : OnOk end.result ((k : ℕ) (d : S) → k < length sources
       → IsWhole j.longest faults end_count left (slice_index_or sources k d)
       (slice_index_or end.sources.items k d))
   pub answers : IfOk end.result (λ w. IfSome (all_left left sources) (λ contents.
       IsPermutation (map without_way (members_in w.answered.items))
       (part_answers j.topics j.size (messages_to j.topics 1 contents))))
+  -- the lists answer for the messages that the files gave, and the passes for what was sent and
+  -- taken: of contents that are visible, and of every source
   pub told : IfOk end.result (λ w.
       IfSome (all_left left sources) (λ contents.
       HasWorked j.topics j.size j.workers (messages_in j.topics 1 contents) w))
   pub worked : IfOk end.result (λ w.
       (given : List (List Message)) × AreGiven j.topics j.longest left 1 sources given
       × HasWorked j.topics j.size j.workers given w)
+  -- whatever the answer is, the queue was closed with each buffer free: each pass has retired, what
+  -- was sent was taken, and the block was merged. Only where there was no memory for a queue there
+  -- was none
   pub none_stranded : IfSome end.left (λ l. IsSomeAnd end.passes (λ p. IsSomeAnd end.frames (λ f.
       NothingIsStranded j.order (length j.topics
       + 1) j.workers p.value.items f.value.items l.items)))
   pub none : end.left ≡ None → IsErrOf end.result NoMemory
   pub same : IfOk end.result (λ w. IsSomeAnd end.passes (λ p. p.value.items ≡ w.passes.value.items))
+  -- a fault is that of its file, and those in front of it were read to their ends. Where there is
+  -- one of a file, each source is as one whose reading didn't stop for want of memory
   pub cause : IfErr end.result (HasCause j.longest faults end_count left sources end.sources.items)
   pub memory_first : IfErr end.result
       (MemoryIsFirst j.longest faults end_count left sources end.sources.items)

@@ -1,11 +1,2 @@
-pub mod Members
-pub mod Passing
-pub mod Working
-pub mod Desks
-pub mod Seats
-pub mod Ends
 pub mod AllWorkers
-pub mod Waiting
-pub mod Threads
-pub mod Places
-pub mod Resting
+pub mod Ends

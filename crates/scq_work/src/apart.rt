@@ -4,22 +4,21 @@ ghost use Rattle.std.specs.List.{All};
 ghost use Rattle.scq_block.specs.Frames.{bytes_of};
 ghost use Rattle.scq_passes.specs.Leaving.{HasLeftSwept};
 ghost use Rattle.scq_passes.specs.Records.{IsReturn};
-ghost use Rattle.scq_work.specs.Seats.{IsFresh};
+ghost use Rattle.scq_worker.specs.Seats.{IsFresh};
 ghost use Rattle.scq_files.specs.OwnFiles.{IsNew, ids_of};
-ghost use Rattle.scq_work.specs.Desks.{HasRun};
+ghost use Rattle.scq_worker.specs.Desks.{HasRun};
 
-use crate::desk::{WorkDesk, run};
-use crate::{Gate, Job};
 use scq_block::Frame;
 use scq_outside::Source;
 use scq_queue::Queue;
+use scq_worker::{Gate, Job, WorkDesk, run};
 use std::alloc::Global;
 use std::thread;
 use std::thread::Threads;
 
 /// The work of all workers, each in a thread, of which none waits. The desks come back in their
 /// order.
-pub fn run_apart<R: Threads + Sync, S: Source, G: Gate>(
+pub fn run_apart<R: Threads + Sync, S: Source, G: Gate + Sync>(
     rt: &R,
     alloc: Global,
     job: &Job,
@@ -54,7 +53,7 @@ pub fn run_apart<R: Threads + Sync, S: Source, G: Gate>(
 }
 
 /// Lets each worker work, in threads of their own.
-fn run_each<R: Threads + Sync, S: Source, G: Gate>(
+fn run_each<R: Threads + Sync, S: Source, G: Gate + Sync>(
     rt: &R,
     alloc: Global,
     job: &Job,

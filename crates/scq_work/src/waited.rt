@@ -1,29 +1,18 @@
 //! The work of workers that wait in place of leaving early, as `work` else.
-ghost use Rattle.std.specs.Prelude.{◌≡◌, ℕ, ◌+◌, ◌^◌, ◌<◌, ◌≤◌, List, None, length, map};
-ghost use Rattle.std.specs.Prelude.{slice_index_or, vec_len, IfOk, IfErr, IfSome, IsErrOf, IsSome};
-ghost use Rattle.std.specs.Prelude.{IsSomeAnd, OnOk, OnSome};
+ghost use Rattle.std.specs.Prelude.{◌≡◌, ◌+◌, ◌^◌, ◌≤◌, None, length, vec_len, IfOk, IfSome};
+ghost use Rattle.std.specs.Prelude.{IsErrOf, IsSome, IsSomeAnd, OnSome};
 ghost use Rattle.std.specs.List.{All};
-ghost use Rattle.std.specs.List.Sorted.{IsPermutation};
 ghost use Rattle.scq_block.specs.Blocks.{AreAllOf};
-ghost use Rattle.scq_frames.specs.declared.message.Message.{Message as TheMessage};
-ghost use Rattle.scq_collect.specs.Collected.{messages_to};
-ghost use Rattle.scq_collect.specs.Joined.{part_answers, without_way};
-ghost use Rattle.scq_collect.specs.Merging.{members_in};
 ghost use Rattle.scq_queue.specs.Passes.{first_passes};
-ghost use Rattle.scq_work.specs.AllWorkers.{HasWorked, NothingIsStranded};
-ghost use Rattle.scq_files.specs.Ends.{AreGiven, HasMoved, all_left, messages_in};
-ghost use Rattle.scq_work.specs.Ends.{EndsWork, HasCause, MemoryIsFirst};
-ghost use Rattle.scq_files.specs.Reading.{IsWhole};
+ghost use Rattle.scq_work.specs.Ends.{EndsWork};
 ghost use Rattle.scq_desk.specs.Rooms.{IsRoomFor};
 ghost use Rattle.scq_park.specs.Crews.{first_posts};
-ghost use Rattle.scq_work.specs.Resting.{HasRoom};
-ghost use Rattle.scq_work.specs.Waiting.{HaveWaited};
+ghost use Rattle.scq_rest.specs.Resting.{HasRoom};
+ghost use Rattle.scq_rest.specs.Waiting.{HaveWaited};
 
-use crate::resting::{RestingRoom, make_resting_room, run_resting};
 use crate::winding::wind_up;
-use crate::worker::Worker;
 use crate::working::setup_of;
-use crate::{Gate, Job, WorkEnd, WorkFault};
+use crate::{WorkEnd, WorkFault};
 use scq_block::{Block, Frame};
 use scq_collect::Answered;
 use scq_desk::{Room, lay_out, make_room};
@@ -31,7 +20,9 @@ use scq_outside::Source;
 use scq_park::{Crew, Rested, Stand};
 use scq_passes::make_queue;
 use scq_queue::{Pass, Queue};
+use scq_rest::{RestingRoom, make_resting_room, run_resting};
 use scq_word::NoMemory;
+use scq_worker::{Gate, Job, Worker};
 use std::alloc::Global;
 use std::sync::Wait;
 use std::thread::Threads;
@@ -111,7 +102,7 @@ fn make_all<S: Source>(alloc: Global, job: &Job, files: usize) -> Result<Made<S>
 /// Answers the messages of all sources as `work` does, but that a worker that finds nothing to take
 /// rests until another wakes it, and leaves only once it was told that all have retired. Where no
 /// wake comes it never returns.
-pub fn work_waiting<R: Threads + Wait + Sync, S: Source, G: Gate>(
+pub fn work_waiting<R: Threads + Wait + Sync, S: Source, G: Gate + Sync>(
     rt: &R,
     alloc: Global,
     job: &Job,
@@ -119,50 +110,7 @@ pub fn work_waiting<R: Threads + Wait + Sync, S: Source, G: Gate>(
     gate: &G,
 ) -> WaitEnd<S>
     requires { vec_len sources ≤ 64 }
-    ensures count { length result.end.sources.items ≡ length sources.items }
-    ensures moved { (k : ℕ) (d : S) → k < length sources.items
-        → HasMoved S.faults S.left (slice_index_or sources.items k d)
-        (slice_index_or result.end.sources.items k d) }
-
-    // Each source was read to its end, and where the bytes of all are visible the answers are those
-    // to all parts of their messages.
-    ensures whole { OnOk result.end.result ((k : ℕ) (d : S) → k < length sources.items
-        → IsWhole job.now.longest S.faults S.ends S.left (slice_index_or sources.items k d)
-        (slice_index_or result.end.sources.items k d)) }
-    ensures answers { IfOk result.end.result (λ w.
-        IfSome (all_left S.left sources.items) (λ contents.
-        IsPermutation (map without_way (members_in w.answered.items))
-        (part_answers job.now.topics job.now.size (messages_to job.now.topics 1 contents)))) }
-
-    // The lists answer for the messages that the files gave, and the passes for what was sent and
-    // taken: of contents that are visible, and of every source.
-    ensures told { IfOk result.end.result (λ w. IfSome (all_left S.left sources.items) (λ contents.
-        HasWorked job.now.topics job.now.size job.now.workers
-        (messages_in job.now.topics 1 contents) w)) }
-    ensures worked { IfOk result.end.result (λ w.
-        (given : List (List TheMessage))
-        × AreGiven job.now.topics job.now.longest S.left 1 sources.items given
-        × HasWorked job.now.topics job.now.size job.now.workers given w) }
-
-    // Whatever the answer is, the queue was closed with each buffer free: each pass has retired,
-    // what was sent was taken, and the block was merged. Only where there was no memory for a queue
-    // there was none.
-    ensures left { IfSome result.end.left (λ left.
-        IsSomeAnd result.end.passes (λ passes. IsSomeAnd result.end.frames (λ frames.
-        NothingIsStranded job.now.order (length job.now.topics
-        + 1) job.now.workers passes.value.items frames.value.items left.items))) }
-    ensures none { result.end.left ≡ None → IsErrOf result.end.result WorkFault.NoMemory }
-    ensures same { IfOk result.end.result (λ w.
-        IsSomeAnd result.end.passes (λ passes. passes.value.items ≡ w.passes.value.items)) }
-
-    // A fault is that of its file, and those in front of it were read to their ends. Where there is
-    // one of a file, each source is as one whose reading didn't stop for want of memory.
-    ensures cause { IfErr result.end.result (λ fault.
-        HasCause job.now.longest S.faults S.ends S.left sources.items result.end.sources.items
-        fault) }
-    ensures memory_first { IfErr result.end.result (λ fault.
-        MemoryIsFirst job.now.longest S.faults S.ends S.left sources.items result.end.sources.items
-        fault) }
+    ensures end { EndsWork job.now S.faults S.ends S.left sources.items result.end }
 
     // Each worker was told that all had retired, rested no more often than it was woken, and took
     // in vain no more often than one does that rests after each sweep that took nothing.
@@ -185,7 +133,7 @@ pub fn work_waiting<R: Threads + Wait + Sync, S: Source, G: Gate>(
 }
 
 /// The same, once there are a crew, room and a queue.
-fn wait_in<R: Threads + Wait + Sync, S: Source, G: Gate>(
+fn wait_in<R: Threads + Wait + Sync, S: Source, G: Gate + Sync>(
     rt: &R,
     alloc: Global,
     job: &Job,

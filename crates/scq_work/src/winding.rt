@@ -6,18 +6,18 @@ ghost use Rattle.scq_block.specs.Blocks.{AreAllOf};
 ghost use Rattle.scq_queue.specs.Passes.{was_told};
 ghost use Rattle.scq_files.specs.Desks.{AreDealt};
 ghost use Rattle.scq_desk.specs.Rooms.{IsLaid};
-ghost use Rattle.scq_work.specs.Desks.{HasRun};
+ghost use Rattle.scq_worker.specs.Desks.{HasRun};
 ghost use Rattle.scq_desk.specs.Faults.{fault_of_workers};
 ghost use Rattle.scq_work.specs.Ends.{EndsWork, as_end};
 
-use crate::desk::WorkDesk;
-use crate::{Job, WorkEnd, WorkFault, Worked};
+use crate::{WorkEnd, WorkFault, Worked};
 use scq_block::{Block, Frame};
 use scq_collect::Answered;
 use scq_desk::{EndFault, LaidOut, WoundUp, fault_of_all, wind_up_desks};
 use scq_frames::FrameFault;
 use scq_outside::Source;
 use scq_queue::Queue;
+use scq_worker::{Job, WorkDesk};
 
 /// The fault of all workers, told as one of this crate.
 fn work_fault(fault: EndFault) -> WorkFault

@@ -7,7 +7,7 @@ ghost use Rattle.scq_collect.specs.Joined.{part_answers, without_way};
 ghost use Rattle.scq_collect.specs.Merging.{members_in};
 ghost use Rattle.scq_collect.specs.Output.{one_thread_output};
 ghost use Rattle.scq_work.specs.AllWorkers.{NothingIsStranded};
-ghost use Rattle.scq_work.specs.Waiting.{HaveWaited};
+ghost use Rattle.scq_rest.specs.Waiting.{HaveWaited};
 ghost use Rattle.scq_service.specs.Answers.{IsWork, IsWorkOf, WorkedAt};
 ghost use Rattle.scq_service.specs.Ends.{EndsOver, HasGotSources, inputs_of, wrote_of};
 ghost use Rattle.scq_service.specs.Faults.{status_of};
@@ -24,7 +24,7 @@ use std::sync::Wait;
 use std::thread::Threads;
 
 /// Reads the files, answers their messages, and writes the output once it is whole.
-pub fn run_files<R: Threads + Sync, F: Files, K: Sink, G: Gate>(
+pub fn run_files<R: Threads + Sync, F: Files, K: Sink, G: Gate + Sync>(
     rt: &R,
     alloc: Global,
     job: &Job,
@@ -77,7 +77,7 @@ pub fn run_files<R: Threads + Sync, F: Files, K: Sink, G: Gate>(
 }
 
 /// The same by workers that rest in place of leaving early.
-pub fn run_files_waiting<R: Threads + Wait + Sync, F: Files, K: Sink, G: Gate>(
+pub fn run_files_waiting<R: Threads + Wait + Sync, F: Files, K: Sink, G: Gate + Sync>(
     rt: &R,
     alloc: Global,
     job: &Job,

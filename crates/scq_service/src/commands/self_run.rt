@@ -36,7 +36,7 @@ const SIZE: u32 = 1 << 16;
 
 /// Makes the file of the seed, answers it, and writes its summary once that is whole. No source is
 /// got.
-pub fn run_self<R: Threads + Sync, S, K: Sink, G: Gate>(
+pub fn run_self<R: Threads + Sync, S, K: Sink, G: Gate + Sync>(
     rt: &R,
     alloc: Global,
     seed: u32,
@@ -100,7 +100,7 @@ struct Answers {
 
 /// Makes the file of the seed and answers its messages. Its lines are short and its source never
 /// fails, so where answers are wanting, memory is.
-fn answer_file<R: Threads + Sync, G: Gate>(
+fn answer_file<R: Threads + Sync, G: Gate + Sync>(
     rt: &R,
     alloc: Global,
     seed: u32,

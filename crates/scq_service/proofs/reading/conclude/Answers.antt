@@ -32,8 +32,8 @@ returns-then-all-clause-got g c =
     let end_count = g.F.Src.Source.ends in
     let left = g.F.Src.Source.left in
     rw (after.read ∙ end.read, come, ap (λ v. v.items) (after.sources ∙ end.sources))
-    (has-got c.args.job.now.longest faults end_count left names table opens olds news did.count did.come 0 did.moved
-    (kept-of c.args.job.now.longest faults end_count left names table opens olds news did.count did.come c.args.all did.all))
+    (has-got c.args.job.now.longest faults end_count left names table opens olds news did.end.count did.come 0 did.end.moved
+    (kept-of c.args.job.now.longest faults end_count left names table opens olds news did.end.count did.come c.args.all did.all))
 
 pub returns-then-all-clause-ends : goal.returns-then-all-clause-ends
 returns-then-all-clause-ends g c =
@@ -52,11 +52,11 @@ returns-then-all-clause-ends g c =
     let left = g.F.Src.Source.left in
     let W : Result Worked WorkFault → Type 0 =
     λ r. OnOk r ((k : ℕ) (d : _) → k < length olds → IsWhole size faults end_count left (slice_index_or olds k d) (slice_index_or news k d)) in
-    let whole = subst W c.in-Ok.is did.whole in
+    let whole = subst W c.in-Ok.is did.end.whole in
     let A : Bool → Type 0 = λ all. HaveAllCome names (record { table = table; opens = opens; sources = olds; read = 0 }) all in
     let all = subst A c.if-all.true did.all in
     rw (after.read ∙ end.read, come, ap (λ v. v.items) (after.sources ∙ end.sources), after.fault ∙ end.fault)
-    (ends-all size faults end_count left names table opens olds news did.count did.come whole all.0)
+    (ends-all size faults end_count left names table opens olds news did.end.count did.come whole all.0)
 
 pub returns-then-all-clause-work : goal.returns-then-all-clause-work
 returns-then-all-clause-work g c =
@@ -72,13 +72,13 @@ returns-then-all-clause-work g c =
     let left = g.F.Src.Source.left in
     let W : Result Worked WorkFault → Type 0 =
     λ r. OnOk r ((k : ℕ) (d : _) → k < length olds → IsWhole job.longest faults end_count left (slice_index_or olds k d) (slice_index_or news k d)) in
-    let whole = subst W c.in-Ok.is did.whole in
+    let whole = subst W c.in-Ok.is did.end.whole in
     let G : Result Worked WorkFault → Type 0 =
     λ r. IfOk r (λ w. (given : List (List Message)) × AreGiven job.topics job.longest left 1 olds given
     × HasWorked job.topics job.size job.workers given w) in
-    let gave = subst G c.in-Ok.is did.worked in
+    let gave = subst G c.in-Ok.is did.end.worked in
     rw (after.worked ∙ end.worked, come, ap (λ v. v.items) (after.sources ∙ end.sources))
-    (gave.0, record { count = did.count; whole = whole; gave = gave.1 }, gave.2)
+    (gave.0, record { count = did.end.count; whole = whole; gave = gave.1 }, gave.2)
 
 pub returns-else-all-clause-got : goal.returns-else-all-clause-got
 returns-else-all-clause-got g c =
@@ -95,8 +95,8 @@ returns-else-all-clause-got g c =
     let end_count = g.F.Src.Source.ends in
     let left = g.F.Src.Source.left in
     rw (after.read ∙ end.read, come, ap (λ v. v.items) (after.sources ∙ end.sources))
-    (has-got c.args.job.now.longest faults end_count left names table opens olds news did.count did.come 0 did.moved
-    (kept-of c.args.job.now.longest faults end_count left names table opens olds news did.count did.come c.args.all did.all))
+    (has-got c.args.job.now.longest faults end_count left names table opens olds news did.end.count did.come 0 did.end.moved
+    (kept-of c.args.job.now.longest faults end_count left names table opens olds news did.end.count did.come c.args.all did.all))
 
 pub returns-else-all-clause-ends : goal.returns-else-all-clause-ends
 returns-else-all-clause-ends g c =
@@ -115,11 +115,11 @@ returns-else-all-clause-ends g c =
     let left = g.F.Src.Source.left in
     let W : Result Worked WorkFault → Type 0 =
     λ r. OnOk r ((k : ℕ) (d : _) → k < length olds → IsWhole size faults end_count left (slice_index_or olds k d) (slice_index_or news k d)) in
-    let whole = subst W c.in-Ok.is did.whole in
+    let whole = subst W c.in-Ok.is did.end.whole in
     let A : Bool → Type 0 = λ all. HaveAllCome names (record { table = table; opens = opens; sources = olds; read = 0 }) all in
     let next = subst A c.if-all.false did.all in
     rw (after.read ∙ end.read, come, ap (λ v. v.items) (after.sources ∙ end.sources), after.fault ∙ end.fault ∙ ap (λ n. Some (OpenFault (n + 1))) did.number)
-    (ends-stopped size faults end_count left names table opens olds news did.count did.come whole next.0 next.1)
+    (ends-stopped size faults end_count left names table opens olds news did.end.count did.come whole next.0 next.1)
 
 pub returns-in-Err-clause-got : goal.returns-in-Err-clause-got
 returns-in-Err-clause-got g c =
@@ -136,8 +136,8 @@ returns-in-Err-clause-got g c =
     let end_count = g.F.Src.Source.ends in
     let left = g.F.Src.Source.left in
     rw (come, ap (λ v. v.items) (after.sources ∙ end.sources))
-    (has-got c.args.job.now.longest faults end_count left names table opens olds news did.count did.come c.behind-in-Err.result.read did.moved
-    (kept-of c.args.job.now.longest faults end_count left names table opens olds news did.count did.come c.args.all did.all))
+    (has-got c.args.job.now.longest faults end_count left names table opens olds news did.end.count did.come c.behind-in-Err.result.read did.end.moved
+    (kept-of c.args.job.now.longest faults end_count left names table opens olds news did.end.count did.come c.args.all did.all))
 
 pub returns-in-Err-clause-ends : goal.returns-in-Err-clause-ends
 returns-in-Err-clause-ends g c =
@@ -155,34 +155,34 @@ returns-in-Err-clause-ends g c =
     let end_count = g.F.Src.Source.ends in
     let left = g.F.Src.Source.left in
     let W : Result Worked WorkFault → Type 0 = λ r. IfErr r (λ fault. HasCause size faults end_count left olds news fault) in
-    let cause = subst W c.in-Err.is did.cause in
+    let cause = subst W c.in-Err.is did.end.cause in
     rw (after.read ∙ end.read, come, ap (λ v. v.items) (after.sources ∙ end.sources), after.fault ∙ end.fault)
-    (ends-met size faults end_count left names table opens olds news did.count did.come c.in-Err.fault cause
-    (missed-of size faults end_count left names table opens olds news did.count did.come c.args.all did.all))
+    (ends-met size faults end_count left names table opens olds news did.end.count did.come c.in-Err.fault cause
+    (missed-of size faults end_count left names table opens olds news did.end.count did.come c.args.all did.all))
 
 -- what is seen of the workers' queue is handed on
 pub returns-then-all-clause-left : goal.returns-then-all-clause-left
-returns-then-all-clause-left g c = rw (c.behind.ensures.left.0, c.behind.ensures.left.1, c.behind.ensures.left.2) c.requires.left
+returns-then-all-clause-left g c = rw (c.behind.ensures.left.0, c.behind.ensures.left.1, c.behind.ensures.left.2) c.requires.end.none_stranded
 
 pub returns-else-all-clause-left : goal.returns-else-all-clause-left
-returns-else-all-clause-left g c = rw (c.behind-else-all.ensures.left.0, c.behind-else-all.ensures.left.1, c.behind-else-all.ensures.left.2) c.requires.left
+returns-else-all-clause-left g c = rw (c.behind-else-all.ensures.left.0, c.behind-else-all.ensures.left.1, c.behind-else-all.ensures.left.2) c.requires.end.none_stranded
 
 pub returns-in-Err-clause-left : goal.returns-in-Err-clause-left
-returns-in-Err-clause-left g c = rw (c.behind-in-Err.ensures.left.0, c.behind-in-Err.ensures.left.1, c.behind-in-Err.ensures.left.2) c.requires.left
+returns-in-Err-clause-left g c = rw (c.behind-in-Err.ensures.left.0, c.behind-in-Err.ensures.left.1, c.behind-in-Err.ensures.left.2) c.requires.end.none_stranded
 
 pub returns-then-all-clause-seen : goal.returns-then-all-clause-seen
 returns-then-all-clause-seen g c none =
-    let err : c.args.end.result ≡ Err NoMemory = c.requires.none (sym c.behind.ensures.left.0 ∙ none-seen _ none) in
+    let err : c.args.end.result ≡ Err NoMemory = c.requires.end.none (sym c.behind.ensures.left.0 ∙ none-seen _ none) in
     absurd (cc (c.in-Ok.is, err))
 
 pub returns-else-all-clause-seen : goal.returns-else-all-clause-seen
 returns-else-all-clause-seen g c none =
-    let err : c.args.end.result ≡ Err NoMemory = c.requires.none (sym c.behind-else-all.ensures.left.0 ∙ none-seen _ none) in
+    let err : c.args.end.result ≡ Err NoMemory = c.requires.end.none (sym c.behind-else-all.ensures.left.0 ∙ none-seen _ none) in
     absurd (cc (c.in-Ok.is, err))
 
 pub returns-in-Err-clause-seen : goal.returns-in-Err-clause-seen
 returns-in-Err-clause-seen g c none =
-    let err : c.args.end.result ≡ Err NoMemory = c.requires.none (sym c.behind-in-Err.ensures.left.0 ∙ none-seen _ none) in
+    let err : c.args.end.result ≡ Err NoMemory = c.requires.end.none (sym c.behind-in-Err.ensures.left.0 ∙ none-seen _ none) in
     let is : c.in-Err.fault ≡ NoMemory = cc (c.in-Err.is, err) in
     c.behind-in-Err.ensures.fault ∙ c.of_work.ensures.fault ∙ ap (λ f. Some (fault_of_work c.args.job.now.longest f)) is
 
@@ -191,7 +191,7 @@ pub returns-then-all-clause-same : goal.returns-then-all-clause-same
 returns-then-all-clause-same g c =
     let M : Result Worked WorkFault → Type 0 =
     λ r. IfOk r (λ w. IsSomeAnd c.args.end.passes (λ passes. passes.value.items ≡ w.passes.value.items)) in
-    rw (c.behind.ensures.worked ∙ c.answered.ensures.worked, c.behind.ensures.left.1) (subst M c.in-Ok.is c.requires.same)
+    rw (c.behind.ensures.worked ∙ c.answered.ensures.worked, c.behind.ensures.left.1) (subst M c.in-Ok.is c.requires.end.same)
 
 pub returns-else-all-clause-same : goal.returns-else-all-clause-same
 returns-else-all-clause-same g c = rw (c.behind-else-all.ensures.worked ∙ c.at.ensures.worked) tt
@@ -203,7 +203,7 @@ returns-in-Err-clause-same g c = rw (c.behind-in-Err.ensures.worked ∙ c.of_wor
 pub returns-then-all-clause-there : goal.returns-then-all-clause-there
 returns-then-all-clause-there g c =
     rw (c.behind.ensures.worked ∙ c.answered.ensures.worked, c.behind.ensures.left.0)
-    (some-seen c.args.end.left (λ none. let err : c.args.end.result ≡ Err NoMemory = c.requires.none none in
+    (some-seen c.args.end.left (λ none. let err : c.args.end.result ≡ Err NoMemory = c.requires.end.none none in
     cc (c.in-Ok.is, err)))
 
 pub returns-else-all-clause-there : goal.returns-else-all-clause-there

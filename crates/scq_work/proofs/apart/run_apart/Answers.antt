@@ -7,9 +7,9 @@ use Rattle.scq_block.specs.Frames.{bytes_of}
 use Rattle.scq_passes.specs.Leaving.{HasLeftSwept}
 use Rattle.scq_passes.specs.Records.{IsReturn}
 use Rattle.scq_files.specs.OwnFiles.{ids_of}
-use Rattle.scq_work.specs.Desks.{HasRun}
+use Rattle.scq_worker.specs.Desks.{HasRun}
 use Rattle.scq_files.specs.declared.desk.Desk.{Desk}
-use Rattle.scq_work.specs.Seats.{Seated}
+use Rattle.scq_worker.specs.Seats.{Seated}
 use Rattle.scq_files.proofs.Lists.{written-back}
 use Rattle.scq_work.proofs.apart.run_apart.Goals as goal
 use Rattle.scq_work.proofs.apart.run_apart.Goals.{After-run_each}

@@ -6,14 +6,14 @@ use Rattle.scq_block.specs.declared.frame.Frame.{Frame}
 use Rattle.scq_passes.specs.Leaving.{HasLeftSwept}
 use Rattle.scq_passes.specs.Records.{IsReturn}
 use Rattle.scq_files.specs.declared.desk.Desk.{Desk}
-use Rattle.scq_work.specs.Seats.{Seated}
+use Rattle.scq_worker.specs.Seats.{Seated}
 use Rattle.scq_block.proofs.FramesSent.{frame_sent, frame_shared}
 use Rattle.scq_block.specs.contracts.frame.Frame as frame
 use Rattle.scq_block.specs.contracts.frame.FrameBuffer.TheImpl as buffer
 use Rattle.scq_queue.specs.contracts.queue.Queue as queue
 use Rattle.scq_queue.proofs.QueuesShared.{queue_sync}
-use Rattle.scq_work.specs.contracts.job.Job as job
-use Rattle.scq_work.proofs.job.Job.TheSendSync as jobs
+use Rattle.scq_worker.specs.contracts.job.Job as job
+use Rattle.scq_worker.proofs.job.Job.TheSendSync as jobs
 use Rattle.scq_work.proofs.apart.run_each.Lts.{arg-0-2}
 use Rattle.scq_work.proofs.apart.run_each.Goals as goal
 

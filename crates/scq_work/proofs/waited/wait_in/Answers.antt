@@ -7,13 +7,13 @@ use Rattle.scq_block.specs.declared.frame.Frame.{Frame}
 use Rattle.scq_queue.specs.Passes.{PassStanding, was_told}
 use Rattle.scq_work.specs.AllWorkers.{NothingIsStranded}
 use Rattle.scq_work.specs.Ends.{EndsWork}
-use Rattle.scq_work.specs.Resting.{AreSettled}
-use Rattle.scq_work.specs.Waiting.{HaveWaited}
+use Rattle.scq_rest.specs.Resting.{AreSettled}
+use Rattle.scq_rest.specs.Waiting.{HaveWaited}
 use Rattle.scq_files.specs.declared.desk.Desk.{Desk}
-use Rattle.scq_work.specs.Seats.{Seated}
+use Rattle.scq_worker.specs.Seats.{Seated}
 use Rattle.scq_files.proofs.DeskLemmas.{still-dealt}
 use Rattle.scq_desk.proofs.Settled.{some-and, some-of}
-use Rattle.scq_work.proofs.Settling.{have-waited}
+use Rattle.scq_rest.proofs.Settling.{have-waited}
 use Rattle.scq_work.proofs.waited.wait_in.Goals as goal
 
 pub wind_up-end-requires-clause-dealt : goal.wind_up-end-requires-clause-dealt

@@ -1,6 +1,7 @@
-use Rattle.std.proofs.Common.{sym, subst, arith}
+use Rattle.std.proofs.Common.{sym, ap, subst, arith}
 use Rattle.scq_park.specs.Crews.{AreAll}
 use Rattle.scq_park.proofs.Firsts.{firsts_all}
+use Rattle.scq_work.proofs.Starved.{ends-starved}
 use Rattle.scq_work.proofs.waited.work_waiting.Goals as goal
 
 pub make-requires-clause-some : goal.make-requires-clause-some
@@ -25,3 +26,16 @@ wait_in-requires-clause-work_room g c κs within =
       desks = room.desks;
       left = room.left;
     }
+
+-- no source was read where memory was wanted for a crew, its room or its queue
+pub returns-in_default-clause-end : goal.returns-in_default-clause-end
+returns-in_default-clause-end g c =
+    let said = c.starved.ensures in
+    ends-starved c.args.job.now g.S.Source.faults g.S.Source.ends g.S.Source.left c.args.sources.items c.starved.result.end
+    (ap (λ v. v.items) said.sources) said.fault said.left.0
+
+pub returns-in-Err-clause-end : goal.returns-in-Err-clause-end
+returns-in-Err-clause-end g c =
+    let said = c.starved-in-Err.ensures in
+    ends-starved c.args.job.now g.S.Source.faults g.S.Source.ends g.S.Source.left c.args.sources.items c.starved-in-Err.result.end
+    (ap (λ v. v.items) said.sources) said.fault said.left.0

@@ -11,7 +11,8 @@ use Rattle.scq_queue.specs.Passes.{PassStanding, lists_of}
 use Rattle.scq_passes.specs.AllPasses.{lengths_of}
 use Rattle.scq_passes.proofs.Counted.{counts-exact}
 use Rattle.scq_passes.proofs.Results.{err-then, ok-more, ok-on}
-use Rattle.scq_files.specs.Ends.{AreGiven, all_left}
+use Rattle.scq_files.specs.Desks.{AllEnded}
+use Rattle.scq_files.specs.Ends.{AreGiven, StopsAtFaults, all_left}
 use Rattle.scq_files.proofs.GivenLemmas.{given-told}
 use Rattle.scq_desk.specs.Rooms.{IsLaid}
 use Rattle.scq_work.specs.AllWorkers.{HaveAnswered, HasWorked}
@@ -82,7 +83,8 @@ returns-clause-end g c =
     let f = ran g (goal.at.returns-clause-end g c).After-conclude in
     let setup = c.requires.setup in
     let shared = all-shared queue.setup queue topics size longest faults end_count left sources desks f left_in said.closed in
-    let gathered = said.gathered longest (λ w d less e o inside. ((c.requires.run w d less).read e o inside).ends) in
+    let ended : AllEnded longest faults end_count left desks = λ w d less e o inside. ((c.requires.run w d less).read e o inside).ends in
+    let gathered = said.gathered longest ended in
     let Of : Worked → Type 0 = λ w. (given : List (List Message)) × AreGiven topics longest left 1 sources given
     × HasWorked topics size c.args.job.now.workers given w in
     let worked : IfOk result Of = ok-more result _ Of ok (λ w is.
@@ -105,6 +107,8 @@ returns-clause-end g c =
     record {
       count = gathered.count;
       moved = gathered.moved;
+      stops = subst (λ n. StopsAtFaults n longest faults end_count left sources wound.sources.items) c.requires.count
+          (said.stops longest ended (λ w d less. (c.requires.run w d less).stops));
       whole = ok-on result _ _ ok (λ w why. gathered.sound why.2);
       answers = ok-more result Of _ worked
           (λ w has. members-told topics size longest left sources has.0 (members_in w.answered.items) has.1 has.2.answered.once);

@@ -1,6 +1,7 @@
--- The sources are those that were laid out.
+-- How the work of workers that leave early ends.
 use Rattle.std.proofs.Common.{◌≡◌, ◌+◌, ℕ, sym, ap, subst, List, length, map}
-use Rattle.std.specs.Prelude.{IfSome, IsSomeAnd}
+use Rattle.std.specs.Prelude.{IfSome, IsSomeAnd, Vec}
+use Rattle.std.specs.Global.{Global}
 use Rattle.std.specs.List.{All}
 use Rattle.scq_block.specs.Frames.{bytes_of}
 use Rattle.scq_block.specs.declared.frame.Frame.{Frame}
@@ -9,17 +10,33 @@ use Rattle.scq_passes.specs.Leaving.{HasLeftSwept}
 use Rattle.scq_passes.specs.Records.{IsReturn}
 use Rattle.scq_passes.specs.Together.{NoneSpent}
 use Rattle.scq_work.specs.AllWorkers.{NothingIsStranded}
+use Rattle.scq_work.specs.Ends.{EndsWork}
 use Rattle.scq_files.specs.declared.desk.Desk.{Desk}
-use Rattle.scq_work.specs.Seats.{Seated}
+use Rattle.scq_worker.specs.Seats.{Seated}
 use Rattle.scq_desk.proofs.Settled.{all-behind, some-and, some-of}
-use Rattle.scq_work.specs.declared.worker.Worker.{Worker}
+use Rattle.scq_worker.specs.declared.worker.Worker.{Worker}
+use Rattle.scq_work.proofs.Starved.{ends-starved}
 use Rattle.scq_work.proofs.working.work.Goals as goal
 
-pub returns-in-Ok-make_queue-clause-moved : goal.returns-in-Ok-make_queue-clause-moved
-returns-in-Ok-make_queue-clause-moved g c = rw (sym (ap (λ v. v.items) c.lay_out-laid.ensures.was)) c.wind_up-end.ensures.end.moved
+-- no source was read where memory was wanted for a queue
+pub returns-in_default-clause-end : goal.returns-in_default-clause-end
+returns-in_default-clause-end g c =
+    let said = c.starved.ensures in
+    ends-starved c.args.job.now g.S.Source.faults g.S.Source.ends g.S.Source.left c.args.sources.items c.starved.result (ap (λ v. v.items) said.sources)
+    said.fault said.left.0
 
-pub returns-in-Ok-make_queue-clause-whole : goal.returns-in-Ok-make_queue-clause-whole
-returns-in-Ok-make_queue-clause-whole g c = rw (sym (ap (λ v. v.items) c.lay_out-laid.ensures.was)) c.wind_up-end.ensures.end.whole
+pub returns-in-Err-clause-end : goal.returns-in-Err-clause-end
+returns-in-Err-clause-end g c =
+    let said = c.starved-in-Err.ensures in
+    ends-starved c.args.job.now g.S.Source.faults g.S.Source.ends g.S.Source.left c.args.sources.items c.starved-in-Err.result
+    (ap (λ v. v.items) said.sources) said.fault said.left.0
+
+-- the sources are those that were laid out
+pub returns-in-Ok-make_queue-clause-end : goal.returns-in-Ok-make_queue-clause-end
+returns-in-Ok-make_queue-clause-end g c =
+    let S = g.row.S.Denot in
+    subst (λ (v : Vec S Global). EndsWork c.args.job.now g.S.Source.faults g.S.Source.ends g.S.Source.left v.items c.wind_up-end.result.0)
+    c.lay_out-laid.ensures.was c.wind_up-end.ensures.end
 
 -- the passes were there when the queue was closed
 pub returns-in-Ok-make_queue-clause-behind : goal.returns-in-Ok-make_queue-clause-behind

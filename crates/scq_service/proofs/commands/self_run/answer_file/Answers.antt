@@ -15,4 +15,4 @@ returns-in-Ok-clause-left g c =
     let topics : length job.topics ≡ length self_topics = ap length (its.topics ∙ c.self_topics.ensures) in
     subst (λ n. Left 6 (length self_topics + 1) n) its.workers
     (subst (λ n. Left 6 (n + 1) job.workers) topics
-    (subst (λ n. Left n (length job.topics + 1) job.workers) its.order c.work-result.ensures.left))
+    (subst (λ n. Left n (length job.topics + 1) job.workers) its.order c.work-result.ensures.end.none_stranded))

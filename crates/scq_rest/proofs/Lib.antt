@@ -1,0 +1,4 @@
+mod Waited
+mod PlaceLemmas
+mod WorkSent
+pub mod Settling

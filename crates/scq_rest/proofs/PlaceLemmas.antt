@@ -1,0 +1,49 @@
+-- How the ends of workers are known by what each was given; and lists in which one element after the other is replaced.
+use Rattle.std.proofs.Common.{◌≡◌, ◌≢◌, ◌∙◌, sym, subst, arith, ℕ, ◌+◌, ◌<◌, List, [], ◌∷◌, ◌++◌, Option, length, map, reverse, set, get_or, length-set, get_or-set_other, append_assoc}
+use Rattle.std.specs.List.{AllWithin, AllZip}
+use Rattle.std.proofs.lemmas.List.Elements.{AllWithin-more_set}
+use Rattle.std.proofs.Math.Seq.{map-set_same}
+use Rattle.atomic_table.specs.Seated.{TableId}
+use Rattle.scq_block.specs.declared.frame.Frame.{Frame}
+use Rattle.scq_band.specs.Standing.{Identity}
+use Rattle.scq_rest.specs.Threads.{Task, task, HandsBack}
+use Rattle.scq_rest.specs.Places.{Begins}
+use Rattle.scq_worker.specs.declared.job.Job.{Job}
+use Rattle.scq_rest.specs.declared.threads.HandedBack.{HandedBack}
+use Rattle.scq_rest.specs.declared.threads.WorksOn.{WorksOn}
+use Rattle.scq_passes.proofs.Parting.{turned}
+
+-- a started worker's end, as its place tells it
+pub ends-here : {S : Type 0} (q : Identity Frame) (j : Job) (crew : List TableId) (faults end_count : S → ℕ) (left : S → Option (List ℕ)) (w : WorksOn S)
+    (end : HandedBack S) → Begins q j crew faults end_count left w
+    → HandsBack (task w.queue.value w.job.value w.crew.value faults end_count left) w.work.value end
+    → HandsBack (task q j crew faults end_count left) w.work.value end
+ends-here q j crew faults end_count left w end was so =
+    let same : task w.queue.value w.job.value w.crew.value faults end_count left ≡ task q j crew faults end_count left =
+    λ i. task (was.queue i) (was.job i) (was.of i) faults end_count left in
+    subst (λ (t : Task _). HandsBack t w.work.value end) same so
+
+-- lists in which one element after the other is replaced by one that f can't tell from what it was
+pub record Replaced {X Y : Type 0} (P Q : X → Type 0) (f : X → Y) (all : List Y) (xs : List X) (i : ℕ) : Type 0 where
+  pub same : map f xs ≡ all
+  pub done : AllWithin Q xs 0 i
+  pub rest : AllWithin P xs i (length xs)
+
+pub replaced-next : {X Y : Type 0} (P Q : X → Type 0) (f : X → Y) (all : List Y) (xs : List X) (i : ℕ) (y d : X)
+    → Replaced P Q f all xs i → i < length xs → f y ≡ f (get_or xs i d) → Q y → Replaced P Q f all (set xs i y) (i + 1)
+replaced-next P Q f all xs i y d was less same holds =
+    record {
+      same = map-set_same f xs i y d same ∙ was.same;
+      done = AllWithin-more_set xs i y less Q was.done holds;
+      rest = λ k e low high.
+          let apart : k ≢ i = λ is. omega (arith, is) in
+          subst P (sym (get_or-set_other xs i k y e apart)) (was.rest k e (omega arith) (omega (arith, length-set xs i y)));
+    }
+
+-- what is known of the ends behind one more of them
+pub zipped-next : {X Y Z : Type 0} (R : X → Y → Type 0) (f : Z → X) (all : List X) (old rest : List Z) (z : Z) (ys : List Y) (y : Y)
+    → ((more : List Y) → AllZip R (map f (reverse old)) more → AllZip R all (ys ++ more)) → old ≡ rest ++ z ∷ [] → R (f z) y
+    → (more : List Y) → AllZip R (map f (reverse rest)) more → AllZip R all ((ys ++ y ∷ []) ++ more)
+zipped-next R f all old rest z ys y was is holds more so =
+    subst (AllZip R all) (sym (append_assoc ys (y ∷ []) more))
+    (was (y ∷ more) (subst (λ l. AllZip R (map f l) (y ∷ more)) (sym (turned old rest z is)) (holds, so)))

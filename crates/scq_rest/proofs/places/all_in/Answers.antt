@@ -1,0 +1,34 @@
+use Rattle.std.proofs.Common.{◌≡◌, ◌∙◌, ap, subst, List, ◌++◌, length, map, take, drop}
+use Rattle.std.specs.List.{AllZip}
+use Rattle.scq_rest.specs.Threads.{task, HasDone}
+use Rattle.scq_rest.specs.Places.{given_to}
+use Rattle.scq_rest.specs.declared.places.Runner.{Runner}
+use Rattle.scq_rest.specs.declared.threads.Work.{Work}
+use Rattle.scq_files.proofs.Lists.{written-back}
+use Rattle.scq_rest.proofs.places.all_in.Goals as goal
+
+pub finish-requires-clause-begun : goal.finish-requires-clause-begun
+finish-requires-clause-begun g c κs within = c.produce.ensures.begun
+
+pub returns-clause-first : goal.returns-clause-first
+returns-clause-first g c = c.finish.ensures c.args.first c.produce.ensures
+
+pub returns-clause-others : goal.returns-clause-others
+returns-clause-others g c =
+    let S = g.row.S.Denot in
+    let R : Work S → Work S → Type 0 =
+    HasDone (task c.args.queue.now c.args.job.now c.args.crew.now g.S.Source.faults g.S.Source.ends g.S.Source.left) in
+    let first : List (Runner S) = c.begin_all.new.places.items in
+    let second : List (Runner S) = c.produce_all.new.places in
+    let third : List (Runner S) = c.finish_all.new.places in
+    let n = c.begin_all.new.places.len in
+    let is = c.as_mut_slice.ensures.value in
+    let long : length second ≡ n = c.produce_all.auto.places ∙ c.as_mut_slice.ensures.len in
+    let whole : take n (second ++ drop (length second) first) ≡ second = written-back n second first long in
+    let same : c.as_mut_slice-2.result.now ≡ second = c.as_mut_slice-2.ensures.value ∙ whole in
+    let longer : length third ≡ n = c.finish_all.auto.places ∙ c.as_mut_slice-2.ensures.len in
+    let all : take n (third ++ drop (length third) (take n (second ++ drop (length second) first))) ≡ third =
+    written-back n third (take n (second ++ drop (length second) first)) longer in
+    let given : map given_to third ≡ c.args.given.items =
+    c.finish_all.ensures.given ∙ ap (map given_to) same ∙ c.produce_all.ensures.given ∙ ap (map given_to) is ∙ c.begin_all.ensures.given in
+    subst (λ l. AllZip R l c.end_all.new.ends.items) (ap (map given_to) all ∙ given) c.end_all.ensures

@@ -1,0 +1,19 @@
+use Rattle.std.proofs.Common.{◌≡◌, ◌+◌, ◌≤◌, ◌++◌, length, map}
+use Rattle.std.specs.Prelude.{vec_len, vec_capacity, reverse}
+use Rattle.std.specs.List.{All}
+use Rattle.scq_rest.specs.Threads.{task, IsGiven}
+use Rattle.scq_rest.specs.Places.{given_to, HasWork, IsUntouched}
+use Rattle.scq_rest.proofs.places.begin_all.Given as goal
+
+-- what was given so far stands at the places, in order, and the rest is left
+abbrev pub invariant-starts : goal.invariant-starts
+invariant-starts g l = record {
+  given : map given_to l.places.items ++ reverse l.given.items ≡ l.fn.given.items;
+  rest : All (IsGiven (task l.queue l.job l.crew g.S.Source.faults g.S.Source.ends g.S.Source.left)) (reverse l.given.items);
+  flags : vec_len l.given ≤ length l.flags;
+  room : vec_len l.places + vec_len l.given ≤ vec_capacity l.places;
+  stands : All (HasWork IsUntouched l.queue l.job l.crew g.S.Source.faults g.S.Source.ends g.S.Source.left) l.places.items;
+}
+
+abbrev pub decreases-starts : goal.decreases-starts
+decreases-starts g l = vec_len l.given

@@ -1,0 +1,24 @@
+use Rattle.std.proofs.Common.{◌≡◌, ◌+◌, ℕ}
+use Rattle.scq_passes.specs.Leaving.{AreSweeps}
+use Rattle.scq_passes.specs.Waiting.{SweepsInVain}
+use Rattle.scq_passes.specs.Calls.{HasTakenFollowed}
+use Rattle.scq_rest.specs.Sweeping.{idle_sweeps}
+use Rattle.scq_rest.proofs.sweeping.sweep_and_rest.Given as goal
+
+-- each sweep so far got something or was followed by one rest
+abbrev pub invariant-sweeps : goal.invariant-sweeps
+invariant-sweeps g l =
+    let p = g.T.Taker.pass l.fn.taker in
+    let q = g.T.Taker.pass l.taker in
+    record {
+      next : (goal.iterator-sweeps g).can_next l.iterator';
+      finite : (goal.iterator-sweeps g).is_finite l.iterator';
+      taken : HasTakenFollowed g.T.Taker.follows p q;
+      made : g.T.Taker.made l.with l.fn.taker l.taker;
+      vain : SweepsInVain l.topics 0 l.fn.stand.rests p → SweepsInVain l.topics 0 l.stand.rests q;
+      sweeps : (idle : ℕ)
+          × (all : AreSweeps g.B.Buffer.contents (g.T.Taker.queue l.with) g.T.Taker.follows l.topics (λ n. Unit {0}) idle p q)
+          × (l.stand.rests ≡ l.fn.stand.rests + idle_sweeps all);
+      crew : l.stand.crew ≡ l.fn.stand.crew;
+      worker : l.stand.worker ≡ l.fn.stand.worker;
+    }

@@ -1,0 +1,20 @@
+use Rattle.std.proofs.Common.{◌∙◌, ap}
+use Rattle.scq_park.specs.Crews.{Post}
+use Rattle.scq_files.specs.OwnFiles.{ids_of}
+use Rattle.scq_rest.proofs.threads.Work.finish.Goals as goal
+
+pub finish-requires-clause-produced : goal.finish-requires-clause-produced
+finish-requires-clause-produced g c κs within = c.requires.begun.produced
+
+pub finish-requires-clause-stand : goal.finish-requires-clause-stand
+finish-requires-clause-stand g c κs within = (c.requires.begun.stand, c.requires.begun.unrested)
+
+pub returns : goal.returns
+returns g c given one = record {
+  run = c.finish.ensures.run;
+  waited = c.finish.ensures.waited;
+  files = ap ids_of c.finish.ensures.same ∙ one.files;
+  number = c.finish.ensures.number ∙ one.number;
+  crew = c.finish.ensures.stand.0 ∙ ap (λ (p : Post). p.crew) one.stand;
+  worker = c.finish.ensures.stand.1 ∙ ap (λ (p : Post). p.worker) one.stand;
+}

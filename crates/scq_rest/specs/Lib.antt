@@ -1,0 +1,5 @@
+pub mod Sweeping
+pub mod Waiting
+pub mod Threads
+pub mod Places
+pub mod Resting

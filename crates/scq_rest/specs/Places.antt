@@ -1,0 +1,40 @@
+-- What becomes of the workers that are to be started.
+use Rattle.std.specs.Prelude.{◌≡◌, ℕ, List, Option}
+use Rattle.atomic_table.specs.Seated.{TableId}
+use Rattle.scq_block.specs.declared.frame.Frame.{Frame}
+use Rattle.scq_band.specs.Standing.{Identity}
+use Rattle.scq_rest.specs.Threads.{task, IsGiven, HasDone}
+use Rattle.scq_worker.specs.declared.job.Job.{Job}
+use Rattle.scq_rest.specs.declared.places.Runner.{Runner}
+use Rattle.scq_rest.specs.declared.places.Runner.TheVariants.{Started, Here, Done}
+use Rattle.scq_rest.specs.declared.threads.Work.{Work}
+use Rattle.scq_rest.specs.declared.threads.WorksOn.{WorksOn}
+
+module _ {S : Type 0} where
+  -- what the worker of a place was given
+  abbrev pub given_to : Runner S → Work S
+  given_to (Started h) = h.promise.work.value
+  given_to (Here was work) = was.work.value
+  given_to (Done was work) = was.work.value
+
+  -- a worker of this queue, job and crew was given what one begins with
+  pub record Begins (q : Identity Frame) (j : Job) (crew : List TableId) (faults end_count : S
+      → ℕ) (left : S → Option (List ℕ)) (w : WorksOn S) : Type 0 where
+    pub queue : w.queue.value ≡ q
+    pub job : w.job.value ≡ j
+    pub of : w.crew.value ≡ crew
+    pub given : IsGiven (task q j crew faults end_count left) w.work.value
+
+  -- so stands the worker of a place: where it has a thread of its own, that will tell; where the
+  -- caller runs it, R holds of what it was given and what it has
+  abbrev pub HasWork : (Work S → Work S → Type 0) → Identity Frame → Job → List TableId → (S → ℕ)
+      → (S → ℕ) → (S → Option (List ℕ)) → Runner S → Type 0
+  HasWork R q j crew faults end_count left (Started h) =
+      Begins q j crew faults end_count left h.promise
+  HasWork R q j crew faults end_count left (Here was work) =
+      Begins q j crew faults end_count left was × R was.work.value work
+  HasWork R q j crew faults end_count left (Done was work) =
+      HasDone (task q j crew faults end_count left) was.work.value work
+
+  abbrev pub IsUntouched : Work S → Work S → Type 0
+  IsUntouched given work = work ≡ given

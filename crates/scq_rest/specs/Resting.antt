@@ -1,0 +1,22 @@
+-- Workers that may rest, before and after their work: the room for their threads, and their stands.
+use Rattle.std.specs.Prelude.{◌≡◌, ℕ, ◌≤◌, List, [], length, vec_capacity}
+use Rattle.atomic_table.specs.Seated.{TableId}
+use Rattle.scq_park.specs.Crews.{Post, AreAll}
+use Rattle.scq_block.specs.declared.frame.Frame.{Frame}
+use Rattle.scq_queue.specs.Passes.{PassStanding}
+use Rattle.scq_rest.specs.Waiting.{EachWaited}
+use Rattle.scq_rest.specs.declared.resting.RestingRoom.{RestingRoom}
+
+-- empty lists with room for so many workers
+pub record HasRoom {S : Type 0} (workers : ℕ) (b : RestingRoom S) : Type 0 where
+  pub flags : length b.flags.items ≡ workers
+  pub none : (b.given.items ≡ []) × (b.places.items ≡ []) × (b.ends.items ≡ [])
+  pub all : (workers ≤ vec_capacity b.given) × (workers ≤ vec_capacity b.places)
+      × (workers ≤ vec_capacity b.ends)
+
+-- the stands are all of the crew, in order, and each worker has waited as it should
+pub record AreSettled (crew : List TableId) (topics : ℕ) (stands : List Post)
+    (passes : List (PassStanding Frame)) : Type 0 where
+  pub all : AreAll crew stands
+  pub many : length stands ≡ length passes
+  pub waited : EachWaited topics stands passes

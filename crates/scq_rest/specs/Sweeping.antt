@@ -1,0 +1,35 @@
+-- How a worker that may rest sweeps, and when it leaves. `topics` is the number of topic rings.
+use Rattle.std.specs.Prelude.{◌≡◌, ℕ, ◌+◌, List}
+use Rattle.scq_band.specs.Standing.{Identity}
+use Rattle.scq_queue.specs.Passes.{PassStanding}
+use Rattle.scq_passes.specs.Calls.{after_retire}
+use Rattle.scq_passes.specs.Leaving.{AreSweeps, IsSweep, no_sweep, and_some, and_idle}
+use Rattle.scq_passes.specs.Records.{Puts}
+
+module _ {B : Type 0} {contents : B → List ℕ} {queue : Identity B} {By : Puts} {topics : ℕ}
+    {Goes : ℕ → Type 0} where
+  -- how many of these sweeps took nothing
+  abbrev pub idle_sweeps : {idle : ℕ} {old new : PassStanding B}
+      → AreSweeps contents queue By topics Goes idle old new → ℕ
+  idle_sweeps (no_sweep p) = 0
+  idle_sweeps (and_some found before sweep left more) = idle_sweeps before
+  idle_sweeps (and_idle found before sweep left none goes) = idle_sweeps before + 1
+
+module _ {B : Type 0} where
+  -- it swept, rested once behind each sweep that took nothing and behind no other, so often, and
+  -- left after the first sweep before which all had retired. There is no other way to leave
+  pub record HasSweptTold (contents : B → List ℕ) (queue : Identity B) (By : Puts)
+      (topics rests : ℕ) (old new : PassStanding B) : Type 0 where
+    pub idle : ℕ
+    pub begun : PassStanding B
+    pub before : AreSweeps contents queue By topics (λ n. Unit {0}) idle old begun
+    pub rested : rests ≡ idle_sweeps before
+    pub sweep : IsSweep contents queue By topics 0 begun new
+
+  -- the pass of a worker that has left so: it had asked nothing before it retired, and from there
+  -- on it swept
+  pub record HasLeftTold (contents : B → List ℕ) (By : Puts) (topics rests : ℕ) (p : PassStanding B)
+      : Type 0 where
+    pub before : PassStanding B
+    pub unasked : before.gates ≡ 0
+    pub swept : HasSweptTold contents p.queue By topics rests (after_retire before) p

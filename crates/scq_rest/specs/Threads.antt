@@ -1,0 +1,96 @@
+-- What the worker of a thread is given, what it makes of that, and how its thread ends.
+use Rattle.std.specs.Prelude.{◌≡◌, ℕ, ◌+◌, ◌<◌, ◌≤◌, List, Option, length, All}
+use Rattle.atomic_table.specs.Seated.{TableId}
+use Rattle.scq_block.specs.Frames.{bytes_of}
+use Rattle.scq_block.specs.declared.frame.Frame.{Frame}
+use Rattle.scq_topics.specs.declared.kind.Kind.{Kind}
+use Rattle.scq_band.specs.Standing.{Identity}
+use Rattle.scq_park.specs.Crews.{first_post}
+use Rattle.scq_worker.specs.Seats.{IsFresh}
+use Rattle.scq_files.specs.OwnFiles.{IsNew, ids_of}
+use Rattle.scq_worker.specs.Desks.{HasProduced, HasRun}
+use Rattle.scq_rest.specs.Waiting.{HasWaited}
+use Rattle.scq_worker.specs.Bells.{but_wakes}
+use Rattle.scq_worker.specs.declared.job.Job.{Job}
+use Rattle.scq_rest.specs.declared.threads.Work.{Work}
+use Rattle.scq_rest.specs.declared.threads.HandedBack.{HandedBack}
+use Rattle.scq_rest.specs.declared.threads.HandedBack.TheVariants.{Worked, Unbegun}
+
+-- what all workers share: their queue, what they are to do, their crew, and what sources tell
+pub record Task (S : Type 0) : Type 0 where
+  pub queue : Identity Frame
+  pub topics : List (List ℕ × Kind)
+  pub size : ℕ
+  pub longest : ℕ
+  pub workers : ℕ
+  pub crew : List TableId
+  pub faults : S → ℕ
+  pub end_count : S → ℕ
+  pub left : S → Option (List ℕ)
+
+module _ {S : Type 0} where
+  abbrev pub task : Identity Frame → Job → List TableId → (S → ℕ) → (S → ℕ) → (S → Option (List ℕ))
+      → Task S
+  task q j crew faults end_count left =
+      record {
+        queue = q;
+        topics = j.topics;
+        size = j.size;
+        longest = j.longest;
+        workers = j.workers;
+        crew = crew;
+        faults = faults;
+        end_count = end_count;
+        left = left;
+      }
+
+  -- they can begin: the queue has a ring for each topic and frames with room for a part, and the
+  -- crew is one of so many
+  pub record IsReady (t : Task S) : Type 0 where
+    pub rings : t.queue.setup.rings ≡ length t.topics + 2
+    pub room : All (λ b. t.size + 24 ≤ length b.bytes.items) t.queue.given
+    pub crew : length t.crew ≡ t.workers
+    pub some : 0 < t.workers
+
+  -- what a worker is given: a new pass, files that nobody read, and a new stand of the crew
+  pub record IsGiven (t : Task S) (w : Work S) : Type 0 where
+    pub fresh : IsFresh t.queue w.desk.worker
+    pub unread : All IsNew w.desk.files.items
+    pub stand : w.stand ≡ first_post t.crew w.stand.worker
+
+  -- so a worker can begin
+  pub record CanBegin (t : Task S) (w : Work S) : Type 0 where
+    pub ready : IsReady t
+    pub given : IsGiven t w
+
+  -- one that has read its files and retired
+  pub record IsBegun (t : Task S) (w : Work S) : Type 0 where
+    pub produced : HasProduced t.queue t.topics t.size t.longest t.faults t.end_count t.left
+        w.desk.files.items w.desk.worker.worker.pass
+        w.desk.worker.worker.members.items w.desk.worker.worker.starved w.desk.worker.kept
+    pub stand : w.stand.crew ≡ t.crew
+    pub unrested : w.stand.rests ≡ 0
+
+  -- so far it made this of what it was given. Its stand is as it was, but for whom it woke
+  pub record HasBegun (t : Task S) (old new : Work S) : Type 0 where
+    pub begun : IsBegun t new
+    pub files : ids_of new.desk.files.items ≡ ids_of old.desk.files.items
+    pub number : new.desk.worker.worker.pass.number ≡ old.desk.worker.worker.pass.number
+    pub stand : but_wakes new.stand ≡ but_wakes old.stand
+
+  -- its whole work is done
+  pub record HasDone (t : Task S) (old new : Work S) : Type 0 where
+    pub run : HasRun t.queue t.topics t.size t.longest t.faults t.end_count t.left
+        new.desk.files.items new.desk.worker.worker.pass
+        new.desk.worker.worker.members.items new.desk.worker.worker.starved new.desk.worker.kept
+    pub waited : HasWaited bytes_of (length t.topics
+        + 1) new.stand.rests new.desk.worker.worker.pass
+    pub files : ids_of new.desk.files.items ≡ ids_of old.desk.files.items
+    pub number : new.desk.worker.worker.pass.number ≡ old.desk.worker.worker.pass.number
+    pub crew : new.stand.crew ≡ old.stand.crew
+    pub worker : new.stand.worker ≡ old.stand.worker
+
+  -- how the thread of a worker ends: it did all, or nothing
+  abbrev pub HandsBack : Task S → Work S → HandedBack S → Type 0
+  HandsBack t given (Worked w) = HasDone t given w
+  HandsBack t given (Unbegun w) = w ≡ given

@@ -1,0 +1,46 @@
+-- Workers that have waited in place of leaving early: how often each rested and took in vain.
+-- `topics` is the number of topic rings.
+use Rattle.std.specs.Prelude.{◌≡◌, ◌⊎◌, ℕ, ◌-◌, ◌^◌, ◌≤◌, Bool, true, List, length, map, All}
+use Rattle.std.specs.Prelude.{Some, None, slice_get}
+use Rattle.scq_park.specs.declared.rested.Rested.{Rested}
+use Rattle.scq_park.specs.Crews.{Post, counted}
+use Rattle.scq_queue.specs.Passes.{PassStanding, was_told}
+use Rattle.scq_block.specs.Frames.{bytes_of}
+use Rattle.scq_block.specs.declared.frame.Frame.{Frame}
+use Rattle.scq_passes.specs.Records.{IsReturn}
+use Rattle.scq_passes.specs.Waiting.{SweepsInVain}
+use Rattle.scq_rest.specs.Sweeping.{HasLeftTold}
+
+-- a worker that waited has done its work, unless it met a ticket past the limit: it was told that
+-- all had retired, took in vain no more often than one does that rests after each sweep that took
+-- nothing, rested once behind each such sweep, and left after the first before which all had
+-- retired
+pub record HasWaited {B : Type 0} (contents : B
+    → List ℕ) (topics rests : ℕ) (p : PassStanding B) : Type 0 where
+  pub told : p.spent ≡ None → p.gate ≡ Some 0
+  pub vain : p.spent ≡ None → SweepsInVain topics 1 rests p
+  pub left : p.spent ≡ None → HasLeftTold contents IsReturn topics rests p
+
+-- so has each worker, by its stand and its pass
+abbrev pub EachWaited : ℕ → List Post → List (PassStanding Frame) → Type 0
+EachWaited topics stands passes =
+    (w : ℕ) (s : Post) (p : PassStanding Frame) → slice_get stands w ≡ Some s
+    → slice_get passes w ≡ Some p → HasWaited bytes_of topics s.rests p
+
+-- all workers: each saw that all had retired, as its pass read the gate, rested no more often than
+-- it was woken, took in vain no more often than one does that rests after each sweep that took
+-- nothing, rested once behind each such sweep, and left after the first before which all had
+-- retired. A count of rests stands still at the last value of 64 bits
+pub record HaveWaited (topics workers : ℕ) (passes : List (PassStanding Frame)) (saw : List Bool)
+    (rested : List Rested) : Type 0 where
+  pub each_saw : length saw ≡ workers
+  pub each_rested : length rested ≡ workers
+  pub told : saw ≡ map (λ (p : PassStanding Frame). was_told p.gate) passes
+  pub closed : All (λ (s : Bool). s ≡ true) saw
+  pub woken : All (λ (r : Rested). r.rests ≤ r.wakes) rested
+  pub vain : (w : ℕ) (p : PassStanding Frame) (r : Rested) → slice_get passes w ≡ Some p
+      → slice_get rested w ≡ Some r
+      → (r.rests ≡ 2 ^ 64 - 1) ⊎ SweepsInVain topics 1 r.rests p
+  pub left : (w : ℕ) (p : PassStanding Frame) (r : Rested) → slice_get passes w ≡ Some p
+      → slice_get rested w ≡ Some r
+      → (rests : ℕ) × (r.rests ≡ counted rests) × HasLeftTold bytes_of IsReturn topics rests p

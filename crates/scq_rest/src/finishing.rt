@@ -1,0 +1,82 @@
+//! What a worker that may rest does once it has retired.
+ghost use Rattle.std.specs.Prelude.{◌≡◌, ◌+◌, length};
+ghost use Rattle.scq_block.specs.Frames.{bytes_of};
+ghost use Rattle.scq_worker.specs.Desks.{HasProduced, HasRun, IsToSweep};
+ghost use Rattle.scq_rest.specs.Waiting.{HasWaited};
+
+use crate::sweeping::sweep_and_rest;
+use scq_block::Frame;
+use scq_outside::Source;
+use scq_park::{Crew, Stand};
+use scq_queue::Queue;
+use scq_worker::{Gate, Job, Point, Takes, WorkDesk};
+use std::alloc::Global;
+use std::sync::Wait;
+
+/// Once it has retired: it sweeps, and rests after each sweep that took nothing, until all have
+/// retired. Where no wake comes it never returns.
+pub fn finish<S: Source, G: Gate, R: Wait>(
+    desk: &mut WorkDesk<S>,
+    rt: &R,
+    alloc: Global,
+    job: &Job,
+    queue: &Queue<Frame>,
+    gate: &G,
+    crew: &Crew,
+    stand: &mut Stand,
+)
+    requires produced { HasProduced queue.now job.now.topics job.now.size job.now.longest S.faults
+        S.ends S.left desk.old.files.items desk.old.worker.worker.pass
+        desk.old.worker.worker.members.items desk.old.worker.worker.starved desk.old.worker.kept }
+    requires stand { (stand.old.crew ≡ crew.now) × (stand.old.rests ≡ 0) }
+    ensures same { desk.new.files.items ≡ desk.old.files.items }
+    ensures run { HasRun queue.now job.now.topics job.now.size job.now.longest S.faults S.ends
+        S.left desk.new.files.items desk.new.worker.worker.pass
+        desk.new.worker.worker.members.items desk.new.worker.worker.starved desk.new.worker.kept }
+    ensures waited { HasWaited bytes_of (length job.now.topics
+        + 1) stand.new.rests desk.new.worker.worker.pass }
+    ensures number { desk.new.worker.worker.pass.number ≡ desk.old.worker.worker.pass.number }
+    ensures stand { (stand.new.crew ≡ stand.old.crew) × (stand.new.worker ≡ stand.old.worker) }
+{
+    match desk.worker.worker.pass.spent() {
+        Some(_) => {}
+        None => rest_out(desk, rt, alloc, job, queue, gate, crew, stand),
+    }
+}
+
+/// It sweeps and rests until all have retired.
+fn rest_out<S: Source, G: Gate, R: Wait>(
+    desk: &mut WorkDesk<S>,
+    rt: &R,
+    alloc: Global,
+    job: &Job,
+    queue: &Queue<Frame>,
+    gate: &G,
+    crew: &Crew,
+    stand: &mut Stand,
+)
+    requires sweep { IsToSweep queue.now job.now.topics job.now.size job.now.longest S.faults S.ends
+        S.left desk.old.files.items desk.old.worker.worker.pass
+        desk.old.worker.worker.members.items desk.old.worker.worker.starved desk.old.worker.kept }
+    requires stand { (stand.old.crew ≡ crew.now) × (stand.old.rests ≡ 0) }
+    ensures same { desk.new.files.items ≡ desk.old.files.items }
+    ensures run { HasRun queue.now job.now.topics job.now.size job.now.longest S.faults S.ends
+        S.left desk.new.files.items desk.new.worker.worker.pass
+        desk.new.worker.worker.members.items desk.new.worker.worker.starved desk.new.worker.kept }
+    ensures waited { HasWaited bytes_of (length job.now.topics
+        + 1) stand.new.rests desk.new.worker.worker.pass }
+    ensures number { desk.new.worker.worker.pass.number ≡ desk.old.worker.worker.pass.number }
+    ensures stand { (stand.new.crew ≡ stand.old.crew) × (stand.new.worker ≡ stand.old.worker) }
+{
+    let with = Takes {
+        alloc,
+        job,
+        queue,
+        gate,
+    };
+    let worker = &mut desk.worker.worker;
+    match sweep_and_rest(worker, &with, job.topics.len() + 1, rt, crew, stand) {
+        Ok(()) => gate.at(desk.worker.worker.number, Point::BeforeLeave),
+        Err(at_limit) => desk.worker.keep(at_limit),
+    }
+}

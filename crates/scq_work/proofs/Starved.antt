@@ -1,0 +1,35 @@
+-- The end of work for which there was no memory: no source was read.
+use Rattle.std.proofs.Common.{◌≡◌, refl, sym, ap, subst, inl, ℕ, List, [], length, Option, Some, None, Err}
+use Rattle.std.specs.Prelude.{slice_index_or}
+use Rattle.std.specs.Option.{option_map}
+use Rattle.scq_files.specs.Ends.{HasMoved}
+use Rattle.scq_files.proofs.ReadLemmas.{stops-unread}
+use Rattle.scq_work.specs.Ends.{EndsWork}
+use Rattle.scq_work.specs.declared.worked.WorkEnd.{WorkEnd}
+use Rattle.scq_work.specs.declared.worked.WorkFault.TheVariants.{NoMemory}
+use Rattle.scq_worker.specs.declared.job.Job.{Job}
+
+-- a source that nobody read is as it was
+unmoved : {S : Type 0} (faults : S → ℕ) (left : S → Option (List ℕ)) (source : S) → HasMoved faults left source source
+unmoved faults left source = record { bytes = []; moved = at (left source); counted = inl refl } where
+  at : (o : Option (List ℕ)) → o ≡ option_map (λ (rest : List ℕ). rest) o
+  at None = refl
+  at (Some rest) = refl
+
+pub ends-starved : {S : Type 0} (j : Job) (faults end_count : S → ℕ) (left : S → Option (List ℕ)) (sources : List S) (end : WorkEnd S)
+    → end.sources.items ≡ sources → end.result ≡ Err NoMemory → end.left ≡ None → EndsWork j faults end_count left sources end
+ends-starved {S} j faults end_count left sources end same fault none = record {
+  count = ap length same;
+  moved = λ k d less. subst (λ (l : List S). HasMoved faults left (slice_index_or sources k d) (slice_index_or l k d)) (sym same)
+      (unmoved faults left (slice_index_or sources k d));
+  stops = stops-unread j.workers j.longest faults end_count left sources end.sources.items same;
+  whole = rw fault tt;
+  answers = rw fault tt;
+  told = rw fault tt;
+  worked = rw fault tt;
+  none_stranded = rw none tt;
+  none = λ is. rw fault refl;
+  same = rw fault tt;
+  cause = rw fault tt;
+  memory_first = rw fault tt;
+}

@@ -1,7 +1,0 @@
-use Rattle.std.proofs.Common.{◌≡◌}
-use Rattle.scq_work.specs.Waiting.{but_wakes}
-use Rattle.scq_work.proofs.bell.wake_others.Given as goal
-
--- nothing of the stand changes but whom it woke
-abbrev pub invariant-workers : goal.invariant-workers
-invariant-workers l = but_wakes l.stand ≡ but_wakes l.fn.stand

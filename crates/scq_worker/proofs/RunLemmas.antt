@@ -1,0 +1,177 @@
+-- A worker's whole work: how it begins, and what its end is, by how it left.
+use Rattle.std.proofs.Common.{◌≡◌, refl, sym, ◌∙◌, ap, subst, arith, ℕ, ◌+◌, ◌<◌, List, [], ◌∷◌, ◌++◌, length, Option, Some, None, Bool, false, rules}
+use Rattle.std.specs.Prelude.{IfSome}
+use Rattle.std.specs.List.{All}
+use Rattle.scq_core.specs.declared.ended.Ended.{Ended}
+use Rattle.scq_core.specs.declared.ended.Ended.TheVariants.{Nothing}
+use Rattle.scq_topics.specs.declared.kind.Kind.{Kind}
+use Rattle.scq_collect.specs.declared.answered.Answered.{Answered}
+use Rattle.scq_band.specs.Standing.{Identity}
+use Rattle.scq_band.proofs.Opening.{numbers_length}
+use Rattle.scq_queue.specs.Passes.{PassStanding, HeldStanding, first_pass, known_on}
+use Rattle.scq_files.specs.OwnFiles.{StopsAtAFault, all_given}
+use Rattle.scq_worker.specs.Desks.{HasRun}
+use Rattle.scq_files.specs.Given.{given_in}
+use Rattle.scq_passes.specs.Becoming.{none}
+use Rattle.scq_passes.specs.PassedOn as passing
+use Rattle.scq_worker.specs.Passing.{no_call, parts_in}
+use Rattle.scq_passes.specs.Records.{HelpsOnceAfterEachFull}
+use Rattle.scq_passes.proofs.Blocks.{returns}
+use Rattle.scq_passes.proofs.Retired.{retired-taken}
+use Rattle.scq_files.specs.Reading.{IsRead}
+use Rattle.scq_passes.specs.Calls.{Suits, HasTaken, HasLeft, HasFewCalls, index_of, after_retire}
+use Rattle.scq_worker.specs.Working.{HasAnswered, IsSweeping, IsAtWork, HasStopped}
+use Rattle.scq_files.specs.declared.own_file.OwnFile.{OwnFile}
+use Rattle.scq_passes.proofs.Kept.{swept, few_calls-taken}
+use Rattle.scq_worker.proofs.WorkerSteps.{sweeping-first, sweeping-taken, listed-taken}
+
+-- of no calls each is nowhere
+no-call : (before after : List Ended) (call : Ended) → [] ≡ before ++ call ∷ after → ⊥
+no-call [] after call is = absurd (cc)
+no-call (x ∷ before) after call is = absurd (cc)
+
+-- what of files is read
+abbrev pub AllRead : {S : Type 0} → List (List ℕ × Kind) → ℕ → (S → ℕ) → (S → ℕ) → (S → Option (List ℕ)) → List (OwnFile S) → Type 0
+AllRead topics size faults end_count left files = All
+    (λ f. IsRead topics size faults end_count left f.number f.was.value f.source (given_in f.given.value) f.end) files
+
+module _ {B : Type 0} where
+  -- a new pass suits, and nothing is passed on yet
+  pub suits-first : (shared : Identity B) (topics number : ℕ) (p : PassStanding B) → shared.setup.rings ≡ topics + 2 → p ≡ first_pass shared number
+      → Suits shared topics p
+  suits-first shared topics number p rings is =
+      subst (Suits shared topics) (sym is)
+      (record { queue = refl; rings = rings; numbers = numbers_length shared.setup shared.setup.rings ∙ rings; spent = refl })
+
+  pub work-first : (topics : List (List ℕ × Kind)) (shared : Identity B) (number : ℕ) (p : PassStanding B) (members : List Answered) (starved : Bool)
+      → p ≡ first_pass shared number
+      → members ≡ [] → IsAtWork topics [] p members starved
+  work-first topics shared number p members starved is new =
+      subst (λ (q : PassStanding B). IsAtWork topics [] q members starved) (sym is)
+      (subst (λ (l : List Answered). IsAtWork topics [] (first_pass shared number) l starved) (sym new)
+      (record {
+        producing = record {
+          helps = λ before after at topic low. absurd (no-call before after (Nothing 0) at);
+          between = record {
+            alone = λ before after at. absurd (no-call before after (Nothing 0) at);
+            even = refl;
+            none = refl;
+            unspent = λ ring ticket put has. absurd (search rules);
+            knows = record { sends = λ m has. absurd (search rules) };
+          };
+          unasked = refl;
+        };
+        few_calls = record { sends = omega arith; fulls = omega arith; puts = λ topic. omega arith; returns = omega arith };
+        listed = λ fed. record { passed = passing.none; follows = no_call; takes = none; fulls = tt };
+      }))
+
+  -- retiring changes none of these
+  sweeping-retired : (topics : ℕ) (p : PassStanding B) → IsSweeping topics p → IsSweeping topics (after_retire p)
+  sweeping-retired topics p was = record {
+    helps = was.helps;
+    between = record {
+      alone = was.between.alone;
+      even = was.between.even;
+      none = was.between.none;
+      unspent = was.between.unspent;
+      knows = record { sends = was.between.knows.sends };
+    };
+  }
+
+  few_calls-retired : (late messages : ℕ) (p : PassStanding B) → HasFewCalls late messages p → HasFewCalls late messages (after_retire p)
+  few_calls-retired late messages p was = record { sends = was.sends; fulls = was.fulls; puts = was.puts; returns = was.returns }
+
+  -- it met no Spent
+  few_calls-on_time : (messages : ℕ) (p : PassStanding B) → HasFewCalls 0 messages p → HasFewCalls 1 messages p
+  few_calls-on_time messages p was =
+      record {
+        sends = was.sends;
+        fulls = was.fulls;
+        puts = λ topic. let low = was.puts topic in omega arith;
+        returns = let low = was.returns in omega arith;
+      }
+
+  -- it has read its files, swept and left
+  pub run-left : {S : Type 0} (shared : Identity B) (topics : List (List ℕ × Kind)) (size longest : ℕ) (faults end_count : S → ℕ) (left : S → Option (List ℕ))
+      (files : List (OwnFile S))
+      (p q : PassStanding B) (was is : List Answered) (before after : Bool) (kept : Option (HeldStanding B))
+      → AllRead topics longest faults end_count left files → StopsAtAFault files → Suits shared (length topics) p → IsAtWork topics (parts_in size (all_given files)) p was before
+      → HasTaken (after_retire p) q → ((t : ℕ) → t < length topics + 1 → (known_on t q).finished < (known_on t q).head)
+      → (after ≡ false → before ≡ false) → (after ≡ false → HasAnswered topics p q was is) → kept ≡ None
+      → HasRun shared topics size longest faults end_count left files q is after kept
+  run-left shared topics size longest faults end_count left files p q was is before after kept read stops suits work taken empty fed_before more nothing =
+      let sweeping = sweeping-taken (length topics + 1) (after_retire p) q
+      (sweeping-retired (length topics + 1) p (sweeping-first (length topics + 1) p work.producing)) taken in
+      let long : length q.numbers ≡ length topics + 2 = taken.knows.rings ∙ suits.numbers in
+      record {
+        read = read;
+        stops = stops;
+        few_calls = few_calls-on_time (length (parts_in size (all_given files))) q
+            (few_calls-taken (length (parts_in size (all_given files))) (after_retire p) q
+            (few_calls-retired 0 (length (parts_in size (all_given files))) p work.few_calls) taken);
+        queue = ap (λ (x : PassStanding B). x.queue) taken.pass ∙ suits.queue;
+        retired = (length p.calls, ap (λ (x : PassStanding B). x.retired) taken.pass);
+        held = sweeping.between.none ∙ ap index_of (sym nothing);
+        its = subst (λ (k : Option (HeldStanding B)). IfSome k (λ h. h.queue ≡ shared)) (sym nothing) tt;
+        sweeping = λ awake. sweeping;
+        ended = λ awake. retired-taken (HelpsOnceAfterEachFull (length topics + 1)) returns p q work.producing.helps taken;
+        swept = λ awake. swept q sweeping.between.knows (λ t low. empty t (omega arith));
+        listed = λ awake fed.
+            let old = work.listed (fed_before fed) in
+            let answered = more fed in
+            listed-taken topics (parts_in size (all_given files)) (after_retire p) q was is
+            (record { passed = old.passed; follows = old.follows; takes = old.takes; fulls = old.fulls }) taken
+            (record { takes = answered.takes; directs = answered.directs });
+      }
+
+  -- of a pass that keeps a ticket none of what is said of others need be shown
+  some-none : (p : PassStanding B) (ticket : ℕ) → p.spent ≡ Some ticket → p.spent ≡ None → ⊥
+  some-none p ticket is none_ = absurd (cc)
+
+  -- it met Spent in a sweep
+  pub run-late : {S : Type 0} (shared : Identity B) (topics : List (List ℕ × Kind)) (size longest : ℕ) (faults end_count : S → ℕ) (left : S → Option (List ℕ))
+      (files : List (OwnFile S))
+      (p q : PassStanding B) (was is : List Answered) (before after : Bool) (kept held : Option (HeldStanding B))
+      → AllRead topics longest faults end_count left files → StopsAtAFault files → Suits shared (length topics) p → IsAtWork topics (parts_in size (all_given files)) p was before
+      → HasLeft (length (parts_in size (all_given files))) (length (parts_in size (all_given files))) (after_retire p) q held → kept ≡ held
+      → HasRun shared topics size longest faults end_count left files q is after kept
+  run-late shared topics size longest faults end_count left files p q was is before after kept held read stops suits work end same =
+      subst (λ k. HasRun shared topics size longest faults end_count left files q is after k) (sym same)
+      (record {
+        read = read;
+        stops = stops;
+        few_calls = end.few_calls (few_calls-retired 0 (length (parts_in size (all_given files))) p work.few_calls);
+        queue = end.own.0 ∙ suits.queue;
+        retired = (length p.calls, end.own.2);
+        held = end.held ∙ ap (λ l. l ++ index_of held) work.producing.between.none;
+        its = subst (λ (x : Identity B). IfSome held (λ h. h.queue ≡ x)) suits.queue end.its;
+        sweeping = λ awake. absurd (some-none q end.spent.0 end.spent.1 awake);
+        ended = λ awake. absurd (some-none q end.spent.0 end.spent.1 awake);
+        swept = λ awake. absurd (some-none q end.spent.0 end.spent.1 awake);
+        listed = λ awake fed. absurd (some-none q end.spent.0 end.spent.1 awake);
+      })
+
+  -- it met Spent while it read its files, and then retired
+  pub run-stopped : {S : Type 0} (shared : Identity B) (topics : List (List ℕ × Kind)) (size longest : ℕ) (faults end_count : S → ℕ)
+      (left : S → Option (List ℕ))
+      (files : List (OwnFile S))
+      (p q : PassStanding B) (is : List Answered) (after : Bool) (kept held : Option (HeldStanding B))
+      → AllRead topics longest faults end_count left files → StopsAtAFault files → HasStopped shared (length (parts_in size (all_given files))) p held
+      → q ≡ after_retire p → kept ≡ held
+      → HasRun shared topics size longest faults end_count left files q is after kept
+  run-stopped shared topics size longest faults end_count left files p q is after kept held read stops end retired same =
+      subst (λ k. HasRun shared topics size longest faults end_count left files q is after k) (sym same)
+      (subst (λ (x : PassStanding B). HasRun shared topics size longest faults end_count left files x is after held) (sym retired)
+      (record {
+        read = read;
+        stops = stops;
+        few_calls = few_calls-retired 1 (length (parts_in size (all_given files))) p end.few_calls;
+        queue = end.queue;
+        retired = (length p.calls, refl);
+        held = end.held;
+        its = end.its;
+        sweeping = λ awake. absurd (some-none p end.spent.0 end.spent.1 awake);
+        ended = λ awake. absurd (some-none p end.spent.0 end.spent.1 awake);
+        swept = λ awake. absurd (some-none p end.spent.0 end.spent.1 awake);
+        listed = λ awake fed. absurd (some-none p end.spent.0 end.spent.1 awake);
+      }))

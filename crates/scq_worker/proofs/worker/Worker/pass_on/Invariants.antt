@@ -1,0 +1,21 @@
+use Rattle.std.proofs.Common.{◌≡◌, ◌+◌, ◌++◌, List, map, false, length, None}
+use Rattle.std.specs.List.{range_with_len}
+use Rattle.scq_frames.specs.Parts.{Part, part_of}
+use Rattle.scq_passes.specs.Waiting.{HelpsInVain}
+use Rattle.scq_passes.specs.Calls.{Suits}
+use Rattle.scq_worker.specs.Working.{IsAtWork}
+use Rattle.scq_worker.proofs.worker.Worker.pass_on.Given as goal
+
+-- so many parts are passed on
+abbrev pub invariant-parts : goal.invariant-parts
+invariant-parts g l = record {
+  suits : Suits l.queue (length l.job.topics) l.self.pass;
+  stays : l.self.pass.retired ≡ None;
+  work : (parts : List Part) → IsAtWork l.job.topics parts l.fn.self.pass l.fn.self.members.items l.fn.self.starved
+      → IsAtWork l.job.topics (parts ++ map (part_of l.job.size l.message) (range_with_len 1 l.before)) l.self.pass l.self.members.items l.self.starved;
+  vain : HelpsInVain (length l.job.topics + 1) l.fn.self.pass → HelpsInVain (length l.job.topics + 1) l.self.pass;
+  bell : g.W.Bell.kept l.stand ≡ g.W.Bell.kept l.fn.stand;
+  starved : l.self.starved ≡ false → l.fn.self.starved ≡ false;
+  number : l.self.number ≡ l.fn.self.number;
+  pass : l.self.pass.number ≡ l.fn.self.pass.number;
+}

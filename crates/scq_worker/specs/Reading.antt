@@ -1,0 +1,32 @@
+-- What passing messages on makes of a worker.
+use Rattle.std.specs.Prelude.{ℕ, ◌+◌, List, length, Option}
+use Rattle.scq_topics.specs.declared.kind.Kind.{Kind}
+use Rattle.scq_frames.specs.declared.message.Message.{Message}
+use Rattle.scq_band.specs.Standing.{Identity}
+use Rattle.scq_queue.specs.Passes.{HeldStanding}
+use Rattle.scq_passes.specs.Waiting.{HelpsInVain}
+use Rattle.scq_desk.specs.GoingOn as going
+use Rattle.scq_worker.specs.Passing.{parts_in}
+use Rattle.scq_worker.specs.Working.{IsAtWork, HasStopped}
+use Rattle.scq_worker.specs.declared.worker.Worker.{Worker}
+
+module _ {B : Type 0} (shared : Identity B) (topics : List (List ℕ × Kind)) (size : ℕ) where
+  -- it has passed on the parts of these messages, and took in vain only where it helped
+  abbrev pub IsAt : List Message → Worker B → Type 0
+  IsAt messages w =
+      IsAtWork topics (parts_in size messages) w.pass w.members.items w.starved
+      × HelpsInVain (length topics + 1) w.pass
+
+  -- it met a ticket past the limit at the last of these messages
+  abbrev pub IsOver : List Message → Worker B → Option (HeldStanding B) → Type 0
+  IsOver messages w kept = HasStopped shared (length (parts_in size messages)) w.pass kept
+
+  -- it has passed these messages on, and goes on
+  abbrev pub HasGoneOn : List Message → Worker B → Worker B → Type 0
+  HasGoneOn messages old new =
+      going.HasGoneOn (λ w. w.pass) (λ w. w.starved) IsAt shared (length topics) messages old new
+
+  -- it met a ticket past the limit at the last of these messages
+  abbrev pub HasStoppedAt : List Message → Worker B → Worker B → Option (HeldStanding B) → Type 0
+  HasStoppedAt messages old new kept =
+      going.HasStoppedAt (λ w. w.pass) (λ w. w.starved) IsAt IsOver messages old new kept

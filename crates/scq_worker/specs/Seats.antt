@@ -1,0 +1,13 @@
+-- Workers at their desks.
+use Rattle.scq_band.specs.Standing.{Identity}
+use Rattle.scq_desk.specs.Seats as seats
+use Rattle.scq_desk.specs.declared.seat.Seat.{Seat}
+use Rattle.scq_worker.specs.declared.worker.Worker.{Worker}
+
+-- a worker, seated
+abbrev pub Seated : Type 0 → Type 0
+Seated B = Seat (Worker B) B
+
+-- it is to begin: it has a new pass, an empty list, and keeps no value
+abbrev pub IsFresh : {B : Type 0} → Identity B → Seated B → Type 0
+IsFresh shared s = seats.IsFresh (λ w. w.pass) (λ w. w.members) shared s

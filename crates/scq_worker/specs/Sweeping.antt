@@ -1,0 +1,18 @@
+-- What sweeps make of a worker.
+use Rattle.std.specs.Prelude.{◌≡◌, ℕ, false, List, Option}
+use Rattle.scq_topics.specs.declared.kind.Kind.{Kind}
+use Rattle.scq_queue.specs.Passes.{HeldStanding}
+use Rattle.scq_passes.specs.Calls.{HasLeft}
+use Rattle.scq_worker.specs.Working.{HasAnswered}
+use Rattle.scq_worker.specs.declared.worker.Worker.{Worker}
+
+module _ {B : Type 0} where
+  -- what it took meanwhile it has answered, unless it wanted memory
+  pub record HasAnsweredAll (topics : List (List ℕ × Kind)) (old new : Worker B) : Type 0 where
+    pub answered : new.starved ≡ false
+        → HasAnswered topics old.pass new.pass old.members.items new.members.items
+    pub fed : new.starved ≡ false → old.starved ≡ false
+
+  -- it met a ticket past the limit
+  abbrev pub HasLeftAt : Worker B → Worker B → Option (HeldStanding B) → Type 0
+  HasLeftAt old new kept = (parts : ℕ) → HasLeft parts parts old.pass new.pass kept

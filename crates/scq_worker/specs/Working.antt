@@ -1,0 +1,64 @@
+-- What a worker's calls make of its pass and of its list.
+use Rattle.std.specs.Prelude.{◌≡◌, ℕ, ◌+◌, Bool, false, List, length, filter, Option, Some, None}
+use Rattle.std.specs.Prelude.{IfSome}
+use Rattle.scq_topics.specs.declared.kind.Kind.{Kind}
+use Rattle.scq_frames.specs.Parts.{Part}
+use Rattle.scq_collect.specs.declared.answered.Answered.{Answered}
+use Rattle.scq_queue.specs.Lists.{sends_of, takes_of}
+use Rattle.scq_band.specs.Standing.{Identity}
+use Rattle.scq_queue.specs.Passes.{PassStanding, HeldStanding}
+use Rattle.scq_passes.specs.Records.{HelpsOnceAfterEachFull, HelpsAfterEachFull}
+use Rattle.scq_passes.specs.Calls.{HasSentSo, IsBetweenParts, HasFewCalls, index_of}
+use Rattle.scq_worker.specs.Members.{AnswersSoFar, AnswersItsFulls, is_taken, is_direct}
+use Rattle.scq_worker.specs.Passing.{HasPassedOn, FollowsCalls, Sends}
+
+module _ {B : Type 0} where
+  -- a pass that was lent a buffer and sent a part in it
+  abbrev pub HasSent : Part → PassStanding B → PassStanding B → Type 0
+  HasSent part old new = HasSentSo part.topic (Sends part) old new
+
+  -- the pass of a worker that reads its files, so far: it took just once from each topic after each
+  -- Full, and never asked whether all had retired
+  pub record IsProducing (topics : ℕ) (p : PassStanding B) : Type 0 where
+    pub helps : HelpsOnceAfterEachFull topics p.calls
+    pub between : IsBetweenParts p
+    pub unasked : p.gates ≡ 0
+
+  -- that of a worker that sweeps: the same, but that it may have taken more since the last Full
+  pub record IsSweeping (topics : ℕ) (p : PassStanding B) : Type 0 where
+    pub helps : HelpsAfterEachFull topics p.calls
+    pub between : IsBetweenParts p
+
+  -- its list, so far, against its pass and the parts that it has passed on
+  pub record HasListed (topics : List (List ℕ × Kind)) (parts : List Part) (p : PassStanding B)
+      (members : List Answered) : Type 0 where
+    pub passed : HasPassedOn topics parts (sends_of p.calls) members
+    pub follows : FollowsCalls parts p.calls
+    pub takes : AnswersSoFar topics (takes_of p.calls) (filter is_taken members)
+    pub fulls : AnswersItsFulls p.fulls members
+
+  -- a list that has the answers to what its pass took meanwhile, and nothing else more
+  pub record HasAnswered (topics : List (List ℕ × Kind)) (old new : PassStanding B)
+      (was is : List Answered) : Type 0 where
+    pub takes : AnswersSoFar topics (takes_of old.calls) (filter is_taken was)
+        → AnswersSoFar topics (takes_of new.calls) (filter is_taken is)
+    pub directs : filter is_direct is ≡ filter is_direct was
+
+  -- a worker that has passed on these parts and goes on: its pass, and unless it wanted memory its
+  -- list
+  pub record IsAtWork (topics : List (List ℕ × Kind)) (parts : List Part) (p : PassStanding B)
+      (members : List Answered) (starved : Bool) : Type 0 where
+    pub producing : IsProducing (length topics + 1) p
+    pub few_calls : HasFewCalls 0 (length parts) p
+    pub listed : starved ≡ false → HasListed topics parts p members
+
+  -- a worker that met Spent while it read its files, after at most so many parts, the last one
+  -- included: its pass, and the value that it keeps
+  pub record HasStopped (shared : Identity B) (parts : ℕ) (p : PassStanding B)
+      (kept : Option (HeldStanding B)) : Type 0 where
+    pub spent : (ticket : ℕ) × (p.spent ≡ Some ticket)
+    pub few_calls : HasFewCalls 1 parts p
+    pub queue : p.queue ≡ shared
+    pub stays : p.retired ≡ None
+    pub held : p.held ≡ index_of kept
+    pub its : IfSome kept (λ h. h.queue ≡ shared)

@@ -1,0 +1,126 @@
+//! What a worker does at its desk: all that one thread does.
+ghost use Rattle.std.specs.Prelude.{◌≡◌, ◌≤◌, ◌+◌, [], length, None, All};
+ghost use Rattle.scq_block.specs.Frames.{bytes_of};
+ghost use Rattle.scq_files.specs.OwnFiles.{IsNew, ids_of};
+ghost use Rattle.scq_worker.specs.Seats.{IsFresh};
+ghost use Rattle.scq_worker.specs.Desks.{HasProduced, IsToSweep, HasRun};
+ghost use Rattle.scq_passes.specs.Leaving.{HasLeftSwept};
+ghost use Rattle.scq_passes.specs.Records.{IsReturn};
+
+use crate::bell::{Bell, NoBell};
+use crate::worker::{Calls, Takes, Worker};
+use crate::{Gate, Job, Point};
+use scq_block::Frame;
+use scq_desk::Seat;
+use scq_files::{Desk, read_files};
+use scq_outside::Source;
+use scq_passes::sweep_out;
+use scq_queue::Queue;
+use std::alloc::Global;
+
+/// A desk at which such a worker sits.
+pub type WorkDesk<S> = Desk<Seat<Worker<Frame>, Frame>, S>;
+
+/// It reads its files and passes their messages on, and retires. Where it met a ticket past the
+/// limit, it retires at once, and keeps the value that came back.
+pub fn produce<S: Source, G: Gate, T, W: Bell<T>>(
+    desk: &mut WorkDesk<S>,
+    alloc: Global,
+    job: &Job,
+    queue: &Queue<Frame>,
+    gate: &G,
+    bell: &W,
+    stand: &mut T,
+)
+    requires rings { queue.now.setup.rings ≡ length job.now.topics + 2 }
+    requires room { All (λ b. job.now.size + 24 ≤ length b.bytes.items) queue.now.given }
+    requires fresh { IsFresh queue.now desk.old.worker }
+    requires unread { All IsNew desk.old.files.items }
+    requires bell { W.fits bell.now (W.kept stand.old) job.now.workers }
+    ensures same { ids_of desk.new.files.items ≡ ids_of desk.old.files.items }
+    ensures produced { HasProduced queue.now job.now.topics job.now.size job.now.longest S.faults
+        S.ends S.left desk.new.files.items desk.new.worker.worker.pass
+        desk.new.worker.worker.members.items desk.new.worker.worker.starved desk.new.worker.kept }
+    ensures number { desk.new.worker.worker.pass.number ≡ desk.old.worker.worker.pass.number }
+    ensures bell { W.kept stand.new ≡ W.kept stand.old }
+{
+    let with = Calls {
+        alloc,
+        job,
+        queue,
+        gate,
+        bell,
+    };
+    let worker = &mut desk.worker.worker;
+    let files = desk.files.as_mut_slice();
+    match read_files(worker, &with, stand, alloc, &job.topics, job.longest, files) {
+        Ok(()) => desk.worker.worker.retire(job, queue, bell, stand),
+        Err(at_limit) => {
+            desk.worker.worker.retire(job, queue, bell, stand);
+            desk.worker.keep(at_limit);
+        }
+    }
+}
+
+/// The worker's whole work: it reads its files and passes their messages on, retires, and sweeps
+/// until it leaves. Where it met a ticket past the limit, it leaves at once, and keeps the value
+/// that came back.
+pub fn run<S: Source, G: Gate>(
+    desk: &mut WorkDesk<S>,
+    alloc: Global,
+    job: &Job,
+    queue: &Queue<Frame>,
+    gate: &G,
+)
+    requires rings { queue.now.setup.rings ≡ length job.now.topics + 2 }
+    requires room { All (λ b. job.now.size + 24 ≤ length b.bytes.items) queue.now.given }
+    requires fresh { IsFresh queue.now desk.old.worker }
+    requires unread { All IsNew desk.old.files.items }
+    ensures same { ids_of desk.new.files.items ≡ ids_of desk.old.files.items }
+    ensures run { HasRun queue.now job.now.topics job.now.size job.now.longest S.faults S.ends
+        S.left desk.new.files.items desk.new.worker.worker.pass
+        desk.new.worker.worker.members.items desk.new.worker.worker.starved desk.new.worker.kept }
+    ensures behind { desk.new.worker.worker.pass.spent ≡ None
+        → HasLeftSwept bytes_of IsReturn (length job.now.topics
+        + 1) 64 desk.new.worker.worker.pass }
+    ensures number { desk.new.worker.worker.pass.number ≡ desk.old.worker.worker.pass.number }
+{
+    let mut nobody = NoBell;
+    produce(desk, alloc, job, queue, gate, &NoBell, &mut nobody);
+    match desk.worker.worker.pass.spent() {
+        Some(_) => {}
+        None => leave(desk, alloc, job, queue, gate),
+    }
+}
+
+/// It sweeps until it leaves.
+fn leave<S: Source, G: Gate>(
+    desk: &mut WorkDesk<S>,
+    alloc: Global,
+    job: &Job,
+    queue: &Queue<Frame>,
+    gate: &G,
+)
+    requires sweep { IsToSweep queue.now job.now.topics job.now.size job.now.longest S.faults S.ends
+        S.left desk.old.files.items desk.old.worker.worker.pass
+        desk.old.worker.worker.members.items desk.old.worker.worker.starved desk.old.worker.kept }
+    ensures same { desk.new.files.items ≡ desk.old.files.items }
+    ensures run { HasRun queue.now job.now.topics job.now.size job.now.longest S.faults S.ends
+        S.left desk.new.files.items desk.new.worker.worker.pass
+        desk.new.worker.worker.members.items desk.new.worker.worker.starved desk.new.worker.kept }
+    ensures behind { desk.new.worker.worker.pass.spent ≡ None
+        → HasLeftSwept bytes_of IsReturn (length job.now.topics
+        + 1) 64 desk.new.worker.worker.pass }
+    ensures number { desk.new.worker.worker.pass.number ≡ desk.old.worker.worker.pass.number }
+{
+    let with = Takes {
+        alloc,
+        job,
+        queue,
+        gate,
+    };
+    match sweep_out(&mut desk.worker.worker, &with, job.topics.len() + 1) {
+        Ok(()) => gate.at(desk.worker.worker.number, Point::BeforeLeave),
+        Err(at_limit) => desk.worker.keep(at_limit),
+    }
+}

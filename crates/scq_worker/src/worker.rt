@@ -1,0 +1,283 @@
+ghost use Rattle.std.specs.Prelude.{◌≡◌, ◌≤◌, ◌<◌, ◌+◌, ◌++◌, ◌∷◌, ◌==◌, ℕ, suc, List, true, false};
+ghost use Rattle.std.specs.Prelude.{[], length, filter, count_by, Some, None, Ok, if◌then◌else◌};
+ghost use Rattle.std.specs.Prelude.{IfOk, IfErr, IfSome, IsSome, OnOk};
+ghost use Rattle.scq_collect.specs.Joined.{text_of_part};
+ghost use Rattle.scq_frames.specs.Parts.{IsNumbered, parts_of, part_of};
+ghost use Rattle.scq_frames.specs.Views.{part_of_view};
+ghost use Rattle.scq_queue.specs.Lists.{Placed};
+ghost use Rattle.scq_queue.specs.Passes.{IsHeldBy, after_put, after_spent_put};
+ghost use Rattle.scq_queue.specs.Passes.{having_seen};
+ghost use Rattle.scq_passes.specs.Records.{is_take};
+ghost use Rattle.scq_worker.specs.Members.{answered, is_taken, is_direct, AnswersSoFar};
+ghost use Rattle.scq_worker.specs.Passing.{Sends};
+ghost use Rattle.scq_passes.specs.Leaving.{HasOnlyCalled, TookNothing};
+ghost use Rattle.scq_passes.specs.Taking.{HasEmptied, HasTakenFrom};
+ghost use Rattle.scq_passes.specs.Waiting.{TookInVain};
+ghost use Rattle.scq_passes.specs.Calls.{Suits, HasTaken, HasLeft};
+ghost use Rattle.scq_worker.specs.Working.{HasAnswered};
+
+mod passing;
+mod reading;
+mod sweeping;
+
+use crate::bell::Bell;
+use crate::{Gate, Job, Point};
+pub(crate) use reading::Calls;
+use scq_collect::{Answered, Way};
+use scq_desk::Sits;
+use scq_frames::{Message, View, decode, encode, view_of};
+use scq_passes::AtLimit;
+use scq_queue::{Held, Pass, Queue, TakeRefusal};
+use scq_topics::{ReplyBytes, reply};
+use scq_word::{Buffer, BufferMut, NoMemory};
+use std::alloc::Global;
+pub use sweeping::Takes;
+
+/// A worker: the pass by which it makes its calls, what it has answered, and whether it wanted
+/// memory.
+#[derive(Drop)]
+pub struct Worker<B: Buffer> {
+    pub number: u32,
+    pub pass: Pass<B>,
+    pub members: Vec<Answered>,
+    pub starved: bool,
+}
+
+impl<B: Buffer> Sits<Pass<B>, Answered> for Worker<B> {
+    ghost pass_of = { λ w. w.pass };
+
+    ghost list_of = { λ w. w.members };
+
+    ghost starved_of = { λ w. w.starved };
+
+    fn begin(alloc: Global, number: u32, pass: Pass<B>) -> Worker<B>
+        ensures pass { result.pass ≡ pass }
+        ensures list { result.members.items ≡ [] }
+    {
+        Worker {
+            number,
+            pass,
+            members: Vec::new(alloc),
+            starved: false,
+        }
+    }
+
+    fn come_apart(self) -> (Pass<B>, Vec<Answered>, bool) {
+        let Worker {
+            number: _,
+            pass,
+            members,
+            starved,
+        } = self;
+        (pass, members, starved)
+    }
+}
+
+/// The text of a part: the reply to it where it is its whole message, else its bytes.
+fn text_of(alloc: Global, job: &Job, part: View<'_>) -> Result<ReplyBytes, NoMemory>
+    requires { part.topic ≤ length job.now.topics }
+    ensures { IfOk result (λ text. text ≡ text_of_part job.now.topics (part_of_view part.entry)) }
+{
+    if part.parts == 1 {
+        let kind = job.topics.kind(part.topic);
+        return reply(alloc, kind, part.payload);
+    }
+    ReplyBytes::copy_of(alloc, part.payload)
+}
+
+impl<B: BufferMut> Worker<B> {
+    /// Puts the answer to this part behind the list.
+    fn answer(&mut self, alloc: Global, job: &Job, part: View<'_>, way: Way)
+        requires { part.topic ≤ length job.now.topics }
+        ensures listed { self.new.starved ≡ false
+            → self.new.members.items
+            ≡ self.old.members.items ++ answered job.now.topics way (part_of_view part.entry) ∷ [] }
+        ensures starved { self.new.starved ≡ false → self.old.starved ≡ false }
+        ensures same { (self.new.pass ≡ self.old.pass) × (self.new.number ≡ self.old.number) }
+    {
+        match text_of(alloc, job, part) {
+            Ok(text) => {
+                let member = Answered {
+                    file: part.file,
+                    line: part.line,
+                    topic: part.topic,
+                    part: part.part,
+                    parts: part.parts,
+                    bytes: part.payload.len() as u64,
+                    text,
+                    way,
+                };
+                if self.members.push(member).is_err() {
+                    self.starved = true;
+                }
+            }
+            Err(_) => self.starved = true,
+        }
+    }
+
+    /// Answers what was taken at a place, where its bytes are those of a part on one of the job's
+    /// topics.
+    fn answer_taken(&mut self, alloc: Global, job: &Job, place: u64, bytes: &[u8])
+        ensures takes { self.new.starved ≡ false → (topic : ℕ) (takes : List Placed)
+            → AnswersSoFar job.now.topics takes (filter is_taken self.old.members.items)
+            → AnswersSoFar job.now.topics (takes
+            ++ record { topic = topic; place = place; bytes = bytes.now }
+            ∷ []) (filter is_taken self.new.members.items) }
+        ensures directs { self.new.starved ≡ false
+            → filter is_direct self.new.members.items ≡ filter is_direct self.old.members.items }
+        ensures starved { self.new.starved ≡ false → self.old.starved ≡ false }
+        ensures same { (self.new.pass ≡ self.old.pass) × (self.new.number ≡ self.old.number) }
+    {
+        if self.starved {
+            return;
+        }
+        if let Some(part) = decode(bytes) {
+            if part.topic <= job.topics.len() {
+                self.answer(alloc, job, part, Way::Taken { place });
+            }
+        }
+    }
+
+    /// Takes once from a topic. What it got it answers and gives back. Whether it got anything.
+    fn take_one<G: Gate>(
+        &mut self,
+        alloc: Global,
+        job: &Job,
+        queue: &Queue<B>,
+        gate: &G,
+        topic: u32,
+    ) -> Result<bool, AtLimit<B>>
+        requires suits { Suits queue.now (length job.now.topics) self.old.pass }
+        requires topic { topic ≤ length job.now.topics }
+        ensures taken { OnOk result (HasTaken self.old.pass self.new.pass) }
+        ensures one { OnOk result ((t : ℕ)
+            → count_by (is_take t) self.new.pass.calls
+            ≡ count_by (is_take t) self.old.pass.calls + (if topic == t then 1 else 0)) }
+        ensures answered { OnOk result (self.new.starved ≡ false
+            → HasAnswered job.now.topics self.old.pass self.new.pass self.old.members.items
+            self.new.members.items) }
+        ensures some { result ≡ Ok true
+            → HasTakenFrom queue.now.setup.limit topic self.old.pass self.new.pass
+            × TookInVain 0 self.old.pass self.new.pass }
+        ensures none { result ≡ Ok false → HasEmptied topic self.old.pass self.new.pass
+            × TookNothing self.old.pass self.new.pass }
+        ensures vain { OnOk result (TookInVain 1 self.old.pass self.new.pass) }
+        ensures only { OnOk result
+            (HasOnlyCalled B.contents queue.now self.old.pass self.new.pass) }
+        ensures left { IfErr result (λ l. (parts : ℕ)
+            → HasLeft parts parts self.old.pass self.new.pass l.held) }
+        ensures starved { self.new.starved ≡ false → self.old.starved ≡ false }
+        ensures number { self.new.number ≡ self.old.number }
+    {
+        gate.at(self.number, Point::BeforeTake);
+        match queue.take(&mut self.pass, topic) {
+            Ok((place, held)) => {
+                self.answer_taken(alloc, job, place, held.bytes());
+                match queue.give_back(&mut self.pass, held) {
+                    Ok(()) => Ok(true),
+                    Err((held, _)) => Err(AtLimit { held: Some(held) }),
+                }
+            }
+            Err(TakeRefusal::Empty { .. }) => Ok(false),
+            Err(TakeRefusal::Spent { .. }) => Err(AtLimit { held: None }),
+        }
+    }
+
+    /// Takes once from each topic.
+    pub fn help<G: Gate>(
+        &mut self,
+        alloc: Global,
+        job: &Job,
+        queue: &Queue<B>,
+        gate: &G,
+    ) -> Result<(), AtLimit<B>>
+        requires { Suits queue.now (length job.now.topics) self.old.pass }
+        ensures taken { OnOk result (HasTaken self.old.pass self.new.pass) }
+        ensures each { OnOk result ((t : ℕ) → t < length job.now.topics + 1
+            → count_by (is_take t) self.new.pass.calls
+            ≡ count_by (is_take t) self.old.pass.calls + 1) }
+        ensures answered { OnOk result (self.new.starved ≡ false
+            → HasAnswered job.now.topics self.old.pass self.new.pass self.old.members.items
+            self.new.members.items) }
+        ensures vain { OnOk result
+            (TookInVain (length job.now.topics + 1) self.old.pass self.new.pass) }
+        ensures gates { OnOk result (self.new.pass.gates ≡ self.old.pass.gates) }
+        ensures left { IfErr result (λ l. (parts : ℕ)
+            → HasLeft parts parts self.old.pass self.new.pass l.held) }
+        ensures starved { self.new.starved ≡ false → self.old.starved ≡ false }
+        ensures number { self.new.number ≡ self.old.number }
+    {
+        'topics: for topic in 0..job.topics.len() + 1 {
+            self.take_one(alloc, job, queue, gate, topic)?;
+        }
+        Ok(())
+    }
+
+    /// Answers a part of a message directly, where no buffer was free: with this head of the ring
+    /// of free buffers.
+    pub fn answer_directly(
+        &mut self,
+        alloc: Global,
+        job: &Job,
+        message: &Message,
+        part: u32,
+        head: u64,
+    )
+        requires known { message.now.topic ≤ length job.now.topics }
+        requires short { length message.now.payload ≤ job.now.longest }
+        requires numbered { IsNumbered part (parts_of job.now.size message.now.payload) }
+        ensures listed { self.new.starved ≡ false
+            → self.new.members.items
+            ≡ self.old.members.items
+            ++ answered job.now.topics (Way.Direct head) (part_of job.now.size message.now part)
+            ∷ [] }
+        ensures starved { self.new.starved ≡ false → self.old.starved ≡ false }
+        ensures same { (self.new.pass ≡ self.old.pass) × (self.new.number ≡ self.old.number) }
+    {
+        let view = view_of(message, job.size, part);
+        self.answer(alloc, job, view, Way::Direct { head });
+    }
+
+    /// Sends a part of a message in a value that it holds.
+    pub fn send_in(
+        &mut self,
+        job: &Job,
+        queue: &Queue<B>,
+        message: &Message,
+        part: u32,
+        held: Held<B>,
+    ) -> Result<(), AtLimit<B>>
+        requires pass { (self.old.pass.queue ≡ queue.now) × (self.old.pass.spent ≡ None)
+            × (self.old.pass.retired ≡ None) }
+        requires topic { message.now.topic + 1 < queue.now.setup.rings }
+        requires held { IsHeldBy self.old.pass held }
+        requires room { job.now.size + 24 ≤ length (B.contents held.buffer) }
+        requires short { length message.now.payload ≤ job.now.longest }
+        requires numbered { IsNumbered part (parts_of job.now.size message.now.payload) }
+        ensures sent { OnOk result ((place : ℕ) × (bytes : List ℕ)
+            × (self.new.pass ≡ having_seen self.new.pass.seen (after_put
+            (suc message.now.topic) held.index place bytes self.old.pass))
+            × Sends (part_of job.now.size message.now part)
+            (record { topic = message.now.topic; place = place; bytes = bytes })) }
+        ensures spent { IfErr result (λ l.
+            (ticket : ℕ) × (self.new.pass ≡ having_seen self.new.pass.seen (after_spent_put
+            (suc message.now.topic) ticket self.old.pass))) }
+        ensures back { IfErr result (λ l.
+            IfSome l.held (λ h. (h.index ≡ held.index) × (h.queue ≡ held.queue))) }
+        ensures kept { IfErr result (λ l. IsSome l.held) }
+        ensures same { (self.new.members.items ≡ self.old.members.items)
+            × (self.new.starved ≡ self.old.starved) × (self.new.number ≡ self.old.number) }
+    {
+        // Its numbers are read here, so that it is known of each that it is one of 32 bits, as
+        // encode writes it.
+        let _file = message.file;
+        let _line = message.line;
+        let topic = message.topic;
+        let mut held = held;
+        encode(message, job.size, part, held.bytes_mut());
+        match queue.send(&mut self.pass, topic, held) {
+            Ok(_) => Ok(()),
+            Err((held, _)) => Err(AtLimit { held: Some(held) }),
+        }
+    }
+}
