@@ -6,3 +6,4 @@ pub mod MessageParts
 mod PassedOn
 mod RunLemmas
 pub mod Produced
+mod Rung

@@ -1,28 +1,33 @@
 //! Whom a worker wakes, and when.
-ghost use Rattle.std.specs.Prelude.{◌≡◌, ℕ, ◌<◌, [], length};
+ghost use Rattle.std.specs.Prelude.{◌≡◌, ℕ, ◌<◌, List, [], length};
 ghost use Rattle.scq_park.specs.Crews.{Post, post};
-ghost use Rattle.scq_worker.specs.Bells.{but_wakes};
+ghost use Rattle.scq_worker.specs.Bells.{but_wakes, next_of, one_more, others_more};
 
 use scq_park::{Crew, Stand};
 
 /// What a worker does for those who may rest. `T` is what it wakes them by, of which it has one of
-/// its own. That a wake comes, no clause says.
+/// its own. Clauses say whom it wakes, and not that a wake comes.
 pub trait Bell<T> {
     /// What each call leaves as it was.
     ghost kept: { T → Post };
 
+    /// How often each worker was woken by it.
+    ghost wakes: { T → List ℕ };
+
     /// Whether one that keeps this lets its worker wake each of so many.
     ghost fits: { Self → Post → ℕ → Type 0 };
 
-    /// The worker of this number, of so many, has sent a part.
+    /// The worker of this number, of so many, has sent a part: it wakes the next one.
     fn after_send(&self, stand: &mut T, number: u32, workers: u32)
         requires { fits self.now (kept stand.old) workers }
-        ensures { kept stand.new ≡ kept stand.old };
+        ensures kept { kept stand.new ≡ kept stand.old }
+        ensures rung { wakes stand.new ≡ one_more (next_of number workers) (wakes stand.old) };
 
-    /// It has retired.
+    /// It has retired: it wakes all others.
     fn after_retire(&self, stand: &mut T, number: u32, workers: u32)
         requires { fits self.now (kept stand.old) workers }
-        ensures { kept stand.new ≡ kept stand.old };
+        ensures kept { kept stand.new ≡ kept stand.old }
+        ensures rung { wakes stand.new ≡ others_more number workers (wakes stand.old) };
 }
 
 /// Nobody rests.
@@ -31,6 +36,8 @@ pub struct NoBell;
 
 impl Bell<NoBell> for NoBell {
     ghost kept = { λ _. post [] 0 [] 0 };
+
+    ghost wakes = { λ _. [] };
 
     ghost fits = { λ _ _ _. Unit {0} };
 
@@ -42,6 +49,8 @@ impl Bell<NoBell> for NoBell {
 /// After a send it wakes the next worker, and after it retired all others.
 impl Bell<Stand> for Crew {
     ghost kept = { but_wakes };
+
+    ghost wakes = { λ stand. stand.wakes };
 
     ghost fits = { λ crew stand workers.
         (stand.crew ≡ crew) × (length crew ≡ workers) × (0 < workers) };
@@ -60,7 +69,8 @@ fn wake_next(crew: &Crew, stand: &mut Stand, number: u32, workers: u32)
     requires stand { stand.old.crew ≡ crew.now }
     requires workers { length crew.now ≡ workers }
     requires some { 0 < workers }
-    ensures { but_wakes stand.new ≡ but_wakes stand.old }
+    ensures kept { but_wakes stand.new ≡ but_wakes stand.old }
+    ensures rung { stand.new.wakes ≡ one_more (next_of number workers) stand.old.wakes }
 {
     let next = number.saturating_add(1);
     if next < workers {
@@ -74,7 +84,8 @@ fn wake_next(crew: &Crew, stand: &mut Stand, number: u32, workers: u32)
 fn wake_others(crew: &Crew, stand: &mut Stand, number: u32, workers: u32)
     requires stand { stand.old.crew ≡ crew.now }
     requires workers { length crew.now ≡ workers }
-    ensures { but_wakes stand.new ≡ but_wakes stand.old }
+    ensures kept { but_wakes stand.new ≡ but_wakes stand.old }
+    ensures rung { stand.new.wakes ≡ others_more number workers stand.old.wakes }
 {
     'workers: for worker in 0..workers {
         if worker != number {

@@ -2,6 +2,7 @@
 ghost use Rattle.std.specs.Prelude.{◌≡◌, ◌≤◌, ◌+◌, [], length, None, All};
 ghost use Rattle.scq_block.specs.Frames.{bytes_of};
 ghost use Rattle.scq_files.specs.OwnFiles.{IsNew, ids_of};
+ghost use Rattle.scq_worker.specs.Bells.{HasRung};
 ghost use Rattle.scq_worker.specs.Seats.{IsFresh};
 ghost use Rattle.scq_worker.specs.Desks.{HasProduced, IsToSweep, HasRun};
 ghost use Rattle.scq_passes.specs.Leaving.{HasLeftSwept};
@@ -43,6 +44,9 @@ pub fn produce<S: Source, G: Gate, T, W: Bell<T>>(
         desk.new.worker.worker.members.items desk.new.worker.worker.starved desk.new.worker.kept }
     ensures number { desk.new.worker.worker.pass.number ≡ desk.old.worker.worker.pass.number }
     ensures bell { W.kept stand.new ≡ W.kept stand.old }
+    ensures rung { desk.new.worker.worker.pass.spent ≡ None
+        → HasRung desk.old.worker.worker.number job.now.workers desk.new.worker.worker.pass
+        (W.wakes stand.old) (W.wakes stand.new) }
 {
     let with = Calls {
         alloc,

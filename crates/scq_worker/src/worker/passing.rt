@@ -5,6 +5,7 @@ ghost use Rattle.scq_frames.specs.Parts.{Part as ThePart, IsNumbered, all_parts}
 ghost use Rattle.scq_frames.specs.Parts.{parts_of as the_parts_of, part_of};
 ghost use Rattle.scq_passes.specs.Waiting.{HelpsInVain};
 ghost use Rattle.scq_passes.specs.Calls.{Suits};
+ghost use Rattle.scq_worker.specs.Bells.{RingsOn};
 ghost use Rattle.scq_worker.specs.Working.{IsAtWork, HasStopped};
 
 use crate::bell::Bell;
@@ -50,6 +51,8 @@ impl<B: BufferMut> Worker<B> {
         ensures vain { OnOk result (HelpsInVain (length job.now.topics + 1) self.old.pass
             → HelpsInVain (length job.now.topics + 1) self.new.pass) }
         ensures bell { W.kept stand.new ≡ W.kept stand.old }
+        ensures rung { OnOk result (RingsOn self.old.number job.now.workers self.old.pass
+            self.new.pass (W.wakes stand.old) (W.wakes stand.new)) }
         ensures starved { self.new.starved ≡ false → self.old.starved ≡ false }
         ensures number { (self.new.number ≡ self.old.number)
             × (self.new.pass.number ≡ self.old.pass.number) }
@@ -101,6 +104,8 @@ impl<B: BufferMut> Worker<B> {
         ensures vain { OnOk result (HelpsInVain (length job.now.topics + 1) self.old.pass
             → HelpsInVain (length job.now.topics + 1) self.new.pass) }
         ensures bell { W.kept stand.new ≡ W.kept stand.old }
+        ensures rung { OnOk result (RingsOn self.old.number job.now.workers self.old.pass
+            self.new.pass (W.wakes stand.old) (W.wakes stand.new)) }
         ensures starved { self.new.starved ≡ false → self.old.starved ≡ false }
         ensures number { (self.new.number ≡ self.old.number)
             × (self.new.pass.number ≡ self.old.pass.number) }

@@ -25,6 +25,7 @@ pub(crate) struct Calls<'a, G, W> {
 impl<'a, G: Gate, T, W: Bell<T>> Handler<Calls<'a, G, W>, T> for Worker<Frame> {
     ghost use Rattle.std.proofs.Common.{refl, sym, ◌∙◌, subst};
     ghost use Rattle.scq_desk.specs.GoingOn.{gone-none, gone-along, gone-stopped};
+    ghost use Rattle.scq_worker.specs.Bells.{RingsOn, rings-along};
     ghost use Rattle.scq_worker.specs.Reading.{IsAt, IsOver, HasGoneOn, HasStoppedAt};
 
     type Stop = AtLimit<Frame>;
@@ -39,7 +40,8 @@ impl<'a, G: Gate, T, W: Bell<T>> Handler<Calls<'a, G, W>, T> for Worker<Frame> {
 
     ghost handled = { λ c ms t old s new.
         HasGoneOn c.queue.now c.job.now.topics c.job.now.size ms old new
-        × (W.kept s ≡ W.kept t) };
+        × (W.kept s ≡ W.kept t) × (new.number ≡ old.number)
+        × RingsOn old.number c.job.now.workers old.pass new.pass (W.wakes t) (W.wakes s) };
 
     ghost stopped = { λ c ms t old s new stop.
         HasStoppedAt c.queue.now c.job.now.topics c.job.now.size ms old new stop.held
@@ -70,6 +72,8 @@ impl<'a, G: Gate, T, W: Bell<T>> Handler<Calls<'a, G, W>, T> for Worker<Frame> {
           (IsAt c.queue.now c.job.now.topics c.job.now.size) c.queue.now (length c.job.now.topics)
           w ready.0 ready.1,
       refl,
+      refl,
+      λ first was. was,
     ) };
 
     ghost stays_ready = { λ c ms t s old new ready its. (
@@ -84,6 +88,9 @@ impl<'a, G: Gate, T, W: Bell<T>> Handler<Calls<'a, G, W>, T> for Worker<Frame> {
           (IsAt c.queue.now c.job.now.topics c.job.now.size) c.queue.now (length c.job.now.topics)
           ms ns old mid new one.0 more.0,
       more.1 ∙ one.1,
+      more.2 ∙ one.2,
+      rings-along c.job.now.workers old.number mid.number old.pass mid.pass new.pass
+          (W.wakes t) (W.wakes s) (W.wakes u) one.2 one.3 more.3,
     ) };
 
     ghost then_stopped = { λ c ms ns t s u old mid new stop one more. (

@@ -1,6 +1,7 @@
 //! How a worker retires, and how it takes where it sweeps.
 ghost use Rattle.std.specs.Prelude.{◌≡◌, length, None};
 ghost use Rattle.scq_passes.specs.Calls.{after_retire};
+ghost use Rattle.scq_worker.specs.Bells.{others_more};
 
 use crate::bell::Bell;
 use crate::worker::Worker;
@@ -76,6 +77,8 @@ impl<B: BufferMut> Worker<B> {
         ensures same { (self.new.members.items ≡ self.old.members.items)
             × (self.new.starved ≡ self.old.starved) × (self.new.number ≡ self.old.number) }
         ensures bell { W.kept stand.new ≡ W.kept stand.old }
+        ensures rung { W.wakes stand.new
+            ≡ others_more self.old.number job.now.workers (W.wakes stand.old) }
     {
         queue.retire(&mut self.pass);
         bell.after_retire(stand, self.number, job.workers);

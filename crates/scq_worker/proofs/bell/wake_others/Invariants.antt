@@ -1,7 +1,8 @@
 use Rattle.std.proofs.Common.{◌≡◌}
-use Rattle.scq_worker.specs.Bells.{but_wakes}
+use Rattle.scq_worker.specs.Bells.{but_wakes, others_more}
 use Rattle.scq_worker.proofs.bell.wake_others.Given as goal
 
 -- nothing of the stand changes but whom it woke
 abbrev pub invariant-workers : goal.invariant-workers
-invariant-workers l = but_wakes l.stand ≡ but_wakes l.fn.stand
+invariant-workers l = (but_wakes l.stand ≡ but_wakes l.fn.stand)
+    × (l.stand.wakes ≡ others_more l.number l.worker l.fn.stand.wakes)

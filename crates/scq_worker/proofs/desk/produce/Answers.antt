@@ -5,8 +5,9 @@ use Rattle.scq_worker.specs.Reading.{IsAt}
 use Rattle.scq_files.specs.declared.own_file.OwnFile.{OwnFile}
 use Rattle.scq_worker.specs.declared.worker.Worker.{Worker}
 use Rattle.scq_files.proofs.Lists.{written-back}
-use Rattle.scq_worker.proofs.Produced.{vain-first, produced-awake, produced-stopped}
+use Rattle.scq_worker.proofs.Produced.{none-or, vain-first, produced-awake, produced-stopped}
 use Rattle.scq_worker.proofs.RunLemmas.{suits-first, work-first}
+use Rattle.scq_worker.proofs.Rung.{rung-retired}
 use Rattle.scq_worker.proofs.desk.produce.Goals as goal
 use Rattle.scq_worker.proofs.desk.produce.Goals.{After-read_files}
 
@@ -114,3 +115,20 @@ returns-in-Err-clause-number g c =
 
 pub returns-in-Err-clause-bell : goal.returns-in-Err-clause-bell
 returns-in-Err-clause-bell g c = c.retire-in-Err.ensures.bell ∙ c.in-Err.ensures.stopped.1
+
+pub returns-in-Ok-clause-rung : goal.returns-in-Ok-clause-rung
+returns-in-Ok-clause-rung g c awake =
+    let first = c.args.desk.now.worker.worker in
+    let was = c.read_files.new.handler in
+    let its = c.in-Ok.ensures.handled in
+    rung-retired first.number c.args.job.now.workers c.args.queue.now first.pass.number was.number first.pass was.pass c.retire.new.self.pass
+    (g.W.Bell.wakes c.args.stand.now) (g.W.Bell.wakes c.read_files.new.beside) (g.W.Bell.wakes c.retire.new.stand)
+    c.requires.fresh.pass its.3 c.retire.ensures.pass its.2 c.retire.ensures.rung
+
+-- at a ticket past the limit nothing is said of it
+pub returns-in-Err-clause-rung : goal.returns-in-Err-clause-rung
+returns-in-Err-clause-rung g c awake =
+    let end = c.in-Err.ensures.stopped.0.left [] (begun g (goal.at.returns-in-Err-clause-rung g c).After-read_files) in
+    let now = c.keep.new.self.worker in
+    let retired = ap (λ (w : Worker _). w.pass) c.keep.ensures.same ∙ c.retire-in-Err.ensures.pass in
+    absurd (none-or now.pass.spent end.spent.0 (ap (λ (p : PassStanding _). p.spent) retired ∙ end.spent.1) awake)

@@ -6,6 +6,7 @@ use Rattle.std.proofs.lemmas.List.{append-nil, append_assoc, length-append}
 use Rattle.std.proofs.lemmas.List.FromFn.{length-map-range_with_len, map-range_with_len_more}
 use Rattle.scq_frames.specs.declared.message.Message.{Message}
 use Rattle.scq_frames.specs.Parts.{Part, part_of, parts_of, all_parts}
+use Rattle.scq_worker.specs.Bells.{RingsOn, rings-along}
 use Rattle.scq_worker.specs.Working.{IsAtWork, HasStopped}
 use Rattle.scq_worker.proofs.PassedOn.{stopped-more}
 use Rattle.scq_worker.proofs.worker.Worker.pass_on.Goals as goal
@@ -45,6 +46,7 @@ parts-init g c = record {
       (sym (append-nil parts)) was;
   vain = λ was. was;
   bell = refl;
+  rung = λ first was. was;
   starved = λ fed. fed;
   number = refl;
   pass = refl;
@@ -64,6 +66,8 @@ parts-preserved g c =
           (its.work (parts ++ map (part_of c.args.job.now.size c.args.message.now) (range_with_len 1 c.parts.before)) (inv.work parts was));
       vain = λ was. its.vain (inv.vain was);
       bell = c.pass_part.ensures.bell ∙ inv.bell;
+      rung = rings-along c.args.job.now.workers c.args.self.now.number c.parts.self.number c.args.self.now.pass c.parts.self.pass now.pass
+          (g.W.Bell.wakes c.args.stand.now) (g.W.Bell.wakes c.parts.stand) (g.W.Bell.wakes c.pass_part.new.stand) inv.number inv.rung its.rung;
       starved = λ fed. inv.starved (c.pass_part.ensures.starved fed);
       number = c.pass_part.ensures.number.0 ∙ inv.number;
       pass = c.pass_part.ensures.number.1 ∙ inv.pass;

@@ -3,6 +3,7 @@ use Rattle.std.specs.List.{range_with_len}
 use Rattle.scq_frames.specs.Parts.{Part, part_of}
 use Rattle.scq_passes.specs.Waiting.{HelpsInVain}
 use Rattle.scq_passes.specs.Calls.{Suits}
+use Rattle.scq_worker.specs.Bells.{RingsOn}
 use Rattle.scq_worker.specs.Working.{IsAtWork}
 use Rattle.scq_worker.proofs.worker.Worker.pass_on.Given as goal
 
@@ -15,6 +16,7 @@ invariant-parts g l = record {
       → IsAtWork l.job.topics (parts ++ map (part_of l.job.size l.message) (range_with_len 1 l.before)) l.self.pass l.self.members.items l.self.starved;
   vain : HelpsInVain (length l.job.topics + 1) l.fn.self.pass → HelpsInVain (length l.job.topics + 1) l.self.pass;
   bell : g.W.Bell.kept l.stand ≡ g.W.Bell.kept l.fn.stand;
+  rung : RingsOn l.fn.self.number l.job.workers l.fn.self.pass l.self.pass (g.W.Bell.wakes l.fn.stand) (g.W.Bell.wakes l.stand);
   starved : l.self.starved ≡ false → l.fn.self.starved ≡ false;
   number : l.self.number ≡ l.fn.self.number;
   pass : l.self.pass.number ≡ l.fn.self.pass.number;

@@ -1,4 +1,4 @@
-use Rattle.std.proofs.Common.{rules, ◌≡◌, ◌≤◌, ◌<◌, ◌+◌, ◌++◌, ◌∷◌, ◌∙◌, ap, sym, subst, arith, suc, List, [], length, None, Err, Result}
+use Rattle.std.proofs.Common.{rules, ◌≡◌, ◌≤◌, ◌<◌, ◌+◌, ◌++◌, ◌∷◌, ◌∙◌, refl, ap, sym, subst, arith, suc, List, [], length, None, Err, Result}
 use Rattle.std.specs.Prelude.{IfErr, count_by, Bool}
 use Rattle.scq_collect.specs.declared.answered.Answered.{Answered}
 use Rattle.scq_passes.specs.Records.{is_take}
@@ -7,6 +7,7 @@ use Rattle.scq_queue.specs.Passes.{PassStanding}
 use Rattle.scq_passes.specs.Waiting.{TookInVain}
 use Rattle.scq_passes.specs.Calls.{Suits, HasTaken, HasFoundFull, HasLeft}
 use Rattle.scq_worker.specs.Passing.{Sends}
+use Rattle.scq_worker.specs.Bells.{RingsOn}
 use Rattle.scq_worker.specs.Working.{HasSent, HasAnswered, IsAtWork, HasStopped}
 use Rattle.scq_passes.proofs.PassLemmas.{found-full, lent-and-sent, suits-taken}
 use Rattle.scq_passes.proofs.LeftLemmas.{left-at-get, left-full, left-more}
@@ -14,6 +15,7 @@ use Rattle.scq_passes.proofs.ManyLists.{one-of-all}
 use Rattle.scq_worker.proofs.PassedOn.{left-sent, suits-full, work-sent, work-helped, work-stopped}
 use Rattle.scq_passes.proofs.Vain.{vain-helped}
 use Rattle.scq_worker.proofs.Vain.{vain-sent}
+use Rattle.scq_worker.proofs.Rung.{rung-sent, rung-helped}
 use Rattle.scq_worker.proofs.worker.Worker.pass_part.Goals as goal
 use Rattle.scq_worker.proofs.worker.Worker.pass_part.Goals.{After-answer_directly}
 
@@ -162,3 +164,23 @@ returns-in_ok-help-in-Err-Full-clause-vain g c was =
     subst (λ (q : PassStanding _). TookInVain all q c.help.new.self.pass) c.answer_directly.ensures.same.0 c.in_ok-help-in-Err-Full.ensures.vain in
     vain-helped all c.in-Err-Full.head c.args.self.now.pass c.lend.new.pass c.help.new.self.pass full took
     (ap (λ (x : PassStanding _). x.fulls) (helped g c).pass) was
+
+-- the next worker was woken where the part was sent
+pub returns-in_ok-send_in-in-Ok-clause-rung : goal.returns-in_ok-send_in-in-Ok-clause-rung
+returns-in_ok-send_in-in-Ok-clause-rung g c =
+    let m = part_of c.args.job.now.size c.args.message.now c.args.part in
+    let p = c.args.self.now.pass in
+    let now = c.send_in.new.self in
+    let said = c.in_ok-send_in-in-Ok.ensures.sent in
+    let within : suc m.topic < length p.numbers = let n = c.requires.suits.numbers in let low = c.requires.topic in omega arith in
+    let sent : HasSent m p now.pass =
+    lent-and-sent g.B.Buffer.contents m.topic (Sends m) said.0 said.1 p c.lend.new.pass now.pass c.in-Ok.held within c.in-Ok.ensures.lent said.2 said.3 in
+    subst (λ n. RingsOn n c.args.job.now.workers p now.pass (g.W.Bell.wakes c.args.stand.now) (g.W.Bell.wakes c.after_send.new.stand)) c.in_ok-send_in-in-Ok.ensures.same.2
+    (rung-sent now.number c.args.job.now.workers m p now.pass (g.W.Bell.wakes c.args.stand.now) (g.W.Bell.wakes c.after_send.new.stand) sent
+    c.after_send.ensures.rung)
+
+pub returns-in_ok-help-in-Err-Full-clause-rung : goal.returns-in_ok-help-in-Err-Full-clause-rung
+returns-in_ok-help-in-Err-Full-clause-rung g c =
+    let full = full-at g (goal.at.returns-in_ok-help-in-Err-Full-clause-rung g c).After-answer_directly in
+    rung-helped c.args.self.now.number c.args.job.now.workers c.in-Err-Full.head c.args.self.now.pass c.lend.new.pass c.help.new.self.pass
+    (g.W.Bell.wakes c.args.stand.now) (g.W.Bell.wakes c.args.stand.now) full (helped g c) refl

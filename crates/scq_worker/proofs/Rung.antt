@@ -1,0 +1,43 @@
+-- Whom a worker has woken, after a send and after a Full.
+use Rattle.std.proofs.Common.{◌≡◌, ◌∙◌, sym, ap, subst, arith, ℕ, ◌+◌, suc, zero, refl, List, [], ◌∷◌, length, if◌then◌else◌}
+use Rattle.std.proofs.lemmas.List.{length-append}
+use Rattle.scq_frames.specs.Parts.{Part}
+use Rattle.scq_passes.proofs.Kept.{taken-sends, sent-sends, placed, full-sends}
+use Rattle.scq_passes.specs.Calls.{HasTaken, HasFoundFull, after_retire}
+use Rattle.scq_queue.specs.Lists.{sends_of}
+use Rattle.scq_band.specs.Standing.{Identity}
+use Rattle.scq_queue.specs.Passes.{PassStanding, first_pass}
+use Rattle.scq_worker.specs.Bells.{next_of, one_more, more_often, others_more, RingsEachSend, RingsOn, HasRung}
+use Rattle.scq_worker.specs.Passing.{Sends}
+use Rattle.scq_worker.specs.Working.{HasSent}
+
+module _ {B : Type 0} (number workers : ℕ) where
+  -- a part was sent, and the next worker woken
+  pub rung-sent : (m : Part) (p q : PassStanding B) (was is : List ℕ) → HasSent m p q → is ≡ one_more (next_of number workers) was
+      → RingsOn number workers p q was is
+  rung-sent m p q was is h more first rings =
+      let sends : length (sends_of q.calls) ≡ length (sends_of p.calls) + 1 =
+      ap length (sent-sends m.topic (Sends m) p q h) ∙ length-append (sends_of p.calls) (placed m.topic (Sends m) p q h ∷ []) in
+      let one : suc (length (sends_of p.calls)) ≡ length (sends_of q.calls) = omega (arith, sends) in
+      more ∙ ap (one_more (next_of number workers)) rings ∙ ap (λ k. more_often (next_of number workers) k first) one
+
+  -- no buffer was free, and nothing was sent
+  pub rung-helped : (head : ℕ) (p q r : PassStanding B) (was is : List ℕ) → HasFoundFull head p q → HasTaken q r → is ≡ was
+      → RingsOn number workers p r was is
+  rung-helped head p q r was is full taken same first rings =
+      same ∙ rings ∙ ap (λ k. more_often (next_of number workers) k first) (sym (ap length (taken-sends q r taken) ∙ ap length (full-sends head p q full)))
+
+  -- its files are read, and it has retired
+  pub rung-retired : (shared : Identity B) (seat of : ℕ) (p q r : PassStanding B) (was mid is : List ℕ) → p ≡ first_pass shared seat
+      → RingsOn number workers p q was mid → r ≡ after_retire q → of ≡ number → is ≡ others_more of workers mid → HasRung number workers r was is
+  rung-retired shared seat of p q r was mid is fresh on retired same more =
+      let next = next_of number workers in
+      let start : RingsEachSend number workers p was was = subst (λ (x : PassStanding B). RingsEachSend number workers x was was) (sym fresh) refl in
+      let rings : mid ≡ more_often next (length (sends_of r.calls)) was =
+      on was start ∙ ap (λ (x : PassStanding B). more_often next (length (sends_of x.calls)) was) (sym retired) in
+      more ∙ ap (λ n. others_more n workers mid) same ∙ ap (others_more number workers) rings
+
+-- where nobody rests, nobody is woken
+pub nobody-more : (number workers : ℕ) → others_more number workers [] ≡ []
+nobody-more number zero = refl
+nobody-more number (suc k) = rw (nobody-more number k) (refl)
