@@ -64,10 +64,10 @@ pub fn read_files<R: Threads + Sync, F: Files, G: Gate>(
 ) -> Outcome<F::Src>
     requires few { length names.now ≤ 64 }
     ensures got { HasGotSources F.Src.faults F.Src.left
-        (map string_bytes names.now) result.got.value.items
+        (map string_bytes names.now) result.got.items
         (inputs_of F.table F.faults files.old files.new result.sources.items result.read) }
     ensures ends { ReadsOver job.now.longest F.Src.faults F.Src.ends F.Src.left
-        (map string_bytes names.now) result.got.value.items
+        (map string_bytes names.now) result.got.items
         (inputs_of F.table F.faults files.old files.new result.sources.items result.read)
         result.fault }
     ensures status { result.status ≡ status_of result.fault }
@@ -75,12 +75,12 @@ pub fn read_files<R: Threads + Sync, F: Files, G: Gate>(
     ensures unstaged { result.staged ≡ None }
     ensures known { IfSome result.worked (λ w.
         All (λ a. a.topic ≤ length job.now.topics) (members_in w.answered.items)) }
-    ensures answers { AreOfParts job.now.topics job.now.size F.Src.left result.got.value.items
+    ensures answers { AreOfParts job.now.topics job.now.size F.Src.left result.got.items
         result.worked }
     ensures told { IsWorkOf job.now.topics job.now.size job.now.workers F.Src.left
-        result.got.value.items result.worked }
+        result.got.items result.worked }
     ensures work { IsWork job.now.topics job.now.size job.now.longest job.now.workers F.Src.faults
-        F.Src.ends F.Src.left result.got.value.items
+        F.Src.ends F.Src.left result.got.items
         (inputs_of F.table F.faults files.old files.new result.sources.items result.read)
         result.worked }
     ensures left { IfSome result.left (λ left.
@@ -115,10 +115,10 @@ pub fn read_files_waiting<R: Threads + Wait + Sync, F: Files, G: Gate>(
 ) -> Outcome<F::Src>
     requires few { length names.now ≤ 64 }
     ensures got { HasGotSources F.Src.faults F.Src.left
-        (map string_bytes names.now) result.got.value.items
+        (map string_bytes names.now) result.got.items
         (inputs_of F.table F.faults files.old files.new result.sources.items result.read) }
     ensures ends { ReadsOver job.now.longest F.Src.faults F.Src.ends F.Src.left
-        (map string_bytes names.now) result.got.value.items
+        (map string_bytes names.now) result.got.items
         (inputs_of F.table F.faults files.old files.new result.sources.items result.read)
         result.fault }
     ensures status { result.status ≡ status_of result.fault }
@@ -126,12 +126,12 @@ pub fn read_files_waiting<R: Threads + Wait + Sync, F: Files, G: Gate>(
     ensures unstaged { result.staged ≡ None }
     ensures known { IfSome result.worked (λ w.
         All (λ a. a.topic ≤ length job.now.topics) (members_in w.answered.items)) }
-    ensures answers { AreOfParts job.now.topics job.now.size F.Src.left result.got.value.items
+    ensures answers { AreOfParts job.now.topics job.now.size F.Src.left result.got.items
         result.worked }
     ensures told { IsWorkOf job.now.topics job.now.size job.now.workers F.Src.left
-        result.got.value.items result.worked }
+        result.got.items result.worked }
     ensures work { IsWork job.now.topics job.now.size job.now.longest job.now.workers F.Src.faults
-        F.Src.ends F.Src.left result.got.value.items
+        F.Src.ends F.Src.left result.got.items
         (inputs_of F.table F.faults files.old files.new result.sources.items result.read)
         result.worked }
     ensures left { IfSome result.left (λ left.
@@ -208,10 +208,10 @@ fn conclude<F: Files>(
         HasCause job.now.longest F.Src.faults F.Src.ends F.Src.left got.value.items
         end.sources.items fault) }
     ensures got { HasGotSources F.Src.faults F.Src.left
-        (map string_bytes names.now) result.got.value.items
+        (map string_bytes names.now) result.got.items
         (inputs_of F.table F.faults was.now.value files.now result.sources.items result.read) }
     ensures ends { ReadsOver job.now.longest F.Src.faults F.Src.ends F.Src.left
-        (map string_bytes names.now) result.got.value.items
+        (map string_bytes names.now) result.got.items
         (inputs_of F.table F.faults was.now.value files.now result.sources.items result.read)
         result.fault }
     ensures status { result.status ≡ status_of result.fault }
@@ -219,12 +219,12 @@ fn conclude<F: Files>(
     ensures unstaged { result.staged ≡ None }
     ensures known { IfSome result.worked (λ w.
         All (λ a. a.topic ≤ length job.now.topics) (members_in w.answered.items)) }
-    ensures answers { AreOfParts job.now.topics job.now.size F.Src.left result.got.value.items
+    ensures answers { AreOfParts job.now.topics job.now.size F.Src.left result.got.items
         result.worked }
     ensures told { IsWorkOf job.now.topics job.now.size job.now.workers F.Src.left
-        result.got.value.items result.worked }
+        result.got.items result.worked }
     ensures work { IsWork job.now.topics job.now.size job.now.longest job.now.workers F.Src.faults
-        F.Src.ends F.Src.left result.got.value.items
+        F.Src.ends F.Src.left result.got.items
         (inputs_of F.table F.faults was.now.value files.now result.sources.items result.read)
         result.worked }
     ensures left { IfSome result.left (λ left.
