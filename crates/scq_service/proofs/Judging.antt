@@ -111,19 +111,19 @@ module _ {S : Type 0} (faults end_count : S → ℕ) (left : S → Option (List 
         let B : Bool → Type 0 = λ b. recording_of b contents ≡ Ok reader.recorded in
         cause_of_recorded (length names == 1) contents reader.recorded told.0 (subst B lone told.1) fault in_it)
         (until_recorded faults end_count left olds news reader.recorded had.files had.whole fault in_it) where
-      have : HaveAll names (record { table = table; opens = opens; sources = news; read = 0 })
-      have = have_all had.many all kept
+          have : HaveAll names (record { table = table; opens = opens; sources = news; read = 0 })
+          have = have_all had.many all kept
 
-      by : (fault : JudgeFault) → IsCauseIn reader.recorded fault
-          → ((contents : List (List ℕ)) → HaveContents left olds contents → IsCause (length names == 1) contents fault)
-          → AreReadUntil faults end_count left olds news fault → Ends fault
-      by (judge.BadLine file line) h cause until = absurd h
-      by (judge.ReadFault file) h cause until = absurd h
-      by (judge.TooLarge file) h cause until = absurd h
-      by (judge.Shared what file line g m) h cause until =
-          ((judge.Shared what file line g m, refl, record { got_for = have; until = until; cause = told_of left olds _ cause }), unwritten)
-      by (judge.TwoRuns file run g s) h cause until =
-          ((judge.TwoRuns file run g s, refl, record { got_for = have; until = until; cause = told_of left olds _ cause }), unwritten)
-      by (judge.Unlawful file line) h cause until =
-          ((judge.Unlawful file line, refl, record { got_for = have; until = until; cause = told_of left olds _ cause }), unwritten)
-      by judge.NoMemory h cause until = (omega (arith, come.within, had.many), until, refl, unwritten)
+          by : (fault : JudgeFault) → IsCauseIn reader.recorded fault
+              → ((contents : List (List ℕ)) → HaveContents left olds contents → IsCause (length names == 1) contents fault)
+              → AreReadUntil faults end_count left olds news fault → Ends fault
+          by (judge.BadLine file line) h cause until = absurd h
+          by (judge.ReadFault file) h cause until = absurd h
+          by (judge.TooLarge file) h cause until = absurd h
+          by (judge.Shared what file line g m) h cause until =
+              ((judge.Shared what file line g m, refl, record { got_for = have; until = until; cause = told_of left olds _ cause }), unwritten)
+          by (judge.TwoRuns file run g s) h cause until =
+              ((judge.TwoRuns file run g s, refl, record { got_for = have; until = until; cause = told_of left olds _ cause }), unwritten)
+          by (judge.Unlawful file line) h cause until =
+              ((judge.Unlawful file line, refl, record { got_for = have; until = until; cause = told_of left olds _ cause }), unwritten)
+          by judge.NoMemory h cause until = (omega (arith, come.within, had.many), until, refl, unwritten)

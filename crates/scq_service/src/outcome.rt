@@ -3,8 +3,8 @@ ghost use Rattle.scq_service.specs.Faults.{status_of_fault, fault_of_work, fault
 ghost use Rattle.scq_service.specs.Faults.{bytes_of_large, bytes_of_large_text};
 ghost use Rattle.scq_service.specs.Answers.{WorkedAt};
 
-use crate::{Fault, Sources};
 use crate::commands::MOST_TEXT;
+use crate::{Fault, Sources};
 use scq_block::Frame;
 use scq_outside::ReadAllFault;
 use scq_queue::Pass;

@@ -46,14 +46,15 @@ pub fn run_judge<F: Files, K: Sink>(
         got,
         sources,
     } = report_on(alloc, room, names, files);
-    let outcome = match report {
+    match report {
         Ok(text) => match write_all(out, text.bytes()) {
-            Ok(()) => Outcome::whole(Vec::new(alloc)),
-            Err(Failed) => Outcome::at(Vec::new(alloc), Fault::WriteFault),
+            Ok(()) => Outcome::whole(Vec::new(alloc)).over(got, sources),
+            Err(Failed) => {
+                Outcome::at(Vec::new(alloc), Fault::WriteFault).over(got, sources)
+            }
         },
-        Err(fault) => Outcome::at(Vec::new(alloc), fault),
-    };
-    outcome.over(got, sources)
+        Err(fault) => Outcome::at(Vec::new(alloc), fault).over(got, sources),
+    }
 }
 
 /// The report of recordings as text, or why they were not judged, and, for contracts alone, the
@@ -119,13 +120,16 @@ fn report_on<F: Files>(
             }
         }
     }
-    let report = match reader.judge(alloc, room, names) {
-        Ok(text) => Ok(text),
-        Err(fault) => Err(Fault::from(fault)),
-    };
-    Reported {
-        report,
-        got,
-        sources,
+    match reader.judge(alloc, room, names) {
+        Ok(text) => Reported {
+            report: Ok(text),
+            got,
+            sources,
+        },
+        Err(fault) => Reported {
+            report: Err(Fault::from(fault)),
+            got,
+            sources,
+        },
     }
 }
