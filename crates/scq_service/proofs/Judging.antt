@@ -84,7 +84,7 @@ module _ {S : Type 0} (faults end_count : S → ℕ) (left : S → Option (List 
   }
 
   module _ (room : Option ℕ) (w : Wrote) (fault : JudgeFault) (kept : IsUnchanged opens) (unwritten : IsUnwritten w) where
-    Ends : JudgeFault → Type 0
+    abbrev Ends : JudgeFault → Type 0
     Ends f = EndsJudged faults end_count left room names olds (record { table = table; opens = opens; sources = news; read = 0 }) w (Some (fault_of_judge f))
 
     -- a file is at fault

@@ -1,10 +1,11 @@
-use Rattle.std.proofs.Common.{◌≡◌, ◌∙◌, sym, ap, arith, subst, map, length, get_or, length-append, ◌+◌, ◌<◌, [], ◌∷◌, ◌++◌, ℕ, Option, Some, Ok}
+use Rattle.std.proofs.Common.{◌≡◌, ◌∙◌, sym, ap, arith, subst, map, length, get_or, length-append, ◌+◌, ◌<◌, [], ◌∷◌, ◌++◌, ℕ, List, Option, Some, Ok}
 use Rattle.std.specs.Prelude.{string_bytes}
 use Rattle.std.proofs.lemmas.List.{get_or-map, length-map}
 use Rattle.scq_outside.specs.Table.{Table}
 use Rattle.scq_judge.specs.Reads.{AreReadWhole, HasStopped}
 use Rattle.scq_judge.specs.Recording.{recording_of}
-use Rattle.scq_service.specs.Ends.{Change}
+use Rattle.scq_service.specs.Ends.{Change, EndsJudged}
+use Rattle.scq_service.specs.declared.fault.Fault.{Fault}
 use Rattle.scq_service.proofs.Coming.{come-more, missed}
 use Rattle.scq_service.proofs.Judging.{ends_refused, ends_stopped, got_after, have_all, unopened}
 use Rattle.scq_service.proofs.commands.judge.report_on.Goals as goal
@@ -131,10 +132,16 @@ returns-in-Err-read-clause-refused g c = λ w unwritten.
     let fault = c.in-Err-read.fault in
     let stop = subst (λ lone. HasStopped faults end_count left lone (olds ++ source ∷ []) (news ++ c.read-read.new.source ∷ []) fault) was.lone
     (c.in-Err-read.ensures.stopped olds news was.read) in
-    rw (c.with-got.ensures, c.with-sources.ensures, c.from.ensures)
-    (ends_stopped faults end_count left names table opens (olds ++ source ∷ []) (news ++ c.read-read.new.source ∷ [])
+    let all = olds ++ source ∷ [] in
+    let ends = news ++ c.read-read.new.source ∷ [] in
+    let E : List g.row.F-Src.Denot → List g.row.F-Src.Denot → Fault → Type 0 =
+    λ a b f. EndsJudged faults end_count left c.args.room names a (record { table = table; opens = opens; sources = b; read = 0 }) w (Some f) in
+    subst (λ a. E a c.with-sources.result.items c.from.result) (sym c.with-got.ensures)
+    (subst (λ b. E all b c.from.result) (sym c.with-sources.ensures)
+    (subst (λ f. E all ends f) (sym c.from.ensures)
+    (ends_stopped faults end_count left names table opens all ends
     (come-more faults left names before opened opens olds source c.as_str.result.now _ was.come more is_name said.given said.fresh said.content) c.args.room w fault
-    (said.kept ∙ was.kept) unwritten stop)
+    (said.kept ∙ was.kept) unwritten stop)))
 
 pub returns-in-Ok-judge-clause-got : goal.returns-in-Ok-judge-clause-got
 returns-in-Ok-judge-clause-got g c =
