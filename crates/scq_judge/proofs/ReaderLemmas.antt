@@ -61,8 +61,7 @@ module _ {S : Type 0} (faults end_count : S → ℕ) (left : S → Option (List 
         let l = have_last left olds old contents have in
         let h = had.told l.front l.before in
         let R : Option (List ℕ) → Type 0 = λ o. IfSome o (λ content. after_file (files + 1) lone before content ≡ Ok after) in
-        let M : Option (List ℕ) → Type 0 = λ o. IfSome o (λ content. length content ≤ most_bytes) in
-        (
+        let M : Option (List ℕ) → Type 0 = λ o. IfSome o (λ content. length content ≤ most_bytes) in (
           subst AreSmall (sym l.parts) (All-push (λ content. length content ≤ most_bytes) l.front l.last h.0 (subst M l.own small)),
           ap (recording_of lone) l.parts
               ∙ next_read lone l.front l.last before h.1 after (subst (λ n. after_file n lone before l.last ≡ Ok after) (number contents l) (subst R l.own read)),
@@ -107,17 +106,17 @@ module _ {S : Type 0} (faults end_count : S → ℕ) (left : S → Option (List 
         ))
         (λ f is. let b = large f is in (b.0 ∙ at, is_large l.front l.last (subst L l.own b.1)))
         (λ f is. failed f is ∙ at)) where
-      is_large : (front : List (List ℕ)) (last : List ℕ) → most_bytes < length last → IsLarge (front ++ last ∷ []) (length front + 1)
-      is_large front last large =
-          let longer : length (front ++ last ∷ []) ≡ length front + 1 = length-append front (last ∷ []) in
-          let at : length front + 1 - 1 ≡ length front = omega arith in
-          let there : slice_get (front ++ last ∷ []) (length front + 1 - 1) ≡ Some last =
-          ap (slice_get (front ++ last ∷ [])) at ∙ slice_get-get_or (front ++ last ∷ []) (length front) [] (omega (arith, longer))
-          ∙ ap Some (get_or-append_seam front last [] []) in
-          record {
-            is_file = record { first = omega arith; last = omega (arith, longer) };
-            large = subst (λ o. IsSomeAnd o (λ content. most_bytes < length content)) (sym there) large;
-          }
+          is_large : (front : List (List ℕ)) (last : List ℕ) → most_bytes < length last → IsLarge (front ++ last ∷ []) (length front + 1)
+          is_large front last large =
+              let longer : length (front ++ last ∷ []) ≡ length front + 1 = length-append front (last ∷ []) in
+              let at : length front + 1 - 1 ≡ length front = omega arith in
+              let there : slice_get (front ++ last ∷ []) (length front + 1 - 1) ≡ Some last =
+              ap (slice_get (front ++ last ∷ [])) at ∙ slice_get-get_or (front ++ last ∷ []) (length front) [] (omega (arith, longer))
+              ∙ ap Some (get_or-append_seam front last [] []) in
+              record {
+                is_file = record { first = omega arith; last = omega (arith, longer) };
+                large = subst (λ o. IsSomeAnd o (λ content. most_bytes < length content)) (sym there) large;
+              }
 
     read_before : (f : ℕ) → f ≡ files + 1 → AreReadBefore faults end_count left (olds ++ old ∷ []) (news ++ new ∷ []) f
     read_before f is = record {

@@ -49,9 +49,7 @@ pub fn run_judge<F: Files, K: Sink>(
     match report {
         Ok(text) => match write_all(out, text.bytes()) {
             Ok(()) => Outcome::whole(Vec::new(alloc)).over(got, sources),
-            Err(Failed) => {
-                Outcome::at(Vec::new(alloc), Fault::WriteFault).over(got, sources)
-            }
+            Err(Failed) => { Outcome::at(Vec::new(alloc), Fault::WriteFault).over(got, sources) }
         },
         Err(fault) => Outcome::at(Vec::new(alloc), fault).over(got, sources),
     }

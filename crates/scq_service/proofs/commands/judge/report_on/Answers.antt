@@ -74,8 +74,7 @@ returns-in-Err-clause-refused g c = λ w unwritten.
     let more : length olds < length names = omega (arith, c.files-test.true, was.count, length-map own string_bytes) in
     let is_name : c.as_str.result.now ≡ get_or names (length olds) [] =
     c.as_str.ensures.value ∙ ap string_bytes c.name-item.is ∙ sym (get_or-map string_bytes own c.files.name-index c.name-item.result [] c.files-test.true)
-    ∙ ap (λ n. get_or names n []) (sym was.count) in
-    (
+    ∙ ap (λ n. get_or names n []) (sym was.count) in (
       unopened faults end_count left names table opens olds news
           (record { within = was.come.within; table = said.unchanged ∙ was.come.table; fresh = was.come.fresh; unread = was.come.unread })
           c.files.reader (c.files.file + 1) was.read was.lone (ap (λ n. n + 1) (was.file ∙ sym was.count)) more
