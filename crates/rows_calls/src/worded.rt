@@ -19,8 +19,8 @@ pub fn request(alloc: Global, given: &str) -> Result<String> {
     }
 }
 
-/// `TIMES COMMAND WORD`: how many files the command asks for where it is given the word so often, or
-/// why it is refused.
+/// `TIMES COMMAND WORD`: how many files the command asks for where it is given the word so often,
+/// or why it is refused.
 pub fn many(alloc: Global, given: &str) -> Result<String> {
     let mut words = Vec::new(alloc);
     words.push(word_of(alloc, field(given, 1))?)?;

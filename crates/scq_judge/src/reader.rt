@@ -82,7 +82,8 @@ impl Reader {
         room: Option<u32>,
         names: &[String],
     ) -> Result<Bytes, JudgeFault>
-        ensures reported { IfOk result (IsReported (map string_bytes names.now) room self.recorded) }
+        ensures reported { IfOk result
+            (IsReported (map string_bytes names.now) room self.recorded) }
         ensures refused { IfErr result (IsCauseIn self.recorded) }
     {
         judge_recorded(alloc, room, names, self.recorded)
