@@ -11,7 +11,7 @@ use crate::outside::{opened, plain, streamed, taken, told};
 use crate::runs::run;
 use crate::staged::{job, left, lent, staged};
 use crate::topical::{found, generated, reply_to, topics};
-use crate::worded::{read_whole, request};
+use crate::worded::{many, read_whole, request};
 use anyhow::{Result, anyhow};
 use rows_text::Calls;
 use std::alloc::Global;
@@ -47,6 +47,7 @@ impl Calls for Libraries {
             "found" => found(alloc, given),
             "generated" => generated(alloc, given),
             "words" => request(alloc, given),
+            "many" => many(alloc, given),
             "whole" => read_whole(alloc, given),
             "plain" => plain(alloc, given),
             "told" => told(alloc, given),

@@ -86,6 +86,7 @@ fn schedule(alloc: Global, variant: &str) -> Result<String, AllocError> {
 fn words(alloc: Global, variant: &str) -> Result<String, AllocError> {
     let fault = match variant {
         "TooManyFiles" => WordsError::Refused(WordsFault::TooManyFiles),
+        "TooManyRecordings" => WordsError::Refused(WordsFault::TooManyRecordings),
         _ => WordsError::NoMemory,
     };
     fault.to_string(alloc)

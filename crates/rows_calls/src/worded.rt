@@ -19,6 +19,24 @@ pub fn request(alloc: Global, given: &str) -> Result<String> {
     }
 }
 
+/// `TIMES COMMAND WORD`: how many files the command asks for where it is given the word so often,
+/// or why it is refused.
+pub fn many(alloc: Global, given: &str) -> Result<String> {
+    let mut words = Vec::new(alloc);
+    words.push(word_of(alloc, field(given, 1))?)?;
+    for _ in 0..number(given, 0)? {
+        words.push(word_of(alloc, field(given, 2))?)?;
+    }
+    let files = match read_words(alloc, words.as_slice()) {
+        Ok(Request::Run(run)) => run.files.len(),
+        Ok(Request::Stages(stages)) => stages.files.len(),
+        Ok(Request::Judge(judge)) => judge.files.len(),
+        Ok(_) => 0,
+        Err(error) => return Ok(format!(in alloc; "{error}")?),
+    };
+    Ok(format!(in alloc; "{files}")?)
+}
+
 fn request_text(alloc: Global, request: &Request) -> Result<String> {
     let mut text = String::new(alloc);
     match request {

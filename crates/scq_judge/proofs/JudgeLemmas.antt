@@ -1,5 +1,6 @@
 -- What is at fault, as it is handed on
-use Rattle.std.proofs.Common.{◌≡◌, ◌∙◌, ◌⊎◌, inl, inr, ℕ, zero, suc, ◌+◌, ◌-◌, ◌==◌, List, [], ◌∷◌, length, map, take, refl, sym, ap, subst, arith, Option, Some, Ok, Err, slice_get, get_or, All}
+use Rattle.std.proofs.Common.{◌≡◌, ◌∙◌, ◌⊎◌, inl, inr, ℕ, zero, suc, ◌+◌, ◌-◌, Bool, List, [], ◌∷◌, ◌++◌, length, map, take, refl, sym, ap, subst, arith, Option, Some, Ok, Err, slice_get, get_or, All}
+use Rattle.std.proofs.Math.Seq.{take-append_seam, take-length}
 use Rattle.std.proofs.lemmas.List.{length-map}
 use Rattle.std.proofs.lemmas.Option.{slice_get_within, slice_get-get_or}
 use Rattle.std.proofs.lemmas.List.Sorted.{All-permutation}
@@ -9,7 +10,7 @@ use Rattle.scq_judge.specs.Judged.{IsHistoryOf, IsOutOfPlace, IsCause, IsCauseIn
 use Rattle.scq_judge.specs.Merged.{IsMergeOf, HasEqual, HasStampOfAnother}
 use Rattle.scq_judge.specs.Seats.{HasSeatOfAnother, IsAt}
 use Rattle.scq_judge.specs.Reads.{AreQuiet, AreReadUntil, AreReadWhole}
-use Rattle.scq_judge.specs.Recording.{Recording, AreOf, AreAllOf, nothing, after_files, recording_of}
+use Rattle.scq_judge.specs.Recording.{Recording, AreOf, AreAllOf, recording_of}
 use Rattle.scq_judge.specs.declared.judging.JudgeFault.{JudgeFault}
 use Rattle.scq_judge.specs.declared.judging.JudgeFault.TheVariants.{BadLine, Shared as SharedBy, TwoRuns, Unlawful, ReadFault, TooLarge, NoMemory}
 use Rattle.scq_judge.specs.declared.judging.Shared.{Shared}
@@ -59,39 +60,53 @@ cause_of_merging recorded (merging.SameStamp place other) same = same place othe
 cause_of_merging recorded merging.NoMemory same = tt
 
 -- what was read is at fault
-pub cause_of_recorded : (contents : List (List ℕ)) (recorded : Recording) → AreSmall contents → recording_of contents ≡ Ok recorded → (fault : JudgeFault)
-    → IsCauseIn recorded fault → IsCause contents fault
-cause_of_recorded contents recorded small read (BadLine file line) h = absurd h
-cause_of_recorded contents recorded small read (SharedBy what file line g m) h = record { small = small; recorded = recorded; read = read; cause = h }
-cause_of_recorded contents recorded small read (TwoRuns file run g s) h = record { small = small; recorded = recorded; read = read; cause = h }
-cause_of_recorded contents recorded small read (Unlawful file line) h = record { small = small; recorded = recorded; read = read; cause = h }
-cause_of_recorded contents recorded small read (ReadFault file) h = absurd h
-cause_of_recorded contents recorded small read (TooLarge file) h = absurd h
-cause_of_recorded contents recorded small read NoMemory h = tt
+pub cause_of_recorded : (lone : Bool) (contents : List (List ℕ)) (recorded : Recording) → AreSmall contents → recording_of lone contents ≡ Ok recorded
+    → (fault : JudgeFault) → IsCauseIn recorded fault → IsCause lone contents fault
+cause_of_recorded lone contents recorded small read (BadLine file line) h = absurd h
+cause_of_recorded lone contents recorded small read (SharedBy what file line g m) h = record { small = small; recorded = recorded; read = read; cause = h }
+cause_of_recorded lone contents recorded small read (TwoRuns file run g s) h = record { small = small; recorded = recorded; read = read; cause = h }
+cause_of_recorded lone contents recorded small read (Unlawful file line) h = record { small = small; recorded = recorded; read = read; cause = h }
+cause_of_recorded lone contents recorded small read (ReadFault file) h = absurd h
+cause_of_recorded lone contents recorded small read (TooLarge file) h = absurd h
+cause_of_recorded lone contents recorded small read NoMemory h = tt
 
--- the file at position i is at fault, and nothing is before it
-pub sound_before : (contents : List (List ℕ)) (i : ℕ) (recorded : Recording) → AreSmall (take i contents)
-    → after_files (length contents == 1) 1 nothing (take i contents) ≡ Ok recorded → AreSoundBefore contents (i + 1)
-sound_before contents i recorded small read =
-    let at : i ≡ i + 1 - 1 = omega arith in
+-- the last file is at fault, and nothing is before it
+pub sound_before : (lone : Bool) (front : List (List ℕ)) (content : List ℕ) (recorded : Recording) → AreSmall front → recording_of lone front ≡ Ok recorded
+    → AreSoundBefore lone (front ++ content ∷ []) (length front + 1)
+sound_before lone front content recorded small read =
+    let at : length front + 1 - 1 ≡ length front = omega arith in
+    let same : take (length front + 1 - 1) (front ++ content ∷ []) ≡ front =
+    ap (λ n. take n (front ++ content ∷ [])) at ∙ take-append_seam front (content ∷ []) in
     record {
-      small = subst (λ n. AreSmall (take n contents)) at small;
+      small = subst AreSmall (sym same) small;
       recorded = recorded;
-      read = subst (λ n. after_files (length contents == 1) 1 nothing (take n contents) ≡ Ok recorded) at read;
+      read = ap (recording_of lone) same ∙ read;
     }
 
-pub cause_of_reading : (contents : List (List ℕ)) (file : ℕ) (refused : ReadingFault) → AreSoundBefore contents file
-    → ((f line : ℕ) → refused ≡ reading.BadLine f line → (f ≡ file) × (recording_of contents ≡ Err (record { file = file; line = line })))
+-- nothing is at fault in those that were read
+pub sound_all : (lone : Bool) (contents : List (List ℕ)) (file : ℕ) (recorded : Recording) → AreSmall contents → recording_of lone contents ≡ Ok recorded
+    → file ≡ length contents + 1 → AreSoundBefore lone contents file
+sound_all lone contents file recorded small read next =
+    let at : file - 1 ≡ length contents = omega (arith, next) in
+    let same : take (file - 1) contents ≡ contents = ap (λ n. take n contents) at ∙ take-length contents in
+    record {
+      small = subst AreSmall (sym same) small;
+      recorded = recorded;
+      read = ap (recording_of lone) same ∙ read;
+    }
+
+pub cause_of_reading : (lone : Bool) (contents : List (List ℕ)) (file : ℕ) (refused : ReadingFault) → AreSoundBefore lone contents file
+    → ((f line : ℕ) → refused ≡ reading.BadLine f line → (f ≡ file) × (recording_of lone contents ≡ Err (record { file = file; line = line })))
     → ((f : ℕ) → refused ≡ reading.TooLarge f → (f ≡ file) × IsLarge contents file)
-    → ((f : ℕ) → refused ≡ reading.ReadFault f → f ≡ file) → IsCause contents (fault_of_reading refused)
-cause_of_reading contents file (reading.BadLine f line) sound bad large failed =
+    → ((f : ℕ) → refused ≡ reading.ReadFault f → f ≡ file) → IsCause lone contents (fault_of_reading refused)
+cause_of_reading lone contents file (reading.BadLine f line) sound bad large failed =
     let told = bad f line refl in
-    subst (λ n. IsCause contents (BadLine n line)) (sym told.0) (record { small = sound.small; bad = told.1 })
-cause_of_reading contents file (reading.ReadFault f) sound bad large failed = subst (AreSoundBefore contents) (sym (failed f refl)) sound
-cause_of_reading contents file (reading.TooLarge f) sound bad large failed =
+    subst (λ n. IsCause lone contents (BadLine n line)) (sym told.0) (record { small = sound.small; bad = told.1 })
+cause_of_reading lone contents file (reading.ReadFault f) sound bad large failed = subst (AreSoundBefore lone contents) (sym (failed f refl)) sound
+cause_of_reading lone contents file (reading.TooLarge f) sound bad large failed =
     let told = large f refl in
-    subst (λ n. IsCause contents (TooLarge n)) (sym told.0) (told.1, sound)
-cause_of_reading contents file reading.NoMemory sound bad large failed = tt
+    subst (λ n. IsCause lone contents (TooLarge n)) (sym told.0) (told.1, sound)
+cause_of_reading lone contents file reading.NoMemory sound bad large failed = tt
 
 -- Each event that was read is of one of so many files. So is that of a place which is told.
 file_of_equal : (count : ℕ) (events : List Stamped) (place other : Place) → AreOf count events → HasStampOfAnother events place other

@@ -4,4 +4,5 @@ pub mod MergeLemmas
 mod SeatLemmas
 pub mod CountLemmas
 pub mod JudgeLemmas
+pub mod ReaderLemmas
 pub mod TextLemmas

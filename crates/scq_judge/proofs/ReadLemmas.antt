@@ -1,18 +1,17 @@
 -- The lines of a file as they are taken, and files one after the other
 use Rattle.std.proofs.Common.{◌≡◌, ℕ, zero, suc, ◌+◌, ◌<◌, ◌≤◌, Bool, true, false, List, [], ◌∷◌, ◌++◌, length, length-append, length-drop, get_or, slice_get, take, drop, append_assoc, Option, Some, None, Result, Ok, Err, refl, sym, ◌∙◌, ap, subst, arith}
-use Rattle.std.specs.Prelude.{slice_range, if◌then◌else◌, IfSome, IsSomeAnd, OnOk}
+use Rattle.std.specs.Prelude.{slice_range, if◌then◌else◌, IfSome, OnOk}
 use Rattle.std.specs.Option.{option_map}
 use Rattle.std.proofs.lemmas.Bool.Decides.{nat_tests}
-use Rattle.std.proofs.lemmas.List.{take_rest, take_more, length-take-le}
+use Rattle.std.proofs.lemmas.List.{take_rest}
 use Rattle.std.proofs.lemmas.List.Elements.{All-push}
-use Rattle.std.proofs.lemmas.Option.{slice_get-get_or}
 use Rattle.scq_hist.specs.declared.events.Event.{Event}
 use Rattle.memchr.specs.Find.{IsFirstByte, is_byte}
 use Rattle.scq_lines.specs.Lines.{lines_of}
 use Rattle.scq_lines.proofs.Cutting.{lines_of-some-more, lines_of-none-more}
 use Rattle.scq_judge.specs.Entry.{said_by}
-use Rattle.scq_judge.specs.Files.{IsFile, AreSmall, most_bytes}
-use Rattle.scq_judge.specs.Recording.{Recording, AreAllOf, after_entry, after_lines, after_line, after_file, after_files, event_with, if_file, may_follow, nothing, with_entry}
+use Rattle.scq_judge.specs.Files.{IsFile}
+use Rattle.scq_judge.specs.Recording.{Recording, AreAllOf, after_entry, after_lines, after_line, after_file, after_files, event_with, if_file, may_follow, nothing, recording_of, with_entry}
 use Rattle.scq_judge.specs.declared.entry.Entry.{Entry}
 use Rattle.scq_judge.specs.declared.entry.Entry.TheVariants.{Run, Opening, Happens}
 
@@ -101,33 +100,6 @@ longer first before after piece n m same moved_on is =
       same_map_to f g None each = refl
       same_map_to f g (Some x) each = ap Some (each x)
 
--- a file more
-pub file_more : (lone : Bool) (file i : ℕ) (old new : Recording) (contents : List (List ℕ)) (own : Option (List ℕ)) → i < length contents
-    → own ≡ slice_get contents i → IfSome own (λ content. after_file file lone old content ≡ Ok new)
-    → after_files lone file old (drop i contents) ≡ after_files lone (file + 1) new (drop (suc i) contents)
-file_more lone file i old new [] own lt is read = absurd (omega arith)
-file_more lone file zero old new (content ∷ contents) own lt is read =
-    let here : after_file file lone old content ≡ Ok new = subst (λ o. IfSome o (λ content. after_file file lone old content ≡ Ok new)) is read in
-    ap (λ r. if_file file r (λ next. after_files lone (file + 1) next contents)) here
-file_more lone file (suc i) old new (content ∷ contents) own lt is read = file_more lone file i old new contents own (omega arith) is read
-
--- a file that is refused
-pub file_bad : (lone : Bool) (file i l : ℕ) (old : Recording) (contents : List (List ℕ)) (own : Option (List ℕ)) → i < length contents
-    → own ≡ slice_get contents i → IfSome own (λ content. after_file file lone old content ≡ Err l)
-    → after_files lone file old (drop i contents) ≡ Err (record { file = file; line = l })
-file_bad lone file i l old [] own lt is bad = absurd (omega arith)
-file_bad lone file zero l old (content ∷ contents) own lt is bad =
-    let here : after_file file lone old content ≡ Err l = subst (λ o. IfSome o (λ content. after_file file lone old content ≡ Err l)) is bad in
-    ap (λ r. if_file file r (λ next. after_files lone (file + 1) next contents)) here
-file_bad lone file (suc i) l old (content ∷ contents) own lt is bad = file_bad lone file i l old contents own (omega arith) is bad
-
--- a file that is too large
-pub file_large : (i : ℕ) (contents : List (List ℕ)) (own : Option (List ℕ)) → i < length contents → own ≡ slice_get contents i
-    → IfSome own (λ content. most_bytes < length content) → IsSomeAnd (slice_get contents i) (λ content. most_bytes < length content)
-file_large i [] own lt is large = absurd (omega arith)
-file_large zero (content ∷ contents) own lt is large = subst (λ o. IfSome o (λ content. most_bytes < length content)) is large
-file_large (suc i) (content ∷ contents) own lt is large = file_large i contents own (omega arith) is large
-
 -- how many lines there are and how many bytes are left
 pub taken_few : (lines total : ℕ) (text : List ℕ) (n : ℕ) → IsFirstByte (is_byte 10) text (Some n) → lines + length text ≤ total
     → lines + 1 + length (slice_range text (n + 1) (length text)) ≤ total
@@ -167,41 +139,38 @@ files_more count file number lone r next line is read all = by (said_by line) re
         events = All-push (λ s. IsFile count s.place.file) r.events (event_with file number stamp event) all.events (event_of stamp event);
       })
 
--- what was read of so many files, and of one file more
-after_push : (lone : Bool) (file : ℕ) (r mid next : Recording) (contents : List (List ℕ)) (content : List ℕ) → after_files lone file r contents ≡ Ok mid
-    → after_file (file + length contents) lone mid content ≡ Ok next → after_files lone file r (contents ++ content ∷ []) ≡ Ok next
-after_push lone file r mid next [] content front last =
+-- what was read of so many files, and of those behind them
+after_front : (lone : Bool) (file : ℕ) (r mid : Recording) (contents more : List (List ℕ)) → after_files lone file r contents ≡ Ok mid
+    → after_files lone file r (contents ++ more) ≡ after_files lone (file + length contents) mid more
+after_front lone file r mid [] more front =
     let same : r ≡ mid = cc in
-    let number : file + 0 ≡ file = omega arith in
-    let here : after_file file lone r content ≡ Ok next =
-    subst (λ z. after_file file lone z content ≡ Ok next) (sym same) (subst (λ n. after_file n lone mid content ≡ Ok next) number last) in
-    ap (λ o. if_file file o (λ z. after_files lone (file + 1) z [])) here
-after_push lone file r mid next (first ∷ contents) content front last =
-    let number : file + length (first ∷ contents) ≡ file + 1 + length contents = omega arith in
-    let later : after_file (file + 1 + length contents) lone mid content ≡ Ok next = subst (λ n. after_file n lone mid content ≡ Ok next) number last in
-    at (after_file file lone r first) refl front (λ z read. after_push lone (file + 1) z mid next contents content read later) where
-      at : (o : Result Recording ℕ) → after_file file lone r first ≡ o → if_file file o (λ z. after_files lone (file + 1) z contents) ≡ Ok mid
-          → ((z : Recording) → after_files lone (file + 1) z contents ≡ Ok mid → after_files lone (file + 1) z (contents ++ content ∷ []) ≡ Ok next)
-          → if_file file (after_file file lone r first) (λ z. after_files lone (file + 1) z (contents ++ content ∷ [])) ≡ Ok next
-      at (Ok z) is front more = ap (λ o. if_file file o (λ z. after_files lone (file + 1) z (contents ++ content ∷ []))) is ∙ more z front
-      at (Err line) is front more = absurd cc
+    let number : file ≡ file + 0 = omega arith in
+    subst (λ z. after_files lone file r more ≡ after_files lone (file + 0) z more) same (ap (λ n. after_files lone n r more) number)
+after_front lone file r mid (first ∷ contents) more front =
+    at (after_file file lone r first) front (λ z is. after_front lone (file + 1) z mid contents more is) where
+      number : file + 1 + length contents ≡ file + length (first ∷ contents)
+      number = omega arith
 
--- one file more is understood, and has few bytes
-module _ (contents : List (List ℕ)) (i : ℕ) (own : Option (List ℕ)) (within : i < length contents) (is : own ≡ slice_get contents i) where
-  one_more : (P : List ℕ → Type 0) → IfSome own P → (content : List ℕ) × (take (i + 1) contents ≡ take i contents ++ content ∷ []) × P content
-  one_more P if_own =
-      let there : own ≡ Some (get_or contents i []) = is ∙ slice_get-get_or contents i [] within in
-      (get_or contents i [], take_more contents i [] within, subst (λ o. IfSome o P) there if_own)
+      at : (o : Result Recording ℕ) → if_file file o (λ z. after_files lone (file + 1) z contents) ≡ Ok mid
+          → ((z : Recording) → after_files lone (file + 1) z contents ≡ Ok mid
+          → after_files lone (file + 1) z (contents ++ more) ≡ after_files lone (file + 1 + length contents) mid more)
+          → if_file file o (λ z. after_files lone (file + 1) z (contents ++ more)) ≡ after_files lone (file + length (first ∷ contents)) mid more
+      at (Ok z) is later = later z is ∙ ap (λ n. after_files lone n mid more) number
+      at (Err line) is later = absurd cc
 
-  pub front_more : (lone : Bool) (old new : Recording) → after_files lone 1 nothing (take i contents) ≡ Ok old
-      → IfSome own (λ content. after_file (i + 1) lone old content ≡ Ok new) → after_files lone 1 nothing (take (i + 1) contents) ≡ Ok new
-  front_more lone old new front last =
-      let more = one_more (λ content. after_file (i + 1) lone old content ≡ Ok new) last in
-      let number : i + 1 ≡ 1 + length (take i contents) = (let taken = length-take-le i contents (omega arith) in omega arith) in
-      ap (after_files lone 1 nothing) more.1
-      ∙ after_push lone 1 nothing old new (take i contents) more.0 front (subst (λ n. after_file n lone old more.0 ≡ Ok new) number more.2)
+-- one file more, behind those that were read
+module _ (lone : Bool) (front : List (List ℕ)) (content : List ℕ) (old : Recording) (before : recording_of lone front ≡ Ok old) where
+  number : length front + 1 ≡ 1 + length front
+  number = omega arith
 
-  pub small_more : AreSmall (take i contents) → IfSome own (λ content. length content ≤ most_bytes) → AreSmall (take (i + 1) contents)
-  small_more small last =
-      let more = one_more (λ content. length content ≤ most_bytes) last in
-      subst AreSmall (sym more.1) (All-push (λ content. length content ≤ most_bytes) (take i contents) more.0 small more.2)
+  pub next_read : (new : Recording) → after_file (length front + 1) lone old content ≡ Ok new → recording_of lone (front ++ content ∷ []) ≡ Ok new
+  next_read new read =
+      after_front lone 1 nothing old front (content ∷ []) before
+      ∙ ap (λ o. if_file (1 + length front) o (λ z. after_files lone (1 + length front + 1) z [])) (subst (λ n. after_file n lone old content ≡ Ok new) number read)
+
+  pub next_bad : (l : ℕ) → after_file (length front + 1) lone old content ≡ Err l
+      → recording_of lone (front ++ content ∷ []) ≡ Err (record { file = length front + 1; line = l })
+  next_bad l bad =
+      after_front lone 1 nothing old front (content ∷ []) before
+      ∙ ap (λ o. if_file (1 + length front) o (λ z. after_files lone (1 + length front + 1) z [])) (subst (λ n. after_file n lone old content ≡ Err l) number bad)
+      ∙ ap (λ n. Err (record { file = n; line = l })) (sym number)

@@ -1,14 +1,13 @@
 -- Sources as they are read, one after the other
-use Rattle.std.proofs.Common.{◌≡◌, ◌≢◌, ◌∙◌, inl, inr, ℕ, zero, suc, ◌+◌, ◌-◌, ◌<◌, ◌≤◌, List, [], ◌∷◌, ◌++◌, length, take, get_or, set, slice_get, append_assoc, Option, Some, None, Result, Ok, Err, refl, sym, ap, subst, arith, below_more}
+use Rattle.std.proofs.Common.{◌≡◌, ◌≢◌, ◌∙◌, inl, inr, ℕ, zero, suc, ◌+◌, ◌-◌, ◌<◌, ◌≤◌, List, [], ◌∷◌, ◌++◌, length, take, get_or, slice_get, append_assoc, Option, Some, None, Result, Ok, Err, refl, sym, ap, subst, arith, below_more}
 use Rattle.std.specs.Prelude.{IfErr, IfSome, IsErrOf}
 use Rattle.std.specs.Option.{option_map}
-use Rattle.std.proofs.lemmas.Bool.{cases_order}
-use Rattle.std.proofs.lemmas.List.{get_or-set_same, get_or-set_other}
+use Rattle.std.proofs.Math.Seq.{get_or-append_seam}
+use Rattle.std.proofs.lemmas.List.{get_or_append_left, length-append}
 use Rattle.scq_outside.specs.Counts.{Rose}
 use Rattle.scq_outside.specs.Taking.{Took}
-use Rattle.scq_judge.specs.Files.{IsFile, HaveContents, most_bytes}
-use Rattle.scq_judge.specs.Judged.{fault_of_reading}
-use Rattle.scq_judge.specs.Reads.{HasGiven, IsReadWhole, OfEach, AreReadWhole, AreReadUntil, AreQuiet, HasFailed, CountsFault}
+use Rattle.scq_judge.specs.Files.{HaveContents, most_bytes}
+use Rattle.scq_judge.specs.Reads.{HasGiven, OfEach, CountsFault}
 use Rattle.scq_judge.specs.declared.reading.ReadingFault.{ReadingFault}
 use Rattle.scq_judge.specs.declared.reading.ReadingFault.TheVariants.{BadLine, ReadFault, TooLarge, NoMemory}
 
@@ -64,16 +63,6 @@ pub counts_none_of : {T : Type 0} (r : Result T ReadingFault) (old new : ℕ) �
 counts_none_of (Ok x) old new other same = tt
 counts_none_of (Err fault) old new other same = counts_none fault old new (λ f is. other f (ap Err is)) same
 
--- two lists that have the same at a position
-pub same_at : {X : Type 0} (xs ys : List X) (k : ℕ) (d : X) → slice_get xs k ≡ slice_get ys k → get_or xs k d ≡ get_or ys k d
-same_at [] [] k d same = refl
-same_at [] (y ∷ ys) zero d same = absurd cc
-same_at [] (y ∷ ys) (suc k) d same = same_at [] ys k d same
-same_at (x ∷ xs) [] zero d same = absurd cc
-same_at (x ∷ xs) [] (suc k) d same = same_at xs [] k d same
-same_at (x ∷ xs) (y ∷ ys) zero d same = cc
-same_at (x ∷ xs) (y ∷ ys) (suc k) d same = same_at xs ys k d same
-
 module _ {S : Type 0} (faults end_count : S → ℕ) (left : S → Option (List ℕ)) where
   -- before the first read
   pub taken_nothing : (source : S) → HasTaken faults end_count left source source
@@ -110,102 +99,59 @@ module _ {S : Type 0} (faults end_count : S → ℕ) (left : S → Option (List 
     counted = inr (subst (λ n. Rose n (faults new)) had.quiet rose);
   }
 
-  given_nothing : (source : S) → HasGiven faults left source source
-  given_nothing source = record { bytes = []; took = took_nothing (left source); counted = inl refl }
+-- a source with its content in front of others
+first_and : {S : Type 0} (left : S → Option (List ℕ)) (source : S) (sources : List S) (content : List ℕ) (contents : List (List ℕ)) → left source ≡ Some content
+    → HaveContents left sources contents → HaveContents left (source ∷ sources) (content ∷ contents)
+first_and {S} left source sources content contents here is = record { many = ap suc is.many; each = at } where
+  at : (i : ℕ) (s : S) → slice_get (source ∷ sources) i ≡ Some s → left s ≡ slice_get (content ∷ contents) i
+  at zero s there = subst (λ z. left z ≡ Some content) (let e = there in cc) here
+  at (suc i) s there = is.each i s there
 
-  -- The source at position i was read. Those before are at hand, and those behind are as they were.
-  module _ (olds mids : List S) (i : ℕ) (new : S) (long : length mids ≡ length olds) (within : i < length olds)
-      (same : (k : ℕ) → i ≤ k → slice_get mids k ≡ slice_get olds k) where
-    here : (d : S) → get_or (set mids i new) i d ≡ new
-    here d = get_or-set_same mids i new d (omega arith)
+-- the contents of sources, and of one behind them
+pub record HaveLast {S : Type 0} (left : S → Option (List ℕ)) (sources : List S) (source : S) (contents : List (List ℕ)) : Type 0 where
+  pub front : List (List ℕ)
+  pub last : List ℕ
+  pub parts : contents ≡ front ++ last ∷ []
+  pub before : HaveContents left sources front
+  pub own : left source ≡ Some last
 
-    there : (k : ℕ) (d : S) → k ≢ i → get_or (set mids i new) k d ≡ get_or mids k d
-    there k d other = get_or-set_other mids i k new d other
+pub have_last : {S : Type 0} (left : S → Option (List ℕ)) (sources : List S) (source : S) (contents : List (List ℕ))
+    → HaveContents left (sources ++ source ∷ []) contents → HaveLast left sources source contents
+have_last {S} left [] source [] have = absurd (let many = have.many in omega arith)
+have_last {S} left [] source (c ∷ []) have = record {
+  front = [];
+  last = c;
+  parts = refl;
+  before = record { many = refl; each = λ i s there. absurd cc };
+  own = have.each 0 source refl;
+}
+have_last {S} left [] source (c ∷ d ∷ cs) have = absurd (let many = have.many in omega arith)
+have_last {S} left (s ∷ ss) source [] have = absurd (let many = have.many in omega arith)
+have_last {S} left (s ∷ ss) source (c ∷ cs) have =
+    let h = have_last left ss source cs (record { many = (let many = have.many in omega arith); each = λ i z there. have.each (suc i) z there }) in
+    record {
+      front = c ∷ h.front;
+      last = h.last;
+      parts = ap (λ (z : List (List ℕ)). c ∷ z) h.parts;
+      before = first_and left s ss c h.front (have.each 0 s refl) h.before;
+      own = h.own;
+    }
 
-    own : (d : S) → get_or mids i d ≡ get_or olds i d
-    own d = same_at mids olds i d (same i (omega arith))
+-- what is so of each source, and of one behind them
+module _ {S : Type 0} (R : S → S → Type 0) (olds news : List S) (old new : S) (many : length news ≡ length olds) where
+  last_new : (d : S) → get_or (news ++ new ∷ []) (length olds) d ≡ new
+  last_new d = subst (λ n. get_or (news ++ new ∷ []) n d ≡ new) many (get_or-append_seam news new [] d)
 
-    -- whatever default stands for what is past the end
-    any : (d e : S) → get_or mids i d ≡ get_or mids i e
-    any d e = at mids i (omega arith) where
-      at : (xs : List S) (k : ℕ) → k < length xs → get_or xs k d ≡ get_or xs k e
-      at [] k lt = absurd (omega arith)
-      at (x ∷ xs) zero lt = refl
-      at (x ∷ xs) (suc k) lt = at xs k (omega arith)
+  pub each_front : (count : ℕ) → count ≤ length olds → OfEach (length olds) R olds news → OfEach count R (olds ++ old ∷ []) (news ++ new ∷ [])
+  each_front count few before = λ k d lt.
+      subst (λ z. R z (get_or (news ++ new ∷ []) k d)) (sym (get_or_append_left olds (old ∷ []) d k (omega arith)))
+      (subst (R (get_or olds k d)) (sym (get_or_append_left news (new ∷ []) d k (omega arith))) (before k d (omega arith)))
 
-    -- what is so of those before, and of this one
-    each_more : (R : S → S → Type 0) (e : S) → OfEach i R olds mids → R (get_or mids i e) new → OfEach (i + 1) R olds (set mids i new)
-    each_more R e before this = λ k d lt. below_more (λ k. R (get_or olds k d) (get_or (set mids i new) k d)) i
-        (λ k less. let other : k ≢ i = λ is. omega arith in subst (R (get_or olds k d)) (sym (there k d other)) (before k d less))
-        (subst (λ z. R z (get_or (set mids i new) i d)) (any e d ∙ own d) (subst (R (get_or mids i e)) (sym (here d)) this)) k lt
+  pub each_last : (d : S) → R old new → R (get_or (olds ++ old ∷ []) (length olds) d) (get_or (news ++ new ∷ []) (length olds) d)
+  each_last d this =
+      subst (λ z. R z (get_or (news ++ new ∷ []) (length olds) d)) (sym (get_or-append_seam olds old [] d)) (subst (R old) (sym (last_new d)) this)
 
-    -- and of those behind, where it is so of one that stays
-    each_all : (R : S → S → Type 0) → ((s : S) → R s s) → OfEach (i + 1) R olds (set mids i new) → OfEach (length olds) R olds (set mids i new)
-    each_all R stays upto = λ k d lt. elim (cases_order k i) [
-      | inl is ↦ upto k d (omega arith)
-      | inr (inl below) ↦ upto k d (omega arith)
-      | inr (inr above) ↦ (let other : k ≢ i = λ is. omega arith in
-          let is : get_or (set mids i new) k d ≡ get_or olds k d = there k d other ∙ same_at mids olds k d (same k (omega arith)) in
-          subst (R (get_or olds k d)) (sym is) (stays (get_or olds k d)))
-    ]
-
-    pub same_more : (k : ℕ) → i + 1 ≤ k → slice_get (set mids i new) k ≡ slice_get olds k
-    same_more k lt = at mids i k (omega arith) ∙ same k (omega arith) where
-      at : (xs : List S) (i k : ℕ) → i < k → slice_get (set xs i new) k ≡ slice_get xs k
-      at [] i k lt = refl
-      at (x ∷ xs) zero zero lt = absurd (omega arith)
-      at (x ∷ xs) zero (suc k) lt = refl
-      at (x ∷ xs) (suc i) zero lt = absurd (omega arith)
-      at (x ∷ xs) (suc i) (suc k) lt = at xs i k (omega arith)
-
-    pub whole_more : (e : S) → AreReadWhole faults end_count left i olds mids → IsReadWhole faults end_count left (get_or mids i e) new
-        → AreReadWhole faults end_count left (i + 1) olds (set mids i new)
-    whole_more e before this = each_more (IsReadWhole faults end_count left) e before this
-
-    pub given_more : (e : S) → OfEach i (HasGiven faults left) olds mids → HasGiven faults left (get_or mids i e) new
-        → OfEach (i + 1) (HasGiven faults left) olds (set mids i new)
-    given_more e before this = each_more (HasGiven faults left) e before this
-
-    pub given_all : (e : S) → OfEach i (HasGiven faults left) olds mids → HasGiven faults left (get_or mids i e) new
-        → OfEach (length olds) (HasGiven faults left) olds (set mids i new)
-    given_all e before this = each_all (HasGiven faults left) given_nothing (given_more e before this)
-
-    -- the content of this one
-    pub own_content : (e : S) (contents : List (List ℕ)) → HaveContents left olds contents → left (get_or mids i e) ≡ slice_get contents i
-    own_content e contents have = have.each i (get_or mids i e) (sym (same i (omega arith)) ∙ get_at mids i (omega arith)) where
-      get_at : (xs : List S) (k : ℕ) → k < length xs → slice_get xs k ≡ Some (get_or xs k e)
-      get_at [] k lt = absurd (omega arith)
-      get_at (x ∷ xs) zero lt = refl
-      get_at (x ∷ xs) (suc k) lt = get_at xs k (omega arith)
-
-    -- how far all were read where the reading of this one ended at a fault
-    pub until : (e : S) (fault : ReadingFault) → AreReadWhole faults end_count left i olds mids → CountsFault fault (faults (get_or mids i e)) (faults new)
-        → ((f l : ℕ) → fault ≡ BadLine f l → f ≡ i + 1) → ((f : ℕ) → fault ≡ TooLarge f → f ≡ i + 1) → ((f : ℕ) → fault ≡ ReadFault f → f ≡ i + 1)
-        → AreReadUntil faults end_count left olds (set mids i new) (fault_of_reading fault)
-    until e fault before counted bad large failed = by fault counted bad large failed where
-      is_file : (f : ℕ) → f ≡ i + 1 → IsFile (length olds) f
-      is_file f is = record { first = omega arith; last = omega arith }
-
-      -- those before
-      whole : (f : ℕ) → f ≡ i + 1 → AreReadWhole faults end_count left (f - 1) olds (set mids i new)
-      whole f is = λ k d lt. let less : k < i = omega arith in let other : k ≢ i = λ same. omega arith in
-          subst (IsReadWhole faults end_count left (get_or olds k d)) (sym (there k d other)) (before k d less)
-
-      quiet : faults new ≡ faults (get_or mids i e) → AreQuiet faults olds (set mids i new)
-      quiet kept = each_all (λ old new. faults new ≡ faults old) (λ s. refl)
-          (each_more (λ old new. faults new ≡ faults old) e (λ k d less. (before k d less).kept) kept)
-
-      rose : (f : ℕ) → f ≡ i + 1 → Rose (faults (get_or mids i e)) (faults new) → HasFailed faults olds (set mids i new) f
-      rose f is r d =
-          let at : i ≡ f - 1 = omega arith in
-          subst (λ k. Rose (faults (get_or olds k d)) (faults (get_or (set mids i new) k d))) at
-          (subst (λ z. Rose (faults z) (faults (get_or (set mids i new) i d))) (any e d ∙ own d)
-          (subst (λ z. Rose (faults (get_or mids i e)) (faults z)) (sym (here d)) r))
-
-      by : (fault : ReadingFault) → CountsFault fault (faults (get_or mids i e)) (faults new)
-          → ((f l : ℕ) → fault ≡ BadLine f l → f ≡ i + 1) → ((f : ℕ) → fault ≡ TooLarge f → f ≡ i + 1) → ((f : ℕ) → fault ≡ ReadFault f → f ≡ i + 1)
-          → AreReadUntil faults end_count left olds (set mids i new) (fault_of_reading fault)
-      by (BadLine f l) c b g r = (let is = b f l refl in (is_file f is, whole f is, quiet c))
-      by (ReadFault f) c b g r = (let is = r f refl in (is_file f is, whole f is, rose f is c))
-      by (TooLarge f) c b g r = (let is = g f refl in (is_file f is, whole f is, quiet c))
-      by NoMemory c b g r = quiet c
+  pub each_more : OfEach (length olds) R olds news → R old new → OfEach (length (olds ++ old ∷ [])) R (olds ++ old ∷ []) (news ++ new ∷ [])
+  each_more before this = λ k d lt.
+      below_more (λ k. R (get_or (olds ++ old ∷ []) k d) (get_or (news ++ new ∷ []) k d)) (length olds)
+      (λ k less. each_front (length olds) (omega arith) before k d less) (each_last d this) k (omega (arith, lt, length-append olds (old ∷ [])))

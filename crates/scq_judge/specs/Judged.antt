@@ -1,13 +1,13 @@
 -- What recordings with visible contents tell: the report of the merged history, or the cause of a
 -- fault
-use Rattle.std.specs.Prelude.{◌≡◌, ◌⊎◌, ℕ, ◌-◌, ◌==◌, List, Ok, Err, Option, Some, length, take}
-use Rattle.std.specs.Prelude.{slice_get}
+use Rattle.std.specs.Prelude.{◌≡◌, ◌⊎◌, ℕ, ◌-◌, Bool, ◌==◌, List, Ok, Err, Option, Some, length}
+use Rattle.std.specs.Prelude.{take, slice_get}
 use Rattle.scq_hist.specs.Aspects.{IsLawful, IsLawfulAt}
 use Rattle.scq_hist.specs.First.{IsFirstFailing}
 use Rattle.scq_hist.specs.declared.events.Event.{Event}
 use Rattle.scq_judge.specs.Files.{AreSmall, IsLarge}
 use Rattle.scq_judge.specs.Merged.{IsMergeOf, HasStampOfAnother}
-use Rattle.scq_judge.specs.Recording.{Recording, nothing, after_files, recording_of}
+use Rattle.scq_judge.specs.Recording.{Recording, recording_of}
 use Rattle.scq_judge.specs.Runs.{AreOfOneRun, IsOfAnotherRun}
 use Rattle.scq_judge.specs.Seats.{HaveOwnFiles, HasSeatOfAnother}
 use Rattle.scq_judge.specs.Report.{IsReport, report_lines}
@@ -89,40 +89,42 @@ pub record IsJudged (names : List (List ℕ)) (room : Option ℕ) (contents : Li
     (text : List ℕ) : Type 0 where
   pub small : AreSmall contents
   pub recorded : Recording
-  pub read : recording_of contents ≡ Ok recorded
+  pub read : recording_of (length names == 1) contents ≡ Ok recorded
   pub reported : IsReported names room recorded text
 
 -- or are at fault so
-pub record IsCaused (contents : List (List ℕ)) (fault : JudgeFault) : Type 0 where
+pub record IsCaused (lone : Bool) (contents : List (List ℕ)) (fault : JudgeFault) : Type 0 where
   pub small : AreSmall contents
   pub recorded : Recording
-  pub read : recording_of contents ≡ Ok recorded
+  pub read : recording_of lone contents ≡ Ok recorded
   pub cause : IsCauseIn recorded fault
 
 -- nothing is at fault in the files before this one: none has too many bytes, and each line is
 -- understood
-pub record AreSoundBefore (contents : List (List ℕ)) (file : ℕ) : Type 0 where
+pub record AreSoundBefore (lone : Bool) (contents : List (List ℕ)) (file : ℕ) : Type 0 where
   pub small : AreSmall (take (file - 1) contents)
   pub recorded : Recording
-  pub read : after_files (length contents == 1) 1 nothing (take (file - 1) contents) ≡ Ok recorded
+  pub read : recording_of lone (take (file - 1) contents) ≡ Ok recorded
 
 -- this line is the first that isn't understood, and no file before has too many bytes
-pub record IsFirstBad (contents : List (List ℕ)) (file line : ℕ) : Type 0 where
+pub record IsFirstBad (lone : Bool) (contents : List (List ℕ)) (file line : ℕ) : Type 0 where
   pub small : AreSmall (take (file - 1) contents)
-  pub bad : recording_of contents ≡ Err (record { file = file; line = line })
+  pub bad : recording_of lone contents ≡ Err (record { file = file; line = line })
 
--- what is at fault in the contents, and that nothing is in the files before; a read that fails and
--- want of memory aren't
-abbrev pub IsCause : List (List ℕ) → JudgeFault → Type 0
-IsCause contents (BadLine file line) = IsFirstBad contents file line
-IsCause contents (SharedBy what file line other_file other_line) =
-    IsCaused contents (SharedBy what file line other_file other_line)
-IsCause contents (TwoRuns file run other_file other_run) =
-    IsCaused contents (TwoRuns file run other_file other_run)
-IsCause contents (Unlawful file line) = IsCaused contents (Unlawful file line)
-IsCause contents (TooLarge file) = IsLarge contents file × AreSoundBefore contents file
-IsCause contents (ReadFault file) = AreSoundBefore contents file
-IsCause contents NoMemory = Unit {0}
+-- what is at fault in the contents of the files that were read, of which the last is the fault's
+-- where it is of one file, and that nothing is in the files before; a read that fails and want of
+-- memory aren't
+abbrev pub IsCause : Bool → List (List ℕ) → JudgeFault → Type 0
+IsCause lone contents (BadLine file line) = IsFirstBad lone contents file line
+IsCause lone contents (SharedBy what file line other_file other_line) =
+    IsCaused lone contents (SharedBy what file line other_file other_line)
+IsCause lone contents (TwoRuns file run other_file other_run) =
+    IsCaused lone contents (TwoRuns file run other_file other_run)
+IsCause lone contents (Unlawful file line) = IsCaused lone contents (Unlawful file line)
+IsCause lone contents (TooLarge file) =
+    IsLarge contents file × AreSoundBefore lone contents file
+IsCause lone contents (ReadFault file) = AreSoundBefore lone contents file
+IsCause lone contents NoMemory = Unit {0}
 
 -- For private calls: the fault tells the place of the first event that isn't lawful
 abbrev pub IsUnlawfulAt : List Event → List Place → JudgeFault → Type 0

@@ -1,10 +1,12 @@
 -- How the sources of recordings were read. They have a count of faults and one of the ends that
 -- they answered, and what they have left may be visible
-use Rattle.std.specs.Prelude.{◌≡◌, ◌⊎◌, ℕ, ◌-◌, ◌<◌, List, Option, IfSome, [], length}
-use Rattle.std.specs.Prelude.{slice_index_or}
+use Rattle.std.specs.Prelude.{◌≡◌, ◌⊎◌, ℕ, ◌-◌, ◌<◌, Bool, List, Option, IfSome, [], length}
+use Rattle.std.specs.Prelude.{slice_index_or, Ok}
 use Rattle.scq_outside.specs.Counts.{Rose}
 use Rattle.scq_outside.specs.Taking.{Took}
-use Rattle.scq_judge.specs.Files.{IsFile}
+use Rattle.scq_judge.specs.Files.{AreSmall, HaveContents, IsFile}
+use Rattle.scq_judge.specs.Judged.{IsCause}
+use Rattle.scq_judge.specs.Recording.{Recording, AreAllOf, recording_of}
 use Rattle.scq_judge.specs.declared.judging.JudgeFault.{JudgeFault}
 use Rattle.scq_judge.specs.declared.judging.JudgeFault.TheVariants.{BadLine, Shared, TwoRuns}
 use Rattle.scq_judge.specs.declared.judging.JudgeFault.TheVariants.{Unlawful, ReadFault, TooLarge}
@@ -48,14 +50,20 @@ HasFailed {S} faults olds news file =
     (d : S) → Rose (faults (slice_index_or olds (file - 1) d))
     (faults (slice_index_or news (file - 1) d))
 
--- how far sources were read where recordings were refused: those before the file of the fault to
--- their ends, and all of them where an event is out of place, or shares what it may not with one of
--- another file, and where two files are of two runs
+-- sources were got up to that of this file, and those before it were read to their ends
+pub record AreReadBefore {S : Type 0} (faults end_count : S → ℕ) (left : S
+    → Option (List ℕ)) (olds news : List S) (file : ℕ) : Type 0 where
+  pub first : 0 < file
+  pub last : file ≡ length olds
+  pub whole : AreReadWhole faults end_count left (file - 1) olds news
+
+-- how far sources were got and read where recordings were refused: those before the file of the
+-- fault to their ends, and none behind it was got; and all of them where an event is out of place,
+-- or shares what it may not with one of another file, and where two files are of two runs
 abbrev pub AreReadUntil : {S : Type 0} → (S → ℕ) → (S → ℕ) → (S → Option (List ℕ)) → List S → List S
     → JudgeFault → Type 0
 AreReadUntil faults end_count left olds news (BadLine file line) =
-    IsFile (length olds) file × AreReadWhole faults end_count left (file - 1) olds news
-    × AreQuiet faults olds news
+    AreReadBefore faults end_count left olds news file × AreQuiet faults olds news
 AreReadUntil faults end_count left olds news (Shared what file line other_file other_line) =
     IsFile (length olds) file × IsFile (length olds) other_file
     × AreReadWhole faults end_count left (length olds) olds news
@@ -65,12 +73,46 @@ AreReadUntil faults end_count left olds news (TwoRuns file run other_file other_
 AreReadUntil faults end_count left olds news (Unlawful file line) =
     IsFile (length olds) file × AreReadWhole faults end_count left (length olds) olds news
 AreReadUntil faults end_count left olds news (ReadFault file) =
-    IsFile (length olds) file × AreReadWhole faults end_count left (file - 1) olds news
-    × HasFailed faults olds news file
+    AreReadBefore faults end_count left olds news file × HasFailed faults olds news file
 AreReadUntil faults end_count left olds news (TooLarge file) =
-    IsFile (length olds) file × AreReadWhole faults end_count left (file - 1) olds news
-    × AreQuiet faults olds news
+    AreReadBefore faults end_count left olds news file × AreQuiet faults olds news
 AreReadUntil faults end_count left olds news NoMemory = AreQuiet faults olds news
+
+-- what a reader has: whether its file is the only one, how many it has read, and what they say
+pub record Progress : Type 0 where
+  pub lone : Bool
+  pub files : ℕ
+  pub recorded : Recording
+
+-- sources that were got so were read by a reader, one after the other, each to its end, and what
+-- they told is what it has
+pub record HaveBeenRead {S : Type 0} (faults end_count : S → ℕ) (left : S
+    → Option (List ℕ)) (olds news : List S) (reader : Progress) : Type 0 where
+  pub count : reader.files ≡ length olds
+  pub many : length news ≡ length olds
+  pub told : (contents : List (List ℕ)) → HaveContents left olds contents
+      → AreSmall contents × (recording_of reader.lone contents ≡ Ok reader.recorded)
+  pub files : AreAllOf (length olds) reader.recorded
+  pub whole : AreReadWhole faults end_count left (length olds) olds news
+  pub given : OfEach (length olds) (HasGiven faults left) olds news
+
+-- a fault of one file, or want of memory
+abbrev pub IsOfOneFile : JudgeFault → Type 0
+IsOfOneFile (BadLine file line) = Unit {0}
+IsOfOneFile (ReadFault file) = Unit {0}
+IsOfOneFile (TooLarge file) = Unit {0}
+IsOfOneFile NoMemory = Unit {0}
+IsOfOneFile _ = ⊥
+
+-- the reading of these sources stopped at the last of them, by this fault
+pub record HasStopped {S : Type 0} (faults end_count : S → ℕ) (left : S
+    → Option (List ℕ)) (lone : Bool) (olds news : List S) (fault : JudgeFault) : Type 0 where
+  pub many : length news ≡ length olds
+  pub own : IsOfOneFile fault
+  pub cause : (contents : List (List ℕ)) → HaveContents left olds contents
+      → IsCause lone contents fault
+  pub until : AreReadUntil faults end_count left olds news fault
+  pub given : OfEach (length olds) (HasGiven faults left) olds news
 
 -- For private calls: the count of faults of the one source that was read rose exactly where a read
 -- of it failed

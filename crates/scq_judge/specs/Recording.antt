@@ -1,7 +1,7 @@
 -- What the texts of recordings say: the opening tokens, and the events of all files, one file after
 -- the other
 use Rattle.std.specs.Prelude.{ℕ, ◌+◌, Bool, true, false, ◌==◌, nat_lt, List, [], ◌∷◌, ◌++◌, Option}
-use Rattle.std.specs.Prelude.{Some, None, Result, Ok, Err, length, if◌then◌else◌, All}
+use Rattle.std.specs.Prelude.{Some, None, Result, Ok, Err, if◌then◌else◌, All}
 use Rattle.scq_lines.specs.Lines.{lines_of}
 use Rattle.scq_hist.specs.declared.events.Event.{Event}
 use Rattle.scq_judge.specs.Entry.{said_by}
@@ -100,9 +100,10 @@ after_files lone file r (content ∷ contents) =
     if_file file (after_file file lone r content) (λ next.
     after_files lone (file + 1) next contents)
 
--- the recording of files with these contents. A lone file may be without stamps
-abbrev pub recording_of : List (List ℕ) → Result Recording Place
-recording_of contents = after_files (length contents == 1) 1 nothing contents
+-- the recording of files with these contents, of which the first has number 1. A lone file may be
+-- without stamps
+abbrev pub recording_of : Bool → List (List ℕ) → Result Recording Place
+recording_of lone contents = after_files lone 1 nothing contents
 
 -- For private calls: each event is of one of so many files, and so is each number of a run
 abbrev pub AreOf : ℕ → List Stamped → Type 0

@@ -1,20 +1,17 @@
-//! Recordings read, merged and judged.
+//! Recordings merged and judged.
 
-ghost use Rattle.std.specs.Prelude.{◌≡◌, ◌<◌, ◌^◌, ◌⊎◌, ℕ, List, length, map, string_bytes, IfOk};
-ghost use Rattle.std.specs.Prelude.{IfErr, IfSome, OnOk};
+ghost use Rattle.std.specs.Prelude.{◌≡◌, ◌<◌, ◌⊎◌, length, map, string_bytes, IfOk, IfErr, IfSome};
 ghost use Rattle.scq_hist.specs.Aspects.{IsLawful};
 ghost use Rattle.scq_check.specs.Verdicts.{AreWithin};
-ghost use Rattle.scq_judge.specs.Files.{HaveContents};
 ghost use Rattle.scq_judge.specs.Runs.{AreOfOneRun};
 ghost use Rattle.scq_judge.specs.Seats.{HaveOwnFiles};
-ghost use Rattle.scq_judge.specs.Judged.{shared_by, IsJudged, IsCause, IsReported, IsReportOf};
+ghost use Rattle.scq_judge.specs.Judged.{shared_by, IsReported, IsReportOf};
 ghost use Rattle.scq_judge.specs.Judged.{IsCauseIn, IsUnlawfulAt};
-ghost use Rattle.scq_judge.specs.Reads.{HasGiven, OfEach, AreReadWhole, AreReadUntil};
 ghost use Rattle.scq_judge.specs.Report.{AreWrongRefusals, IsReport};
 
 use crate::counting::{Counts, count};
 use crate::merging::{MergeFault, Merged, merge};
-use crate::reading::{ReadingFault, read_recordings};
+use crate::reading::ReadingFault;
 use crate::recorded::{Place, Recorded};
 use crate::runs::first_other_run;
 use crate::seats::first_apart;
@@ -22,7 +19,6 @@ use crate::telling::Teller;
 use crate::text::report_text;
 use scq_check::{Breaches, Failures, find_breaches, find_wrong_refusals, first_unlawful};
 use scq_hist::Event;
-use scq_outside::Source;
 use scq_word::{Bytes, NoMemory};
 use std::alloc::Global;
 use thiserror::Error;
@@ -128,38 +124,6 @@ impl From<MergeFault> for JudgeFault {
     }
 }
 
-/// The report of the history that the recordings of these files are merged to, as text. Where it is
-/// told for how many values each queue has room, refused puts are judged too. Files are told by
-/// these names, in the order of the sources. Memory and time grow little faster than the number of
-/// events. Files are read one after the other, up to the first that has a fault of its own.
-pub fn judge_recordings<S: Source>(
-    alloc: Global,
-    room: Option<u32>,
-    names: &[String],
-    sources: &mut [S],
-) -> Result<Bytes, JudgeFault>
-    requires { length sources.old < 2 ^ 31 }
-
-    // What the contents tell, where all are visible: the report, or the cause of a fault.
-    ensures judged { IfOk result (λ text. (contents : List (List ℕ))
-        → HaveContents S.left sources.old contents
-        → IsJudged (map string_bytes names.now) room contents text) }
-    ensures refused { IfErr result (λ fault. (contents : List (List ℕ))
-        → HaveContents S.left sources.old contents → IsCause contents fault) }
-
-    // How far the sources were read, visible or not.
-    ensures whole { OnOk result
-        (AreReadWhole S.faults S.ends S.left (length sources.old) sources.old sources.new) }
-    ensures until { IfErr result (λ fault.
-        AreReadUntil S.faults S.ends S.left sources.old sources.new fault) }
-    ensures given { OfEach (length sources.old) (HasGiven S.faults S.left) sources.old sources.new }
-{
-    match read_recordings(alloc, sources) {
-        Ok(recorded) => judge_recorded(alloc, room, names, recorded),
-        Err(fault) => Err(JudgeFault::from(fault)),
-    }
-}
-
 // The fault of an event that shares this with another.
 fn sharing(what: Shared, place: Place, other: Place) -> JudgeFault
     ensures { result ≡ shared_by what place other }
@@ -174,7 +138,7 @@ fn sharing(what: Shared, place: Place, other: Place) -> JudgeFault
 }
 
 // The report of what was read, as text.
-fn judge_recorded(
+pub(crate) fn judge_recorded(
     alloc: Global,
     room: Option<u32>,
     names: &[String],

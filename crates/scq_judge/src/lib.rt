@@ -1,16 +1,17 @@
 //! A judge of recorded histories of any length: the files that threads wrote, one event a line,
-//! each with its stamp. Files are read in pieces, their events merged in the order of the stamps
-//! and judged by tables, and of each aspect the report says how many events break it and where the
-//! first stands. It stands on `scq_check` for the lines and the verdicts, on `scq_hist` for the
-//! aspects, and on `scq_outside` for files. The layer above uses that what is read is
-//! `recording_of` the contents, that the merged list has the same events with rising stamps, and
-//! that the report counts what breaks each definition.
+//! each with its stamp. Files are read one after the other, in pieces, their events merged in the
+//! order of the stamps and judged by tables, and of each aspect the report says how many events
+//! break it and where the first stands. It stands on `scq_check` for the lines and the verdicts, on
+//! `scq_hist` for the aspects, and on `scq_outside` for files. The layer above uses that what is
+//! read is `recording_of` the contents, that the merged list has the same events with rising
+//! stamps, and that the report counts what breaks each definition.
 #![tactic(auto)]
 
 mod counting;
 mod entry;
 mod judging;
 mod merging;
+mod reader;
 mod reading;
 mod recorded;
 mod runs;
@@ -19,5 +20,6 @@ mod telling;
 mod text;
 
 pub use counting::Counts;
-pub use judging::{JudgeFault, Report, Shared, judge_recordings};
+pub use judging::{JudgeFault, Report, Shared};
+pub use reader::Reader;
 pub use recorded::{Place, RunOf};

@@ -4,11 +4,9 @@ ghost use Rattle.std.specs.Prelude.{◌≡◌, ◌+◌, ◌<◌, ◌≤◌, ◌^
 ghost use Rattle.std.specs.Prelude.{length, IfOk, IfErr, IfSome, OnOk, IsErrOf};
 ghost use Rattle.scq_lines.specs.Lines.{lines_of};
 ghost use Rattle.memchr.specs.Find.{IsFirstByte, is_byte};
-ghost use Rattle.scq_judge.specs.Recording.{after_lines, after_file, recording_of, AreAllOf};
-ghost use Rattle.scq_judge.specs.Files.{HaveContents, AreSmall, IsFile, most_bytes};
-ghost use Rattle.scq_judge.specs.Judged.{IsCause, fault_of_reading};
-ghost use Rattle.scq_judge.specs.Reads.{HasGiven, IsReadWhole, OfEach, AreReadWhole, AreReadUntil};
-ghost use Rattle.scq_judge.specs.Reads.{CountsFault};
+ghost use Rattle.scq_judge.specs.Recording.{after_lines, after_file, AreAllOf};
+ghost use Rattle.scq_judge.specs.Files.{IsFile, most_bytes};
+ghost use Rattle.scq_judge.specs.Reads.{CountsFault, HasGiven, IsReadWhole};
 
 use crate::entry::MOST_LINE;
 use crate::recorded::{LineFault, Place, Recorded};
@@ -55,9 +53,9 @@ impl From<AllocError> for ReadingFault {
 
 /// A file that is read: its number, and whether it is the only one.
 #[derive(Clone, Copy)]
-struct Reading {
-    file: u32,
-    lone: bool,
+pub(crate) struct Reading {
+    pub file: u32,
+    pub lone: bool,
 }
 
 /// How many lines of a file were taken, and what follows them: the front of a line.
@@ -171,7 +169,7 @@ impl Reading {
     }
 
     /// Reads the file to its end.
-    fn read<S: Source>(
+    pub fn read<S: Source>(
         self,
         alloc: Global,
         recorded: &mut Recorded,
@@ -216,38 +214,4 @@ impl Reading {
             front = Vec::from_slice(alloc, taken.rest)?;
         }
     }
-}
-
-/// Reads the files of recordings, one after the other, each to its end. A lone file may be without
-/// stamps.
-pub(crate) fn read_recordings<S: Source>(
-    alloc: Global,
-    sources: &mut [S],
-) -> Result<Recorded, ReadingFault>
-    requires { length sources.old < 2 ^ 31 }
-    ensures read { IfOk result (λ recorded. (contents : List (List ℕ))
-        → HaveContents S.left sources.old contents
-        → recording_of contents ≡ Ok recorded) }
-    ensures small { OnOk result ((contents : List (List ℕ))
-        → HaveContents S.left sources.old contents → AreSmall contents) }
-    ensures files { IfOk result (λ recorded. AreAllOf (length sources.old) recorded) }
-    ensures cause { IfErr result (λ fault. (contents : List (List ℕ))
-        → HaveContents S.left sources.old contents
-        → IsCause contents (fault_of_reading fault)) }
-    ensures whole { OnOk result
-        (AreReadWhole S.faults S.ends S.left (length sources.old) sources.old sources.new) }
-    ensures until { IfErr result (λ fault.
-        AreReadUntil S.faults S.ends S.left sources.old sources.new (fault_of_reading fault)) }
-    ensures given { OfEach (length sources.old) (HasGiven S.faults S.left) sources.old sources.new }
-{
-    let lone = sources.len() == 1;
-    let mut recorded = Recorded::new(alloc);
-    for i in 0..sources.len() {
-        let reading = Reading {
-            file: i as u32 + 1,
-            lone,
-        };
-        reading.read(alloc, &mut recorded, &mut sources[i])?;
-    }
-    Ok(recorded)
 }

@@ -1,22 +1,23 @@
 -- The sources of recordings that were got, and their contents.
-use Rattle.std.proofs.Common.{◌≡◌, ◌∙◌, inl, refl, sym, ap, subst, arith, ℕ, suc, zero, ◌<◌, Bool, true, List, [], ◌∷◌, length, take, slice_get, Option, Some, None, IfSome}
-use Rattle.std.specs.Prelude.{slice_index_or}
+use Rattle.std.proofs.Common.{◌≡◌, ◌∙◌, refl, sym, ap, subst, arith, ℕ, suc, zero, ◌+◌, ◌<◌, ◌≤◌, Bool, List, [], ◌∷◌, length, take, slice_get, Option, Some, None, Ok, IfSome}
+use Rattle.std.specs.Prelude.{slice_index_or, ◌==◌}
 use Rattle.std.specs.Option.{option_map}
 use Rattle.std.proofs.Math.Seq.{take-length}
 use Rattle.scq_outside.specs.Table.{Table}
 use Rattle.scq_judge.specs.Files.{HaveContents}
-use Rattle.scq_judge.specs.Judged.{IsCause}
-use Rattle.scq_judge.specs.Reads.{AreReadUntil, HasGiven, OfEach}
+use Rattle.scq_judge.specs.Judged.{AreSoundBefore, IsCause, IsCauseIn}
+use Rattle.scq_judge.specs.Reads.{AreReadUntil, AreReadWhole, HasGiven, HasStopped, HaveBeenRead, IsOfOneFile, OfEach, Progress}
+use Rattle.scq_judge.specs.Recording.{recording_of}
 use Rattle.scq_judge.specs.declared.judging.JudgeFault.{JudgeFault}
 use Rattle.scq_judge.specs.declared.judging.JudgeFault.TheVariants as judge
+use Rattle.scq_judge.proofs.JudgeLemmas.{cause_of_recorded, sound_all, until_recorded}
 use Rattle.scq_files.specs.Ends.{HasMoved, all_left}
-use Rattle.scq_service.specs.Answers.{HaveCome, HaveAllCome}
-use Rattle.scq_service.specs.Contents.{without_names}
-use Rattle.scq_service.specs.Ends.{Change, Wrote, HasGotSources, HaveAll, EndsJudged, IfTold, IsUnwritten}
+use Rattle.scq_service.specs.Answers.{HaveCome}
+use Rattle.scq_service.specs.Contents.{IsMissing, without_names}
+use Rattle.scq_service.specs.Ends.{Change, Wrote, HasGotSources, HasMissed, HaveAll, EndsJudged, IfTold, IsUnchanged, IsUnopened, IsUnwritten}
 use Rattle.scq_service.specs.Faults.{fault_of_judge}
-use Rattle.scq_service.specs.declared.fault.Fault.{Fault}
 use Rattle.scq_service.proofs.Files.{parts}
-use Rattle.scq_service.proofs.Working.{has-got, kept-of}
+use Rattle.scq_service.proofs.Working.{has-got}
 
 -- the contents that all sources have left, with one source more in front
 more : {S : Type 0} (left : S → Option (List ℕ)) (source : S) (sources : List S) (content : List ℕ) (contents : List (List ℕ)) → left source ≡ Some content
@@ -46,74 +47,83 @@ pub moved_of : {S : Type 0} (faults : S → ℕ) (left : S → Option (List ℕ)
     → (k : ℕ) (d : S) → k < length olds → HasMoved faults left (slice_index_or olds k d) (slice_index_or news k d)
 moved_of {S} faults left olds news given = λ k d lt. let h = given k d lt in record { bytes = h.bytes; moved = h.took; counted = h.counted }
 
--- a source that wasn't read gave no bytes
-pub none_moved : {S : Type 0} (faults : S → ℕ) (left : S → Option (List ℕ)) (olds : List S)
-    → (k : ℕ) (d : S) → k < length olds → HasMoved faults left (slice_index_or olds k d) (slice_index_or olds k d)
-none_moved {S} faults left olds = λ k d lt. record { bytes = []; moved = same (left (slice_index_or olds k d)); counted = inl refl } where
-  same : (o : Option (List ℕ)) → o ≡ option_map (λ rest. rest) o
-  same None = refl
-  same (Some rest) = refl
+-- what is said of the end of a run over these sources, which came so and are now these
+module _ {S : Type 0} (faults end_count : S → ℕ) (left : S → Option (List ℕ)) (names : List (List ℕ)) (table : Change (Option Table)) (opens : Change ℕ) (olds news : List S)
+    (come : HaveCome faults left names (record { table = table; opens = opens; sources = olds; read = 0 })) where
+  pub got_after : length news ≡ length olds → OfEach (length olds) (HasGiven faults left) olds news → (length olds ≡ length names → IsUnchanged opens)
+      → HasGotSources faults left names olds (record { table = table; opens = opens; sources = news; read = 0 })
+  got_after many given kept = has-got 0 faults end_count left names table opens olds news many come 0 (moved_of faults left olds news given) kept
 
--- the sources that came were got
-pub got_of : {S : Type 0} (left : S → Option (List ℕ)) (faults end_count : S → ℕ) (names : List (List ℕ))
-    (table : Change (Option Table)) (opens : Change ℕ) (olds news : List S) (all : Bool)
-    → length news ≡ length olds → HaveCome faults left names (record { table = table; opens = opens; sources = olds; read = 0 })
-    → HaveAllCome names (record { table = table; opens = opens; sources = olds; read = 0 }) all
-    → ((k : ℕ) (d : S) → k < length olds → HasMoved faults left (slice_index_or olds k d) (slice_index_or news k d))
-    → HasGotSources faults left names olds (record { table = table; opens = opens; sources = news; read = 0 })
-got_of {S} left faults end_count names table opens olds news all same come have moved =
-    has-got 0 faults end_count left names table opens olds news same come 0 moved
-    (kept-of 0 faults end_count left names table opens olds news same come all have)
+  -- where all sources came, those that are there now are the sources of all names
+  pub have_all : length news ≡ length olds → length olds ≡ length names → IsUnchanged opens
+      → HaveAll names (record { table = table; opens = opens; sources = news; read = 0 })
+  have_all many all kept = record {
+    all = many ∙ all;
+    opens = kept;
+    table = come.table ∙ ap (λ ns. option_map (without_names ns) table.old) (ap (λ n. take n names) all ∙ take-length names);
+    read = refl;
+  }
 
--- where all sources came, those that are there now are the sources of all names
-pub have_all : {S : Type 0} (left : S → Option (List ℕ)) (faults : S → ℕ) (names : List (List ℕ))
-    (table : Change (Option Table)) (opens : Change ℕ) (olds news : List S)
-    → length news ≡ length olds → HaveCome faults left names (record { table = table; opens = opens; sources = olds; read = 0 })
-    → HaveAllCome names (record { table = table; opens = opens; sources = olds; read = 0 }) true
-    → HaveAll names (record { table = table; opens = opens; sources = news; read = 0 })
-have_all left faults names table opens olds news same come all = record {
-  all = same ∙ all.0;
-  opens = all.1;
-  table = come.table ∙ ap (λ ns. option_map (without_names ns) table.old) (ap (λ n. take n names) all.0 ∙ take-length names);
-  read = refl;
-}
+  -- the next source was not got
+  pub unopened : (reader : Progress) (file : ℕ) → HaveBeenRead faults end_count left olds news reader → reader.lone ≡ (length names == 1) → file ≡ length olds + 1
+      → length olds < length names → HasMissed names (record { table = table; opens = opens; sources = olds; read = 0 })
+      → IsUnopened faults end_count left names olds (record { table = table; opens = opens; sources = news; read = 0 }) file
+  unopened reader file had lone next within missed = record {
+    next = next ∙ ap (λ n. n + 1) (sym had.many);
+    within = omega (arith, within, had.many);
+    missed = record {
+      rose = missed.rose;
+      missing = (let M : ℕ → Type 0 = λ n. IfSome table.old (λ files. IsMissing files names (n + 1)) in subst M (sym had.many) missed.missing);
+    };
+    whole = (let W : ℕ → Type 0 = λ n. AreReadWhole faults end_count left n olds news in subst W (sym had.many) had.whole);
+    sound = told_of left olds (λ contents. AreSoundBefore (length names == 1) contents file)
+        (λ contents have. let told = had.told contents have in
+        let B : Bool → Type 0 = λ b. recording_of b contents ≡ Ok reader.recorded in
+        sound_all (length names == 1) contents file reader.recorded told.0 (subst B lone told.1) (next ∙ ap (λ n. n + 1) (sym have.many)));
+    read = refl;
+  }
 
--- how a run ends whose recordings were refused for this fault
-pub ends_refused : {S : Type 0} (left : S → Option (List ℕ)) (faults end_count : S → ℕ) (room : Option ℕ) (names : List (List ℕ))
-    (table : Change (Option Table)) (opens : Change ℕ) (olds news : List S)
-    (w : Wrote) (fault : JudgeFault) → length news ≡ length olds
-    → HaveCome faults left names (record { table = table; opens = opens; sources = olds; read = 0 })
-    → HaveAllCome names (record { table = table; opens = opens; sources = olds; read = 0 }) true
-    → ((contents : List (List ℕ)) → HaveContents left olds contents → IsCause contents fault) → AreReadUntil faults end_count left olds news fault
-    → IsUnwritten w
-    → EndsJudged faults end_count left room names olds (record { table = table; opens = opens; sources = news; read = 0 }) w (Some (fault_of_judge fault))
-ends_refused {S} left faults end_count room names table opens olds news w fault same come all cause until unwritten = by fault cause until where
-  have : HaveAll names (record { table = table; opens = opens; sources = news; read = 0 })
-  have = have_all left faults names table opens olds news same come all
+  module _ (room : Option ℕ) (w : Wrote) (fault : JudgeFault) (kept : IsUnchanged opens) (unwritten : IsUnwritten w) where
+    abbrev Ends : JudgeFault → Type 0
+    Ends f = EndsJudged faults end_count left room names olds (record { table = table; opens = opens; sources = news; read = 0 }) w (Some (fault_of_judge f))
 
-  by : (fault : JudgeFault) → ((contents : List (List ℕ)) → HaveContents left olds contents → IsCause contents fault)
-      → AreReadUntil faults end_count left olds news fault
-      → EndsJudged faults end_count left room names olds (record { table = table; opens = opens; sources = news; read = 0 }) w (Some (fault_of_judge fault))
-  by (judge.ReadFault file) cause until =
-      (have, (judge.ReadFault file, refl, (until, told_of left olds (λ contents. IsCause contents (judge.ReadFault file)) cause)), unwritten)
-  by (judge.BadLine file line) cause until =
-      (have, (judge.BadLine file line, refl, (until, told_of left olds (λ contents. IsCause contents (judge.BadLine file line)) cause)), unwritten)
-  by (judge.Shared what file line g m) cause until =
-      (have, (judge.Shared what file line g m, refl, (until, told_of left olds (λ contents. IsCause contents (judge.Shared what file line g m)) cause)), unwritten)
-  by (judge.TwoRuns file run g s) cause until =
-      (have, (judge.TwoRuns file run g s, refl, (until, told_of left olds (λ contents. IsCause contents (judge.TwoRuns file run g s)) cause)), unwritten)
-  by (judge.Unlawful file line) cause until =
-      (have, (judge.Unlawful file line, refl, (until, told_of left olds (λ contents. IsCause contents (judge.Unlawful file line)) cause)), unwritten)
-  by (judge.TooLarge file) cause until =
-      (have, (judge.TooLarge file, refl, (until, told_of left olds (λ contents. IsCause contents (judge.TooLarge file)) cause)), unwritten)
-  by judge.NoMemory cause until = ((let a = have.all in omega arith), until, refl, unwritten)
+    -- a file is at fault
+    pub ends_stopped : HasStopped faults end_count left (length names == 1) olds news fault → Ends fault
+    ends_stopped stop = by fault stop.own stop.cause stop.until where
+      by : (fault : JudgeFault) → IsOfOneFile fault → ((contents : List (List ℕ)) → HaveContents left olds contents → IsCause (length names == 1) contents fault)
+          → AreReadUntil faults end_count left olds news fault → Ends fault
+      by (judge.BadLine file line) own cause until =
+          ((judge.BadLine file line, refl, record { got_for = (kept, refl); until = until; cause = told_of left olds _ cause }), unwritten)
+      by (judge.ReadFault file) own cause until =
+          ((judge.ReadFault file, refl, record { got_for = (kept, refl); until = until; cause = told_of left olds _ cause }), unwritten)
+      by (judge.TooLarge file) own cause until =
+          ((judge.TooLarge file, refl, record { got_for = (kept, refl); until = until; cause = told_of left olds _ cause }), unwritten)
+      by (judge.Shared what file line g m) own cause until = absurd own
+      by (judge.TwoRuns file run g s) own cause until = absurd own
+      by (judge.Unlawful file line) own cause until = absurd own
+      by judge.NoMemory own cause until = (omega (arith, come.within, stop.many), until, refl, unwritten)
 
--- an end of equal sources, counts and faults
-pub ends_so : {S : Type 0} (faults end_count : S → ℕ) (left : S → Option (List ℕ)) (room : Option ℕ) (names : List (List ℕ)) (table : Change (Option Table)) (opens : Change ℕ)
-    (w : Wrote) (got olds a b : List S) (read : ℕ) (x y : Option Fault) → got ≡ olds → a ≡ b → read ≡ 0 → x ≡ y
-    → EndsJudged faults end_count left room names olds (record { table = table; opens = opens; sources = b; read = 0 }) w y
-    → EndsJudged faults end_count left room names got (record { table = table; opens = opens; sources = a; read = read }) w x
-ends_so {S} faults end_count left room names table opens w got olds a b read x y were sources none fault ends =
-    let E : List S → List S → ℕ → Option Fault → Type 0 =
-    λ g s n f. EndsJudged faults end_count left room names g (record { table = table; opens = opens; sources = s; read = n }) w f in
-    subst (λ g. E g a read x) (sym were) (subst (λ s. E olds s read x) (sym sources) (subst (λ n. E olds b n x) (sym none) (subst (λ f. E olds b 0 f) (sym fault) ends)))
+    -- what all files say is at fault
+    pub ends_refused : (reader : Progress) → HaveBeenRead faults end_count left olds news reader → reader.lone ≡ (length names == 1) → length olds ≡ length names
+        → IsCauseIn reader.recorded fault → Ends fault
+    ends_refused reader had lone all in_it =
+        by fault in_it (λ contents have. let told = had.told contents have in
+        let B : Bool → Type 0 = λ b. recording_of b contents ≡ Ok reader.recorded in
+        cause_of_recorded (length names == 1) contents reader.recorded told.0 (subst B lone told.1) fault in_it)
+        (until_recorded faults end_count left olds news reader.recorded had.files had.whole fault in_it) where
+          have : HaveAll names (record { table = table; opens = opens; sources = news; read = 0 })
+          have = have_all had.many all kept
+
+          by : (fault : JudgeFault) → IsCauseIn reader.recorded fault
+              → ((contents : List (List ℕ)) → HaveContents left olds contents → IsCause (length names == 1) contents fault)
+              → AreReadUntil faults end_count left olds news fault → Ends fault
+          by (judge.BadLine file line) h cause until = absurd h
+          by (judge.ReadFault file) h cause until = absurd h
+          by (judge.TooLarge file) h cause until = absurd h
+          by (judge.Shared what file line g m) h cause until =
+              ((judge.Shared what file line g m, refl, record { got_for = have; until = until; cause = told_of left olds _ cause }), unwritten)
+          by (judge.TwoRuns file run g s) h cause until =
+              ((judge.TwoRuns file run g s, refl, record { got_for = have; until = until; cause = told_of left olds _ cause }), unwritten)
+          by (judge.Unlawful file line) h cause until =
+              ((judge.Unlawful file line, refl, record { got_for = have; until = until; cause = told_of left olds _ cause }), unwritten)
+          by judge.NoMemory h cause until = (omega (arith, come.within, had.many), until, refl, unwritten)

@@ -2,7 +2,7 @@
 -- settings alone, and neither how the work is done nor by whom.
 use Rattle.std.specs.Prelude.{◌≡◌, ◌⊎◌, false, ℕ, ◌+◌, ◌-◌, ◌^◌, ◌<◌, ◌≤◌, List, [], Option, Some}
 use Rattle.std.specs.Prelude.{None, IsSome, IfSome, IsSomeAnd, Result, Ok, Err, length, take}
-use Rattle.std.specs.Prelude.{slice_get, slice_index_or}
+use Rattle.std.specs.Prelude.{slice_get, slice_index_or, ◌==◌}
 use Rattle.std.specs.List.{All}
 use Rattle.std.specs.Option.{option_map}
 use Rattle.scq_outside.specs.Counts.{Rose}
@@ -13,9 +13,10 @@ use Rattle.scq_frames.specs.Judged.{file_trouble}
 use Rattle.scq_collect.specs.Output.{one_thread_output}
 use Rattle.scq_lines.specs.Lines.{lines_of}
 use Rattle.scq_self.specs.Summary.{self_summary}
-use Rattle.scq_judge.specs.Judged.{IsJudged, IsCause}
+use Rattle.scq_judge.specs.Judged.{AreSoundBefore, IsJudged, IsCause}
 use Rattle.scq_judge.specs.Reads.{AreQuiet, AreReadUntil, AreReadWhole}
 use Rattle.scq_judge.specs.declared.judging.JudgeFault.{JudgeFault}
+use Rattle.scq_judge.specs.declared.judging.JudgeFault.TheVariants as judge
 use Rattle.scq_stages.specs.Output.{one_thread_stage_output}
 use Rattle.scq_words.specs.Asked.{Asked, run, generated, judged, whole, staged}
 use Rattle.scq_words.specs.declared.fault.WordsFault.{WordsFault}
@@ -306,7 +307,8 @@ EndsWhole command faults end_count left name got r w (Some fault) =
     IsOfText command fault × IsReadWhole faults end_count left name got r
     × IfContent left got (λ content. Tells command (lines_of content) (Err fault)) × IsUnwritten w
 
--- A run over recordings, whose texts are read in order and judged together
+-- A run over recordings, whose files are got one after the other, each read to its end before the
+-- next is got, and judged together
 
 -- the files of all names were got
 pub record HaveAll {S : Type 0} (names : List (List ℕ)) (r : Inputs S) : Type 0 where
@@ -322,15 +324,35 @@ abbrev pub IsReported : {S : Type 0} → (S → Option (List ℕ)) → List (Lis
 IsReported left names room got P =
     IfTold left got (λ contents. (text : List ℕ) × IsJudged names room contents text × P text)
 
--- recordings were refused: sources were read so far, and this is at fault in what they told
-abbrev pub IsRefusedBy : {S : Type 0} → (S → ℕ) → (S → ℕ) → (S → Option (List ℕ)) → List S
-    → Inputs S → JudgeFault → Type 0
-IsRefusedBy faults end_count left got r refused =
-    AreReadUntil faults end_count left got r.sources refused
-    × IfTold left got (λ contents. IsCause contents refused)
+-- how many files were got at this fault: those of all names where it is of several files, or of the
+-- merged history, and else those up to its own, of which each was there
+abbrev pub AreGotFor : {S : Type 0} → List (List ℕ) → Inputs S → JudgeFault → Type 0
+AreGotFor names r (judge.BadLine file line) = IsUnchanged r.opens × (r.read ≡ 0)
+AreGotFor names r (judge.ReadFault file) = IsUnchanged r.opens × (r.read ≡ 0)
+AreGotFor names r (judge.TooLarge file) = IsUnchanged r.opens × (r.read ≡ 0)
+AreGotFor names r _ = HaveAll names r
+
+-- recordings were refused: sources were got and read so far, and this is at fault in what they told
+pub record IsRefusedBy {S : Type 0} (faults end_count : S → ℕ) (left : S
+    → Option (List ℕ)) (names : List (List ℕ)) (got : List S)
+    (r : Inputs S) (refused : JudgeFault) : Type 0 where
+  pub got_for : AreGotFor names r refused
+  pub until : AreReadUntil faults end_count left got r.sources refused
+  pub cause : IfTold left got (λ contents. IsCause (length names == 1) contents refused)
+
+-- a source was not got: those before it were read to their ends, and nothing is at fault in them
+pub record IsUnopened {S : Type 0} (faults end_count : S → ℕ) (left : S
+    → Option (List ℕ)) (names : List (List ℕ)) (got : List S)
+    (r : Inputs S) (file : ℕ) : Type 0 where
+  pub next : file ≡ length r.sources + 1
+  pub within : length r.sources < length names
+  pub missed : HasMissed names r
+  pub whole : AreReadWhole faults end_count left (length r.sources) got r.sources
+  pub sound : IfTold left got (λ contents. AreSoundBefore (length names == 1) contents file)
+  pub read : r.read ≡ 0
 
 -- how a run over recordings of these names ends. With its report every source was read to its end,
--- and no read failed; none was read where one was not got
+-- and no read failed
 abbrev pub EndsJudged : {S : Type 0} → (S → ℕ) → (S → ℕ) → (S → Option (List ℕ)) → Option ℕ
     → List (List ℕ) → List S → Inputs S → Wrote → Option Fault → Type 0
 EndsJudged faults end_count left room names got r w None =
@@ -342,13 +364,12 @@ EndsJudged faults end_count left room names got r w (Some WriteFault) =
     × Rose w.faults.old w.faults.new
     × IsReported left names room got (λ text. WrotePart w.written.old w.written.new text)
 EndsJudged faults end_count left room names got r w (Some (OpenFault file)) =
-    (file ≡ length r.sources + 1) × (length r.sources < length names) × HasMissed names r
-    × (r.sources ≡ got) × (r.read ≡ 0) × IsUnwritten w
+    IsUnopened faults end_count left names got r file × IsUnwritten w
 EndsJudged faults end_count left room names got r w (Some NoMemory) =
     (length r.sources ≤ length names) × AreQuiet faults got r.sources × (r.read ≡ 0) × IsUnwritten w
 EndsJudged faults end_count left room names got r w (Some fault) =
-    HaveAll names r × ((refused : JudgeFault) × (fault ≡ fault_of_judge refused)
-    × IsRefusedBy faults end_count left got r refused) × IsUnwritten w
+    ((refused : JudgeFault) × (fault ≡ fault_of_judge refused)
+    × IsRefusedBy faults end_count left names got r refused) × IsUnwritten w
 
 -- no file was asked for
 abbrev pub IsClosed : {S : Type 0} → Inputs S → Type 0

@@ -6,7 +6,8 @@ use Rattle.scq_topics.specs.declared.topics.TopicFault.TheVariants.{Twice}
 use Rattle.scq_words.specs.declared.fault.WordsFault.{WordsFault}
 use Rattle.scq_words.specs.declared.fault.WordsFault.TheVariants.{NotUnderstood, Workers, Order}
 use Rattle.scq_words.specs.declared.fault.WordsFault.TheVariants.{Size, Topics, TooManyFiles}
-use Rattle.scq_words.specs.declared.fault.WordsFault.TheVariants.{NoName, Seed, Lines, Room}
+use Rattle.scq_words.specs.declared.fault.WordsFault.TheVariants.{TooManyRecordings, NoName, Seed}
+use Rattle.scq_words.specs.declared.fault.WordsFault.TheVariants.{Lines, Room}
 use Rattle.scq_work.specs.declared.worked.WorkFault.{WorkFault}
 use Rattle.scq_work.specs.declared.worked.WorkFault.TheVariants as work
 use Rattle.scq_stages.specs.declared.staged.StageFault.{StageFault}
@@ -73,6 +74,7 @@ words_line Order = codes "order is not in 1..12\n"
 words_line Size = codes "size is not in 1..65536\n"
 words_line (Topics fault) = topics_line fault
 words_line TooManyFiles = codes "more than 64 files\n"
+words_line TooManyRecordings = codes "more than 4096 files\n"
 words_line (NoName file) = file_line file (codes " has no name\n")
 words_line Seed = codes "seed is not in 0..2147483647\n"
 words_line Lines = codes "lines is not in 1..1000000\n"

@@ -1,5 +1,6 @@
 pub mod Contents
 pub mod Causes
+pub mod Sources
 pub mod Ends
 pub mod Faults
 pub mod Writing

@@ -14,6 +14,7 @@ mod reading;
 mod reporting;
 mod serving;
 mod serving_waiting;
+mod sources;
 mod worker_report;
 mod writing;
 
@@ -22,3 +23,4 @@ pub use outcome::Outcome;
 pub use reporting::report;
 pub use serving::serve;
 pub use serving_waiting::serve_waiting;
+pub use sources::Sources;

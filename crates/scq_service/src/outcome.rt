@@ -3,8 +3,8 @@ ghost use Rattle.scq_service.specs.Faults.{status_of_fault, fault_of_work, fault
 ghost use Rattle.scq_service.specs.Faults.{bytes_of_large, bytes_of_large_text};
 ghost use Rattle.scq_service.specs.Answers.{WorkedAt};
 
-use crate::Fault;
 use crate::commands::MOST_TEXT;
+use crate::{Fault, Sources};
 use scq_block::Frame;
 use scq_outside::ReadAllFault;
 use scq_queue::Pass;
@@ -21,8 +21,9 @@ pub struct Outcome<S> {
     pub status: u8,
     /// There exactly where the status isn't 0.
     pub fault: Option<Fault>,
-    /// The sources that were got, in the order of the files.
-    pub sources: Vec<S>,
+    /// For contracts alone, the sources that were got, as they were when the run was done with
+    /// them.
+    pub sources: Sources<S>,
     /// How many bytes were read of a file that is too large; 0 where none is, and of `judge`.
     pub read: u64,
     /// What workers answered: there exactly where `run` or `self` ended with status 0 or 4.
@@ -39,26 +40,25 @@ pub struct Outcome<S> {
     /// Where idle workers wait: of each worker, whether it saw that all had retired, and how often
     /// it rested and was woken. None only at status 2 and 5. Where they leave early it is None.
     pub waited: Option<Waited>,
-    /// For contracts alone, the sources of files as they were when they were got.
-    pub got: Snapshot<Vec<S>>,
+    /// Likewise, as they were when they were got.
+    pub got: Sources<S>,
 }
 
-impl<S> Outcome<S> {
+impl<S: Drop> Outcome<S> {
     pub(crate) fn whole(sources: Vec<S>) -> Outcome<S>
         ensures status { result.status ≡ 0 }
         ensures fault { result.fault ≡ None }
-        ensures sources { result.sources ≡ sources }
+        ensures sources { result.sources.items ≡ sources.items }
         ensures read { result.read ≡ 0 }
         ensures worked { result.worked ≡ None }
         ensures staged { result.staged ≡ None }
         ensures left { (result.left ≡ None) × (result.passes ≡ None) × (result.frames ≡ None) }
         ensures waited { result.waited ≡ None }
     {
-        let got = Snapshot::of(&sources);
         Outcome {
             status: 0,
             fault: None,
-            sources,
+            sources: Sources::these(Snapshot::of(&sources)),
             read: 0,
             worked: None,
             staged: None,
@@ -66,7 +66,7 @@ impl<S> Outcome<S> {
             passes: None,
             frames: None,
             waited: None,
-            got,
+            got: Sources::these(Snapshot::of(&sources)),
         }
     }
 
@@ -74,7 +74,7 @@ impl<S> Outcome<S> {
     pub(crate) fn answered(sources: Vec<S>, worked: Worked) -> Outcome<S>
         ensures status { result.status ≡ 0 }
         ensures fault { result.fault ≡ None }
-        ensures sources { result.sources ≡ sources }
+        ensures sources { result.sources.items ≡ sources.items }
         ensures read { result.read ≡ 0 }
         ensures worked { result.worked ≡ Some worked }
         ensures staged { result.staged ≡ None }
@@ -89,7 +89,7 @@ impl<S> Outcome<S> {
     pub(crate) fn finished(sources: Vec<S>, staged: Staged) -> Outcome<S>
         ensures status { result.status ≡ 0 }
         ensures fault { result.fault ≡ None }
-        ensures sources { result.sources ≡ sources }
+        ensures sources { result.sources.items ≡ sources.items }
         ensures read { result.read ≡ 0 }
         ensures worked { result.worked ≡ None }
         ensures staged { result.staged ≡ Some staged }
@@ -161,13 +161,32 @@ impl<S> Outcome<S> {
         ensures staged { result.staged ≡ self.staged }
         ensures left { (result.left ≡ left) × (result.passes ≡ passes) × (result.frames ≡ frames) }
         ensures waited { result.waited ≡ waited }
-        ensures got { result.got ≡ got }
+        ensures got { result.got.items ≡ got.value.items }
     {
         Outcome {
             left,
             passes,
             frames,
             waited,
+            got: Sources::these(got),
+            ..self
+        }
+    }
+
+    /// The same end of a run over these sources, which were these when they were got.
+    pub(crate) fn over(self, got: Sources<S>, sources: Sources<S>) -> Outcome<S>
+        ensures status { result.status ≡ self.status }
+        ensures fault { result.fault ≡ self.fault }
+        ensures sources { result.sources ≡ sources }
+        ensures read { result.read ≡ self.read }
+        ensures worked { result.worked ≡ self.worked }
+        ensures staged { result.staged ≡ self.staged }
+        ensures left { result.left ≡ self.left }
+        ensures waited { result.waited ≡ self.waited }
+        ensures got { result.got ≡ got }
+    {
+        Outcome {
+            sources,
             got,
             ..self
         }
@@ -176,19 +195,18 @@ impl<S> Outcome<S> {
     pub(crate) fn at(sources: Vec<S>, fault: Fault) -> Outcome<S>
         ensures status { result.status ≡ status_of_fault fault }
         ensures fault { result.fault ≡ Some fault }
-        ensures sources { result.sources ≡ sources }
+        ensures sources { result.sources.items ≡ sources.items }
         ensures read { result.read ≡ 0 }
         ensures worked { result.worked ≡ None }
         ensures staged { result.staged ≡ None }
         ensures left { (result.left ≡ None) × (result.passes ≡ None) × (result.frames ≡ None) }
         ensures waited { result.waited ≡ None }
-        ensures got { result.got.value ≡ sources }
+        ensures got { result.got.items ≡ sources.items }
     {
-        let got = Snapshot::of(&sources);
         Outcome {
             status: fault.status(),
             fault: Some(fault),
-            sources,
+            sources: Sources::these(Snapshot::of(&sources)),
             read: 0,
             worked: None,
             staged: None,
@@ -196,7 +214,7 @@ impl<S> Outcome<S> {
             passes: None,
             frames: None,
             waited: None,
-            got,
+            got: Sources::these(Snapshot::of(&sources)),
         }
     }
 
@@ -204,7 +222,7 @@ impl<S> Outcome<S> {
     pub(crate) fn of_work(sources: Vec<S>, size: u32, fault: WorkFault) -> Outcome<S>
         ensures status { result.status ≡ status_of_fault (fault_of_work size fault) }
         ensures fault { result.fault ≡ Some (fault_of_work size fault) }
-        ensures sources { result.sources ≡ sources }
+        ensures sources { result.sources.items ≡ sources.items }
         ensures read { result.read ≡ bytes_of_large fault }
         ensures worked { WorkedAt result.fault result.worked }
         ensures none { result.worked ≡ None }
@@ -243,7 +261,7 @@ impl<S> Outcome<S> {
     pub(crate) fn of_text(sources: Vec<S>, fault: ReadAllFault) -> Outcome<S>
         ensures status { result.status ≡ status_of_fault (fault_of_text fault) }
         ensures fault { result.fault ≡ Some (fault_of_text fault) }
-        ensures sources { result.sources ≡ sources }
+        ensures sources { result.sources.items ≡ sources.items }
         ensures read { result.read ≡ bytes_of_large_text fault }
         ensures worked { result.worked ≡ None }
         ensures staged { result.staged ≡ None }

@@ -57,10 +57,10 @@ pub fn read_files<R: Threads + Sync, F: Files, G: Gate + Sync>(
 ) -> Outcome<F::Src>
     requires few { length names.now ≤ 64 }
     ensures got { HasGotSources F.Src.faults F.Src.left
-        (map string_bytes names.now) result.got.value.items
+        (map string_bytes names.now) result.got.items
         (inputs_of F.table F.faults files.old files.new result.sources.items result.read) }
     ensures ends { ReadsOver job.now.longest F.Src.faults F.Src.ends F.Src.left
-        (map string_bytes names.now) result.got.value.items
+        (map string_bytes names.now) result.got.items
         (inputs_of F.table F.faults files.old files.new result.sources.items result.read)
         result.fault }
     ensures status { result.status ≡ status_of result.fault }
@@ -68,12 +68,12 @@ pub fn read_files<R: Threads + Sync, F: Files, G: Gate + Sync>(
     ensures unstaged { result.staged ≡ None }
     ensures known { IfSome result.worked (λ w.
         All (λ a. a.topic ≤ length job.now.topics) (members_in w.answered.items)) }
-    ensures answers { AreOfParts job.now.topics job.now.size F.Src.left result.got.value.items
+    ensures answers { AreOfParts job.now.topics job.now.size F.Src.left result.got.items
         result.worked }
     ensures told { IsWorkOf job.now.topics job.now.size job.now.workers F.Src.left
-        result.got.value.items result.worked }
+        result.got.items result.worked }
     ensures work { IsWork job.now.topics job.now.size job.now.longest job.now.workers F.Src.faults
-        F.Src.ends F.Src.left result.got.value.items
+        F.Src.ends F.Src.left result.got.items
         (inputs_of F.table F.faults files.old files.new result.sources.items result.read)
         result.worked }
     ensures left { IfSome result.left (λ left.
@@ -108,10 +108,10 @@ pub fn read_files_waiting<R: Threads + Wait + Sync, F: Files, G: Gate + Sync>(
 ) -> Outcome<F::Src>
     requires few { length names.now ≤ 64 }
     ensures got { HasGotSources F.Src.faults F.Src.left
-        (map string_bytes names.now) result.got.value.items
+        (map string_bytes names.now) result.got.items
         (inputs_of F.table F.faults files.old files.new result.sources.items result.read) }
     ensures ends { ReadsOver job.now.longest F.Src.faults F.Src.ends F.Src.left
-        (map string_bytes names.now) result.got.value.items
+        (map string_bytes names.now) result.got.items
         (inputs_of F.table F.faults files.old files.new result.sources.items result.read)
         result.fault }
     ensures status { result.status ≡ status_of result.fault }
@@ -119,12 +119,12 @@ pub fn read_files_waiting<R: Threads + Wait + Sync, F: Files, G: Gate + Sync>(
     ensures unstaged { result.staged ≡ None }
     ensures known { IfSome result.worked (λ w.
         All (λ a. a.topic ≤ length job.now.topics) (members_in w.answered.items)) }
-    ensures answers { AreOfParts job.now.topics job.now.size F.Src.left result.got.value.items
+    ensures answers { AreOfParts job.now.topics job.now.size F.Src.left result.got.items
         result.worked }
     ensures told { IsWorkOf job.now.topics job.now.size job.now.workers F.Src.left
-        result.got.value.items result.worked }
+        result.got.items result.worked }
     ensures work { IsWork job.now.topics job.now.size job.now.longest job.now.workers F.Src.faults
-        F.Src.ends F.Src.left result.got.value.items
+        F.Src.ends F.Src.left result.got.items
         (inputs_of F.table F.faults files.old files.new result.sources.items result.read)
         result.worked }
     ensures left { IfSome result.left (λ left.
@@ -174,10 +174,10 @@ fn conclude<F: Files>(
         (inputs_of F.table F.faults was.now.value files.now got.value.items 0) all }
     requires end { EndsWork job.now F.Src.faults F.Src.ends F.Src.left got.value.items end }
     ensures got { HasGotSources F.Src.faults F.Src.left
-        (map string_bytes names.now) result.got.value.items
+        (map string_bytes names.now) result.got.items
         (inputs_of F.table F.faults was.now.value files.now result.sources.items result.read) }
     ensures ends { ReadsOver job.now.longest F.Src.faults F.Src.ends F.Src.left
-        (map string_bytes names.now) result.got.value.items
+        (map string_bytes names.now) result.got.items
         (inputs_of F.table F.faults was.now.value files.now result.sources.items result.read)
         result.fault }
     ensures status { result.status ≡ status_of result.fault }
@@ -185,12 +185,12 @@ fn conclude<F: Files>(
     ensures unstaged { result.staged ≡ None }
     ensures known { IfSome result.worked (λ w.
         All (λ a. a.topic ≤ length job.now.topics) (members_in w.answered.items)) }
-    ensures answers { AreOfParts job.now.topics job.now.size F.Src.left result.got.value.items
+    ensures answers { AreOfParts job.now.topics job.now.size F.Src.left result.got.items
         result.worked }
     ensures told { IsWorkOf job.now.topics job.now.size job.now.workers F.Src.left
-        result.got.value.items result.worked }
+        result.got.items result.worked }
     ensures work { IsWork job.now.topics job.now.size job.now.longest job.now.workers F.Src.faults
-        F.Src.ends F.Src.left result.got.value.items
+        F.Src.ends F.Src.left result.got.items
         (inputs_of F.table F.faults was.now.value files.now result.sources.items result.read)
         result.worked }
     ensures left { IfSome result.left (λ left.

@@ -77,6 +77,7 @@ fn write_words<K: Sink>(sink: &mut K, fault: &WordsFault) -> Result<(), Failed>
         WordsFault::Size => write_all(sink, b"size is not in 1..65536\n"),
         WordsFault::Topics(fault) => write_topics(sink, fault),
         WordsFault::TooManyFiles => write_all(sink, b"more than 64 files\n"),
+        WordsFault::TooManyRecordings => write_all(sink, b"more than 4096 files\n"),
         WordsFault::NoName { file } => write_about(sink, *file, b" has no name\n"),
         WordsFault::Seed => write_all(sink, b"seed is not in 0..2147483647\n"),
         WordsFault::Lines => write_all(sink, b"lines is not in 1..1000000\n"),

@@ -1,13 +1,13 @@
 -- The tests of `run`'s, `stages`' and `judge`'s arguments never answer that the words aren't understood.
-use Rattle.std.proofs.Common.{◌≡◌, ◌≢◌, ◌⊎◌, inl, inr, arith, true, false, ℕ, ◌+◌, ◌≤◌, Bool, List, [], length, Option, Some, None}
+use Rattle.std.proofs.Common.{◌≡◌, ◌≢◌, ◌⊎◌, inl, inr, arith, true, false, ℕ, ◌+◌, ◌≤◌, Bool, List, [], ◌∷◌, length, Option, Some, None}
 use Rattle.std.specs.Prelude.{◌==◌, ◌&&◌, nat_lt, nat_le, option_map, if◌then◌else◌}
 use Rattle.std.specs.List.{position}
 use Rattle.std.specs.Option.{option_or}
 use Rattle.scq_topics.specs.Topics.{entries_of, first_fault}
-use Rattle.scq_words.specs.Asked.{JudgeTexts, RunTexts, StagesTexts, files_tests, first_of_tests, judge_tests, refused_if, refused_topics, run_tests, stages_tests}
+use Rattle.scq_words.specs.Asked.{JudgeTexts, RunTexts, StagesTexts, first_of_tests, judge_tests, refused_if, refused_names, refused_topics, run_tests, stages_tests}
 use Rattle.scq_words.specs.Numbers.{fault_outside, number_in, refused_outside}
 use Rattle.scq_words.specs.declared.fault.WordsFault.{WordsFault}
-use Rattle.scq_words.specs.declared.fault.WordsFault.TheVariants.{NotUnderstood, Workers, Order, Size, Topics, TooManyFiles, NoName, Room}
+use Rattle.scq_words.specs.declared.fault.WordsFault.TheVariants.{NotUnderstood, Workers, Order, Size, Topics, TooManyFiles, TooManyRecordings, NoName, Room}
 
 -- a test that doesn't answer that the words aren't understood
 abbrev IsOther : Option WordsFault → Type 0
@@ -40,26 +40,27 @@ topics-other None = λ e. cc
 topics-other (Some text) = map-other Topics (first_fault [] (entries_of text)) (λ a e. cc)
 
 -- the tests of files, with which those of `run`, `stages` and `judge` end
-files-other : (files : List (List ℕ)) → first_of_tests (files_tests files) ≢ Some NotUnderstood
-files-other files =
-    or-other _ _ (if-other (nat_lt 64 (length files)) TooManyFiles (λ e. cc))
+files-other : (most : ℕ) (many : WordsFault) (files : List (List ℕ)) → many ≢ NotUnderstood
+    → first_of_tests (refused_if (nat_lt most (length files)) many ∷ refused_names files ∷ []) ≢ Some NotUnderstood
+files-other most many files other =
+    or-other _ _ (if-other (nat_lt most (length files)) many other)
     (or-other _ None (map-other (λ at. NoName (at + 1)) (position (λ name. length name == 0) files) (λ a e. cc)) (λ e. cc))
 
 pub judge-other : (t : JudgeTexts) → first_of_tests (judge_tests t) ≢ Some NotUnderstood
-judge-other t = or-other _ _ (outside-other 1 4294967295 Room t.room (λ e. cc)) (files-other t.files)
+judge-other t = or-other _ _ (outside-other 1 4294967295 Room t.room (λ e. cc)) (files-other 4096 TooManyRecordings t.files (λ e. cc))
 
 pub run-other : (t : RunTexts) → first_of_tests (run_tests t) ≢ Some NotUnderstood
 run-other t =
     or-other _ _ (outside-other 1 4096 Workers t.workers (λ e. cc))
     (or-other _ _ (outside-other 1 12 Order t.order (λ e. cc))
     (or-other _ _ (outside-other 1 65536 Size t.size (λ e. cc))
-    (or-other _ _ (topics-other t.topics) (files-other t.files))))
+    (or-other _ _ (topics-other t.topics) (files-other 64 TooManyFiles t.files (λ e. cc)))))
 
 pub stages-other : (t : StagesTexts) → first_of_tests (stages_tests t) ≢ Some NotUnderstood
 stages-other t =
     or-other _ _ (outside-other 1 4096 Workers t.workers (λ e. cc))
     (or-other _ _ (outside-other 1 12 Order t.order (λ e. cc))
-    (or-other _ _ (outside-other 1 65536 Size t.size (λ e. cc)) (files-other t.files)))
+    (or-other _ _ (outside-other 1 65536 Size t.size (λ e. cc)) (files-other 64 TooManyFiles t.files (λ e. cc))))
 
 -- a number that is the default or was tested is in its range
 pub in-range : (n default low high : ℕ) → (n ≡ default) ⊎ ((low ≤ n) × (n ≤ high)) → low ≤ default → default ≤ high → (low ≤ n) × (n ≤ high)

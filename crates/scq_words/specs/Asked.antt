@@ -14,7 +14,8 @@ use Rattle.scq_words.specs.Numbers.{number_or, refused_outside}
 use Rattle.scq_words.specs.declared.fault.WordsFault.{WordsFault}
 use Rattle.scq_words.specs.declared.fault.WordsFault.TheVariants.{NotUnderstood, Workers, Order}
 use Rattle.scq_words.specs.declared.fault.WordsFault.TheVariants.{Size, Topics, TooManyFiles}
-use Rattle.scq_words.specs.declared.fault.WordsFault.TheVariants.{NoName, Seed, Lines, Room}
+use Rattle.scq_words.specs.declared.fault.WordsFault.TheVariants.{TooManyRecordings, NoName, Seed}
+use Rattle.scq_words.specs.declared.fault.WordsFault.TheVariants.{Lines, Room}
 use Rattle.scq_words.specs.declared.request.Request.{Request}
 use Rattle.scq_words.specs.declared.request.Request.TheVariants.{Run, SelfRun, Judge, Text, Stages}
 use Rattle.scq_words.specs.declared.request.JudgeRequest.{JudgeRequest}
@@ -266,12 +267,13 @@ abbrev pub judge_texts : List Row → JudgeTexts
 judge_texts rows =
     texts_of_judge (first_of (codes "room") rows) (unwrap_or (all_of (codes "files") rows) [])
 
--- the tests of files alone
-abbrev pub files_tests : List (List ℕ) → List (Option WordsFault)
-files_tests files = refused_if (nat_lt 64 (length files)) TooManyFiles ∷ refused_names files ∷ []
-
+-- those of `judge`
 abbrev pub judge_tests : JudgeTexts → List (Option WordsFault)
-judge_tests t = refused_outside 1 4294967295 Room t.room ∷ files_tests t.files
+judge_tests t =
+    refused_outside 1 4294967295 Room t.room
+    ∷ refused_if (nat_lt 4096 (length t.files)) TooManyRecordings
+    ∷ refused_names t.files
+    ∷ []
 
 -- the room, where it is given
 abbrev pub room_of : Option (List ℕ) → Option ℕ

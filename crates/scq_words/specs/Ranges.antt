@@ -50,10 +50,10 @@ pub record IsSelfInRange (a : SelfAsked) : Type 0 where
   pub lines : (1 ≤ a.lines) × (a.lines ≤ 1000000)
   pub workers : (1 ≤ a.workers) × (a.workers ≤ 4096)
 
--- recordings are at most 64 files, and each has a name; a room is one of values
+-- recordings are at most 4,096 files, and each has a name; a room is one of values
 pub record IsJudgeInRange (a : JudgeAsked) : Type 0 where
   pub room : IfSome a.room (λ n. (1 ≤ n) × (n ≤ 4294967295))
-  pub files : length a.files ≤ 64
+  pub files : length a.files ≤ 4096
   pub names : All (λ name. 0 < length name) a.files
 
 abbrev pub IsInRange : Asked → Type 0

@@ -21,6 +21,9 @@ pub enum WordsFault {
     Topics(TopicFault),
     #[error("more than 64 files")]
     TooManyFiles,
+    /// So of `judge`, which reads one file after the other.
+    #[error("more than 4096 files")]
+    TooManyRecordings,
     /// This file, numbered from 1, is the empty text.
     #[error("file {file} has no name")]
     NoName { file: u32 },

@@ -10,6 +10,9 @@ use std::alloc::{AllocError, Global};
 /// The most files of a run.
 const MOST_FILES: usize = 64;
 
+/// The most files of recordings.
+const MOST_RECORDINGS: usize = 4096;
+
 /// There are at most 64 files.
 pub fn few_files(files: &[&str]) -> Result<(), WordsFault>
     ensures refused { result_err result
@@ -22,9 +25,21 @@ pub fn few_files(files: &[&str]) -> Result<(), WordsFault>
     Ok(())
 }
 
-/// Each of at most 64 files has a name.
+/// There are at most 4,096 files of recordings.
+pub fn few_recordings(files: &[&str]) -> Result<(), WordsFault>
+    ensures refused { result_err result
+        ≡ refused_if (nat_lt 4096 (length files.now)) WordsFault.TooManyRecordings }
+    ensures few { OnOk result (length files.now ≤ 4096) }
+{
+    if files.len() > MOST_RECORDINGS {
+        return Err(WordsFault::TooManyRecordings);
+    }
+    Ok(())
+}
+
+/// Each of at most 4,096 files has a name.
 pub fn named_files(files: &[&str]) -> Result<(), WordsFault>
-    requires { length files.now ≤ 64 }
+    requires { length files.now ≤ 4096 }
     ensures refused { result_err result ≡ refused_names (map (λ name. name.now) files.now) }
     ensures named { OnOk result (All (λ name. 0 < length name.now) files.now) }
 {

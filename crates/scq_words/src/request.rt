@@ -37,13 +37,13 @@ pub struct SelfRequest {
     ghost seed_in_range: { seed < 2 ^ 31 },
 }
 
-/// Recordings to judge: 1 to 64 files, each with a name. Where `room` is given, each queue had room
-/// for so many values, from 1, and refused puts are judged too.
+/// Recordings to judge: 1 to 4,096 files, each with a name. Where `room` is given, each queue had
+/// room for so many values, from 1, and refused puts are judged too.
 #[derive(Debug, Drop)]
 pub struct JudgeRequest {
     pub room: Option<u32>,
     pub files: Vec<String>,
-    ghost few: { vec_len files ≤ 64 },
+    ghost few: { vec_len files ≤ 4096 },
 }
 
 /// What the words of a command line ask for.

@@ -1,24 +1,25 @@
 //! The command `judge`, which reads recordings.
 
-ghost use Rattle.std.specs.Prelude.{◌≡◌, ◌<◌, ◌≤◌, ◌^◌, ℕ, List, None, length, map, string_bytes};
-ghost use Rattle.std.specs.Prelude.{IfOk, IfErr, OnOk};
+ghost use Rattle.std.specs.Prelude.{◌≡◌, ◌≤◌, ◌==◌, ℕ, List, Some, None, length, map};
+ghost use Rattle.std.specs.Prelude.{string_bytes, IfOk, IfErr};
 ghost use Rattle.scq_judge.specs.Files.{HaveContents};
-ghost use Rattle.scq_judge.specs.Judged.{IsJudged, IsCause};
-ghost use Rattle.scq_judge.specs.Reads.{HasGiven, OfEach, AreReadWhole, AreReadUntil};
-ghost use Rattle.scq_service.specs.Ends.{EndsJudged, HasGotSources, inputs_of, wrote_of};
+ghost use Rattle.scq_judge.specs.Judged.{IsJudged};
+ghost use Rattle.scq_judge.specs.Reads.{AreReadWhole};
+ghost use Rattle.scq_service.specs.Ends.{EndsJudged, HasGotSources, HaveAll, IsUnwritten, Wrote};
+ghost use Rattle.scq_service.specs.Ends.{inputs_of, wrote_of};
 ghost use Rattle.scq_service.specs.Faults.{status_of};
 
-use crate::reading::get_sources;
 use crate::writing::write_all;
-use crate::{Fault, Outcome};
-use scq_judge::{JudgeFault, judge_recordings};
-use scq_outside::{Failed, Files, Sink, Source};
+use crate::{Fault, Outcome, Sources};
+use scq_judge::Reader;
+use scq_outside::{Failed, Files, Sink};
 use scq_word::Bytes;
 use std::alloc::Global;
-use std::snapshot::Snapshot;
 
-/// Gets the files of recordings, reads them, and writes the report of their merged history. Where
-/// it is told for how many values each queue had room, refused puts are judged too.
+/// Gets the files of recordings one after the other and reads each to its end before it gets the
+/// next, so that at most one is open at a time, and writes the report of their merged history. At
+/// the first file with a fault of its own, or that isn't got, it ends, and gets none behind it.
+/// Where it is told for how many values each queue had room, refused puts are judged too.
 pub fn run_judge<F: Files, K: Sink>(
     alloc: Global,
     room: Option<u32>,
@@ -26,13 +27,13 @@ pub fn run_judge<F: Files, K: Sink>(
     files: &mut F,
     out: &mut K,
 ) -> Outcome<F::Src>
-    requires { length names.now ≤ 64 }
+    requires { length names.now ≤ 4096 }
     ensures status { result.status ≡ status_of result.fault }
     ensures got { HasGotSources F.Src.faults F.Src.left
-        (map string_bytes names.now) result.got.value.items
+        (map string_bytes names.now) result.got.items
         (inputs_of F.table F.faults files.old files.new result.sources.items result.read) }
     ensures ends { EndsJudged F.Src.faults F.Src.ends F.Src.left room
-        (map string_bytes names.now) result.got.value.items
+        (map string_bytes names.now) result.got.items
         (inputs_of F.table F.faults files.old files.new result.sources.items result.read)
         (wrote_of K.written K.faults out.old out.new) result.fault }
     ensures worked { result.worked ≡ None }
@@ -40,53 +41,93 @@ pub fn run_judge<F: Files, K: Sink>(
     ensures left { result.left ≡ None }
     ensures leaves { result.waited ≡ None }
 {
-    let Ok(mut sources) = Vec::with_capacity(alloc, names.len()) else {
-        return Outcome::at(Vec::new(alloc), Fault::NoMemory);
-    };
-    let all = get_sources(names, files, &mut sources);
-    if all {
-        let got = Snapshot::of(&sources);
-        let (sources, report) = report_on(alloc, room, names, sources);
-        match report {
-            Ok(text) => match write_all(out, text.bytes()) {
-                Ok(()) => Outcome::whole(sources).behind(got, None, None, None, None),
-                Err(Failed) => Outcome::at(sources, Fault::WriteFault).behind(
-                    got, None, None, None, None,
-                ),
-            },
-            Err(fault) => Outcome::at(sources, Fault::from(fault)).behind(
-                got, None, None, None, None,
-            ),
-        }
-    } else {
-        let file = sources.len() as u32 + 1;
-        Outcome::at(sources, Fault::OpenFault { file })
+    let Reported {
+        report,
+        got,
+        sources,
+    } = report_on(alloc, room, names, files);
+    match report {
+        Ok(text) => match write_all(out, text.bytes()) {
+            Ok(()) => Outcome::whole(Vec::new(alloc)).over(got, sources),
+            Err(Failed) => { Outcome::at(Vec::new(alloc), Fault::WriteFault).over(got, sources) }
+        },
+        Err(fault) => Outcome::at(Vec::new(alloc), fault).over(got, sources),
     }
 }
 
-/// The sources once they were read, and the report of their merged history, or why they were not
-/// judged.
-fn report_on<S: Source>(
+/// The report of recordings as text, or why they were not judged, and, for contracts alone, the
+/// sources that were got, as they were then and once they were read.
+#[derive(Drop)]
+struct Reported<S> {
+    report: Result<Bytes, Fault>,
+    got: Sources<S>,
+    sources: Sources<S>,
+}
+
+/// Gets each file, reads it and lets it go, and judges what all of them say.
+fn report_on<F: Files>(
     alloc: Global,
     room: Option<u32>,
     names: &[String],
-    sources: Vec<S>,
-) -> (Vec<S>, Result<Bytes, JudgeFault>)
-    requires { length sources.items < 2 ^ 31 }
-    ensures count { length result.0.items ≡ length sources.items }
-    ensures judged { IfOk result.1 (λ text. (contents : List (List ℕ))
-        → HaveContents S.left sources.items contents
+    files: &mut F,
+) -> Reported<F::Src>
+    requires { length names.now ≤ 4096 }
+    ensures got { HasGotSources F.Src.faults F.Src.left
+        (map string_bytes names.now) result.got.items
+        (inputs_of F.table F.faults files.old files.new result.sources.items 0) }
+    ensures all { IfOk result.report (λ _. HaveAll (map string_bytes names.now)
+        (inputs_of F.table F.faults files.old files.new result.sources.items 0)) }
+    ensures whole { IfOk result.report (λ _. AreReadWhole F.Src.faults F.Src.ends F.Src.left
+        (length (map string_bytes names.now)) result.got.items result.sources.items) }
+    ensures judged { IfOk result.report (λ text. (contents : List (List ℕ))
+        → HaveContents F.Src.left result.got.items contents
         → IsJudged (map string_bytes names.now) room contents text) }
-    ensures refused { IfErr result.1 (λ fault. (contents : List (List ℕ))
-        → HaveContents S.left sources.items contents → IsCause contents fault) }
-    ensures whole { OnOk result.1
-        (AreReadWhole S.faults S.ends S.left (length sources.items) sources.items result.0.items) }
-    ensures until { IfErr result.1
-        (AreReadUntil S.faults S.ends S.left sources.items result.0.items) }
-    ensures given { OfEach (length sources.items)
-        (HasGiven S.faults S.left) sources.items result.0.items }
+    ensures refused { IfErr result.report (λ fault. (w : Wrote) → IsUnwritten w
+        → EndsJudged F.Src.faults F.Src.ends F.Src.left room
+        (map string_bytes names.now) result.got.items
+        (inputs_of F.table F.faults files.old files.new result.sources.items 0) w (Some fault)) }
 {
-    let mut sources = sources;
-    let report = judge_recordings(alloc, room, names, &mut sources);
-    (sources, report)
+    let mut reader = Reader::new(alloc, names.len() == 1);
+    let mut got = Sources::none();
+    let mut sources = Sources::none();
+    let mut file = 0;
+    'files: for name in names {
+        file += 1;
+        match files.source(name.as_str()) {
+            Ok(mut source) => {
+                got = got.with(&source);
+                let read = reader.read(alloc, &mut source);
+                sources = sources.with(&source);
+                match read {
+                    Ok(()) => {}
+                    Err(fault) => {
+                        return Reported {
+                            report: Err(Fault::from(fault)),
+                            got,
+                            sources,
+                        };
+                    }
+                }
+            }
+            Err(Failed) => {
+                return Reported {
+                    report: Err(Fault::OpenFault { file }),
+                    got,
+                    sources,
+                };
+            }
+        }
+    }
+    match reader.judge(alloc, room, names) {
+        Ok(text) => Reported {
+            report: Ok(text),
+            got,
+            sources,
+        },
+        Err(fault) => Reported {
+            report: Err(Fault::from(fault)),
+            got,
+            sources,
+        },
+    }
 }

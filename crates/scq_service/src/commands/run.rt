@@ -35,21 +35,21 @@ pub fn run_files<R: Threads + Sync, F: Files, K: Sink, G: Gate + Sync>(
 ) -> Outcome<F::Src>
     requires { length names.now ≤ 64 }
     ensures got { HasGotSources F.Src.faults F.Src.left
-        (map string_bytes names.now) result.got.value.items
+        (map string_bytes names.now) result.got.items
         (inputs_of F.table F.faults files.old files.new result.sources.items result.read) }
     ensures ends { EndsOver job.now.longest
         (one_thread_output job.now.topics) F.Src.faults F.Src.ends F.Src.left
         (map string_bytes names.now)
-        result.got.value.items
+        result.got.items
         (inputs_of F.table F.faults files.old files.new result.sources.items result.read)
         (wrote_of K.written K.faults out.old out.new) result.fault }
     ensures status { result.status ≡ status_of result.fault }
     ensures worked { WorkedAt result.fault result.worked }
     ensures unstaged { result.staged ≡ None }
     ensures told { IsWorkOf job.now.topics job.now.size job.now.workers F.Src.left
-        result.got.value.items result.worked }
+        result.got.items result.worked }
     ensures work { IsWork job.now.topics job.now.size job.now.longest job.now.workers F.Src.faults
-        F.Src.ends F.Src.left result.got.value.items
+        F.Src.ends F.Src.left result.got.items
         (inputs_of F.table F.faults files.old files.new result.sources.items result.read)
         result.worked }
     ensures left { IfSome result.left (λ left.
@@ -88,21 +88,21 @@ pub fn run_files_waiting<R: Threads + Wait + Sync, F: Files, K: Sink, G: Gate + 
 ) -> Outcome<F::Src>
     requires { length names.now ≤ 64 }
     ensures got { HasGotSources F.Src.faults F.Src.left
-        (map string_bytes names.now) result.got.value.items
+        (map string_bytes names.now) result.got.items
         (inputs_of F.table F.faults files.old files.new result.sources.items result.read) }
     ensures ends { EndsOver job.now.longest
         (one_thread_output job.now.topics) F.Src.faults F.Src.ends F.Src.left
         (map string_bytes names.now)
-        result.got.value.items
+        result.got.items
         (inputs_of F.table F.faults files.old files.new result.sources.items result.read)
         (wrote_of K.written K.faults out.old out.new) result.fault }
     ensures status { result.status ≡ status_of result.fault }
     ensures worked { WorkedAt result.fault result.worked }
     ensures unstaged { result.staged ≡ None }
     ensures told { IsWorkOf job.now.topics job.now.size job.now.workers F.Src.left
-        result.got.value.items result.worked }
+        result.got.items result.worked }
     ensures work { IsWork job.now.topics job.now.size job.now.longest job.now.workers F.Src.faults
-        F.Src.ends F.Src.left result.got.value.items
+        F.Src.ends F.Src.left result.got.items
         (inputs_of F.table F.faults files.old files.new result.sources.items result.read)
         result.worked }
     ensures left { IfSome result.left (λ left.

@@ -36,7 +36,7 @@ const SIZE: u32 = 1 << 16;
 
 /// Makes the file of the seed, answers it, and writes its summary once that is whole. No source is
 /// got.
-pub fn run_self<R: Threads + Sync, S, K: Sink, G: Gate + Sync>(
+pub fn run_self<R: Threads + Sync, S: Drop, K: Sink, G: Gate + Sync>(
     rt: &R,
     alloc: Global,
     seed: u32,

@@ -38,18 +38,18 @@ pub fn run_stages<R: Threads + Sync, F: Files, K: Sink>(
 ) -> Outcome<F::Src>
     requires { length names.now ≤ 64 }
     ensures got { HasGotSources F.Src.faults F.Src.left
-        (map string_bytes names.now) result.got.value.items
+        (map string_bytes names.now) result.got.items
         (inputs_of F.table F.faults files.old files.new result.sources.items result.read) }
     ensures ends { EndsOver job.now.size one_thread_stage_output F.Src.faults F.Src.ends F.Src.left
-        (map string_bytes names.now) result.got.value.items
+        (map string_bytes names.now) result.got.items
         (inputs_of F.table F.faults files.old files.new result.sources.items result.read)
         (wrote_of K.written K.faults out.old out.new) result.fault }
     ensures status { result.status ≡ status_of result.fault }
     ensures worked { result.worked ≡ None }
     ensures staged { WorkedAt result.fault result.staged }
-    ensures told { IsStagedOf job.now.workers F.Src.left result.got.value.items result.staged }
+    ensures told { IsStagedOf job.now.workers F.Src.left result.got.items result.staged }
     ensures work { IsStaging job.now.size job.now.workers F.Src.faults F.Src.ends F.Src.left
-        result.got.value.items
+        result.got.items
         (inputs_of F.table F.faults files.old files.new result.sources.items result.read)
         result.staged }
     ensures stranded { StrandsNothing job.now.order job.now.workers result.staged }
@@ -92,19 +92,19 @@ fn stage_files<R: Threads + Sync, F: Files>(
 ) -> Outcome<F::Src>
     requires few { length names.now ≤ 64 }
     ensures got { HasGotSources F.Src.faults F.Src.left
-        (map string_bytes names.now) result.got.value.items
+        (map string_bytes names.now) result.got.items
         (inputs_of F.table F.faults files.old files.new result.sources.items result.read) }
     ensures ends { ReadsOver job.now.size F.Src.faults F.Src.ends F.Src.left
-        (map string_bytes names.now) result.got.value.items
+        (map string_bytes names.now) result.got.items
         (inputs_of F.table F.faults files.old files.new result.sources.items result.read)
         result.fault }
     ensures status { result.status ≡ status_of result.fault }
     ensures worked { result.worked ≡ None }
     ensures staged { WorkedAt result.fault result.staged }
-    ensures handled { AreAllHandled F.Src.left result.got.value.items result.staged }
-    ensures told { IsStagedOf job.now.workers F.Src.left result.got.value.items result.staged }
+    ensures handled { AreAllHandled F.Src.left result.got.items result.staged }
+    ensures told { IsStagedOf job.now.workers F.Src.left result.got.items result.staged }
     ensures work { IsStaging job.now.size job.now.workers F.Src.faults F.Src.ends F.Src.left
-        result.got.value.items
+        result.got.items
         (inputs_of F.table F.faults files.old files.new result.sources.items result.read)
         result.staged }
     ensures stranded { StrandsNothing job.now.order job.now.workers result.staged }
@@ -167,19 +167,19 @@ fn conclude<F: Files>(
         HasCause job.now.size F.Src.faults F.Src.ends F.Src.left got.value.items end.sources.items
         fault) }
     ensures got { HasGotSources F.Src.faults F.Src.left
-        (map string_bytes names.now) result.got.value.items
+        (map string_bytes names.now) result.got.items
         (inputs_of F.table F.faults was.now.value files.now result.sources.items result.read) }
     ensures ends { ReadsOver job.now.size F.Src.faults F.Src.ends F.Src.left
-        (map string_bytes names.now) result.got.value.items
+        (map string_bytes names.now) result.got.items
         (inputs_of F.table F.faults was.now.value files.now result.sources.items result.read)
         result.fault }
     ensures status { result.status ≡ status_of result.fault }
     ensures worked { result.worked ≡ None }
     ensures staged { WorkedAt result.fault result.staged }
-    ensures handled { AreAllHandled F.Src.left result.got.value.items result.staged }
-    ensures told { IsStagedOf job.now.workers F.Src.left result.got.value.items result.staged }
+    ensures handled { AreAllHandled F.Src.left result.got.items result.staged }
+    ensures told { IsStagedOf job.now.workers F.Src.left result.got.items result.staged }
     ensures work { IsStaging job.now.size job.now.workers F.Src.faults F.Src.ends F.Src.left
-        result.got.value.items
+        result.got.items
         (inputs_of F.table F.faults was.now.value files.now result.sources.items result.read)
         result.staged }
     ensures stranded { StrandsNothing job.now.order job.now.workers result.staged }

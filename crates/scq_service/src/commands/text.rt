@@ -30,7 +30,7 @@ pub fn run_text<F: Files, K: Sink>(
 ) -> Outcome<F::Src>
     ensures status { result.status ≡ status_of result.fault }
     ensures ends { EndsWhole command F.Src.faults F.Src.ends F.Src.left name.now
-        result.got.value.items
+        result.got.items
         (inputs_of F.table F.faults files.old files.new result.sources.items result.read)
         (wrote_of K.written K.faults out.old out.new) result.fault }
     ensures worked { result.worked ≡ None }
@@ -79,7 +79,7 @@ fn read_one<F: Files>(
     ensures left { IfErr result (λ outcome. outcome.left ≡ None) }
     ensures leaves { IfErr result (λ outcome. outcome.waited ≡ None) }
     ensures ends { IfErr result (λ outcome. (command : TheCommand) (w : Wrote) → IsUnwritten w
-        → EndsWhole command F.Src.faults F.Src.ends F.Src.left name.now outcome.got.value.items
+        → EndsWhole command F.Src.faults F.Src.ends F.Src.left name.now outcome.got.items
         (inputs_of F.table F.faults files.old files.new outcome.sources.items outcome.read) w
         outcome.fault) }
 {

@@ -21,7 +21,7 @@ pub returns-then-all-clause-got : goal.returns-then-all-clause-got
 returns-then-all-clause-got g c =
     let end = c.answered.ensures in
     let after = c.behind.ensures in
-    let come : c.behind.result.got.value.items ≡ c.args.got.value.items = ap (λ v. v.value.items) after.got in
+    let come : c.behind.result.got.items ≡ c.args.got.value.items = after.got in
     let did = c.requires in
     let names = map string_bytes c.args.names.now in
     let table : Change (Option Table) = record { old = g.F.Files.table c.args.was.now.value; new = g.F.Files.table c.args.files.now } in
@@ -31,7 +31,7 @@ returns-then-all-clause-got g c =
     let faults = g.F.Src.Source.faults in
     let end_count = g.F.Src.Source.ends in
     let left = g.F.Src.Source.left in
-    rw (after.read ∙ end.read, come, ap (λ v. v.items) (after.sources ∙ end.sources))
+    rw (after.read ∙ end.read, come, ap (λ v. v.items) after.sources ∙ end.sources)
     (has-got c.args.job.now.longest faults end_count left names table opens olds news did.end.count did.come 0 did.end.moved
     (kept-of c.args.job.now.longest faults end_count left names table opens olds news did.end.count did.come c.args.all did.all))
 
@@ -39,7 +39,7 @@ pub returns-then-all-clause-ends : goal.returns-then-all-clause-ends
 returns-then-all-clause-ends g c =
     let end = c.answered.ensures in
     let after = c.behind.ensures in
-    let come : c.behind.result.got.value.items ≡ c.args.got.value.items = ap (λ v. v.value.items) after.got in
+    let come : c.behind.result.got.items ≡ c.args.got.value.items = after.got in
     let did = c.requires in
     let size = c.args.job.now.longest in
     let names = map string_bytes c.args.names.now in
@@ -55,14 +55,14 @@ returns-then-all-clause-ends g c =
     let whole = subst W c.in-Ok.is did.end.whole in
     let A : Bool → Type 0 = λ all. HaveAllCome names (record { table = table; opens = opens; sources = olds; read = 0 }) all in
     let all = subst A c.if-all.true did.all in
-    rw (after.read ∙ end.read, come, ap (λ v. v.items) (after.sources ∙ end.sources), after.fault ∙ end.fault)
+    rw (after.read ∙ end.read, come, ap (λ v. v.items) after.sources ∙ end.sources, after.fault ∙ end.fault)
     (ends-all size faults end_count left names table opens olds news did.end.count did.come whole all.0)
 
 pub returns-then-all-clause-work : goal.returns-then-all-clause-work
 returns-then-all-clause-work g c =
     let end = c.answered.ensures in
     let after = c.behind.ensures in
-    let come : c.behind.result.got.value.items ≡ c.args.got.value.items = ap (λ v. v.value.items) after.got in
+    let come : c.behind.result.got.items ≡ c.args.got.value.items = after.got in
     let did = c.requires in
     let job = c.args.job.now in
     let olds = c.args.got.value.items in
@@ -77,14 +77,14 @@ returns-then-all-clause-work g c =
     λ r. IfOk r (λ w. (given : List (List Message)) × AreGiven job.topics job.longest left 1 olds given
     × HasWorked job.topics job.size job.workers given w) in
     let gave = subst G c.in-Ok.is did.end.worked in
-    rw (after.worked ∙ end.worked, come, ap (λ v. v.items) (after.sources ∙ end.sources))
+    rw (after.worked ∙ end.worked, come, ap (λ v. v.items) after.sources ∙ end.sources)
     (gave.0, record { count = did.end.count; whole = whole; gave = gave.1 }, gave.2)
 
 pub returns-else-all-clause-got : goal.returns-else-all-clause-got
 returns-else-all-clause-got g c =
     let end = c.at.ensures in
     let after = c.behind-else-all.ensures in
-    let come : c.behind-else-all.result.got.value.items ≡ c.args.got.value.items = ap (λ v. v.value.items) after.got in
+    let come : c.behind-else-all.result.got.items ≡ c.args.got.value.items = after.got in
     let did = c.requires in
     let names = map string_bytes c.args.names.now in
     let table : Change (Option Table) = record { old = g.F.Files.table c.args.was.now.value; new = g.F.Files.table c.args.files.now } in
@@ -94,7 +94,7 @@ returns-else-all-clause-got g c =
     let faults = g.F.Src.Source.faults in
     let end_count = g.F.Src.Source.ends in
     let left = g.F.Src.Source.left in
-    rw (after.read ∙ end.read, come, ap (λ v. v.items) (after.sources ∙ end.sources))
+    rw (after.read ∙ end.read, come, ap (λ v. v.items) after.sources ∙ end.sources)
     (has-got c.args.job.now.longest faults end_count left names table opens olds news did.end.count did.come 0 did.end.moved
     (kept-of c.args.job.now.longest faults end_count left names table opens olds news did.end.count did.come c.args.all did.all))
 
@@ -102,7 +102,7 @@ pub returns-else-all-clause-ends : goal.returns-else-all-clause-ends
 returns-else-all-clause-ends g c =
     let end = c.at.ensures in
     let after = c.behind-else-all.ensures in
-    let come : c.behind-else-all.result.got.value.items ≡ c.args.got.value.items = ap (λ v. v.value.items) after.got in
+    let come : c.behind-else-all.result.got.items ≡ c.args.got.value.items = after.got in
     let did = c.requires in
     let size = c.args.job.now.longest in
     let names = map string_bytes c.args.names.now in
@@ -118,14 +118,14 @@ returns-else-all-clause-ends g c =
     let whole = subst W c.in-Ok.is did.end.whole in
     let A : Bool → Type 0 = λ all. HaveAllCome names (record { table = table; opens = opens; sources = olds; read = 0 }) all in
     let next = subst A c.if-all.false did.all in
-    rw (after.read ∙ end.read, come, ap (λ v. v.items) (after.sources ∙ end.sources), after.fault ∙ end.fault ∙ ap (λ n. Some (OpenFault (n + 1))) did.number)
+    rw (after.read ∙ end.read, come, ap (λ v. v.items) after.sources ∙ end.sources, after.fault ∙ end.fault ∙ ap (λ n. Some (OpenFault (n + 1))) did.number)
     (ends-stopped size faults end_count left names table opens olds news did.end.count did.come whole next.0 next.1)
 
 pub returns-in-Err-clause-got : goal.returns-in-Err-clause-got
 returns-in-Err-clause-got g c =
     let end = c.of_work.ensures in
     let after = c.behind-in-Err.ensures in
-    let come : c.behind-in-Err.result.got.value.items ≡ c.args.got.value.items = ap (λ v. v.value.items) after.got in
+    let come : c.behind-in-Err.result.got.items ≡ c.args.got.value.items = after.got in
     let did = c.requires in
     let names = map string_bytes c.args.names.now in
     let table : Change (Option Table) = record { old = g.F.Files.table c.args.was.now.value; new = g.F.Files.table c.args.files.now } in
@@ -135,7 +135,7 @@ returns-in-Err-clause-got g c =
     let faults = g.F.Src.Source.faults in
     let end_count = g.F.Src.Source.ends in
     let left = g.F.Src.Source.left in
-    rw (come, ap (λ v. v.items) (after.sources ∙ end.sources))
+    rw (come, ap (λ v. v.items) after.sources ∙ end.sources)
     (has-got c.args.job.now.longest faults end_count left names table opens olds news did.end.count did.come c.behind-in-Err.result.read did.end.moved
     (kept-of c.args.job.now.longest faults end_count left names table opens olds news did.end.count did.come c.args.all did.all))
 
@@ -143,7 +143,7 @@ pub returns-in-Err-clause-ends : goal.returns-in-Err-clause-ends
 returns-in-Err-clause-ends g c =
     let end = c.of_work.ensures in
     let after = c.behind-in-Err.ensures in
-    let come : c.behind-in-Err.result.got.value.items ≡ c.args.got.value.items = ap (λ v. v.value.items) after.got in
+    let come : c.behind-in-Err.result.got.items ≡ c.args.got.value.items = after.got in
     let did = c.requires in
     let size = c.args.job.now.longest in
     let names = map string_bytes c.args.names.now in
@@ -156,7 +156,7 @@ returns-in-Err-clause-ends g c =
     let left = g.F.Src.Source.left in
     let W : Result Worked WorkFault → Type 0 = λ r. IfErr r (λ fault. HasCause size faults end_count left olds news fault) in
     let cause = subst W c.in-Err.is did.end.cause in
-    rw (after.read ∙ end.read, come, ap (λ v. v.items) (after.sources ∙ end.sources), after.fault ∙ end.fault)
+    rw (after.read ∙ end.read, come, ap (λ v. v.items) after.sources ∙ end.sources, after.fault ∙ end.fault)
     (ends-met size faults end_count left names table opens olds news did.end.count did.come c.in-Err.fault cause
     (missed-of size faults end_count left names table opens olds news did.end.count did.come c.args.all did.all))
 

@@ -16,8 +16,8 @@ returns-clause-complete g c = λ a is calm.
     let outcome = c.run-outcome.result.outcome in
     let r = inputs_of g.F.Files.table g.F.Files.faults c.args.files.now c.run-outcome.new.files outcome.sources.items outcome.read in
     let w = wrote_of g.K.Sink.written g.K.Sink.faults c.args.out.now c.run-outcome.new.out in
-    let E : Result Asked WordsFault → Type 0 = λ asked. EndsAs faults end_count left asked outcome.got.value.items r w outcome.fault in
-    complete most_payload (one_thread_output a.topics) faults end_count left a.files outcome.got.value.items r w outcome.fault
+    let E : Result Asked WordsFault → Type 0 = λ asked. EndsAs faults end_count left asked outcome.got.items r w outcome.fault in
+    complete most_payload (one_thread_output a.topics) faults end_count left a.files outcome.got.items r w outcome.fault
     (subst E is c.run-outcome.ensures.end).1 calm
 
 pub returns-clause-complete_stages : goal.returns-clause-complete_stages
@@ -28,8 +28,8 @@ returns-clause-complete_stages g c = λ a is calm.
     let outcome = c.run-outcome.result.outcome in
     let r = inputs_of g.F.Files.table g.F.Files.faults c.args.files.now c.run-outcome.new.files outcome.sources.items outcome.read in
     let w = wrote_of g.K.Sink.written g.K.Sink.faults c.args.out.now c.run-outcome.new.out in
-    let E : Result Asked WordsFault → Type 0 = λ asked. EndsAs faults end_count left asked outcome.got.value.items r w outcome.fault in
-    complete a.size one_thread_stage_output faults end_count left a.files outcome.got.value.items r w outcome.fault
+    let E : Result Asked WordsFault → Type 0 = λ asked. EndsAs faults end_count left asked outcome.got.items r w outcome.fault in
+    complete a.size one_thread_stage_output faults end_count left a.files outcome.got.items r w outcome.fault
     (subst E is c.run-outcome.ensures.end).1 calm
 
 pub returns-clause-complete_self : goal.returns-clause-complete_self
@@ -40,7 +40,7 @@ returns-clause-complete_self g c = λ a is calm.
     let outcome = c.run-outcome.result.outcome in
     let r = inputs_of g.F.Files.table g.F.Files.faults c.args.files.now c.run-outcome.new.files outcome.sources.items outcome.read in
     let w = wrote_of g.K.Sink.written g.K.Sink.faults c.args.out.now c.run-outcome.new.out in
-    let E : Result Asked WordsFault → Type 0 = λ asked. EndsAs faults end_count left asked outcome.got.value.items r w outcome.fault in
+    let E : Result Asked WordsFault → Type 0 = λ asked. EndsAs faults end_count left asked outcome.got.items r w outcome.fault in
     complete-alone (self_summary a.seed a.lines) w outcome.fault (subst E is c.run-outcome.ensures.end).1 calm
 
 pub returns-clause-complete_text : goal.returns-clause-complete_text
@@ -51,5 +51,5 @@ returns-clause-complete_text g c = λ a is calm.
     let outcome = c.run-outcome.result.outcome in
     let r = inputs_of g.F.Files.table g.F.Files.faults c.args.files.now c.run-outcome.new.files outcome.sources.items outcome.read in
     let w = wrote_of g.K.Sink.written g.K.Sink.faults c.args.out.now c.run-outcome.new.out in
-    let E : Result Asked WordsFault → Type 0 = λ asked. EndsAs faults end_count left asked outcome.got.value.items r w outcome.fault in
-    complete-text a.command faults end_count left a.file outcome.got.value.items r w outcome.fault (subst E is c.run-outcome.ensures.end) calm
+    let E : Result Asked WordsFault → Type 0 = λ asked. EndsAs faults end_count left asked outcome.got.items r w outcome.fault in
+    complete-text a.command faults end_count left a.file outcome.got.items r w outcome.fault (subst E is c.run-outcome.ensures.end) calm

@@ -14,6 +14,6 @@ returns-clause-complete g c = λ a is calm.
     let outcome = c.run_waiting-outcome.result.outcome in
     let r = inputs_of g.F.Files.table g.F.Files.faults c.args.files.now c.run_waiting-outcome.new.files outcome.sources.items outcome.read in
     let w = wrote_of g.K.Sink.written g.K.Sink.faults c.args.out.now c.run_waiting-outcome.new.out in
-    let E : Result Asked WordsFault → Type 0 = λ asked. EndsAs faults end_count left asked outcome.got.value.items r w outcome.fault in
-    complete most_payload (one_thread_output a.topics) faults end_count left a.files outcome.got.value.items r w outcome.fault
+    let E : Result Asked WordsFault → Type 0 = λ asked. EndsAs faults end_count left asked outcome.got.items r w outcome.fault in
+    complete most_payload (one_thread_output a.topics) faults end_count left a.files outcome.got.items r w outcome.fault
     (subst E is c.run_waiting-outcome.ensures.end).1 calm

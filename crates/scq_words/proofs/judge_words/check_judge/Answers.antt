@@ -12,7 +12,7 @@ returns-clause-ranges c =
     let Named : List (List ℕ) → Type 0 = λ names. All (λ name. 0 < length name) names in
     record {
       room = c.room_given.ensures.range (in-range _ 1 1 4294967295 c.in_ok-number.ensures.within (omega arith) (omega arith));
-      files = omega (arith, length-map own string_bytes, c.in_ok-files.ensures.len, c.in_ok-few_files.ensures.few);
+      files = omega (arith, length-map own string_bytes, c.in_ok-files.ensures.len, c.in_ok-few_recordings.ensures.few);
       names = subst Named (sym c.in_ok-files.ensures.names)
           (All-map (λ name. 0 < length name) (λ name. name.now) c.args.files.now c.in_ok-named_files.ensures.named);
     }

@@ -44,7 +44,7 @@ pub returns-then-all-clause-got : goal.returns-then-all-clause-got
 returns-then-all-clause-got g c =
     let end = c.finished.ensures in
     let after = c.behind.ensures in
-    let come : c.behind.result.got.value.items ≡ c.args.got.value.items = ap (λ v. v.value.items) after.got in
+    let come : c.behind.result.got.items ≡ c.args.got.value.items = after.got in
     let did = c.requires in
     let names = map string_bytes c.args.names.now in
     let table : Change (Option Table) = record { old = g.F.Files.table c.args.was.now.value; new = g.F.Files.table c.args.files.now } in
@@ -54,7 +54,7 @@ returns-then-all-clause-got g c =
     let faults = g.F.Src.Source.faults in
     let end_count = g.F.Src.Source.ends in
     let left = g.F.Src.Source.left in
-    rw (after.read ∙ end.read, come, ap (λ v. v.items) (after.sources ∙ end.sources))
+    rw (after.read ∙ end.read, come, ap (λ v. v.items) after.sources ∙ end.sources)
     (has-got c.args.job.now.size faults end_count left names table opens olds news did.count did.come 0 did.moved
     (kept-of c.args.job.now.size faults end_count left names table opens olds news did.count did.come c.args.all did.all))
 
@@ -62,7 +62,7 @@ pub returns-then-all-clause-ends : goal.returns-then-all-clause-ends
 returns-then-all-clause-ends g c =
     let end = c.finished.ensures in
     let after = c.behind.ensures in
-    let come : c.behind.result.got.value.items ≡ c.args.got.value.items = ap (λ v. v.value.items) after.got in
+    let come : c.behind.result.got.items ≡ c.args.got.value.items = after.got in
     let did = c.requires in
     let size = c.args.job.now.size in
     let names = map string_bytes c.args.names.now in
@@ -78,14 +78,14 @@ returns-then-all-clause-ends g c =
     let whole = subst W c.in-Ok.is did.whole in
     let A : Bool → Type 0 = λ all. HaveAllCome names (record { table = table; opens = opens; sources = olds; read = 0 }) all in
     let all = subst A c.if-all.true did.all in
-    rw (after.read ∙ end.read, come, ap (λ v. v.items) (after.sources ∙ end.sources), after.fault ∙ end.fault)
+    rw (after.read ∙ end.read, come, ap (λ v. v.items) after.sources ∙ end.sources, after.fault ∙ end.fault)
     (ends-all size faults end_count left names table opens olds news did.count did.come whole all.0)
 
 pub returns-then-all-clause-work : goal.returns-then-all-clause-work
 returns-then-all-clause-work g c =
     let end = c.finished.ensures in
     let after = c.behind.ensures in
-    let come : c.behind.result.got.value.items ≡ c.args.got.value.items = ap (λ v. v.value.items) after.got in
+    let come : c.behind.result.got.items ≡ c.args.got.value.items = after.got in
     let did = c.requires in
     let job = c.args.job.now in
     let olds = c.args.got.value.items in
@@ -99,14 +99,14 @@ returns-then-all-clause-work g c =
     let G : Result Staged StageFault → Type 0 =
     λ r. IfOk r (λ s. (given : List (List Message)) × AreGiven [] job.size left 1 olds given × HasStaged job.workers given s) in
     let gave = subst G c.in-Ok.is did.staged in
-    rw (after.staged ∙ end.staged, come, ap (λ v. v.items) (after.sources ∙ end.sources))
+    rw (after.staged ∙ end.staged, come, ap (λ v. v.items) after.sources ∙ end.sources)
     (gave.0, record { count = did.count; whole = whole; gave = gave.1 }, gave.2)
 
 pub returns-in-Ok-clause-got : goal.returns-in-Ok-clause-got
 returns-in-Ok-clause-got g c =
     let end = c.at.ensures in
     let after = c.behind-else-all.ensures in
-    let come : c.behind-else-all.result.got.value.items ≡ c.args.got.value.items = ap (λ v. v.value.items) after.got in
+    let come : c.behind-else-all.result.got.items ≡ c.args.got.value.items = after.got in
     let did = c.requires in
     let names = map string_bytes c.args.names.now in
     let table : Change (Option Table) = record { old = g.F.Files.table c.args.was.now.value; new = g.F.Files.table c.args.files.now } in
@@ -116,7 +116,7 @@ returns-in-Ok-clause-got g c =
     let faults = g.F.Src.Source.faults in
     let end_count = g.F.Src.Source.ends in
     let left = g.F.Src.Source.left in
-    rw (after.read ∙ end.read, come, ap (λ v. v.items) (after.sources ∙ end.sources))
+    rw (after.read ∙ end.read, come, ap (λ v. v.items) after.sources ∙ end.sources)
     (has-got c.args.job.now.size faults end_count left names table opens olds news did.count did.come 0 did.moved
     (kept-of c.args.job.now.size faults end_count left names table opens olds news did.count did.come c.args.all did.all))
 
@@ -124,7 +124,7 @@ pub returns-in-Ok-clause-ends : goal.returns-in-Ok-clause-ends
 returns-in-Ok-clause-ends g c =
     let end = c.at.ensures in
     let after = c.behind-else-all.ensures in
-    let come : c.behind-else-all.result.got.value.items ≡ c.args.got.value.items = ap (λ v. v.value.items) after.got in
+    let come : c.behind-else-all.result.got.items ≡ c.args.got.value.items = after.got in
     let did = c.requires in
     let size = c.args.job.now.size in
     let names = map string_bytes c.args.names.now in
@@ -140,14 +140,14 @@ returns-in-Ok-clause-ends g c =
     let whole = subst W c.in-Ok.is did.whole in
     let A : Bool → Type 0 = λ all. HaveAllCome names (record { table = table; opens = opens; sources = olds; read = 0 }) all in
     let next = subst A c.if-all.false did.all in
-    rw (after.read ∙ end.read, come, ap (λ v. v.items) (after.sources ∙ end.sources), after.fault ∙ end.fault ∙ ap (λ n. Some (OpenFault (n + 1))) did.number)
+    rw (after.read ∙ end.read, come, ap (λ v. v.items) after.sources ∙ end.sources, after.fault ∙ end.fault ∙ ap (λ n. Some (OpenFault (n + 1))) did.number)
     (ends-stopped size faults end_count left names table opens olds news did.count did.come whole next.0 next.1)
 
 pub returns-clause-got : goal.returns-clause-got
 returns-clause-got g c =
     let end = c.of_work.ensures in
     let after = c.behind-in-Err.ensures in
-    let come : c.behind-in-Err.result.got.value.items ≡ c.args.got.value.items = ap (λ v. v.value.items) after.got in
+    let come : c.behind-in-Err.result.got.items ≡ c.args.got.value.items = after.got in
     let did = c.requires in
     let names = map string_bytes c.args.names.now in
     let table : Change (Option Table) = record { old = g.F.Files.table c.args.was.now.value; new = g.F.Files.table c.args.files.now } in
@@ -157,7 +157,7 @@ returns-clause-got g c =
     let faults = g.F.Src.Source.faults in
     let end_count = g.F.Src.Source.ends in
     let left = g.F.Src.Source.left in
-    rw (come, ap (λ v. v.items) (after.sources ∙ end.sources))
+    rw (come, ap (λ v. v.items) after.sources ∙ end.sources)
     (has-got c.args.job.now.size faults end_count left names table opens olds news did.count did.come c.behind-in-Err.result.read did.moved
     (kept-of c.args.job.now.size faults end_count left names table opens olds news did.count did.come c.args.all did.all))
 
@@ -165,7 +165,7 @@ pub returns-clause-ends : goal.returns-clause-ends
 returns-clause-ends g c =
     let end = c.of_work.ensures in
     let after = c.behind-in-Err.ensures in
-    let come : c.behind-in-Err.result.got.value.items ≡ c.args.got.value.items = ap (λ v. v.value.items) after.got in
+    let come : c.behind-in-Err.result.got.items ≡ c.args.got.value.items = after.got in
     let did = c.requires in
     let size = c.args.job.now.size in
     let names = map string_bytes c.args.names.now in
@@ -179,7 +179,7 @@ returns-clause-ends g c =
     let W : Result Staged StageFault → Type 0 = λ r. IfErr r (λ fault. HasCause size faults end_count left olds news fault) in
     let cause = caused size faults end_count left olds news c.in-Err.fault (subst W c.in-Err.is did.cause) in
     let C : WorkFault → Type 0 = λ fault. work.HasCause size faults end_count left olds news fault in
-    rw (after.read ∙ end.read, come, ap (λ v. v.items) (after.sources ∙ end.sources), after.fault ∙ end.fault)
+    rw (after.read ∙ end.read, come, ap (λ v. v.items) after.sources ∙ end.sources, after.fault ∙ end.fault)
     (ends-met size faults end_count left names table opens olds news did.count did.come c.work_fault.result (subst C (sym c.work_fault.ensures) cause)
     (missed-of size faults end_count left names table opens olds news did.count did.come c.args.all did.all))
 
