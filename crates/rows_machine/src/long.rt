@@ -11,13 +11,10 @@ use std::alloc::Global;
 
 /// What was replayed by seat 0, of steps that stand so often behind one another.
 fn often(alloc: Global, times: u32, round: &str) -> Result<Replayed> {
-    let mut text = String::new(alloc);
-    for _ in 0..times {
-        text.push_str(round)?;
-        text.push_str(" ")?;
-    }
     let mut steps = Vec::new(alloc);
-    push_steps(alloc, 0, &text, &mut steps)?;
+    'rounds: for _ in 0..times {
+        push_steps(alloc, 0, round, &mut steps)?;
+    }
     Ok(replayed(alloc, 1 << 60, &steps)?)
 }
 
