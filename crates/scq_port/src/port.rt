@@ -48,7 +48,8 @@ impl Model for Port {
 
     ghost view = { λ p. seen_as p.pass p.hand };
 
-    ghost invariant = { λ p. IsPort (arc_value p.owner).queue p.pass p.hand p.topics p.number p.awake };
+    ghost invariant = { λ p.
+        IsPort (arc_value p.owner).queue p.pass p.hand p.topics p.number p.awake };
 }
 
 impl Port {

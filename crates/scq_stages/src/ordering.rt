@@ -14,7 +14,8 @@ type Placed<'a> = (u32, u32, &'a Finished);
 /// The members of all lists, in order of file and line. They stay where they lie.
 pub fn ordered<'a>(alloc: Global, lists: &'a [Vec<Finished>]) -> Result<Vec<Placed<'a>>, NoMemory>
     ensures { IfOk result (λ all.
-        IsMerged position_of_finished (finished_in lists.entry.now) (map (λ m. m.2.now) all.items)) }
+        IsMerged position_of_finished (finished_in lists.entry.now) (map (λ m. m.2.now)
+        all.items)) }
 {
     let mut members = members_of(alloc, lists)?;
     members.sort_by_key(|(file, line, _)| (*file, *line))?;

@@ -49,7 +49,8 @@ fn work<S: Source>(
     ensures stays { OnOk result (worker.new.pass.retired ≡ None) }
     ensures done { OnOk result
         (IsAtWork [] worker.old.pass worker.old.members.items worker.old.starved
-        → IsDone (all_given files.new) worker.new.pass worker.new.members.items worker.new.starved) }
+        → IsDone (all_given files.new) worker.new.pass worker.new.members.items
+        worker.new.starved) }
     ensures left { IfErr result (λ l.
         IsAtWork [] worker.old.pass worker.old.members.items worker.old.starved
         → HasStopped queue.now (length (all_given files.new)) worker.new.pass l.held) }

@@ -94,7 +94,8 @@ pub fn stage_work<R: Threads + Sync, S: Source>(
     ensures cause { IfErr result.result (λ fault.
         HasCause job.now.size S.faults S.ends S.left sources.items result.sources.items fault) }
     ensures memory_first { IfErr result.result (λ fault.
-        MemoryIsFirst job.now.size S.faults S.ends S.left sources.items result.sources.items fault) }
+        MemoryIsFirst job.now.size S.faults S.ends S.left sources.items result.sources.items
+        fault) }
 
     // Each worker asked before each of its sweeps whether all had retired, and left after the first
     // before which they had, or after 64 in a row that took nothing.

@@ -141,7 +141,8 @@ impl<B: BufferMut> Worker<B> {
             ≡ second ∷ []) }
         ensures moves { OnOk result (HasMovedIts self.old.pass self.new.pass) }
         ensures finished { OnOk result (self.new.starved ≡ false
-            → HasFinished self.old.pass self.new.pass self.old.members.items self.new.members.items) }
+            → HasFinished self.old.pass self.new.pass self.old.members.items
+            self.new.members.items) }
         ensures helped { OnOk result (self.new.starved ≡ false
             → HasFinishedOnlySeconds self.old.pass self.new.pass self.old.members.items
             self.new.members.items) }
@@ -207,7 +208,8 @@ impl<B: BufferMut> Worker<B> {
         requires suits { Suits queue.now 1 self.old.pass }
         ensures taken { OnOk result (HasGivenBack self.old.pass self.new.pass) }
         ensures finished { OnOk result (self.new.starved ≡ false
-            → HasFinished self.old.pass self.new.pass self.old.members.items self.new.members.items) }
+            → HasFinished self.old.pass self.new.pass self.old.members.items
+            self.new.members.items) }
         ensures below { OnOk result (TookNoneBelow first self.old.pass self.new.pass) }
         ensures some { result ≡ Ok true
             → HasTakenFrom queue.now.setup.limit first self.old.pass self.new.pass
