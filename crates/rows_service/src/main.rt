@@ -28,8 +28,8 @@ fn main(rt: HostRuntime) -> Result<()> {
     Ok(())
 }
 
-/// Runs the rows of a file, prints those that end otherwise, and tells how many there are. After one
-/// that doesn't end, no more are run.
+/// Runs the rows of a file, prints those that end otherwise, and tells how many there are. Behind
+/// one that doesn't end no more are run.
 fn run_rows<R: Threads + Wait + Sync + Print + Clock + Copy + Send + 'static>(
     rt: R,
     alloc: Global,

@@ -12,7 +12,7 @@
 //! - `waits`: workers that find nothing to take wait in place of leaving early;
 //! - `meets`: its two workers meet at each point of the gate; `hands`: the first one's part is
 //!   taken by the other; `reads_meet`: the first reads of its two files wait for one another;
-//!   `wakes`: the second one, whose file is empty, rests until the first, which read nothing so far,
+//!   `wakes`: the second one, whose file is empty, rests until the first, which has read nothing,
 //!   sends or retires;
 //! - `counts`: how many messages all workers together sent, took and found no buffer for; without
 //!   this line that isn't compared;
