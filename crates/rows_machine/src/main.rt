@@ -4,6 +4,7 @@
 //! replay` reads it, it prints how long no call ends.
 #![tactic(auto)]
 
+mod long;
 mod orders;
 mod replays;
 mod schedules;
@@ -11,6 +12,7 @@ mod steps;
 mod windows;
 
 use anyhow::{Result, anyhow};
+use long::{copied, repeated};
 use orders::ordered;
 use replays::replayed_lines;
 use rows_text::{Calls, run_rows};
@@ -28,6 +30,8 @@ impl Calls for Machine {
             "steps" => stepped_through(alloc, given),
             "replayed" => replayed_lines(alloc, given),
             "ordered" => ordered(alloc, given),
+            "repeated" => repeated(alloc, given),
+            "copied" => copied(alloc, given),
             _ => Err(anyhow!("no such call")),
         }
     }

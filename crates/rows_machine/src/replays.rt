@@ -15,7 +15,7 @@ use std::alloc::Global;
 
 /// From the start of a setup with two indices, rings and seats, and the opening contents `a` and
 /// `b`.
-fn replayed(alloc: Global, limit: u64, steps: &[(u32, Step)]) -> Result<Replayed, ReplayFault>
+pub fn replayed(alloc: Global, limit: u64, steps: &[(u32, Step)]) -> Result<Replayed, ReplayFault>
     requires seats { All (λ (x : ℕ × StepOf). x.0 < 2) steps.now }
     requires limit { (16 ≤ limit) × (limit ≤ 2 ^ 60) }
     ensures lawful { IfOk result (λ replayed. IsLawful replayed.events.items) }
@@ -39,7 +39,8 @@ fn line_of(text: &str) -> Result<Part<'_>>
     Ok(line)
 }
 
-fn counts(alloc: Global, replayed: &Replayed, ring: u32) -> Result<String> {
+/// The resets and fails of a ring.
+pub fn counts(alloc: Global, replayed: &Replayed, ring: u32) -> Result<String> {
     let resets = replayed.resets.get(ring as usize).context("no resets")?;
     let fails = replayed.fails.get(ring as usize).context("no fails")?;
     Ok(format!(in alloc; "{resets}/{fails}")?)

@@ -11,9 +11,12 @@ use std::alloc::Global;
 use std::sync::Wait;
 use std::thread::Threads;
 
+/// The first thing that isn't as a row wants it.
+pub type Difference = Option<&'static str>;
+
 /// What a run left.
 #[derive(Drop)]
-pub struct Ending {
+struct Ending {
     status: u8,
     output: MemSink,
     errors: MemSink,
@@ -21,14 +24,24 @@ pub struct Ending {
     left: Option<Vec<u64>>,
 }
 
+/// Runs a row, and tells the first thing that isn't as it and its status want it.
+pub fn difference_of<R: Threads + Wait + Sync>(
+    rt: &R,
+    alloc: Global,
+    row: &Row,
+    status: u8,
+) -> Result<Difference, NoMemory> {
+    let ending = ending_of(rt, alloc, row)?;
+    Ok(ending.difference(row, status))
+}
+
 /// Runs a row.
-pub fn ending_of<R: Threads + Wait + Sync>(
+fn ending_of<R: Threads + Wait + Sync>(
     rt: &R,
     alloc: Global,
     row: &Row,
 ) -> Result<Ending, NoMemory> {
-    let first_reads = row.first_reads.as_ref();
-    let mut files = RowFiles::new(alloc, row.files.as_slice(), row.reads, first_reads)?;
+    let mut files = RowFiles::new(alloc, row.files.as_slice(), row.reads, &row.gate)?;
     let mut output = row.writes.sink(alloc, row.room)?;
     let mut errors = row.error_writes.sink(alloc, row.room)?;
     let words = row.words.as_slice();
@@ -64,7 +77,7 @@ pub fn ending_of<R: Threads + Wait + Sync>(
 
 impl Ending {
     /// The first thing that isn't as the row and its status want it.
-    pub fn difference(&self, row: &Row, status: u8) -> Option<&'static str> {
+    fn difference(&self, row: &Row, status: u8) -> Difference {
         if self.status != status {
             return Some("the status");
         }
@@ -79,11 +92,7 @@ impl Ending {
         if !right {
             return Some("what is written to the errors");
         }
-        let met = match &row.first_reads {
-            Some(reads) => reads.is_met(),
-            None => row.gate.is_met(),
-        };
-        if !met {
+        if !row.gate.is_met() {
             return Some("how often workers met");
         }
         if !row.counts.is_empty() && !self.has_counts(row.counts.as_slice()) {

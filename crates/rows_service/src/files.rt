@@ -2,7 +2,7 @@
 ghost use Rattle.std.specs.Prelude.{◌≡◌, if◌then◌else◌, IsTrue, IfOk, IfSome, None, Some};
 ghost use Rattle.scq_outside.specs.Calls.{are_pieces};
 
-use crate::gates::FirstReads;
+use crate::gates::RowGate;
 use anyhow::{Context, Result};
 use scq_outside::{Failed, Files, MemSink, MemSource, Source};
 use scq_word::NoMemory;
@@ -100,8 +100,8 @@ impl RowFile {
 pub struct RowSource<'a> {
     content: MemSource,
     endless: bool,
-    /// What its first read waits in, and whether it is that of the first file.
-    meets: Option<(&'a FirstReads, bool)>,
+    /// The gate that its first read calls, and whether it is that of the first file.
+    gate: Option<(&'a RowGate, bool)>,
 }
 
 impl Source for RowSource<'_> {
@@ -112,8 +112,8 @@ impl Source for RowSource<'_> {
     ghost left = { λ s. if s.endless then None else Some s.content.left };
 
     fn read(&mut self, into: &mut [u8]) -> Result<usize, Failed> {
-        if let Some((reads, first)) = self.meets.take() {
-            reads.meet(first);
+        if let Some((gate, first)) = self.gate.take() {
+            gate.at_first_read(first);
         }
         if !self.endless {
             return self.content.read(into);
@@ -132,7 +132,7 @@ pub struct RowFiles<'a> {
     alloc: Global,
     files: &'a [RowFile],
     reads: Cut,
-    first_reads: Option<&'a FirstReads>,
+    gate: &'a RowGate,
     given: Vec<bool>,
     faults: u64,
 }
@@ -142,13 +142,13 @@ impl<'a> RowFiles<'a> {
         alloc: Global,
         files: &'a [RowFile],
         reads: Cut,
-        first_reads: Option<&'a FirstReads>,
+        gate: &'a RowGate,
     ) -> Result<RowFiles<'a>, NoMemory> {
         Ok(RowFiles {
             alloc,
             files,
             reads,
-            first_reads,
+            gate,
             given: vec![in alloc; false; files.len()]?,
             faults: 0,
         })
@@ -166,11 +166,10 @@ impl<'a> RowFiles<'a> {
                 let reads = file.reads.unwrap_or(self.reads);
                 let content = reads.source(self.alloc, file.content.as_slice()).ok()?;
                 let endless = file.endless;
-                let meets = self.first_reads.map(|reads| (reads, first));
                 return Some(RowSource {
                     content,
                     endless,
-                    meets,
+                    gate: Some((self.gate, first)),
                 });
             }
             first = false;

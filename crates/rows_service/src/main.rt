@@ -7,27 +7,31 @@ mod ending;
 mod files;
 mod gates;
 mod row;
+mod timed;
 
 use anyhow::{Context, Result, anyhow};
-use ending::ending_of;
+use ending::difference_of;
 use row::Row;
 use std::alloc::Global;
 use std::sync::Wait;
 use std::thread::Threads;
+use std::time::Clock;
 use std::{env, fs};
+use timed::difference_in_time;
 
 fn main(rt: HostRuntime) -> Result<()> {
     for name in env::args(&rt)?.skip(1) {
         let text = fs::read_to_string(&rt, &name)?;
-        let rows = run_rows(&rt, rt.alloc(), &name, &text)?;
+        let rows = run_rows(rt, rt.alloc(), &name, &text)?;
         println!(rt; "{name}: {rows} rows")?;
     }
     Ok(())
 }
 
-/// Runs the rows of a file, prints those that end otherwise, and tells how many there are.
-fn run_rows<R: Threads + Wait + Sync + Print>(
-    rt: &R,
+/// Runs the rows of a file, prints those that end otherwise, and tells how many there are. Behind
+/// one that doesn't end no more are run.
+fn run_rows<R: Threads + Wait + Sync + Print + Clock + Copy + Send + 'static>(
+    rt: R,
     alloc: Global,
     name: &str,
     text: &str,
@@ -41,12 +45,20 @@ fn run_rows<R: Threads + Wait + Sync + Print>(
         if let Some(status) = line.strip_prefix("= ") {
             let status = status.parse::<u8>().context("a status")?;
             let number = at.saturating_add(1);
-            let ending = ending_of(rt, alloc, &row)?;
-            if let Some(what) = ending.difference(&row, status) {
+            let ended = std::mem::replace(&mut row, Row::new(alloc));
+            let difference = if ended.waits {
+                let Some(difference) = difference_in_time(rt, alloc, ended, status)? else {
+                    println!(rt; "{name} line {number}: it hasn't ended")?;
+                    return Err(anyhow!("a row doesn't end"));
+                };
+                difference
+            } else {
+                difference_of(&rt, alloc, &ended, status)?
+            };
+            if let Some(what) = difference {
                 println!(rt; "{name} line {number}: {what} is not as wanted")?;
             }
             rows = rows.saturating_add(1);
-            row = Row::new(alloc);
         } else if !row.add_line(alloc, line)? {
             return Err(anyhow!("a line of no row"));
         }

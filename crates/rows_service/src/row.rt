@@ -12,6 +12,8 @@
 //! - `waits`: workers that find nothing to take wait in place of leaving early;
 //! - `meets`: its two workers meet at each point of the gate; `hands`: the first one's part is
 //!   taken by the other; `reads_meet`: the first reads of its two files wait for one another;
+//!   `wakes`: the second one, whose file is empty, rests until the first, which has read nothing,
+//!   sends or retires;
 //! - `counts`: how many messages all workers together sent, took and found no buffer for; without
 //!   this line that isn't compared;
 //! - `left`: how many buffers are left in each ring of the workers' queue; without this line that
@@ -21,7 +23,7 @@
 //! `rows_text` has what stands for bytes that aren't seen.
 
 use crate::files::{Cut, RowFile};
-use crate::gates::{FirstReads, RowGate};
+use crate::gates::RowGate;
 use anyhow::{Context, Result};
 use rows_text::{add_line, word_of};
 use std::alloc::Global;
@@ -45,8 +47,6 @@ pub struct Row {
     pub waits: bool,
     /// Where its workers wait for one another.
     pub gate: RowGate,
-    /// Where the first reads of its two files wait for one another.
-    pub first_reads: Option<FirstReads>,
     /// What all workers sent, took and found no buffer for, where it is compared.
     pub counts: Vec<u64>,
     /// What is left in each ring, where it is compared.
@@ -68,7 +68,6 @@ impl Row {
             reports: false,
             waits: false,
             gate: RowGate::Free,
-            first_reads: None,
             counts: Vec::new(alloc),
             left: Vec::new(alloc),
         }
@@ -98,7 +97,8 @@ impl Row {
             "waits" => self.waits = true,
             "meets" => self.gate = RowGate::meeting(),
             "hands" => self.gate = RowGate::handing(),
-            "reads_meet" => self.first_reads = Some(FirstReads::new()),
+            "reads_meet" => self.gate = RowGate::reading(),
+            "wakes" => self.gate = RowGate::waking(),
             "endless" => {
                 let file = self.files.last_mut().context("lines of no file")?;
                 file.endless = true;
