@@ -1,5 +1,5 @@
 -- Whom a worker has woken, after a send and after a Full.
-use Rattle.std.proofs.Common.{◌≡◌, ◌∙◌, sym, ap, subst, arith, ℕ, ◌+◌, suc, zero, refl, List, [], ◌∷◌, length, if◌then◌else◌}
+use Rattle.std.proofs.Common.{◌≡◌, ◌∙◌, sym, ap, subst, arith, ℕ, ◌+◌, suc, zero, refl, List, [], ◌∷◌, length, if◌then◌else◌, Bool, true, false, ◌==◌}
 use Rattle.std.proofs.lemmas.List.{length-append}
 use Rattle.scq_frames.specs.Parts.{Part}
 use Rattle.scq_passes.proofs.Kept.{taken-sends, sent-sends, placed, full-sends}
@@ -38,6 +38,10 @@ module _ {B : Type 0} (number workers : ℕ) where
       more ∙ ap (λ n. others_more n workers mid) same ∙ ap (others_more number workers) rings
 
 -- where nobody rests, nobody is woken
+either-way : (b : Bool) (ns : List ℕ) → (if b then ns else ns) ≡ ns
+either-way true ns = refl
+either-way false ns = refl
+
 pub nobody-more : (number workers : ℕ) → others_more number workers [] ≡ []
 nobody-more number zero = refl
-nobody-more number (suc k) = rw (nobody-more number k) (refl)
+nobody-more number (suc k) = rw (nobody-more number k) (either-way (k == number) [])

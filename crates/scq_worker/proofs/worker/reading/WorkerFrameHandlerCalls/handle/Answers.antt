@@ -4,6 +4,7 @@ use Rattle.scq_frames.specs.declared.message.Message.{Message}
 use Rattle.scq_passes.specs.Calls.{Suits}
 use Rattle.scq_passes.specs.Waiting.{HelpsInVain}
 use Rattle.scq_passes.proofs.Results.{err-then, on-both}
+use Rattle.scq_worker.specs.Bells.{RingsOn}
 use Rattle.scq_worker.specs.Passing.{parts_in}
 use Rattle.scq_worker.specs.Reading.{HasStoppedAt}
 use Rattle.scq_worker.specs.Working.{IsAtWork, HasStopped}
@@ -29,8 +30,10 @@ returns-clause-handled g c =
     let Works : Type 0 = (parts : List Part) → IsAtWork topics parts was.pass was.members.items was.starved
     → IsAtWork topics (parts ++ all_parts size m) now.pass now.members.items now.starved in
     let Helps : Type 0 = HelpsInVain (length topics + 1) was.pass → HelpsInVain (length topics + 1) now.pass in
+    let Rings : Type 0 =
+    RingsOn was.number c.args.with.now.job.now.workers was.pass now.pass (g.W.Bell.wakes c.args.beside.now) (g.W.Bell.wakes c.pass_on.new.stand) in
     on-both r
-    (λ (at : Fits × Stays) (more : Works × Helps). (
+    (λ (at : Fits × Stays) (more : Works × Helps × Rings). (
       record {
         suits = at.0;
         stays = at.1;
@@ -42,9 +45,12 @@ returns-clause-handled g c =
         still = record { fed = its.starved; number = its.number.1 };
       },
       its.bell,
+      its.number.0,
+      more.2,
     ))
     (on-both r (λ (suits : Fits) (stays : Stays). (suits, stays)) its.suits its.stays)
-    (on-both r (λ (work : Works) (vain : Helps). (work, vain)) its.work its.vain)
+    (on-both r (λ (both : Works × Helps) (rung : Rings). (both.0, both.1, rung))
+    (on-both r (λ (work : Works) (vain : Helps). (work, vain)) its.work its.vain) its.rung)
 
 pub returns-clause-stopped : goal.returns-clause-stopped
 returns-clause-stopped g c =
