@@ -6,6 +6,7 @@ ghost use Rattle.scq_core.specs.StateLists.{machine_of};
 ghost use Rattle.scq_lines.specs.Lines.{lines_of};
 ghost use Rattle.scq_replay.specs.Replay.{steps_from, Gives};
 ghost use Rattle.scq_replay.specs.Steps.{IsMade, IsRefused};
+ghost use Rattle.scq_replay.specs.declared.replaying.ScheduleFault.TheVariants.{NoMemory as OutOfMemory};
 
 use crate::printing::{add_step, call_ring};
 use crate::stepping::{first_line, make_step, no_contents, turn_of_line};
@@ -33,7 +34,9 @@ pub enum ScheduleFault {
 }
 
 impl From<NoMemory> for ScheduleFault {
-    ghost from_gives = { λ _ fault. fault ≡ ScheduleFault.NoMemory };
+    ghost use Rattle.scq_replay.specs.declared.replaying.ScheduleFault.TheVariants.{NoMemory as OutOfMemory};
+
+    ghost from_gives = { λ _ fault. fault ≡ OutOfMemory };
 
     fn from(_: NoMemory) -> ScheduleFault {
         ScheduleFault::NoMemory
@@ -47,7 +50,7 @@ impl From<NoMemory> for ScheduleFault {
 pub fn schedule_text(alloc: Global, text: &[u8]) -> Result<Bytes, ScheduleFault>
     ensures printed { IfOk result (λ printed. Gives (lines_of text.now) (Ok printed)) }
     ensures refused { IfErr result (λ fault.
-        (fault ≡ ScheduleFault.NoMemory) ⊎ Gives (lines_of text.now) (Err fault)) }
+        (fault ≡ OutOfMemory) ⊎ Gives (lines_of text.now) (Err fault)) }
     ensures of_line { (seat : ℕ) → result ≡ Err (ScheduleFault.Unfinished seat) → ⊥ }
 {
     let (setup, steps) = first_line(text)?;
@@ -66,7 +69,7 @@ fn steps_text(
     requires reachable { IsReachable start.setup (machine_of start) }
     ensures printed { IfOk result (λ printed.
         steps_from setup.now (machine_of start) 1 (lines_of text.now) ≡ Ok printed) }
-    ensures refused { IfErr result (λ fault. (fault ≡ ScheduleFault.NoMemory)
+    ensures refused { IfErr result (λ fault. (fault ≡ OutOfMemory)
         ⊎ (steps_from setup.now (machine_of start) 1 (lines_of text.now) ≡ Err fault)) }
 {
     let mut state = start;
@@ -99,8 +102,7 @@ fn print_step(
     ensures made { OnOk result (IsMade setup.now number line.now (machine_of state.old)
         (machine_of state.new) printed.old.items printed.new.items) }
     ensures refused { IfErr result (λ fault.
-        (fault ≡ ScheduleFault.NoMemory)
-        ⊎ IsRefused setup.now number line.now (machine_of state.old) fault) }
+        (fault ≡ OutOfMemory) ⊎ IsRefused setup.now number line.now (machine_of state.old) fault) }
 {
     let (seat, step) = turn_of_line(alloc, setup, number, line)?;
     let ring = call_ring(state, seat, &step);

@@ -9,6 +9,9 @@ ghost use Rattle.scq_core.specs.Table.{step_of};
 ghost use Rattle.scq_lines.specs.Lines.{lines_of};
 ghost use Rattle.scq_replay.specs.Printed.{begun_on};
 ghost use Rattle.scq_replay.specs.Replay.{turn_of_line, HasSetup, Gives};
+ghost use Rattle.scq_replay.specs.declared.replaying.ScheduleFault.TheVariants.{BadLine};
+ghost use Rattle.scq_replay.specs.declared.replaying.ScheduleFault.TheVariants.{NotEnabled as IsNotEnabled};
+ghost use Rattle.scq_replay.specs.declared.replaying.ScheduleFault.TheVariants.{NoMemory as OutOfMemory};
 
 use crate::ScheduleFault;
 use crate::schedule::{read_setup, read_turn};
@@ -60,9 +63,8 @@ pub(crate) fn turn_of_line(
     ensures few { OnOk result (number ≤ 10000) }
     ensures seat { IfOk result (λ turn. turn.0 < setup.now.seats) }
     ensures ring { IfOk result (λ turn. IfSome (begun_on turn.1) (λ ring. ring < setup.now.rings)) }
-    ensures refused { IfErr result (λ fault. (fault ≡ ScheduleFault.NoMemory)
-        ⊎ ((fault ≡ ScheduleFault.BadLine (number + 1))
-        × (turn_of_line setup.now number line.now ≡ None))) }
+    ensures refused { IfErr result (λ fault. (fault ≡ OutOfMemory)
+        ⊎ ((fault ≡ BadLine (number + 1)) × (turn_of_line setup.now number line.now ≡ None))) }
 {
     if number > MOST_STEPS {
         return Err(ScheduleFault::BadLine { line: number + 1 });
@@ -86,8 +88,8 @@ pub(crate) fn make_step(
         ≡ Some (machine_of state.new)) }
     ensures setup { state.new.setup ≡ state.old.setup }
     ensures reachable { IsReachable state.new.setup (machine_of state.new) }
-    ensures refused { IfErr result (λ fault. (fault ≡ ScheduleFault.NoMemory)
-        ⊎ ((fault ≡ ScheduleFault.NotEnabled (number + 1))
+    ensures refused { IfErr result (λ fault. (fault ≡ OutOfMemory)
+        ⊎ ((fault ≡ IsNotEnabled (number + 1))
         × (step_of state.old.setup (machine_of state.old) seat step.now ≡ None))) }
 {
     match state.apply(seat, step) {
