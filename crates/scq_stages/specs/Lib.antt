@@ -11,4 +11,3 @@ pub mod AllStages
 pub mod Ends
 pub mod Reading
 pub mod Sweeping
-pub mod GoingOn

@@ -20,8 +20,8 @@ pub(crate) struct Calls<'a> {
 }
 
 impl<'a> Handler<Calls<'a>, ()> for Worker<Frame> {
-    ghost use Rattle.scq_stages.specs.Reading.{HasGoneOn, HasStoppedAt};
-    ghost use Rattle.scq_stages.specs.GoingOn.{gone-none, gone-along, gone-stopped};
+    ghost use Rattle.scq_desk.specs.GoingOn.{gone-none, gone-along, gone-stopped};
+    ghost use Rattle.scq_stages.specs.Reading.{IsAt, IsOver, HasGoneOn, HasStoppedAt};
 
     type Stop = AtLimit<Frame>;
 
@@ -65,14 +65,18 @@ impl<'a> Handler<Calls<'a>, ()> for Worker<Frame> {
         self.starved
     }
 
-    ghost none_handled = { λ c none w ready. gone-none c.queue.now w ready.0 ready.1 };
+    ghost none_handled = { λ c none w ready.
+        gone-none (λ w. w.pass) (λ w. w.starved) (IsAt c.queue.now) c.queue.now 1 w ready.0
+        ready.1 };
 
     ghost stays_ready = { λ c ms none nothing old new ready its.
         (its.suits, its.stays, ready.2) };
 
     ghost more_handled = { λ c ms ns t s u old mid new one more.
-        gone-along c.queue.now ms ns old mid new one more };
+        gone-along (λ w. w.pass) (λ w. w.starved) (IsAt c.queue.now) c.queue.now 1 ms ns old mid
+        new one more };
 
     ghost then_stopped = { λ c ms ns t s u old mid new stop one more.
-        gone-stopped c.queue.now ms ns old mid new stop.held one more };
+        gone-stopped (λ w. w.pass) (λ w. w.starved) (IsAt c.queue.now) c.queue.now 1
+        (IsOver c.queue.now) ms ns old mid new stop.held one more };
 }
