@@ -1,6 +1,6 @@
-/* pingpong TURNS: two threads pass a turn to and fro, by a futex alone and by a queue with a bell, each
- * nine times in turn. Prints the nanoseconds of a turn with each, as medians, and the second by the
- * first. */
+/* pingpong TURNS: two threads pass a turn to and fro, by a futex alone and by a queue with a bell,
+ * each nine times in turn. Prints the nanoseconds of a turn with each, as medians, and the second
+ * by the first. */
 #include "scq_bell.h"
 
 #include "check.h"
