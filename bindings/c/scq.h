@@ -1,36 +1,47 @@
 /* scq: fixed buffers that threads pass to one another, without locks.
  *
- * A queue has 2^order buffers of the same size and up to 17 topics, each a first-in-first-out queue of its own over these buffers. A thread
- * makes its calls with a port of its own: it is lent a buffer, writes it where it lies and sends it on a topic; or it takes one from a topic,
- * reads it and gives it back. No call takes a lock or waits for another thread's; lends, takes, sends and give-backs are lock-free,
- * with a bound (docs/QUEUE.md). Only scq_open and scq_open_over take memory. What the
- * library does is proved: docs/QUEUE.md says what that means, and docs/PROMISES.md has the promise of each call.
+ * A queue has 2^order buffers of the same size and up to 17 topics, each a first-in-first-out queue
+ * of its own over these buffers. A thread makes its calls with a port of its own: it is lent a
+ * buffer, writes it where it lies and sends it on a topic; or it takes one from a topic, reads it
+ * and gives it back. No call takes a lock or waits for another thread's; lends, takes, sends and
+ * give-backs are lock-free, with a bound (docs/QUEUE.md). Only scq_open and scq_open_over take
+ * memory. What the library does is proved: docs/QUEUE.md says what that means, and docs/PROMISES.md
+ * has the promise of each call.
  *
- * The library passes numbers of buffers from port to port. The bytes are the caller's: it is given no pointer that it follows to them, and
- * reads and writes none of them. Where the bytes of a number lie is worked out by the functions that stand whole in this file.
+ * The library passes numbers of buffers from port to port. The bytes are the caller's: it is given
+ * no pointer that it follows to them, and reads and writes none of them. Where the bytes of a
+ * number lie is worked out by the functions that stand whole in this file.
  *
  * Compile with this file, C99 or C++, and link with libscq.a and nothing else.
  *
- * What the caller has to uphold. Nothing of it is tested; where it is broken anything may happen, as where C's own rules are.
+ * What the caller has to uphold. Nothing of it is tested; where it is broken anything may happen,
+ * as where C's own rules are.
  *
- * 1. A port is SCQ_NONE before scq_open, and only these calls change it. An open one is never copied; but it may be moved to another place, if
- *    no call is made with it meanwhile and the old place is set to SCQ_NONE or not used again. scq_close makes it SCQ_NONE; one that isn't
- *    closed keeps its queue, and what it holds, until the process ends.
- * 2. Every pointer that is handed in is non-null, aligned, and points to memory of its type that may be written; what two pointers of one call
- *    point to lies apart. `n` ports begin at `ports`, `n` counts at `counts`, and `n` slots at `out` or `held` of a call of several; also where
- *    n is 0, none is null.
- * 3. One call at a time is made with a port, by whichever thread has it, also where a signal handler makes one. Calls with different ports may
- *    meet in any way. A call that has begun is let end: no thread is cancelled asynchronously in it, and no signal handler jumps out of it.
+ * 1. A port is SCQ_NONE before scq_open, and only these calls change it. An open one is never
+ *    copied; but it may be moved to another place, if no call is made with it meanwhile and the old
+ *    place is set to SCQ_NONE or not used again. scq_close makes it SCQ_NONE; one that isn't closed
+ *    keeps its queue, and what it holds, until the process ends.
+ * 2. Every pointer that is handed in is non-null, aligned, and points to memory of its type that
+ *    may be written; what two pointers of one call point to lies apart. `n` ports begin at `ports`,
+ *    `n` counts at `counts`, and `n` slots at `out` or `held` of a call of several; also where n is
+ *    0, none is null.
+ * 3. One call at a time is made with a port, by whichever thread has it, also where a signal
+ *    handler makes one. Calls with different ports may meet in any way. A call that has begun is
+ *    let end: no thread is cancelled asynchronously in it, and no signal handler jumps out of it.
  *    (Where two threads call with one port, one of them is often told that the port is closed.)
- * 4. Who hands a port to another thread does so by what orders memory: starting or joining the thread, a lock, an atomic that is released and
- *    acquired. So with a buffer's address, if another thread is to use the bytes.
- * 5. The bytes of a buffer, its `len` and no others, are touched only while a port holds it: from the scq_lend or scq_take that answered
- *    SCQ_OK until the scq_send or scq_give_back that does, or scq_close.
+ * 4. Who hands a port to another thread does so by what orders memory: starting or joining the
+ *    thread, a lock, an atomic that is released and acquired. So with a buffer's address, if
+ *    another thread is to use the bytes.
+ * 5. The bytes of a buffer, its `len` and no others, are touched only while a port holds it: from
+ *    the scq_lend or scq_take that answered SCQ_OK until the scq_send or scq_give_back that does,
+ *    or scq_close.
  * 6. After fork the child makes no call with the parent's ports, and doesn't touch their buffers.
  *
- * Everything else is tested by the calls, and answered. Of each call there stands below what is tested and what is answered; where several
- * answers would be right, one of them comes; but a take with no room, and a send that is refused for the port's sake, come only where the
- * topic is there. Where it isn't SCQ_OK no buffer has changed hands, and nothing is written through the pointers but what is said there.
+ * Everything else is tested by the calls, and answered. Of each call there stands below what is
+ * tested and what is answered; where several answers would be right, one of them comes; but a take
+ * with no room, and a send that is refused for the port's sake, come only where the topic is there.
+ * Where it isn't SCQ_OK no buffer has changed hands, and nothing is written through the pointers
+ * but what is said there.
  */
 #ifndef SCQ_H
 #define SCQ_H
@@ -47,7 +58,8 @@
 extern "C" {
 #endif
 
-/* For this file alone: a function whose answer has to be looked at; a conversion; the number of an address; and null. */
+/* For this file alone: a function whose answer has to be looked at; a conversion; the number of an
+ * address; and null. */
 #if defined(__GNUC__)
 #define SCQ_ANSWERED __attribute__((warn_unused_result))
 #else
@@ -66,12 +78,14 @@ extern "C" {
 #define SCQ_NULL NULL
 #endif
 
-/* Where the bytes of a queue's buffers lie: those of the buffer with the number i are the `len` bytes that begin at base + i * stride. */
+/* Where the bytes of a queue's buffers lie: those of the buffer with the number i are the `len`
+ * bytes that begin at base + i * stride. */
 typedef struct scq_memory {
     unsigned char *base;
     size_t stride; /* not less than `len` */
     size_t len;
-    void *block; /* what scq_open took, which begins with the number of ports that are open; null where the memory is the caller's */
+    void *block; /* what scq_open took, which begins with the number of ports that are open; null
+                    where the memory is the caller's */
 } scq_memory;
 
 /* What a thread makes its calls with. */
@@ -80,7 +94,8 @@ typedef struct scq_port {
     scq_memory memory; /* where its queue's buffers lie */
 } scq_port;
 
-/* A port that is closed: `scq_port port = SCQ_NONE;`, or `port = SCQ_NONE;` later. One of static storage begins so by itself. */
+/* A port that is closed: `scq_port port = SCQ_NONE;`, or `port = SCQ_NONE;` later. One of static
+ * storage begins so by itself. */
 #ifndef __cplusplus
 #define SCQ_NONE ((scq_port){NULL, {NULL, 0, 0, NULL}})
 #elif __cplusplus >= 201103L
@@ -93,8 +108,9 @@ static inline scq_port scq_none() {
 #define SCQ_NONE scq_none()
 #endif
 
-/* A buffer that a port holds. Once it was sent or given back, its index names whatever buffer of that number the port holds then, if any; and in
- * the hands of another queue's port, that queue's. */
+/* A buffer that a port holds. Once it was sent or given back, its index names whatever buffer of
+ * that number the port holds then, if any; and in the hands of another queue's port, that
+ * queue's. */
 typedef struct scq_held {
     unsigned char *at; /* its bytes; a buffer lies at this address as long as the queue lives */
     size_t len;        /* how many they are: the queue's `size` */
@@ -142,8 +158,8 @@ enum {
 /* The largest order. */
 #define SCQ_MAX_ORDER 12
 
-/* A line of the processor's cache, in bytes. scq_open begins each buffer at a line of its own, so that threads that write neighbouring
- * buffers don't write in one line. */
+/* A line of the processor's cache, in bytes. scq_open begins each buffer at a line of its own, so
+ * that threads that write neighbouring buffers don't write in one line. */
 #define SCQ_CACHE_LINE 64
 
 /* What scq_version answers, of the library that this file is of. */
@@ -174,29 +190,38 @@ static inline const char *scq_text(uint32_t answer) {
     }
 }
 
-/* The version of the library: SCQ_VERSION, where this file is of it. scq_open and scq_open_over compare the two before anything else. */
+/* The version of the library: SCQ_VERSION, where this file is of it. scq_open and scq_open_over
+ * compare the two before anything else. */
 uint32_t scq_version(void);
 
-/* Makes a queue of 2^order buffers, with `topics` topics, and opens `n` ports, each of which may hold up to `hold` buffers at a time. Each
- * topic, and the stock of free buffers, counts its puts and its gets by tickets up to `limit`; SCQ_MAX_LIMIT is the plain choice. A port takes
- * some 1,470 bytes, and 16 for each buffer of the queue.
+/* Makes a queue of 2^order buffers, with `topics` topics, and opens `n` ports, each of which may
+ * hold up to `hold` buffers at a time. Each topic, and the stock of free buffers, counts its puts
+ * and its gets by tickets up to `limit`; SCQ_MAX_LIMIT is the plain choice. A port takes some 1,470
+ * bytes, and 16 for each buffer of the queue.
  *
- * The buffers lie where *memory says, in memory of the caller's: huge pages, a pool, a mapping. It may be reused once all ports are closed. A
- * buffer begins with the bytes that stand there. This is for the bytes alone: a queue is of one process.
+ * The buffers lie where *memory says, in memory of the caller's: huge pages, a pool, a mapping. It
+ * may be reused once all ports are closed. A buffer begins with the bytes that stand there. This is
+ * for the bytes alone: a queue is of one process.
  *
- * Asks: that each of the n ports is SCQ_NONE or open; that 2^order times `stride` bytes may be written at `base`; that `block` is null.
- * Tested: that the library is of this file's version; each of the numbers, `len` and `stride` among them; that no port is open.
- * Answers: SCQ_OK; SCQ_BAD_VERSION, and the library was asked for its version alone; SCQ_BAD_TOPICS,
- * SCQ_BAD_ORDER, SCQ_BAD_PORTS, SCQ_BAD_LIMIT, SCQ_BAD_SIZE, SCQ_BAD_HOLD; SCQ_IS_OPEN; SCQ_NO_MEMORY where an allocation was refused. Where it isn't SCQ_OK no port is changed, and nothing is left of the queue. */
-SCQ_ANSWERED uint32_t scq_open_over(uint32_t order, uint32_t topics, uint32_t hold, uint64_t limit, const scq_memory *memory, scq_port *ports,
-    size_t n);
+ * Asks: that each of the n ports is SCQ_NONE or open; that 2^order times `stride` bytes may be
+ * written at `base`; that `block` is null.
+ * Tested: that the library is of this file's version; each of the numbers, `len` and `stride` among
+ * them; that no port is open.
+ * Answers: SCQ_OK; SCQ_BAD_VERSION, and the library was asked for its version alone;
+ * SCQ_BAD_TOPICS, SCQ_BAD_ORDER, SCQ_BAD_PORTS, SCQ_BAD_LIMIT, SCQ_BAD_SIZE, SCQ_BAD_HOLD;
+ * SCQ_IS_OPEN; SCQ_NO_MEMORY where an allocation was refused. Where it isn't SCQ_OK no port is
+ * changed, and nothing is left of the queue. */
+SCQ_ANSWERED uint32_t scq_open_over(uint32_t order, uint32_t topics, uint32_t hold, uint64_t limit,
+                                    const scq_memory *memory, scq_port *ports, size_t n);
 
-/* The same, over memory that it takes: the buffers have `size` zero bytes, each at a multiple of SCQ_CACHE_LINE. None of them is touched before
- * it is used. scq_close frees them with the last port, by whichever thread that is closed.
+/* The same, over memory that it takes: the buffers have `size` zero bytes, each at a multiple of
+ * SCQ_CACHE_LINE. None of them is touched before it is used. scq_close frees them with the last
+ * port, by whichever thread that is closed.
  *
  * Answers: as scq_open_over; SCQ_NO_MEMORY also where the buffers are more than a size_t counts. */
-static inline SCQ_ANSWERED uint32_t scq_open(uint32_t order, uint32_t topics, uint32_t size, uint32_t hold, uint64_t limit, scq_port *ports,
-    size_t n) {
+static inline SCQ_ANSWERED uint32_t scq_open(uint32_t order, uint32_t topics, uint32_t size,
+                                             uint32_t hold, uint64_t limit, scq_port *ports,
+                                             size_t n) {
     const size_t line = SCQ_CACHE_LINE;
     scq_memory memory = {SCQ_NULL, 0, size, SCQ_NULL};
     size_t buffers;
@@ -220,16 +245,19 @@ static inline SCQ_ANSWERED uint32_t scq_open(uint32_t order, uint32_t topics, ui
 /* What scq_open_over stands for from here on, so that it too compares the versions first. Who finds
  * the exported call by its name, as by dlsym, compares what scq_version answers himself. */
 static inline SCQ_ANSWERED uint32_t scq_open_over_checked(uint32_t order, uint32_t topics,
-    uint32_t hold, uint64_t limit, const scq_memory *memory, scq_port *ports, size_t n) {
+                                                          uint32_t hold, uint64_t limit,
+                                                          const scq_memory *memory, scq_port *ports,
+                                                          size_t n) {
     if (scq_version() != SCQ_VERSION) return SCQ_BAD_VERSION;
     return scq_open_over(order, topics, hold, limit, memory, ports, n);
 }
 #define scq_open_over scq_open_over_checked
 
-/* For tools that watch threads, which don't see into the library. ThreadSanitizer, where this file is
- * compiled with it, is told that what a thread did with a buffer before it let go of it comes before
- * what the next holder does. So are helgrind and DRD, where SCQ_VALGRIND is defined; what they would
- * say of the library's own words is kept back then. Without these nothing of it is in a program. */
+/* For tools that watch threads, which don't see into the library. ThreadSanitizer, where this file
+ * is compiled with it, is told that what a thread did with a buffer before it let go of it comes
+ * before what the next holder does. So are helgrind and DRD, where SCQ_VALGRIND is defined; what
+ * they would say of the library's own words is kept back then. Without these nothing of it is in a
+ * program. */
 
 #if defined(__SANITIZE_THREAD__)
 #define SCQ_TSAN
@@ -265,9 +293,9 @@ static inline void scq_tell_after(void *address) {
 
 #if defined(SCQ_TSAN) || defined(SCQ_VALGRIND)
 #ifdef SCQ_VALGRIND
-#define SCQ_ASIDE(call) \
-    VALGRIND_DISABLE_ERROR_REPORTING; \
-    call; \
+#define SCQ_ASIDE(call)                                                                            \
+    VALGRIND_DISABLE_ERROR_REPORTING;                                                              \
+    call;                                                                                          \
     VALGRIND_ENABLE_ERROR_REPORTING
 #else
 #define SCQ_ASIDE(call) call
@@ -279,9 +307,9 @@ SCQ_ANSWERED uint32_t scq_send(scq_port *port, uint32_t index, uint32_t topic, u
 uint32_t scq_give_back(scq_port *port, uint32_t index);
 SCQ_ANSWERED uint32_t scq_lend_index_many(scq_port *port, scq_held *out, size_t n, size_t *done);
 SCQ_ANSWERED uint32_t scq_take_index_many(scq_port *port, uint32_t topic, scq_held *out, size_t n,
-    size_t *done);
+                                          size_t *done);
 SCQ_ANSWERED uint32_t scq_send_many(scq_port *port, scq_held *held, size_t n, uint32_t topic,
-    size_t *done);
+                                    size_t *done);
 uint32_t scq_give_back_many(scq_port *port, const scq_held *held, size_t n, size_t *done);
 uint32_t scq_end(scq_port *port, scq_ended *out, scq_counts *counts, size_t n);
 uint32_t scq_retire(scq_port *port);
@@ -289,9 +317,9 @@ SCQ_ANSWERED uint32_t scq_retired(scq_port *port);
 uint32_t scq_capacity(scq_port *port, uint32_t *out);
 SCQ_ANSWERED uint32_t scq_count(scq_port *port, uint32_t topic, uint32_t *out);
 
-/* A buffer is named to the tools by an address of its own, base + index: there is a byte at it, and an
- * index that is no buffer's makes no wild one. What a port holds that is closed is named by the base, and what a port did that
- * has retired. */
+/* A buffer is named to the tools by an address of its own, base + index: there is a byte at it, and
+ * an index that is no buffer's makes no wild one. What a port holds that is closed is named by the
+ * base, and what a port did that has retired. */
 
 static inline void scq_tell_got(const scq_port *port, uint32_t answer, uint32_t index) {
     if (answer != SCQ_OK) return;
@@ -312,7 +340,7 @@ static inline SCQ_ANSWERED uint32_t scq_lend_index_told(scq_port *port, scq_held
 }
 
 static inline SCQ_ANSWERED uint32_t scq_take_index_told(scq_port *port, uint32_t topic,
-    scq_held *out) {
+                                                        scq_held *out) {
     uint32_t answer;
     SCQ_ASIDE(answer = scq_take_index(port, topic, out));
     scq_tell_got(port, answer, out->index);
@@ -320,7 +348,7 @@ static inline SCQ_ANSWERED uint32_t scq_take_index_told(scq_port *port, uint32_t
 }
 
 static inline SCQ_ANSWERED uint32_t scq_send_told(scq_port *port, uint32_t index, uint32_t topic,
-    uint64_t *place) {
+                                                  uint64_t *place) {
     uint32_t answer;
     scq_tell_lets_go(port, index);
     SCQ_ASIDE(answer = scq_send(port, index, topic, place));
@@ -345,7 +373,7 @@ static inline void scq_tell_lets_all_go(const scq_port *port, const scq_held *he
 }
 
 static inline SCQ_ANSWERED uint32_t scq_lend_index_many_told(scq_port *port, scq_held *out,
-    size_t n, size_t *done) {
+                                                             size_t n, size_t *done) {
     uint32_t answer;
     SCQ_ASIDE(answer = scq_lend_index_many(port, out, n, done));
     scq_tell_all_got(port, out, *done);
@@ -353,7 +381,8 @@ static inline SCQ_ANSWERED uint32_t scq_lend_index_many_told(scq_port *port, scq
 }
 
 static inline SCQ_ANSWERED uint32_t scq_take_index_many_told(scq_port *port, uint32_t topic,
-    scq_held *out, size_t n, size_t *done) {
+                                                             scq_held *out, size_t n,
+                                                             size_t *done) {
     uint32_t answer;
     SCQ_ASIDE(answer = scq_take_index_many(port, topic, out, n, done));
     scq_tell_all_got(port, out, *done);
@@ -361,7 +390,7 @@ static inline SCQ_ANSWERED uint32_t scq_take_index_many_told(scq_port *port, uin
 }
 
 static inline SCQ_ANSWERED uint32_t scq_send_many_told(scq_port *port, scq_held *held, size_t n,
-    uint32_t topic, size_t *done) {
+                                                       uint32_t topic, size_t *done) {
     uint32_t answer;
     scq_tell_lets_all_go(port, held, n);
     SCQ_ASIDE(answer = scq_send_many(port, held, n, topic, done));
@@ -369,7 +398,7 @@ static inline SCQ_ANSWERED uint32_t scq_send_many_told(scq_port *port, scq_held 
 }
 
 static inline uint32_t scq_give_back_many_told(scq_port *port, const scq_held *held, size_t n,
-    size_t *done) {
+                                               size_t *done) {
     uint32_t answer;
     scq_tell_lets_all_go(port, held, n);
     SCQ_ASIDE(answer = scq_give_back_many(port, held, n, done));
@@ -432,7 +461,7 @@ SCQ_ANSWERED uint32_t scq_lend_index(scq_port *port, scq_held *out);
 SCQ_ANSWERED uint32_t scq_take_index(scq_port *port, uint32_t topic, scq_held *out);
 SCQ_ANSWERED uint32_t scq_lend_index_many(scq_port *port, scq_held *out, size_t n, size_t *done);
 SCQ_ANSWERED uint32_t scq_take_index_many(scq_port *port, uint32_t topic, scq_held *out, size_t n,
-    size_t *done);
+                                          size_t *done);
 
 /* Writes to `out` where the buffer of its index lies, or null and 0 where there is none. */
 static inline void scq_locate(const scq_port *port, uint32_t answer, scq_held *out) {
@@ -445,49 +474,56 @@ static inline void scq_locate(const scq_port *port, uint32_t answer, scq_held *o
     }
 }
 
-/* Lends a buffer that nobody holds: writes to `out` where it lies, with whatever bytes its last user left.
+/* Lends a buffer that nobody holds: writes to `out` where it lies, with whatever bytes its last
+ * user left.
  *
  * Tested: that the port is open, and holds fewer buffers than it may.
- * Answers: SCQ_OK; SCQ_CLOSED; SCQ_NO_ROOM; SCQ_FULL where no buffer was free, and out->place is the head of the stock: each buffer that was
- * given back at a place below it has been lent, or is being lent; SCQ_SPENT, and out->place is the ticket. Where it isn't SCQ_OK, out->at is
- * null and out->len 0. */
+ * Answers: SCQ_OK; SCQ_CLOSED; SCQ_NO_ROOM; SCQ_FULL where no buffer was free, and out->place is
+ * the head of the stock: each buffer that was given back at a place below it has been lent, or is
+ * being lent; SCQ_SPENT, and out->place is the ticket. Where it isn't SCQ_OK, out->at is null and
+ * out->len 0. */
 static inline SCQ_ANSWERED uint32_t scq_lend(scq_port *port, scq_held *out) {
     const uint32_t answer = scq_lend_index(port, out);
     scq_locate(port, answer, out);
     return answer;
 }
 
-/* Takes a buffer off a topic: writes to `out` where it lies, and the place at which it was sent. Its bytes are those that were sent.
+/* Takes a buffer off a topic: writes to `out` where it lies, and the place at which it was sent.
+ * Its bytes are those that were sent.
  *
  * Tested: that the port is open, the topic, and that the port holds fewer buffers than it may.
- * Answers: SCQ_OK; SCQ_CLOSED; SCQ_NO_TOPIC; SCQ_NO_ROOM; SCQ_EMPTY where nothing was on the topic, and out->place is its head: each buffer that
- * was sent at a place below it has been taken, or is being taken; SCQ_SPENT, and out->place is the ticket. Where it isn't SCQ_OK, out->at is
- * null and out->len 0. */
+ * Answers: SCQ_OK; SCQ_CLOSED; SCQ_NO_TOPIC; SCQ_NO_ROOM; SCQ_EMPTY where nothing was on the topic,
+ * and out->place is its head: each buffer that was sent at a place below it has been taken, or is
+ * being taken; SCQ_SPENT, and out->place is the ticket. Where it isn't SCQ_OK, out->at is null and
+ * out->len 0. */
 static inline SCQ_ANSWERED uint32_t scq_take(scq_port *port, uint32_t topic, scq_held *out) {
     const uint32_t answer = scq_take_index(port, topic, out);
     scq_locate(port, answer, out);
     return answer;
 }
 
-/* Sends the buffer of this index on a topic, and writes to `place` at which place. Places rise in the order of sends that follow one another;
- * no two buffers of a topic have the same.
+/* Sends the buffer of this index on a topic, and writes to `place` at which place. Places rise in
+ * the order of sends that follow one another; no two buffers of a topic have the same.
  *
- * Tested: that the port is open, the topic, that the port hasn't retired, and that it holds a buffer of this index.
- * Answers: SCQ_OK, and the port doesn't hold the buffer; SCQ_CLOSED; SCQ_NO_TOPIC; SCQ_RETIRED; SCQ_NOT_HELD; SCQ_SPENT, and *place is the
- * ticket. */
+ * Tested: that the port is open, the topic, that the port hasn't retired, and that it holds a
+ * buffer of this index.
+ * Answers: SCQ_OK, and the port doesn't hold the buffer; SCQ_CLOSED; SCQ_NO_TOPIC; SCQ_RETIRED;
+ * SCQ_NOT_HELD; SCQ_SPENT, and *place is the ticket. */
 SCQ_ANSWERED uint32_t scq_send(scq_port *port, uint32_t index, uint32_t topic, uint64_t *place);
 
 /* Gives the buffer of this index back, so that it can be lent again. It need not have been sent.
  *
  * Tested: that the port is open, and holds a buffer of this index.
- * Answers: SCQ_OK, and the port doesn't hold the buffer; SCQ_CLOSED; SCQ_NOT_HELD; SCQ_SPENT, and scq_spent tells the ticket. */
+ * Answers: SCQ_OK, and the port doesn't hold the buffer; SCQ_CLOSED; SCQ_NOT_HELD; SCQ_SPENT, and
+ * scq_spent tells the ticket. */
 uint32_t scq_give_back(scq_port *port, uint32_t index);
 
-/* Several at a time. Each of these four makes the call of one buffer for each of `n` slots, in their
- * order, until one is refused: it answers what that one was answered, and SCQ_OK where none was. To
- * `done` it writes how many went, whatever it answers: n with SCQ_OK, and 0 with SCQ_CLOSED. Only the
- * first *done slots are written. The others stay as they were, so that neither a head nor a ticket is
- * told. For the queue they are calls of one buffer each: others may send and take between them.
+/* Several at a time. Each of these four makes the call of one buffer for each of `n` slots, in
+ * their order, until one is refused: it answers what that one was answered, and SCQ_OK where none
+ * was. To `done` it writes how many went, whatever it answers: n with SCQ_OK, and 0 with
+ * SCQ_CLOSED. Only the first *done slots are written. The others stay as they were, so that neither
+ * a head nor a ticket is told. For the queue they are calls of one buffer each: others may send and
+ * take between them.
  *
  * Asks: that n slots begin at the pointer; it isn't null where n is 0 either.
  * Tested: what the call of one buffer tests; with n = 0 only that the port is open.
@@ -496,19 +532,19 @@ uint32_t scq_give_back(scq_port *port, uint32_t index);
  *
  * Answers: SCQ_OK; SCQ_CLOSED; SCQ_NO_ROOM; SCQ_FULL; SCQ_SPENT. */
 static inline SCQ_ANSWERED uint32_t scq_lend_many(scq_port *port, scq_held *out, size_t n,
-    size_t *done) {
+                                                  size_t *done) {
     const uint32_t answer = scq_lend_index_many(port, out, n, done);
     size_t k;
     for (k = 0; k < *done; k++) scq_locate(port, SCQ_OK, &out[k]);
     return answer;
 }
 
-/* Takes up to n buffers off a topic: writes to out[0], out[1].. where they lie and the places at which
- * they were sent, which rise.
+/* Takes up to n buffers off a topic: writes to out[0], out[1].. where they lie and the places at
+ * which they were sent, which rise.
  *
  * Answers: SCQ_OK; SCQ_CLOSED; SCQ_NO_TOPIC; SCQ_NO_ROOM; SCQ_EMPTY; SCQ_SPENT. */
 static inline SCQ_ANSWERED uint32_t scq_take_many(scq_port *port, uint32_t topic, scq_held *out,
-    size_t n, size_t *done) {
+                                                  size_t n, size_t *done) {
     const uint32_t answer = scq_take_index_many(port, topic, out, n, done);
     size_t k;
     for (k = 0; k < *done; k++) scq_locate(port, SCQ_OK, &out[k]);
@@ -520,7 +556,7 @@ static inline SCQ_ANSWERED uint32_t scq_take_many(scq_port *port, uint32_t topic
  *
  * Answers: SCQ_OK; SCQ_CLOSED; SCQ_NO_TOPIC; SCQ_RETIRED; SCQ_NOT_HELD; SCQ_SPENT. */
 SCQ_ANSWERED uint32_t scq_send_many(scq_port *port, scq_held *held, size_t n, uint32_t topic,
-    size_t *done);
+                                    size_t *done);
 
 /* Gives the buffers with the indices of held[0], held[1].. back, up to n. The port doesn't hold the
  * first *done of them any more.
@@ -528,18 +564,20 @@ SCQ_ANSWERED uint32_t scq_send_many(scq_port *port, scq_held *held, size_t n, ui
  * Answers: SCQ_OK; SCQ_CLOSED; SCQ_NOT_HELD; SCQ_SPENT. */
 uint32_t scq_give_back_many(scq_port *port, const scq_held *held, size_t n, size_t *done);
 
-/* Retires the port: it sends no more, on any topic. It still lends, takes and gives back. A close retires too.
+/* Retires the port: it sends no more, on any topic. It still lends, takes and gives back. A close
+ * retires too.
  *
  * Tested: that the port is open.
  * Answers: SCQ_OK, also where it had retired; SCQ_CLOSED. */
 uint32_t scq_retire(scq_port *port);
 
-/* Whether all ports of the queue have retired, this one among them. Then a topic that is found empty afterwards has ended: ask first, and
- * then take. Once a port is answered that all have, it always is. That this
- * is right is proved; that it comes once all have is tested.
+/* Whether all ports of the queue have retired, this one among them. Then a topic that is found
+ * empty afterwards has ended: ask first, and then take. Once a port is answered that all have, it
+ * always is. That this is right is proved; that it comes once all have is tested.
  *
  * Tested: that the port is open.
- * Answers: SCQ_RETIRED where all have; SCQ_OK where some hadn't, as far as the call read; SCQ_CLOSED. */
+ * Answers: SCQ_RETIRED where all have; SCQ_OK where some hadn't, as far as the call read;
+ * SCQ_CLOSED. */
 SCQ_ANSWERED uint32_t scq_retired(scq_port *port);
 
 /* Writes to `out` how many buffers the queue has: 2^order.
@@ -548,10 +586,10 @@ SCQ_ANSWERED uint32_t scq_retired(scq_port *port);
  * Answers: SCQ_OK; SCQ_CLOSED. */
 uint32_t scq_capacity(scq_port *port, uint32_t *out);
 
-/* Writes to `out` about how many buffers stand on a topic. It is a hint, for a gauge or to share out
- * work: others send and take meanwhile, and the number is read in two loads. Above how many buffers
- * the queue has it never is. It may be too high, as places that were drawn and not used count too; and
- * too low, so that only scq_take tells whether a topic is empty.
+/* Writes to `out` about how many buffers stand on a topic. It is a hint, for a gauge or to share
+ * out work: others send and take meanwhile, and the number is read in two loads. Above how many
+ * buffers the queue has it never is. It may be too high, as places that were drawn and not used
+ * count too; and too low, so that only scq_take tells whether a topic is empty.
  *
  * Tested: that the port is open, and the topic.
  * Answers: SCQ_OK; SCQ_CLOSED; SCQ_NO_TOPIC. */
@@ -563,29 +601,32 @@ SCQ_ANSWERED uint32_t scq_count(scq_port *port, uint32_t topic, uint32_t *out);
  * Answers: SCQ_OK; SCQ_CLOSED. */
 uint32_t scq_counts_of(scq_port *port, scq_counts *out);
 
-/* Whether the port has drawn a ticket at or past the limit, which it keeps: each later lend, take, send and give-back of it that passes its
- * tests is answered SCQ_SPENT.
+/* Whether the port has drawn a ticket at or past the limit, which it keeps: each later lend, take,
+ * send and give-back of it that passes its tests is answered SCQ_SPENT.
  *
  * Tested: that the port is open.
  * Answers: SCQ_SPENT, and *ticket is the ticket; SCQ_OK where it keeps none; SCQ_CLOSED. */
 uint32_t scq_spent(scq_port *port, uint64_t *ticket);
 
-/* Closes the port, and tells whether it was the queue's last. It retires, and gives back what it holds;
- * where its tickets have run out, what can't be given back stays with the queue, which lends it to
- * nobody. The last port of a queue frees what the library took, with what stands on the topics, and it
- * is told so: that it is told, and that all is freed, is tested; what it is told is proved. Then all
- * calls that were made with all ports of the queue, but those that a test or a kept ticket refused,
- * stand in one run of the proved machine, with their answers: each buffer that was taken was sent on
- * that topic at that place, no place of a topic was sent at or taken at twice, what was sent less what
- * was taken is what was left, and the calls of each topic, and those of the free buffers, but for those
- * answered SCQ_SPENT, stand in one order in which every answer is a plain queue's. Where it was the last, there stands in `counts` what each
- * port of the queue did, in the order in which they were opened: of the first `n` of them. port->memory is left as it was.
+/* Closes the port, and tells whether it was the queue's last. It retires, and gives back what it
+ * holds; where its tickets have run out, what can't be given back stays with the queue, which lends
+ * it to nobody. The last port of a queue frees what the library took, with what stands on the
+ * topics, and it is told so: that it is told, and that all is freed, is tested; what it is told is
+ * proved. Then all calls that were made with all ports of the queue, but those that a test or a
+ * kept ticket refused, stand in one run of the proved machine, with their answers: each buffer that
+ * was taken was sent on that topic at that place, no place of a topic was sent at or taken at
+ * twice, what was sent less what was taken is what was left, and the calls of each topic, and those
+ * of the free buffers, but for those answered SCQ_SPENT, stand in one order in which every answer
+ * is a plain queue's. Where it was the last, there stands in `counts` what each port of the queue
+ * did, in the order in which they were opened: of the first `n` of them. port->memory is left as it
+ * was.
  *
  * Tested: that the port is open.
  * Answers: SCQ_OK; SCQ_CLOSED. */
 uint32_t scq_end(scq_port *port, scq_ended *out, scq_counts *counts, size_t n);
 
-/* What is left to be done with a port that scq_end closed: sets it to SCQ_NONE, and frees what scq_open took, where it was the queue's last. */
+/* What is left to be done with a port that scq_end closed: sets it to SCQ_NONE, and frees what
+ * scq_open took, where it was the queue's last. */
 static inline void scq_free(scq_port *port) {
     void *const block = port->memory.block;
     *port = SCQ_NONE;
@@ -607,10 +648,10 @@ static inline uint32_t scq_close(scq_port *port) {
     return answer;
 }
 
-/* Several small messages in one buffer: as many as there is room for, each behind its length. One send
- * and one take then carry all of them. What stands in the buffer is, in four bytes with the lowest
- * first, how many bytes the messages take; then of each message its length, likewise in four bytes,
- * and its bytes. These functions make no call, and touch no byte but those of the buffer.
+/* Several small messages in one buffer: as many as there is room for, each behind its length. One
+ * send and one take then carry all of them. What stands in the buffer is, in four bytes with the
+ * lowest first, how many bytes the messages take; then of each message its length, likewise in four
+ * bytes, and its bytes. These functions make no call, and touch no byte but those of the buffer.
  *
  * Begins the packing: there are no messages in the buffer. */
 static inline void scq_pack_begin(const scq_held *held) {
@@ -633,8 +674,8 @@ static inline void scq_pack_set_number(unsigned char *at, uint32_t number) {
 
 /* Appends a message of `len` bytes, and answers where its bytes lie, to be written there: whatever
  * stood in the buffer. Answers null, and leaves the buffer as it was, where there is no room for it
- * behind the messages that are in it. A buffer has room for its `len` less 4, where each message takes
- * its own length and 4. */
+ * behind the messages that are in it. A buffer has room for its `len` less 4, where each message
+ * takes its own length and 4. */
 static inline SCQ_ANSWERED unsigned char *scq_pack_room(const scq_held *held, size_t len) {
     size_t used, room;
     if (held->len < 4) return SCQ_NULL;
@@ -646,7 +687,8 @@ static inline SCQ_ANSWERED unsigned char *scq_pack_room(const scq_held *held, si
     return held->at + 4 + used + 4;
 }
 
-/* The same with the message's bytes, which lie elsewhere. Answers whether it was appended: 1 or 0. */
+/* The same with the message's bytes, which lie elsewhere. Answers whether it was appended: 1 or
+ * 0. */
 static inline SCQ_ANSWERED int scq_pack(const scq_held *held, const void *bytes, size_t len) {
     unsigned char *const at = scq_pack_room(held, len);
     if (at == SCQ_NULL) return 0;
@@ -655,10 +697,10 @@ static inline SCQ_ANSWERED int scq_pack(const scq_held *held, const void *bytes,
 }
 
 /* Goes to the next message of a buffer: writes to *at where its bytes lie and to *len how many they
- * are, and answers 1; or answers 0 where there is none. *next is 0 for the first message, and is moved
- * on. Whatever stands in the buffer, none is answered that goes past its end. */
+ * are, and answers 1; or answers 0 where there is none. *next is 0 for the first message, and is
+ * moved on. Whatever stands in the buffer, none is answered that goes past its end. */
 static inline SCQ_ANSWERED int scq_unpack(const scq_held *held, size_t *next,
-    const unsigned char **at, size_t *len) {
+                                          const unsigned char **at, size_t *len) {
     size_t end, from, of;
     if (held->len < 4) return 0;
     end = scq_pack_number(held->at);

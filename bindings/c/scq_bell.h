@@ -1,30 +1,32 @@
-/* scq_bell: waiting for a queue of scq.h, of which no call waits. A thread that finds a topic empty, or
- * no buffer free, sleeps here until one that sends or gives back rings the queue's bell. Plain code,
- * tested and not proved. C99 or C++, by gcc or clang; include it with scq.h beside it.
+/* scq_bell: waiting for a queue of scq.h, of which no call waits. A thread that finds a topic
+ * empty, or no buffer free, sleeps here until one that sends or gives back rings the queue's bell.
+ * Plain code, tested and not proved. C99 or C++, by gcc or clang; include it with scq.h beside it.
  *
- * Each topic is a line of the bell, and the stock of free buffers is one, SCQ_FREE. To ring a line for
- * which nobody waits is one load, and no call of the system.
+ * Each topic is a line of the bell, and the stock of free buffers is one, SCQ_FREE. To ring a line
+ * for which nobody waits is one load, and no call of the system.
  *
  * What the caller has to uphold, beside what scq.h asks:
  *
  * 1. A bell is made by scq_bell_init before any other call, stays where it is, and is let go of by
  *    scq_bell_free when no thread uses it and none will. It is of one queue and of one process.
- * 2. Where somebody waits for a topic, who sends on it does so by scq_bell_send; where somebody waits
- *    for a buffer, who gives one back or closes a port does so by scq_bell_give_back and scq_bell_close.
- *    Or he makes the call of scq.h, and then scq_bell_ring.
- * 3. A thread isn't cancelled, and isn't left by longjmp, while it waits. A signal handler doesn't wait.
+ * 2. Where somebody waits for a topic, who sends on it does so by scq_bell_send; where somebody
+ *    waits for a buffer, who gives one back or closes a port does so by scq_bell_give_back and
+ *    scq_bell_close. Or he makes the call of scq.h, and then scq_bell_ring.
+ * 3. A thread isn't cancelled, and isn't left by longjmp, while it waits. A signal handler doesn't
+ *    wait.
  *
- * Why no wake is lost. Who waits writes down that he does (W), reads the bell's turn (T), looks once
- * more (L), and where that finds nothing sleeps (S) as long as the turn is the one that he read. Who
- * changes something does so (C), and reads whether anybody waits (R). Where one does he moves the turn
- * (M), and wakes one sleeper of the line (K). W, T, R and M are sequentially consistent, and so is each
- * step of the queue in C and L. So all stand in one order, those of a thread as the thread makes them:
- * that is why R can be a load, with no fence before it. If R finds nobody it stands before W, and so C
- * before L: the look sees the change, or another thread has it. If M stands before T it is the same. If
- * M stands behind T, either S finds another turn and is refused, or S came first and K finds the sleeper,
- * since the system compares and lies down in one. K wakes one sleeper for each change, who looks before
- * he sleeps again or goes; where he goes with something of another line, or with nothing, he rings again.
- * So as long as something is there for a line and one sleeps for it, another is on his way to look.
+ * Why no wake is lost. Who waits writes down that he does (W), reads the bell's turn (T), looks
+ * once more (L), and where that finds nothing sleeps (S) as long as the turn is the one that he
+ * read. Who changes something does so (C), and reads whether anybody waits (R). Where one does he
+ * moves the turn (M), and wakes one sleeper of the line (K). W, T, R and M are sequentially
+ * consistent, and so is each step of the queue in C and L. So all stand in one order, those of a
+ * thread as the thread makes them: that is why R can be a load, with no fence before it. If R finds
+ * nobody it stands before W, and so C before L: the look sees the change, or another thread has it.
+ * If M stands before T it is the same. If M stands behind T, either S finds another turn and is
+ * refused, or S came first and K finds the sleeper, since the system compares and lies down in one.
+ * K wakes one sleeper for each change, who looks before he sleeps again or goes; where he goes with
+ * something of another line, or with nothing, he rings again. So as long as something is there for
+ * a line and one sleeps for it, another is on his way to look.
  */
 #ifndef SCQ_BELL_H
 #define SCQ_BELL_H
@@ -55,7 +57,7 @@ extern long syscall(long number, ...); /* which unistd.h hides from strict C */
 #define SCQ_ATOMICS_IN(block)                                                                      \
     VALGRIND_HG_DISABLE_CHECKING(block, sizeof *(block));                                          \
     VALGRIND_DO_CLIENT_REQUEST_STMT(VG_USERREQ__DRD_START_SUPPRESSION, block, sizeof *(block), 0,  \
-        0, 0)
+                                    0, 0)
 #else
 #define SCQ_ATOMICS_IN(block) (void)(block)
 #endif
@@ -132,8 +134,8 @@ static inline SCQ_ANSWERED uint32_t scq_bell_init(scq_bell *bell) {
     pthread_condattr_t steady;
     if (pthread_mutex_init(&bell->lock, SCQ_NULL) != 0) return SCQ_NO_MEMORY;
     if (pthread_condattr_init(&steady) == 0) {
-        const int failed = pthread_condattr_setclock(&steady, CLOCK_MONOTONIC) != 0
-            || pthread_cond_init(&bell->rung, &steady) != 0;
+        const int failed = pthread_condattr_setclock(&steady, CLOCK_MONOTONIC) != 0 ||
+                           pthread_cond_init(&bell->rung, &steady) != 0;
         pthread_condattr_destroy(&steady);
         if (!failed) return SCQ_OK;
     }
@@ -153,7 +155,7 @@ static inline void scq_bell_free(scq_bell *bell) {
     (void)bell;
 }
 
-/* -- The steps of which the calls further below are made, and others can be ---------------------- */
+/* -- The steps of which the calls further below are made, and others can be --------------- */
 
 /* The first of these lines. */
 static inline uint32_t scq_bell_first(uint32_t lines) {
@@ -167,7 +169,9 @@ static inline void scq_bell_count(scq_bell *bell, uint32_t lines, uint32_t more)
 }
 
 /* Writes down that this thread waits for these lines; and that it doesn't any more. */
-static inline void scq_bell_enter(scq_bell *bell, uint32_t lines) { scq_bell_count(bell, lines, 1); }
+static inline void scq_bell_enter(scq_bell *bell, uint32_t lines) {
+    scq_bell_count(bell, lines, 1);
+}
 static inline void scq_bell_leave(scq_bell *bell, uint32_t lines) {
     scq_bell_count(bell, lines, UINT32_MAX);
 }
@@ -199,18 +203,20 @@ static inline uint64_t scq_bell_until(uint64_t nanoseconds) {
     return nanoseconds < SCQ_FOREVER - now ? now + nanoseconds : SCQ_FOREVER;
 }
 
-/* Sleeps until one of these lines is rung or the moment comes; not where the turn has moved on. Answers
- * 0 where the moment came and no ring; else 1, for which there need not have been a ring. */
+/* Sleeps until one of these lines is rung or the moment comes; not where the turn has moved on.
+ * Answers 0 where the moment came and no ring; else 1, for which there need not have been a
+ * ring. */
 static inline int scq_bell_sleep(scq_bell *bell, uint32_t turn, uint32_t lines, uint64_t until) {
 #ifdef SCQ_BELL_FUTEX
     enum { WAIT_BITSET = 9, OF_ONE_PROCESS = 128 };
     uint64_t at[2];
     const uint64_t *const end = until == SCQ_FOREVER ? SCQ_NULL : at;
     const void *const none = SCQ_NULL;
+    long said;
     at[0] = until / 1000000000;
     at[1] = until % 1000000000;
-    return syscall(SYS_futex, &bell->turn, WAIT_BITSET | OF_ONE_PROCESS, turn, end, none, lines) == 0
-        || errno != ETIMEDOUT;
+    said = syscall(SYS_futex, &bell->turn, WAIT_BITSET | OF_ONE_PROCESS, turn, end, none, lines);
+    return said == 0 || errno != ETIMEDOUT;
 #else
     struct timespec end;
     int failed = 0;
@@ -256,7 +262,8 @@ static inline void scq_bell_wake(scq_bell *bell, uint32_t lines, int most) {
     }
 }
 
-/* Rings for a topic, behind a send on it, or for SCQ_FREE, behind a give-back: one sleeper is woken. */
+/* Rings for a topic, behind a send on it, or for SCQ_FREE, behind a give-back: one sleeper is
+ * woken. */
 static inline void scq_bell_ring(scq_bell *bell, uint32_t topic) {
     if (__atomic_load_n(&bell->waiting[topic], __ATOMIC_SEQ_CST) == 0) return;
     scq_bell_wake(bell, SCQ_LINE(topic), 1);
@@ -267,10 +274,10 @@ static inline void scq_bell_pass(scq_bell *bell, uint32_t lines) {
     for (; lines != 0; lines &= lines - 1) scq_bell_ring(bell, scq_bell_first(lines));
 }
 
-/* Looks for something on each of these lines: the lowest topic first, and a free buffer last. Writes to
- * `topic` where the answer came from. */
-static inline SCQ_ANSWERED uint32_t scq_bell_look(const scq_bell *bell, scq_port *port, uint32_t lines,
-    uint32_t *topic, scq_held *out) {
+/* Looks for something on each of these lines: the lowest topic first, and a free buffer last.
+ * Writes to `topic` where the answer came from. */
+static inline SCQ_ANSWERED uint32_t scq_bell_look(const scq_bell *bell, scq_port *port,
+                                                  uint32_t lines, uint32_t *topic, scq_held *out) {
     const uint32_t open = lines & ~scq_bell_ended(bell);
     uint32_t answer = SCQ_EMPTY;
     for (; lines != 0; lines &= lines - 1) {
@@ -282,17 +289,19 @@ static inline SCQ_ANSWERED uint32_t scq_bell_look(const scq_bell *bell, scq_port
     return answer;
 }
 
-/* -- Calls that wait ------------------------------------------------------------------------------ */
+/* -- Calls that wait ---------------------------------------------------------------------- */
 
-/* Takes a buffer off the first of these topics that has one, the lowest where several have; or is lent
- * one, where SCQ_LINE(SCQ_FREE) is among them. Where there is none it waits up to so many nanoseconds,
- * without end by SCQ_FOREVER, and not at all by 0. Writes to `topic` which topic it is, or SCQ_FREE.
+/* Takes a buffer off the first of these topics that has one, the lowest where several have; or is
+ * lent one, where SCQ_LINE(SCQ_FREE) is among them. Where there is none it waits up to so many
+ * nanoseconds, without end by SCQ_FOREVER, and not at all by 0. Writes to `topic` which topic it
+ * is, or SCQ_FREE.
  *
  * Tested: what scq_take and scq_lend test, topic by topic.
  * Answers: as they; SCQ_EMPTY or SCQ_FULL where the time is over and there was nothing at its end;
  * SCQ_ENDED where there is nothing and each of the lines has ended. */
-static inline SCQ_ANSWERED uint32_t scq_bell_take_any(scq_bell *bell, scq_port *port, uint32_t lines,
-    uint64_t nanoseconds, uint32_t *topic, scq_held *out) {
+static inline SCQ_ANSWERED uint32_t scq_bell_take_any(scq_bell *bell, scq_port *port,
+                                                      uint32_t lines, uint64_t nanoseconds,
+                                                      uint32_t *topic, scq_held *out) {
     uint32_t answer = scq_bell_look(bell, port, lines, topic, out), turn, seen;
     int in_time = 1, slept = 0;
     uint64_t until;
@@ -316,10 +325,10 @@ static inline SCQ_ANSWERED uint32_t scq_bell_take_any(scq_bell *bell, scq_port *
 /* Takes a buffer off a topic, and waits for one up to so many nanoseconds.
  *
  * Tested: what scq_take tests.
- * Answers: as scq_take, SCQ_EMPTY where the time is over; SCQ_ENDED where the topic is empty and has
- * ended. */
+ * Answers: as scq_take, SCQ_EMPTY where the time is over; SCQ_ENDED where the topic is empty and
+ * has ended. */
 static inline SCQ_ANSWERED uint32_t scq_bell_take(scq_bell *bell, scq_port *port, uint32_t topic,
-    uint64_t nanoseconds, scq_held *out) {
+                                                  uint64_t nanoseconds, scq_held *out) {
     if (topic >= SCQ_FREE) return scq_take(port, topic, out);
     return scq_bell_take_any(bell, port, SCQ_LINE(topic), nanoseconds, &topic, out);
 }
@@ -327,19 +336,19 @@ static inline SCQ_ANSWERED uint32_t scq_bell_take(scq_bell *bell, scq_port *port
 /* Is lent a buffer, and waits for one up to so many nanoseconds.
  *
  * Tested: what scq_lend tests.
- * Answers: as scq_lend, SCQ_FULL where the time is over; SCQ_ENDED where none is free and SCQ_FREE has
- * ended. */
-static inline SCQ_ANSWERED uint32_t scq_bell_lend(scq_bell *bell, scq_port *port, uint64_t nanoseconds,
-    scq_held *out) {
+ * Answers: as scq_lend, SCQ_FULL where the time is over; SCQ_ENDED where none is free and SCQ_FREE
+ * has ended. */
+static inline SCQ_ANSWERED uint32_t scq_bell_lend(scq_bell *bell, scq_port *port,
+                                                  uint64_t nanoseconds, scq_held *out) {
     uint32_t topic;
     return scq_bell_take_any(bell, port, SCQ_LINE(SCQ_FREE), nanoseconds, &topic, out);
 }
 
-/* -- Calls that ring ------------------------------------------------------------------------------ */
+/* -- Calls that ring ---------------------------------------------------------------------- */
 
 /* Sends as scq_send, with its tests and answers, and wakes one who waits for the topic. */
 static inline SCQ_ANSWERED uint32_t scq_bell_send(scq_bell *bell, scq_port *port, uint32_t index,
-    uint32_t topic, uint64_t *place) {
+                                                  uint32_t topic, uint64_t *place) {
     const uint32_t answer = scq_send(port, index, topic, place);
     if (answer == SCQ_OK) scq_bell_ring(bell, topic);
     return answer;
@@ -352,24 +361,26 @@ static inline uint32_t scq_bell_give_back(scq_bell *bell, scq_port *port, uint32
     return answer;
 }
 
-/* Says that nothing is sent on these topics any more, behind the last send on each; or with SCQ_FREE
- * that who waits for a buffer is to give up. Who waits for nothing but such lines is woken, and takes
- * what is left before he is answered SCQ_ENDED. It can't be taken back. */
+/* Says that nothing is sent on these topics any more, behind the last send on each; or with
+ * SCQ_FREE that who waits for a buffer is to give up. Who waits for nothing but such lines is
+ * woken, and takes what is left before he is answered SCQ_ENDED. It can't be taken back. */
 static inline void scq_bell_finish(scq_bell *bell, uint32_t lines) {
     __atomic_or_fetch(&bell->ended, lines, __ATOMIC_SEQ_CST);
     scq_bell_wake(bell, lines, INT_MAX);
 }
 
-/* Retires a port as scq_retire, with its tests and answers; where all ports of the queue have retired
- * then, all topics end, as by scq_bell_finish. A port that only takes retires before it waits. */
+/* Retires a port as scq_retire, with its tests and answers; where all ports of the queue have
+ * retired then, all topics end, as by scq_bell_finish. A port that only takes retires before it
+ * waits. */
 static inline uint32_t scq_bell_retire(scq_bell *bell, scq_port *port) {
     const uint32_t answer = scq_retire(port);
-    if (answer == SCQ_OK && scq_retired(port) != SCQ_OK) scq_bell_finish(bell, SCQ_LINE(SCQ_FREE) - 1);
+    if (answer == SCQ_OK && scq_retired(port) != SCQ_OK)
+        scq_bell_finish(bell, SCQ_LINE(SCQ_FREE) - 1);
     return answer;
 }
 
-/* Closes a port as scq_close, with its tests and answers: it retires, as by scq_bell_retire, and all who
- * wait for a buffer are woken, as there may be several that it held. */
+/* Closes a port as scq_close, with its tests and answers: it retires, as by scq_bell_retire, and
+ * all who wait for a buffer are woken, as there may be several that it held. */
 static inline uint32_t scq_bell_close(scq_bell *bell, scq_port *port) {
     uint32_t answer = scq_bell_retire(bell, port);
     if (answer != SCQ_OK) return answer;
@@ -379,21 +390,22 @@ static inline uint32_t scq_bell_close(scq_bell *bell, scq_port *port) {
     return answer;
 }
 
-/* -- Watches -------------------------------------------------------------------------------------- */
+/* -- Watches ------------------------------------------------------------------------------ */
 
-/* Adds a watch to a bell, which stays where it is as long as the bell is used. `ring` and `with` are set
- * before; it isn't armed. */
+/* Adds a watch to a bell, which stays where it is as long as the bell is used. `ring` and `with`
+ * are set before; it isn't armed. */
 static inline void scq_bell_watch(scq_bell *bell, scq_watch *watch) {
     SCQ_ATOMICS_IN(watch);
     watch->lines = 0;
     watch->next = __atomic_load_n(&bell->watches, __ATOMIC_SEQ_CST);
     while (!__atomic_compare_exchange_n(&bell->watches, &watch->next, watch, 0, __ATOMIC_SEQ_CST,
-        __ATOMIC_SEQ_CST)) {
+                                        __ATOMIC_SEQ_CST)) {
     }
 }
 
-/* Arms a watch: the next ring for one of these lines calls its `ring` once, and it is armed no more.
- * Who arms it looks again behind that, before he waits for what `ring` does. It isn't armed already. */
+/* Arms a watch: the next ring for one of these lines calls its `ring` once, and it is armed no
+ * more. Who arms it looks again behind that, before he waits for what `ring` does. It isn't armed
+ * already. */
 static inline void scq_bell_arm(scq_bell *bell, scq_watch *watch, uint32_t lines) {
     scq_bell_count(bell, lines, SCQ_WATCHED);
     __atomic_store_n(&watch->lines, lines, __ATOMIC_SEQ_CST);

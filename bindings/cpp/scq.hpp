@@ -17,8 +17,8 @@
 // held. A Lent and a Taken may be moved, as may their Port, in any order, and may outlive it: a
 // call that comes too late is answered, as in C. What is left to you:
 //
-// - One thread at a time uses a port, the buffers that it holds and its batches: so a Batch, also one
-//   without buffers, ends before its port goes to another thread, or in that thread.
+// - One thread at a time uses a port, the buffers that it holds and its batches: so a Batch, also
+//   one without buffers, ends before its port goes to another thread, or in that thread.
 // - A pointer that you got of a buffer isn't used once the buffer is sent, given back, or its port
 //   closed; and operator[] is for a number below size(), which is 0 where there is no buffer.
 // - After fork the child uses none of its parent's.
@@ -103,7 +103,7 @@ namespace detail {
 // buffers are moved, and lasts as long as one of them. Between two of them lies a line of the
 // cache, since threads write their own all the time.
 class Shared {
-public:
+  public:
     Shared() noexcept = default;
     Shared(const Shared &other) noexcept : cell_(other.cell_) {
         if (cell_ != nullptr) cell_->users++;
@@ -128,7 +128,7 @@ public:
     bool is_open() const noexcept { return cell_ != nullptr && cell_->port.at != nullptr; }
     scq_port *port() const noexcept { return &cell_->port; }
 
-private:
+  private:
     struct Cell {
         scq_port port = SCQ_NONE;
         std::size_t users = 1;
@@ -142,23 +142,23 @@ private:
 
 // A message that was packed with others: bytes in the buffer that it came with.
 class Message {
-public:
+  public:
     Message(const unsigned char *data, std::size_t size) noexcept : data_(data), size_(size) {}
     const unsigned char *data() const noexcept { return data_; }
     std::size_t size() const noexcept { return size_; }
     const unsigned char *begin() const noexcept { return data_; }
     const unsigned char *end() const noexcept { return data_ + size_; }
 
-private:
+  private:
     const unsigned char *data_;
     std::size_t size_;
 };
 
 // The messages that stand in a buffer, in their order: a range for a loop.
 class Messages {
-public:
+  public:
     class iterator {
-    public:
+      public:
         explicit iterator(const scq_held *held) noexcept : held_(held) { ++*this; }
         Message operator*() const noexcept { return Message(at_, len_); }
         iterator &operator++() noexcept {
@@ -168,7 +168,7 @@ public:
         // (For the end of a loop: whether both are at the end.)
         bool operator!=(const iterator &other) const noexcept { return held_ != other.held_; }
 
-    private:
+      private:
         const scq_held *held_;
         std::size_t next_ = 0;
         const unsigned char *at_ = nullptr;
@@ -179,13 +179,13 @@ public:
     iterator begin() const noexcept { return iterator(&held_); }
     iterator end() const noexcept { return iterator(nullptr); }
 
-private:
+  private:
     scq_held held_;
 };
 
 // A buffer that a port holds, or none and why. Where it ends, the buffer is given back.
 class Held {
-public:
+  public:
     Held(const Held &) = delete;
     Held &operator=(const Held &) = delete;
 
@@ -255,7 +255,7 @@ public:
         return answer;
     }
 
-protected:
+  protected:
     Held(const detail::Shared &shared, Answer answer, const scq_held &held) noexcept
         : shared_(answer == Answer::Ok ? shared : detail::Shared()), held_(held), answer_(answer) {}
     Held(Held &&other) noexcept
@@ -274,7 +274,7 @@ protected:
     }
     ~Held() { end_here(); }
 
-private:
+  private:
     // The buffer, or one without bytes.
     scq_held here() const noexcept {
         scq_held held = held_;
@@ -299,20 +299,20 @@ private:
 
     detail::Shared shared_;
 
-protected:
+  protected:
     scq_held held_;
 
-private:
+  private:
     Answer answer_;
 };
 
 // A buffer that was lent, to be written and sent, with whatever bytes its last user left.
 class Lent : public Held {
-public:
+  public:
     Lent(Lent &&) noexcept = default;
     Lent &operator=(Lent &&) noexcept = default;
 
-private:
+  private:
     friend class Port;
     using Held::Held;
 };
@@ -320,14 +320,14 @@ private:
 // A buffer that was taken off a topic, with the bytes that were sent. It may be changed and sent
 // on.
 class Taken : public Held {
-public:
+  public:
     Taken(Taken &&) noexcept = default;
     Taken &operator=(Taken &&) noexcept = default;
 
     // The place at which it was sent.
     std::uint64_t place() const noexcept { return held_.place; }
 
-private:
+  private:
     friend class Port;
     using Held::Held;
 };
@@ -335,7 +335,7 @@ private:
 // What a thread makes its calls with. Where it ends, it is closed: what it holds is given back, and
 // the last port frees the queue.
 class Port {
-public:
+  public:
     // A port that is closed.
     Port() noexcept = default;
     Port(const Port &) = delete;
@@ -380,8 +380,8 @@ public:
     }
 
     // Writes about how many buffers stand on a topic, never above the queue's capacity: Ok, NoTopic
-    // or Closed. It is a hint: others send and take meanwhile, and places that were drawn and not used
-    // count too. Only a take tells whether a topic is empty.
+    // or Closed. It is a hint: others send and take meanwhile, and places that were drawn and not
+    // used count too. Only a take tells whether a topic is empty.
     SCQ_NODISCARD Answer count(std::uint32_t topic, std::uint32_t &out) noexcept {
         if (shared_.is_none()) return Answer::Closed;
         return static_cast<Answer>(scq_count(shared_.port(), topic, &out));
@@ -393,8 +393,8 @@ public:
         return static_cast<Answer>(scq_retire(shared_.port()));
     }
 
-    // Retired where all ports of the queue have, or Ok where some hadn't, as far as the call read; or
-    // Closed. Ask first, and then take: a topic that is found empty then has ended.
+    // Retired where all ports of the queue have, or Ok where some hadn't, as far as the call read;
+    // or Closed. Ask first, and then take: a topic that is found empty then has ended.
     SCQ_NODISCARD Answer retired() noexcept {
         if (shared_.is_none()) return Answer::Closed;
         return static_cast<Answer>(scq_retired(shared_.port()));
@@ -433,7 +433,7 @@ public:
         return answer;
     }
 
-private:
+  private:
     friend struct Queue;
     template <std::size_t most> friend class Batch;
 
@@ -461,9 +461,9 @@ struct Bytes {
     unsigned char &operator[](std::size_t at) const noexcept { return data_[at]; }
 };
 
-// Up to `most` buffers that a port holds, which are got, sent and given back together: as many calls
-// of the queue as buffers, and one into the library. It takes no memory. Where it ends, the buffers
-// are given back; what can't be stays with the port.
+// Up to `most` buffers that a port holds, which are got, sent and given back together: as many
+// calls of the queue as buffers, and one into the library. It takes no memory. Where it ends, the
+// buffers are given back; what can't be stays with the port.
 //
 //     scq::Batch<8> batch(port);
 //     if (!batch.take(0) && batch.size() == 0) std::this_thread::yield();
@@ -472,7 +472,7 @@ struct Bytes {
 template <std::size_t most> class Batch {
     static_assert(most > 0, "a batch has room for a buffer");
 
-public:
+  public:
     explicit Batch(const Port &port) noexcept : shared_(port.shared_) {}
     Batch(const Batch &) = delete;
     Batch &operator=(const Batch &) = delete;
@@ -483,7 +483,8 @@ public:
     // How many buffers there are: none once the port is closed.
     std::size_t size() const noexcept { return shared_.is_open() ? size_ : 0; }
 
-    // The bytes of a buffer, below size(), and the place at which it was taken: 0 where it was lent.
+    // The bytes of a buffer, below size(), and the place at which it was taken: 0 where it was
+    // lent.
     Bytes operator[](std::size_t at) const noexcept { return Bytes{held_[at].at, held_[at].len}; }
     std::uint64_t place(std::size_t at) const noexcept { return held_[at].place; }
 
@@ -514,8 +515,8 @@ public:
     SCQ_NODISCARD Several send(std::uint32_t topic) noexcept {
         Several sent{Answer::Closed, 0};
         if (shared_.is_none()) return sent;
-        sent.answer = static_cast<Answer>(
-            scq_send_many(shared_.port(), held_, size_, topic, &sent.done));
+        sent.answer =
+            static_cast<Answer>(scq_send_many(shared_.port(), held_, size_, topic, &sent.done));
         let_go(sent.done);
         return sent;
     }
@@ -524,13 +525,13 @@ public:
     Several give_back() noexcept {
         Several given{Answer::Closed, 0};
         if (shared_.is_none()) return given;
-        given.answer = static_cast<Answer>(
-            scq_give_back_many(shared_.port(), held_, size_, &given.done));
+        given.answer =
+            static_cast<Answer>(scq_give_back_many(shared_.port(), held_, size_, &given.done));
         let_go(given.done);
         return given;
     }
 
-private:
+  private:
     std::size_t room(std::size_t count) const noexcept {
         return count < most - size_ ? count : most - size_;
     }
@@ -565,12 +566,14 @@ struct Queue {
         Answer answer = Answer::NoMemory;
         if (room) {
             answer = static_cast<Answer>(scq_open(setup.order, setup.topics, setup.size, setup.hold,
-                setup.limit, handles, count));
+                                                  setup.limit, handles, count));
         }
         // (That a port is open is answered last, as in C.)
         for (std::size_t i = 0; answer == Answer::Ok && i < count; i++) {
-            if (is_open) scq_close(&handles[i]);
-            else *ports[i].shared_.port() = handles[i];
+            if (is_open)
+                scq_close(&handles[i]);
+            else
+                *ports[i].shared_.port() = handles[i];
         }
         if (answer == Answer::Ok && is_open) answer = Answer::IsOpen;
         delete[] handles;
@@ -662,7 +665,7 @@ template <class T> class Ring {
 
     // A share in a core.
     class Share {
-    public:
+      public:
         Share() noexcept = default;
         explicit Share(Core *core) noexcept : core_(core) {}
         Share(const Share &other) noexcept : core_(other.core_) {
@@ -682,18 +685,18 @@ template <class T> class Ring {
         }
         Core *get() const noexcept { return core_; }
 
-    private:
+      private:
         Core *core_ = nullptr;
     };
 
-public:
+  public:
     // A thread's end of the ring, or none. One thread at a time uses it. Where it ends it goes back
     // to the stock.
     class Handle {
         // A slot that the port holds; where it ends, so does the value in it, and the buffer is
         // given back.
         class Room {
-        public:
+          public:
             Room(scq_port &port, Slot *slots) noexcept : port_(port), slots_(slots) {}
             Room(const Room &) = delete;
             Room &operator=(const Room &) = delete;
@@ -713,15 +716,14 @@ public:
 
             Answer send() noexcept {
                 std::uint64_t place;
-                const Answer answer =
-                    static_cast<Answer>(scq_send(&port_, held_.index, 0, &place));
+                const Answer answer = static_cast<Answer>(scq_send(&port_, held_.index, 0, &place));
                 if (answer == Answer::Ok) is_held_ = false;
                 return answer;
             }
 
             T &value() noexcept { return *slot().value(); }
 
-        private:
+          private:
             Slot &slot() noexcept { return slots_[held_.index]; }
             Answer got(std::uint32_t answer) noexcept {
                 is_held_ = answer == SCQ_OK;
@@ -734,7 +736,7 @@ public:
             bool is_held_ = false;
         };
 
-    public:
+      public:
         // No handle: each call is answered Closed.
         Handle() noexcept = default;
         Handle(const Handle &) = delete;
@@ -759,11 +761,10 @@ public:
         // Puts the value at the end: Ok; Full; Spent where tickets have run out at the limit;
         // Closed. Where it isn't Ok the value is there as it was. (Where it is Spent, it may have
         // been moved and moved back.)
-        SCQ_NODISCARD Answer push(T &&value) noexcept(
-            std::is_nothrow_move_constructible<T>::value && is_nothrow_restored) {
+        SCQ_NODISCARD Answer push(T &&value) noexcept(is_nothrow_pushed) {
             static_assert(std::is_move_assignable<T>::value ||
-                    std::is_nothrow_move_constructible<T>::value,
-                "a value that is refused can be moved back");
+                              std::is_nothrow_move_constructible<T>::value,
+                          "a value that is refused can be moved back");
             Room room(port_, slots());
             Answer answer = room.lend();
             if (answer != Answer::Ok) return answer;
@@ -773,16 +774,16 @@ public:
             return answer;
         }
 
-        SCQ_NODISCARD Answer push(const T &value) noexcept(
-            std::is_nothrow_copy_constructible<T>::value) {
+        SCQ_NODISCARD Answer
+        push(const T &value) noexcept(std::is_nothrow_copy_constructible<T>::value) {
             return emplace(value);
         }
 
         // The same for a value that is made of these where it lies. Where there is no room none is
         // made.
         template <class... Args>
-        SCQ_NODISCARD Answer emplace(Args &&...args) noexcept(
-            std::is_nothrow_constructible<T, Args &&...>::value) {
+        SCQ_NODISCARD Answer
+        emplace(Args &&...args) noexcept(std::is_nothrow_constructible<T, Args &&...>::value) {
             Room room(port_, slots());
             const Answer answer = room.lend();
             if (answer != Answer::Ok) return answer;
@@ -809,8 +810,8 @@ public:
 
 #if __cplusplus >= 201703L
         // The same: none where it is Empty, Spent or Closed.
-        SCQ_NODISCARD std::optional<T> pop() noexcept(
-            std::is_nothrow_move_constructible<T>::value) {
+        SCQ_NODISCARD std::optional<T>
+        pop() noexcept(std::is_nothrow_move_constructible<T>::value) {
             Room room(port_, slots());
             if (room.take() != Answer::Ok) return std::nullopt;
             return std::optional<T>(std::move(room.value()));
@@ -820,12 +821,14 @@ public:
         // How many values there is room for.
         std::size_t capacity() const noexcept { return *this ? share_.get()->capacity : 0; }
 
-    private:
+      private:
         friend class Ring;
 
-        static constexpr bool is_nothrow_restored = std::is_move_assignable<T>::value
-            ? std::is_nothrow_move_assignable<T>::value
-            : std::is_nothrow_move_constructible<T>::value;
+        static constexpr bool is_nothrow_restored =
+            std::is_move_assignable<T>::value ? std::is_nothrow_move_assignable<T>::value
+                                              : std::is_nothrow_move_constructible<T>::value;
+        static constexpr bool is_nothrow_pushed =
+            std::is_nothrow_move_constructible<T>::value && is_nothrow_restored;
 
         explicit Handle(const Share &share) noexcept {
             Core &core = *share.get();
@@ -868,7 +871,7 @@ public:
     // Makes a ring with room for 2^order values and so many handles: Ok; BadOrder, BadPorts or
     // BadLimit where one is out of range; NoMemory; IsOpen where it was made before.
     SCQ_NODISCARD Answer open(std::uint32_t order, std::size_t handles,
-        std::uint64_t limit = SCQ_MAX_LIMIT) noexcept {
+                              std::uint64_t limit = SCQ_MAX_LIMIT) noexcept {
         if (share_.get() != nullptr) return Answer::IsOpen;
         Core *const core = new (std::nothrow) Core;
         if (core == nullptr) return Answer::NoMemory;
@@ -889,7 +892,7 @@ public:
         return share_.get() != nullptr ? share_.get()->capacity : 0;
     }
 
-private:
+  private:
     Share share_;
 };
 

@@ -1,6 +1,6 @@
-// scq_bell: waiting for a queue of scq.hpp. The bell of scq_bell.h, with owners: what is got through it
-// rings by itself where it is sent, given back or ended. C++11 or later; include it with scq.hpp, scq.h
-// and scq_bell.h beside it. Plain code, tested and not proved.
+// scq_bell: waiting for a queue of scq.hpp. The bell of scq_bell.h, with owners: what is got
+// through it rings by itself where it is sent, given back or ended. C++11 or later; include it with
+// scq.hpp, scq.h and scq_bell.h beside it. Plain code, tested and not proved.
 //
 //     scq::Bell bell;
 //     // one thread
@@ -11,9 +11,9 @@
 //
 // The first says bell.finish(scq::line(0)) behind its last send, and the loop of the other ends.
 //
-// What scq_bell.h asks of a caller holds here too. Where somebody waits for a buffer, all buffers of the
-// queue are got through the bell, as those of a Port alone are given back without a ring; or who gives
-// back calls `ring`. A bell lasts longer than what was got through it.
+// What scq_bell.h asks of a caller holds here too. Where somebody waits for a buffer, all buffers
+// of the queue are got through the bell, as those of a Port alone are given back without a ring; or
+// who gives back calls `ring`. A bell lasts longer than what was got through it.
 #ifndef SCQ_BELL_HPP
 #define SCQ_BELL_HPP
 
@@ -38,7 +38,7 @@ constexpr std::uint32_t line(std::uint32_t topic) noexcept { return SCQ_LINE(top
 
 // A Lent or a Taken that was got through a bell, or none and why.
 template <class Guard> class Rung : private Guard {
-public:
+  public:
     Rung(Rung &&) noexcept = default;
     Rung &operator=(Rung &&other) noexcept {
         if (this != &other) {
@@ -80,7 +80,7 @@ public:
         return given;
     }
 
-private:
+  private:
     friend class Bell;
 
     Rung(Guard &&guard, scq_bell *bell) noexcept : Guard(std::move(guard)), bell_(bell) {}
@@ -95,7 +95,7 @@ private:
 
 // A bell: it is neither copied nor moved.
 class Bell {
-public:
+  public:
     Bell() noexcept : is_made_(scq_bell_init(&bell_) == SCQ_OK) {}
     Bell(const Bell &) = delete;
     Bell &operator=(const Bell &) = delete;
@@ -106,8 +106,8 @@ public:
     // Whether the system had room for it, which Linux always has.
     explicit operator bool() const noexcept { return is_made_; }
 
-    // Is lent a buffer, and waits until there is one: there is none where the answer is Spent, NoRoom
-    // or Closed, or where SCQ_FREE has ended.
+    // Is lent a buffer, and waits until there is one: there is none where the answer is Spent,
+    // NoRoom or Closed, or where SCQ_FREE has ended.
     Rung<Lent> lend(Port &port) noexcept { return lend_until(port, SCQ_FOREVER); }
 
     // Waits that long at most; where it is over the answer is Full.
@@ -125,7 +125,7 @@ public:
     // Waits that long at most; where it is over the answer is Empty.
     template <class Rep, class Period>
     Rung<Taken> take_for(Port &port, std::uint32_t topic,
-        const std::chrono::duration<Rep, Period> &most) noexcept {
+                         const std::chrono::duration<Rep, Period> &most) noexcept {
         return take_until(port, topic, nanoseconds(most));
     }
 
@@ -137,26 +137,28 @@ public:
 
     template <class Rep, class Period>
     Rung<Taken> take_any_for(Port &port, std::uint32_t lines,
-        const std::chrono::duration<Rep, Period> &most, std::uint32_t &topic) noexcept {
+                             const std::chrono::duration<Rep, Period> &most,
+                             std::uint32_t &topic) noexcept {
         return take_any_until(port, lines, nanoseconds(most), topic);
     }
 
-    // Puts a value at the end of a Ring, by a handle of it, and waits up to so many nanoseconds until
-    // there is room: as the handle's `push`, Full where that is over, or SCQ_FREE has ended. The bell
-    // is of this ring alone, and whoever pushes or pops does so by it, where somebody waits.
+    // Puts a value at the end of a Ring, by a handle of it, and waits up to so many nanoseconds
+    // until there is room: as the handle's `push`, Full where that is over, or SCQ_FREE has ended.
+    // The bell is of this ring alone, and whoever pushes or pops does so by it, where somebody
+    // waits.
     template <class Handle, class T>
     SCQ_BELL_NODISCARD Answer push(Handle &handle, T &&value, std::uint64_t most = SCQ_FOREVER) {
         // (Also where the value's constructor throws, which leaves the room to another.)
         const RingsAtEnd throws(&bell_, SCQ_FREE);
-        const Answer answer = wait_for(SCQ_FREE, most,
-            [&]() { return handle.push(std::forward<T>(value)); });
+        const Answer answer =
+            wait_for(SCQ_FREE, most, [&]() { return handle.push(std::forward<T>(value)); });
         throws.is_off = true;
         if (answer == Answer::Ok) scq_bell_ring(&bell_, 0);
         return answer;
     }
 
-    // Takes the first value off a Ring, moved to `to`, and waits until there is one: as the handle's
-    // `pop`, Empty where the time is over, or line 0 has ended.
+    // Takes the first value off a Ring, moved to `to`, and waits until there is one: as the
+    // handle's `pop`, Empty where the time is over, or line 0 has ended.
     template <class Handle, class T>
     SCQ_BELL_NODISCARD Answer pop(Handle &handle, T &to, std::uint64_t most = SCQ_FOREVER) {
         const RingsAtEnd throws(&bell_, SCQ_FREE);
@@ -179,7 +181,8 @@ public:
     // Rings for a topic or for SCQ_FREE, behind what was sent or given back without the bell.
     void ring(std::uint32_t topic) noexcept { scq_bell_ring(&bell_, topic); }
 
-    // Closes a port: it retires, and all that wait for a buffer are woken, as it may have held several.
+    // Closes a port: it retires, and all that wait for a buffer are woken, as it may have held
+    // several.
     Answer close(Port &port) noexcept {
         retire(port);
         const Answer answer = port.close();
@@ -190,7 +193,7 @@ public:
     // The bell of scq_bell.h, for watches.
     scq_bell *get() noexcept { return &bell_; }
 
-private:
+  private:
     template <class Rep, class Period>
     static std::uint64_t nanoseconds(const std::chrono::duration<Rep, Period> &most) noexcept {
         if (most <= most.zero()) return 0;
@@ -247,7 +250,8 @@ private:
 
     // What scq_bell_take_any does: `ask` asks for one line, and is asked for none but these.
     template <class Guard, class Ask>
-    Rung<Guard> wait(std::uint32_t lines, std::uint64_t most, std::uint32_t &topic, Ask ask) noexcept {
+    Rung<Guard> wait(std::uint32_t lines, std::uint64_t most, std::uint32_t &topic,
+                     Ask ask) noexcept {
         Rung<Guard> got = look<Guard>(lines, topic, ask);
         if (got.ended() || !finds_nothing(got.answer()) || most == 0) return got;
         const std::uint64_t until = scq_bell_until(most);
@@ -283,7 +287,7 @@ private:
     Rung<Lent> lend_until(Port &port, std::uint64_t most) noexcept {
         std::uint32_t topic;
         return wait<Lent>(SCQ_LINE(SCQ_FREE), most, topic,
-            [&port](std::uint32_t) noexcept { return port.lend(); });
+                          [&port](std::uint32_t) noexcept { return port.lend(); });
     }
 
     Rung<Taken> take_until(Port &port, std::uint32_t topic, std::uint64_t most) noexcept {
@@ -292,11 +296,11 @@ private:
     }
 
     Rung<Taken> take_any_until(Port &port, std::uint32_t lines, std::uint64_t most,
-        std::uint32_t &topic) noexcept {
+                               std::uint32_t &topic) noexcept {
         topic = SCQ_FREE;
         if (lines == 0 || lines >= SCQ_LINE(SCQ_FREE)) return Rung<Taken>(port.take(topic), &bell_);
         return wait<Taken>(lines, most, topic,
-            [&port](std::uint32_t one) noexcept { return port.take(one); });
+                           [&port](std::uint32_t one) noexcept { return port.take(one); });
     }
 
     scq_bell bell_;

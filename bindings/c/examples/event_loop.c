@@ -1,6 +1,6 @@
-/* A loop of events that takes from a queue and from a socket: the bell of the queue rings an eventfd, so
- * that one epoll waits for both. A thread sends numbers by the queue, another by the socket, and the
- * loop sums them.
+/* A loop of events that takes from a queue and from a socket: the bell of the queue rings an
+ * eventfd, so that one epoll waits for both. A thread sends numbers by the queue, another by the
+ * socket, and the loop sums them.
  *
  *     cc -pthread -I.. event_loop.c libscq.a -o event_loop
  */
@@ -79,7 +79,7 @@ int main(void) {
     pthread_t threads[2];
     must(poll >= 0 && event >= 0 && socketpair(AF_UNIX, SOCK_SEQPACKET, 0, ends) == 0, "opening");
     must(scq_bell_init(&bell) == SCQ_OK && scq_open(4, 1, 8, 1, SCQ_MAX_LIMIT, ports, 2) == SCQ_OK,
-        "scq_open");
+         "scq_open");
     scq_bell_watch(&bell, &watch);
     of_socket.data.fd = ends[0];
     must(epoll_ctl(poll, EPOLL_CTL_ADD, event, &of_queue) == 0, "epoll_ctl");
@@ -114,6 +114,5 @@ int main(void) {
     close(ends[0]);
     close(poll);
     return printf("the numbers from 1 to %d, twice, are %llu together\n", NUMBERS,
-               (unsigned long long)sum)
-        < 0;
+                  (unsigned long long)sum) < 0;
 }

@@ -72,7 +72,8 @@ int main(void) {
         jobs[i].port = ports[i];
         jobs[i].first = i + 1;
         jobs[i].sum = 0;
-        if (pthread_create(&threads[i], NULL, i < 2 ? send_all : take_half, &jobs[i]) != 0) return 1;
+        if (pthread_create(&threads[i], NULL, i < 2 ? send_all : take_half, &jobs[i]) != 0)
+            return 1;
     }
     for (int i = 0; i < 4; i++) pthread_join(threads[i], NULL);
     printf("the numbers from 1 to %d are %" PRIu64 " together\n", LAST, jobs[2].sum + jobs[3].sum);

@@ -1,14 +1,14 @@
-/* bells HANDS THREADS SECONDS SEED: hand-overs by a bell, in three ways, which have to end in their time.
- * In a ring of threads each takes from a topic of its own and sends on the next one's, with as many
- * tokens as the seed says, so that most of them sleep: where one wake is lost all stop. Then senders and
- * takers share topics over few buffers, so that they wait for buffers too; the takers wait for one topic,
- * for several, with and without an end of time; each message has to come once. Then in each of many
- * rounds three threads wait, for a topic, for another, and for either, and two messages have to come to
- * two of them.
+/* bells HANDS THREADS SECONDS SEED: hand-overs by a bell, in three ways, which have to end in their
+ * time. In a ring of threads each takes from a topic of its own and sends on the next one's, with
+ * as many tokens as the seed says, so that most of them sleep: where one wake is lost all stop.
+ * Then senders and takers share topics over few buffers, so that they wait for buffers too; the
+ * takers wait for one topic, for several, with and without an end of time; each message has to come
+ * once. Then in each of many rounds three threads wait, for a topic, for another, and for either,
+ * and two messages have to come to two of them.
  *
- * Compiled with -DPAUSES it pauses at random before each atomic step of the bell, before each call of
- * the queue and before each call of the system, so that these meet in every order. With -DRETIRES the
- * senders' topics end as all ports retire, and not by a counter. */
+ * Compiled with -DPAUSES it pauses at random before each atomic step of the bell, before each call
+ * of the queue and before each call of the system, so that these meet in every order. With
+ * -DRETIRES the senders' topics end as all ports retire, and not by a counter. */
 #include "scq.h"
 
 #ifdef PAUSES
@@ -27,7 +27,8 @@ static inline uint32_t paused_take(scq_port *port, uint32_t topic, scq_held *out
     pause_here();
     return scq_take(port, topic, out);
 }
-static inline uint32_t paused_send(scq_port *port, uint32_t index, uint32_t topic, uint64_t *place) {
+static inline uint32_t paused_send(scq_port *port, uint32_t index, uint32_t topic,
+                                   uint64_t *place) {
     pause_here();
     return scq_send(port, index, topic, place);
 }
@@ -105,7 +106,8 @@ static void run_all(void *(*const *runs)(void *), uint32_t count) {
     for (uint32_t i = 0; i < count; i++) CHECK(pthread_join(ids[i], NULL) == 0);
 }
 
-/* -- A ring of threads: what is on its way at the end stays on the topics ------------------------- */
+/* -- A ring of threads: what is on its way at the end stays on the topics -------------------------
+ */
 
 static uint64_t handed;
 static scq_watch watches[MOST];
@@ -138,8 +140,9 @@ static void *hands_on(void *handed_over) {
     CHECK(sem_init(flag, 0, 0) == 0);
     scq_bell_watch(&bell, watch);
     for (;;) {
-        const uint32_t answer = own % 3 == 1 ? take_watched(watch, own, &held)
-                                             : scq_bell_take(&bell, &ports[own], own, SCQ_FOREVER, &held);
+        const uint32_t answer = own % 3 == 1
+                                    ? take_watched(watch, own, &held)
+                                    : scq_bell_take(&bell, &ports[own], own, SCQ_FOREVER, &held);
         if (answer == SCQ_ENDED) return NULL;
         CHECK(answer == SCQ_OK);
         if (__atomic_add_fetch(&handed, 1, __ATOMIC_RELAXED) >= hands) {
@@ -171,14 +174,15 @@ static void ring_of_threads(void) {
     scq_bell_free(&bell);
 }
 
-/* -- Senders and takers -------------------------------------------------------------------------- */
+/* -- Senders and takers --------------------------------------------------------------------------
+ */
 
 static uint32_t senders, senders_left;
 static unsigned char *came;
 static uint64_t drawn;
 
-/* What a message is. It is written and read as an atomic, as a checker of races doesn't see into the
- * library, which orders the two. */
+/* What a message is. It is written and read as an atomic, as a checker of races doesn't see into
+ * the library, which orders the two. */
 static uint64_t *number_in(const scq_held *held) { return (void *)held->at; }
 
 static void *sends(void *handed_over) {
@@ -250,7 +254,8 @@ static void senders_and_takers(void) {
     free(came);
 }
 
-/* -- Rounds ---------------------------------------------------------------------------------------- */
+/* -- Rounds
+ * ---------------------------------------------------------------------------------------- */
 
 enum { ONE, OTHER };
 

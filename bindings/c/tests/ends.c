@@ -1,5 +1,6 @@
-/* ends QUEUES: ports that are closed in threads of their own, as it happens: of each queue just one is told that it was the last; and once it is
- * closed nothing is left of what the opening took. Link with -Wl,--wrap=malloc,--wrap=realloc,--wrap=calloc,--wrap=free. */
+/* ends QUEUES: ports that are closed in threads of their own, as it happens: of each queue just one
+ * is told that it was the last; and once it is closed nothing is left of what the opening took.
+ * Link with -Wl,--wrap=malloc,--wrap=realloc,--wrap=calloc,--wrap=free. */
 #include "scq.h"
 
 #include "check.h"
@@ -48,24 +49,30 @@ struct job {
     scq_counts own, all[THREADS + 1];
 };
 
-/* Passes buffers on and keeps some, until it closes. Where tickets run out it goes on, and is refused. */
+/* Passes buffers on and keeps some, until it closes. Where tickets run out it goes on, and is
+ * refused. */
 static void *work(void *handed) {
     struct job *job = handed;
     scq_held held;
     uint64_t place;
     for (int n = 0; n < ROUNDS; n++) {
-        if (scq_lend(&job->port, &held) == SCQ_OK && n % 3 != 0 && scq_send(&job->port, held.index, 0, &place) != SCQ_OK) continue;
-        if (scq_take(&job->port, 0, &held) == SCQ_OK && n % 5 != 0) scq_give_back(&job->port, held.index);
+        if (scq_lend(&job->port, &held) == SCQ_OK && n % 3 != 0 &&
+            scq_send(&job->port, held.index, 0, &place) != SCQ_OK)
+            continue;
+        if (scq_take(&job->port, 0, &held) == SCQ_OK && n % 5 != 0)
+            scq_give_back(&job->port, held.index);
     }
     if (job->told) {
         CHECK(scq_counts_of(&job->port, &job->own) == SCQ_OK);
-        CHECK(scq_end(&job->port, &job->ended, job->all, THREADS + 1) == SCQ_OK && job->port.at == NULL);
+        CHECK(scq_end(&job->port, &job->ended, job->all, THREADS + 1) == SCQ_OK &&
+              job->port.at == NULL);
         CHECK(scq_end(&job->port, &job->ended, job->all, THREADS + 1) == SCQ_CLOSED);
         scq_free(&job->port);
     } else {
         CHECK(scq_close(&job->port) == SCQ_OK);
     }
-    CHECK(job->port.at == NULL && job->port.memory.base == NULL && scq_close(&job->port) == SCQ_CLOSED);
+    CHECK(job->port.at == NULL && job->port.memory.base == NULL &&
+          scq_close(&job->port) == SCQ_CLOSED);
     return NULL;
 }
 
@@ -77,7 +84,8 @@ static void queue_of(int told, uint64_t limit) {
     uint32_t last = 0;
     CHECK(atomic_load(&blocks) == 0);
     for (int i = 0; i < THREADS; i++) ports[i] = SCQ_NONE;
-    CHECK(scq_open(ORDER, 1, 16, BUFFERS, limit, ports, THREADS) == SCQ_OK && atomic_load(&blocks) > 0);
+    CHECK(scq_open(ORDER, 1, 16, BUFFERS, limit, ports, THREADS) == SCQ_OK &&
+          atomic_load(&blocks) > 0);
     for (int i = 0; i < THREADS; i++) {
         jobs[i].port = ports[i];
         jobs[i].told = told;
@@ -91,8 +99,12 @@ static void queue_of(int told, uint64_t limit) {
         CHECK(jobs[i].ended.last <= 1 && all[THREADS].sent == UINT64_MAX);
         for (int k = 0; k < THREADS; k++) {
             const scq_counts *const own = &jobs[k].own;
-            if (jobs[i].ended.last) CHECK(all[k].sent == own->sent && all[k].taken == own->taken && all[k].full == own->full);
-            else CHECK(all[k].sent == UINT64_MAX && all[k].taken == UINT64_MAX && all[k].full == UINT64_MAX);
+            if (jobs[i].ended.last)
+                CHECK(all[k].sent == own->sent && all[k].taken == own->taken &&
+                      all[k].full == own->full);
+            else
+                CHECK(all[k].sent == UINT64_MAX && all[k].taken == UINT64_MAX &&
+                      all[k].full == UINT64_MAX);
         }
         last += jobs[i].ended.last;
     }
@@ -102,8 +114,10 @@ static void queue_of(int told, uint64_t limit) {
 /* An opening that is refused leaves nothing. */
 static void refused(void) {
     scq_port port = SCQ_NONE;
-    CHECK(scq_open(ORDER, 0, 16, 1, SCQ_MAX_LIMIT, &port, 1) == SCQ_BAD_TOPICS && atomic_load(&blocks) == 0);
-    CHECK(scq_open(ORDER, 1, 16, 1, SCQ_MAX_LIMIT, &port, 1) == SCQ_OK && scq_open(ORDER, 1, 16, 1, SCQ_MAX_LIMIT, &port, 1) == SCQ_IS_OPEN);
+    CHECK(scq_open(ORDER, 0, 16, 1, SCQ_MAX_LIMIT, &port, 1) == SCQ_BAD_TOPICS &&
+          atomic_load(&blocks) == 0);
+    CHECK(scq_open(ORDER, 1, 16, 1, SCQ_MAX_LIMIT, &port, 1) == SCQ_OK &&
+          scq_open(ORDER, 1, 16, 1, SCQ_MAX_LIMIT, &port, 1) == SCQ_IS_OPEN);
     CHECK(scq_close(&port) == SCQ_OK && atomic_load(&blocks) == 0);
 }
 
@@ -115,6 +129,8 @@ int main(int count, char **words) {
     for (long i = 0; i < queues; i++) queue_of(0, SCQ_MAX_LIMIT);
     /* Tickets run out while ports hold buffers. */
     for (long i = 0; i < queues; i++) queue_of(1, 8 * BUFFERS);
-    printf("of %ld queues just one port each was told that it was the last, and of %ld nothing was left\n", 2 * queues, 3 * queues);
+    printf("of %ld queues just one port each was told that it was the last, and of %ld nothing was "
+           "left\n",
+           2 * queues, 3 * queues);
     return 0;
 }

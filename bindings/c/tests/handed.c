@@ -1,5 +1,6 @@
-/* A port that goes from thread to thread: by starts and joins, and through a lock; and ports that are closed elsewhere than they were opened.
- * Each thread takes the number that the one before has sent, and sends the next. */
+/* A port that goes from thread to thread: by starts and joins, and through a lock; and ports that
+ * are closed elsewhere than they were opened. Each thread takes the number that the one before has
+ * sent, and sends the next. */
 #include "scq.h"
 
 #include "check.h"
@@ -70,7 +71,8 @@ int main(void) {
 
     struct table table = {PTHREAD_MUTEX_INITIALIZER, ports[1], HANDS + 1};
     ports[1].at = NULL;
-    for (int i = 0; i < PLAYERS; i++) CHECK(pthread_create(&threads[i], NULL, many_turns, &table) == 0);
+    for (int i = 0; i < PLAYERS; i++)
+        CHECK(pthread_create(&threads[i], NULL, many_turns, &table) == 0);
     for (int i = 0; i < PLAYERS; i++) CHECK(pthread_join(threads[i], NULL) == 0);
     CHECK(table.number == HANDS + 1 + PLAYERS * TURNS);
 

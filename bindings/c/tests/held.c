@@ -1,7 +1,8 @@
-/* held EVERY: a wait and a ring meet while one of the two threads is held, by ptrace, behind each of its
- * instructions (or each EVERYth): the other does its part meanwhile, as far as it comes; then the held
- * one goes on, and both have to end. Three ways: one that waits is held while another sends; one that
- * sends is held while another comes to wait; and one that sends, while another sleeps already. */
+/* held EVERY: a wait and a ring meet while one of the two threads is held, by ptrace, behind each
+ * of its instructions (or each EVERYth): the other does its part meanwhile, as far as it comes;
+ * then the held one goes on, and both have to end. Three ways: one that waits is held while another
+ * sends; one that sends is held while another comes to wait; and one that sends, while another
+ * sleeps already. */
 #include "scq_bell.h"
 
 #include "check.h"
@@ -18,9 +19,7 @@
 enum way { HELD_WAITS, HELD_SENDS, HELD_SENDS_LATE, WAYS };
 
 /* What the tracer and the process that it traces share. */
-static volatile struct {
-    int begin, entered, go, done;
-} *shared;
+static volatile struct { int begin, entered, go, done; } * shared;
 
 static scq_bell bell;
 static scq_port ports[2];
@@ -53,7 +52,8 @@ static void traced(enum way way) {
     CHECK(scq_bell_init(&bell) == SCQ_OK);
     CHECK(scq_open(1, 1, 8, 1, SCQ_MAX_LIMIT, ports, 2) == SCQ_OK);
     CHECK(pthread_create(&other, NULL, other_part, &way) == 0);
-    while (!shared->begin) {}
+    while (!shared->begin) {
+    }
     shared->entered = 1;
     if (way == HELD_WAITS)
         take_one(&ports[0]);
@@ -80,7 +80,8 @@ static int came(pid_t id, int *status, int naps) {
     return 0;
 }
 
-/* One instruction: 0 where it isn't over by then, as the thread sleeps in it, or where it has ended. */
+/* One instruction: 0 where it isn't over by then, as the thread sleeps in it, or where it has
+ * ended. */
 static int step(pid_t id, int naps) {
     int status;
     CHECK(ptrace(PTRACE_SINGLESTEP, id, 0, 0) == 0);

@@ -1,5 +1,5 @@
-/* loaded LIBRARY PLUGIN: opens a shared object of the library by its name, then one that calls it, and
- * prints what that one's `opens` says. */
+/* loaded LIBRARY PLUGIN: opens a shared object of the library by its name, then one that calls it,
+ * and prints what that one's `opens` says. */
 #include "check.h"
 
 #include <dlfcn.h>

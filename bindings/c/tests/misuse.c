@@ -345,8 +345,10 @@ static void header_of_other_version(void) { CHECK(scq_version() == SCQ_VERSION);
 /* What is done where it isn't answered here. */
 enum { ANSWERED = 0, COMPILER = 100 };
 
-#define A(name) {#name, ANSWERED, name}
-#define RULE(number, name) {#name, number, NULL}
+#define A(name)                                                                                    \
+    { #name, ANSWERED, name }
+#define RULE(number, name)                                                                         \
+    { #name, number, NULL }
 
 static const struct {
     const char *name;
@@ -431,6 +433,6 @@ int main(int count, char **words) {
         }
     }
     printf("%zu misuses: %zu answered, %zu named as the caller's, %zu that the compiler sees\n",
-        answered + callers + warned, answered, callers, warned);
+           answered + callers + warned, answered, callers, warned);
     return 0;
 }

@@ -1,5 +1,5 @@
-/* A shared object of the version OTHER, with the calls that versions.c makes: it answers its version, and
- * whoever makes another call of it ends, whatever that one takes. */
+/* A shared object of the version OTHER, with the calls that versions.c makes: it answers its
+ * version, and whoever makes another call of it ends, whatever that one takes. */
 #include <stdint.h>
 #include <stdlib.h>
 

@@ -102,8 +102,10 @@ static void unpack_any(struct source *from) {
 }
 
 static void round_of(struct source *from) {
-    if (byte_of(from) % 2 == 0) pack_all(from);
-    else unpack_any(from);
+    if (byte_of(from) % 2 == 0)
+        pack_all(from);
+    else
+        unpack_any(from);
 }
 
 int LLVMFuzzerTestOneInput(const unsigned char *bytes, size_t count);

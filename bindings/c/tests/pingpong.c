@@ -1,6 +1,6 @@
-/* pingpong TURNS: two threads pass a turn to and fro, by a futex alone and by a queue with a bell, each
- * nine times in turn. Prints the nanoseconds of a turn with each, as medians, and the second by the
- * first. */
+/* pingpong TURNS: two threads pass a turn to and fro, by a futex alone and by a queue with a bell,
+ * each 45 times in turn: many short rounds, as what else the machine does makes one of them slower.
+ * Prints the nanoseconds of a turn with each, as medians, and the second by the first. */
 #include "scq_bell.h"
 
 #include "check.h"
@@ -8,7 +8,7 @@
 #include <pthread.h>
 #include <time.h>
 
-enum { TIMES = 9, WAIT = 128, WAKE = 129 }; /* of one process */
+enum { TIMES = 45, WAIT = 128, WAKE = 129 }; /* of one process */
 
 static scq_bell bell;
 static scq_port ports[2];

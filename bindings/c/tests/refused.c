@@ -1,14 +1,15 @@
-/* Opens a queue again and again; in opening N the Nth allocation gets nothing, until one makes fewer than N. Each has to answer SCQ_NO_MEMORY
- * and leave the ports closed, or be well; what is left in memory a checker sees. Link with -Wl,--wrap=malloc,--wrap=realloc,--wrap=calloc
- * and -Wl,--wrap=aligned_alloc,--wrap=posix_memalign. */
+/* Opens a queue again and again; in opening N the Nth allocation gets nothing, until one makes
+ * fewer than N. Each has to answer SCQ_NO_MEMORY and leave the ports closed, or be well; what is
+ * left in memory a checker sees. Link with -Wl,--wrap=malloc,--wrap=realloc,--wrap=calloc and
+ * -Wl,--wrap=aligned_alloc,--wrap=posix_memalign. */
 #include "scq.h"
 
 #include "check.h"
 
 #include <errno.h>
 
-/* How many allocations are to go well before one gets nothing, where that is counted. It is volatile, as a compiler takes it that no allocation
- * changes it. */
+/* How many allocations are to go well before one gets nothing, where that is counted. It is
+ * volatile, as a compiler takes it that no allocation changes it. */
 static volatile long before_it = -1;
 
 static int fails(void) { return before_it >= 0 && before_it-- == 0; }
@@ -26,9 +27,15 @@ int __wrap_posix_memalign(void **out, size_t alignment, size_t size);
 
 void *__wrap_malloc(size_t size) { return fails() ? NULL : __real_malloc(size); }
 void *__wrap_realloc(void *old, size_t size) { return fails() ? NULL : __real_realloc(old, size); }
-void *__wrap_calloc(size_t count, size_t size) { return fails() ? NULL : __real_calloc(count, size); }
-void *__wrap_aligned_alloc(size_t alignment, size_t size) { return fails() ? NULL : __real_aligned_alloc(alignment, size); }
-int __wrap_posix_memalign(void **out, size_t alignment, size_t size) { return fails() ? ENOMEM : __real_posix_memalign(out, alignment, size); }
+void *__wrap_calloc(size_t count, size_t size) {
+    return fails() ? NULL : __real_calloc(count, size);
+}
+void *__wrap_aligned_alloc(size_t alignment, size_t size) {
+    return fails() ? NULL : __real_aligned_alloc(alignment, size);
+}
+int __wrap_posix_memalign(void **out, size_t alignment, size_t size) {
+    return fails() ? ENOMEM : __real_posix_memalign(out, alignment, size);
+}
 
 /* Uses the ports, of which no call takes memory, and closes them. */
 static void use(scq_port *ports, size_t n) {
@@ -49,7 +56,8 @@ static void use(scq_port *ports, size_t n) {
 /* How many allocations an opening makes, each of which was refused once. */
 static long refusals(uint32_t order, uint32_t topics, uint32_t hold, size_t n) {
     for (long nth = 0;; nth++) {
-        scq_port ports[8] = {SCQ_NONE, SCQ_NONE, SCQ_NONE, SCQ_NONE, SCQ_NONE, SCQ_NONE, SCQ_NONE, SCQ_NONE};
+        scq_port ports[8] = {SCQ_NONE, SCQ_NONE, SCQ_NONE, SCQ_NONE,
+                             SCQ_NONE, SCQ_NONE, SCQ_NONE, SCQ_NONE};
         before_it = nth;
         const uint32_t answer = scq_open(order, topics, 16, hold, SCQ_MAX_LIMIT, ports, n);
         const int all_went_well = before_it >= 0;

@@ -1,5 +1,6 @@
-/* storm THREADS ORDER MESSAGES: so many threads share 2^ORDER buffers and send each other so many messages on three topics. Each has to come
- * once, whole and on its topic, and those of one sender on one topic in order. A thread that has sent its share takes until all are taken. */
+/* storm THREADS ORDER MESSAGES: so many threads share 2^ORDER buffers and send each other so many
+ * messages on three topics. Each has to come once, whole and on its topic, and those of one sender
+ * on one topic in order. A thread that has sent its share takes until all are taken. */
 #include "scq.h"
 
 #include "check.h"
@@ -21,11 +22,14 @@ struct job {
     scq_port port;
     pthread_t thread;
     uint64_t next, end;
-    uint64_t last[MOST][TOPICS]; /* of each sender and topic one more than the message that came last */
+    uint64_t last[MOST]
+                 [TOPICS]; /* of each sender and topic one more than the message that came last */
 };
 
 /* Every word of a message tells its number and the word's own. */
-static uint64_t word_of(uint64_t number, uint64_t at) { return (number ^ at << 56) * UINT64_C(0x9E3779B97F4A7C15); }
+static uint64_t word_of(uint64_t number, uint64_t at) {
+    return (number ^ at << 56) * UINT64_C(0x9E3779B97F4A7C15);
+}
 
 static int send_next(struct job *job) {
     scq_held held;
@@ -55,7 +59,8 @@ static int take_one(struct job *job, uint32_t topic) {
         memcpy(&word, held.at + 8 * at, 8);
         CHECK(word == word_of(number, at));
     }
-    CHECK((atomic_fetch_or(&seen[number / 64], UINT64_C(1) << number % 64) >> number % 64 & 1) == 0);
+    CHECK((atomic_fetch_or(&seen[number / 64], UINT64_C(1) << number % 64) >> number % 64 & 1) ==
+          0);
     CHECK(number >= job->last[number / each][topic]);
     job->last[number / each][topic] = number + 1;
     CHECK(scq_give_back(&job->port, held.index) == SCQ_OK);
@@ -91,11 +96,13 @@ int main(int count, char **words) {
         jobs[i].next = i * each < messages ? i * each : messages;
         jobs[i].end = (i + 1) * each < messages ? (i + 1) * each : messages;
     }
-    for (uint64_t i = 0; i < threads; i++) CHECK(pthread_create(&jobs[i].thread, NULL, work, &jobs[i]) == 0);
+    for (uint64_t i = 0; i < threads; i++)
+        CHECK(pthread_create(&jobs[i].thread, NULL, work, &jobs[i]) == 0);
     for (uint64_t i = 0; i < threads; i++) CHECK(pthread_join(jobs[i].thread, NULL) == 0);
-    for (uint64_t number = 0; number < messages; number++) CHECK(seen[number / 64] >> number % 64 & 1);
-    printf("%llu messages of %llu threads over %u buffers, each whole and once\n", (unsigned long long)messages, (unsigned long long)threads,
-           1u << order);
+    for (uint64_t number = 0; number < messages; number++)
+        CHECK(seen[number / 64] >> number % 64 & 1);
+    printf("%llu messages of %llu threads over %u buffers, each whole and once\n",
+           (unsigned long long)messages, (unsigned long long)threads, 1u << order);
     free(jobs);
     free(seen);
     return 0;

@@ -1,6 +1,6 @@
-/* Opens a queue in each way. Where the library is of the header's version the openings are well; where
- * it isn't each is answered SCQ_BAD_VERSION, first of all that could be said, and no port is changed.
- * Prints which it was. Compiled with -DPLUGIN it has no main: a program calls `opens`. */
+/* Opens a queue in each way. Where the library is of the header's version the openings are well;
+ * where it isn't each is answered SCQ_BAD_VERSION, first of all that could be said, and no port is
+ * changed. Prints which it was. Compiled with -DPLUGIN it has no main: a program calls `opens`. */
 #include "scq.h"
 
 #include "check.h"
@@ -12,7 +12,8 @@ const char *opens(void);
 const char *opens(void) {
     static unsigned char bytes[2 * 8];
     const scq_memory memory = {bytes, 8, 8, NULL}, wrong = {bytes, 8, 0, NULL};
-    uint32_t (*const over)(uint32_t, uint32_t, uint32_t, uint64_t, const scq_memory *, scq_port *, size_t) = scq_open_over;
+    uint32_t (*const over)(uint32_t, uint32_t, uint32_t, uint64_t, const scq_memory *, scq_port *,
+                           size_t) = scq_open_over;
     const int same = scq_version() == SCQ_VERSION;
     const uint32_t wanted = same ? SCQ_OK : SCQ_BAD_VERSION;
     scq_port port = SCQ_NONE, was;

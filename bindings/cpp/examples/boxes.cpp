@@ -54,7 +54,7 @@ static void make(Jobs::Handle to, std::uint64_t from, std::atomic<int> &left) {
 }
 
 static void work(Jobs::Handle from, Sums::Handle to, const std::atomic<int> &makers,
-    std::atomic<int> &left) {
+                 std::atomic<int> &left) {
     std::unique_ptr<Job> job;
     while (pop(from, job, makers)) {
         if (job->text != "job " + std::to_string(job->number)) std::abort();
@@ -72,13 +72,13 @@ int main() {
     for (std::uint64_t i = 0; i < 2; i++) {
         threads.emplace_back(make, jobs.handle(), i * (LAST / 2), std::ref(makers));
         threads.emplace_back(work, jobs.handle(), sums.handle(), std::cref(makers),
-            std::ref(workers));
+                             std::ref(workers));
     }
     Sums::Handle handle = sums.handle();
     std::uint64_t number = 0, sum = 0;
     while (pop(handle, number, workers)) sum += number;
     for (std::thread &thread : threads) thread.join();
     std::printf("the numbers of %d jobs are %llu together\n", LAST,
-        static_cast<unsigned long long>(sum));
+                static_cast<unsigned long long>(sum));
     return 0;
 }

@@ -1,5 +1,5 @@
-// Four threads on one queue of eight buffers: two send the numbers from 1 to 1,000,000 between them, two take half of them each, and what they
-// took is summed.
+// Four threads on one queue of eight buffers: two send the numbers from 1 to 1,000,000 between
+// them, two take half of them each, and what they took is summed.
 //
 //     c++ -pthread -I.. -I../../c four_threads.cpp libscq.a -o four_threads
 #include "scq.hpp"
@@ -65,7 +65,8 @@ int main() {
         std::thread(take_half, std::move(ports[3]), std::ref(sums[1])),
     };
     for (std::thread &thread : threads) thread.join();
-    std::printf("the numbers from 1 to %llu are %llu together\n", static_cast<unsigned long long>(last),
+    std::printf("the numbers from 1 to %llu are %llu together\n",
+                static_cast<unsigned long long>(last),
                 static_cast<unsigned long long>(sums[0] + sums[1]));
     return 0;
 }

@@ -1,5 +1,5 @@
-// What the owners of scq.hpp do: each answer as a value, buffers that are given back where they end,
-// ports and buffers that are moved, and calls that come too late, which are answered.
+// What the owners of scq.hpp do: each answer as a value, buffers that are given back where they
+// end, ports and buffers that are moved, and calls that come too late, which are answered.
 #include "scq.hpp"
 
 #include "check.h"
@@ -22,8 +22,12 @@ using scq::Setup;
 using scq::Taken;
 
 template <class Owner> struct MovesOnly {
-    static_assert(std::is_nothrow_move_constructible<Owner>::value && std::is_nothrow_move_assignable<Owner>::value, "it can be moved");
-    static_assert(!std::is_copy_constructible<Owner>::value && !std::is_copy_assignable<Owner>::value, "it can't be copied");
+    static_assert(std::is_nothrow_move_constructible<Owner>::value &&
+                      std::is_nothrow_move_assignable<Owner>::value,
+                  "it can be moved");
+    static_assert(!std::is_copy_constructible<Owner>::value &&
+                      !std::is_copy_assignable<Owner>::value,
+                  "it can't be copied");
     static_assert(std::is_nothrow_destructible<Owner>::value, "its end doesn't throw");
 };
 template struct MovesOnly<Port>;
@@ -44,7 +48,8 @@ static void round_of() {
     Port ports[2];
     CHECK(Queue::open(small(), ports) == Answer::Ok && ports[0] && ports[1]);
     Lent lent = ports[0].lend();
-    CHECK(lent && lent.answer() == Answer::Ok && lent.size() == 8 && std::all_of(lent.begin(), lent.end(), is_zero));
+    CHECK(lent && lent.answer() == Answer::Ok && lent.size() == 8 &&
+          std::all_of(lent.begin(), lent.end(), is_zero));
     std::memcpy(lent.data(), "message", 8);
     CHECK(lent[6] == 'e');
     const scq::Sent refused = lent.send(2);
@@ -54,17 +59,20 @@ static void round_of() {
     const Taken none = ports[1].take(0);
     CHECK(!none && none.answer() == Answer::Empty);
     Taken taken = ports[1].take(1);
-    CHECK(taken && taken.place() == sent.place && taken.size() == 8 && std::memcmp(taken.data(), "message", 8) == 0);
+    CHECK(taken && taken.place() == sent.place && taken.size() == 8 &&
+          std::memcmp(taken.data(), "message", 8) == 0);
     CHECK(taken.send(0) && !taken);
     taken = ports[1].take(0);
     CHECK(taken && taken.give_back() == Answer::Ok && !taken);
     scq_counts counts;
-    CHECK(ports[1].counts(counts) == Answer::Ok && counts.sent == 1 && counts.taken == 2 && counts.full == 0);
+    CHECK(ports[1].counts(counts) == Answer::Ok && counts.sent == 1 && counts.taken == 2 &&
+          counts.full == 0);
 }
 
 static void answers() {
     Port port;
-    CHECK(!port && port.close() == Answer::Closed && port.lend().answer() == Answer::Closed && port.take(0).answer() == Answer::Closed);
+    CHECK(!port && port.close() == Answer::Closed && port.lend().answer() == Answer::Closed &&
+          port.take(0).answer() == Answer::Closed);
     Setup setup = small();
     setup.order = 13;
     CHECK(Queue::open(setup, &port, 1) == Answer::BadOrder && !port);
@@ -82,12 +90,14 @@ static void answers() {
     CHECK(Queue::open(setup, &port, 1) == Answer::BadHold);
     std::vector<Port> none;
     CHECK(Queue::open(small(), none) == Answer::BadPorts);
-    CHECK(Queue::open(small(), &port, 1) == Answer::Ok && Queue::open(small(), &port, 1) == Answer::IsOpen);
+    CHECK(Queue::open(small(), &port, 1) == Answer::Ok &&
+          Queue::open(small(), &port, 1) == Answer::IsOpen);
     setup.hold = 3;
     CHECK(Queue::open(setup, &port, 1) == Answer::BadHold && port);
     CHECK(port.take(2).answer() == Answer::NoTopic);
     const Lent one = port.lend(), two = port.lend();
-    CHECK(one && two && one.index() != two.index() && port.lend().answer() == Answer::NoRoom && port.take(0).answer() == Answer::NoRoom);
+    CHECK(one && two && one.index() != two.index() && port.lend().answer() == Answer::NoRoom &&
+          port.take(0).answer() == Answer::NoRoom);
     CHECK(std::strcmp(scq::text(Answer::Full), "no buffer is free") == 0);
 }
 
@@ -251,7 +261,7 @@ static void bytes_are_a_span() {
     CHECK(lent.send(0) && lent.bytes().empty());
     const Taken taken = port.take(0);
     static_assert(std::is_same<decltype(taken.bytes()), std::span<const unsigned char>>::value,
-        "bytes that can't be written");
+                  "bytes that can't be written");
     CHECK(taken.bytes().size() == 8);
 #endif
 }
@@ -286,7 +296,8 @@ static void tickets_run_out() {
         Lent lent = port.lend();
         CHECK(lent);
         if (lent.give_back() == Answer::Ok) continue;
-        CHECK(lent && lent.give_back() == Answer::Spent && port.spent(ticket) == Answer::Spent && ticket >= 16);
+        CHECK(lent && lent.give_back() == Answer::Spent && port.spent(ticket) == Answer::Spent &&
+              ticket >= 16);
         const scq::Sent sent = lent.send(0);
         CHECK(sent.answer == Answer::Spent && sent.place == ticket && lent);
         break;
@@ -300,16 +311,22 @@ static void a_stream_ends() {
     Port ports[2];
     scq_counts counts[2] = {{9, 9, 9}, {9, 9, 9}};
     bool last = true;
-    CHECK(Queue::open(small(), ports) == Answer::Ok && ports[1].retire() == Answer::Ok && ports[0].retired() == Answer::Ok);
-    CHECK(ports[0].lend().send(0).answer == Answer::Ok && ports[0].retire() == Answer::Ok && ports[0].retired() == Answer::Retired);
+    CHECK(Queue::open(small(), ports) == Answer::Ok && ports[1].retire() == Answer::Ok &&
+          ports[0].retired() == Answer::Ok);
+    CHECK(ports[0].lend().send(0).answer == Answer::Ok && ports[0].retire() == Answer::Ok &&
+          ports[0].retired() == Answer::Retired);
     {
         Taken taken = ports[1].take(0);
-        CHECK(taken && taken.send(1).answer == Answer::Retired && taken && ports[1].retired() == Answer::Retired);
+        CHECK(taken && taken.send(1).answer == Answer::Retired && taken &&
+              ports[1].retired() == Answer::Retired);
     }
     CHECK(ports[1].take(0).answer() == Answer::Empty);
-    CHECK(ports[1].close(last, counts, 2) == Answer::Ok && !last && counts[0].sent == 9 && !ports[1]);
-    CHECK(ports[0].close(last, counts, 2) == Answer::Ok && last && counts[0].sent == 1 && counts[0].taken == 0);
-    CHECK(counts[1].sent == 0 && counts[1].taken == 1 && ports[0].close(last, counts, 2) == Answer::Closed);
+    CHECK(ports[1].close(last, counts, 2) == Answer::Ok && !last && counts[0].sent == 9 &&
+          !ports[1]);
+    CHECK(ports[0].close(last, counts, 2) == Answer::Ok && last && counts[0].sent == 1 &&
+          counts[0].taken == 0);
+    CHECK(counts[1].sent == 0 && counts[1].taken == 1 &&
+          ports[0].close(last, counts, 2) == Answer::Closed);
 }
 
 int main() {

@@ -172,8 +172,7 @@ static void tickets_run_out() {
                 answer = handle.emplace(i);
             }
             if (answer == Answer::Ok) {
-                const Answer taken =
-                    handle.consume_one([i](Fixed &&it) { CHECK(it.number == i); });
+                const Answer taken = handle.consume_one([i](Fixed &&it) { CHECK(it.number == i); });
                 CHECK(taken == Answer::Ok || taken == Answer::Spent);
             }
         }
@@ -272,6 +271,6 @@ int main(int count, char **words) {
     boxes_between_threads(boxes, threads);
     CHECK(alive == 0);
     std::printf("%llu boxes between %llu threads, each destroyed once\n",
-        static_cast<unsigned long long>(boxes), static_cast<unsigned long long>(threads));
+                static_cast<unsigned long long>(boxes), static_cast<unsigned long long>(threads));
     return 0;
 }

@@ -1,6 +1,6 @@
-// waits MESSAGES: waiting in C++. What is got through a bell rings where it is sent, given back, ended
-// and assigned to; a wait ends at its time, and where nothing comes any more; and 4 senders and 6 takers
-// over 2 buffers hand over all messages, each once.
+// waits MESSAGES: waiting in C++. What is got through a bell rings where it is sent, given back,
+// ended and assigned to; a wait ends at its time, and where nothing comes any more; and 4 senders
+// and 6 takers over 2 buffers hand over all messages, each once.
 #include "scq_bell.hpp"
 
 #include "check.h"
@@ -29,8 +29,8 @@ static void answers() {
     CHECK(bell.take(ports[0], 3).answer() == scq::Answer::NoTopic);
     CHECK(bell.take(ports[0], SCQ_FREE).answer() == scq::Answer::NoTopic);
     CHECK(bell.take_any(ports[0], 0, topic).answer() == scq::Answer::NoTopic);
-    CHECK(bell.take_any(ports[0], scq::line(0) | scq::line(SCQ_FREE), topic).answer()
-        == scq::Answer::NoTopic);
+    CHECK(bell.take_any(ports[0], scq::line(0) | scq::line(SCQ_FREE), topic).answer() ==
+          scq::Answer::NoTopic);
     CHECK(bell.take_for(ports[0], 0, milliseconds(-5)).answer() == scq::Answer::Empty);
     const steady_clock::time_point from = steady_clock::now();
     const scq::Rung<scq::Taken> none = bell.take_for(ports[0], 1, milliseconds(20));
@@ -44,7 +44,8 @@ static void answers() {
     CHECK(one.send(3).answer == scq::Answer::NoTopic && one);
     CHECK(one.send(2) && !one);
     scq::Rung<scq::Taken> taken = bell.take_any(ports[1], scq::line(0) | scq::line(2), topic);
-    CHECK(taken && topic == 2 && std::strcmp(reinterpret_cast<const char *>(taken.data()), "one") == 0);
+    CHECK(taken && topic == 2 &&
+          std::strcmp(reinterpret_cast<const char *>(taken.data()), "one") == 0);
     // Who waits for a buffer is woken by each way in which one comes back.
     for (int way = 0; way < 5; way++) {
         std::thread waits([&bell, &ports, way] {
@@ -54,7 +55,9 @@ static void answers() {
         std::this_thread::sleep_for(milliseconds(5));
         if (way == 0) CHECK(other.give_back() == scq::Answer::Ok);
         if (way == 1) other = bell.lend_for(ports[0], milliseconds(0));
-        if (way == 2) { const scq::Rung<scq::Lent> ends = std::move(other); }
+        if (way == 2) {
+            const scq::Rung<scq::Lent> ends = std::move(other);
+        }
         if (way == 3) CHECK(bell.close(ports[0]) == scq::Answer::Ok);
         if (way == 4) bell.finish(scq::line(SCQ_FREE));
         waits.join();
@@ -93,7 +96,8 @@ static void hand_over(std::uint64_t messages) {
             for (;;) {
                 std::uint32_t topic = i % TOPICS;
                 const std::uint32_t lines = scq::line(TOPICS) - 1;
-                scq::Rung<scq::Taken> taken = i % 3 == 0 ? bell.take(ports[i], topic)
+                scq::Rung<scq::Taken> taken =
+                    i % 3 == 0   ? bell.take(ports[i], topic)
                     : i % 3 == 1 ? bell.take_any(ports[i], lines, topic)
                                  : bell.take_any_for(ports[i], lines, microseconds(50), topic);
                 if (taken.ended()) return;
