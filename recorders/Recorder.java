@@ -46,7 +46,7 @@ public final class Recorder {
         private final long seat;
         private final long[] stamps, whats;
         private final byte[] kinds;
-        private int count;
+        private int count, lost;
         private long puts;
 
         private Seat(int seat, int room) {
@@ -58,6 +58,10 @@ public final class Recorder {
 
         private void note(byte kind, long what) {
             long stamp = next.getAndIncrement();
+            if (count == stamps.length) {
+                lost++;
+                return;
+            }
             stamps[count] = stamp;
             whats[count] = what;
             kinds[count] = kind;
@@ -91,8 +95,14 @@ public final class Recorder {
             note(NOTHING, 0);
         }
 
-        /** Writes the events. The content is {@code -}: which put a value is from is all that it says. */
+        /**
+         * Writes the events. The content is {@code -}: which put a value is from is all that it says. Where the seat had too little
+         * room it throws, and nothing is written.
+         */
         public void write(Path name) throws IOException {
+            if (lost > 0) {
+                throw new IOException(name + " isn't written: the seat needs room for " + ((long) count + lost) + " events");
+            }
             try (BufferedWriter file = Files.newBufferedWriter(name)) {
                 file.write("run " + run + "\n");
                 for (int i = 0; i < count; i++) {

@@ -449,11 +449,12 @@ static inline char *scq_add_head(char *at, const scq_recorder *recorder) {
     return scq_add_word(scq_add_number(scq_add_word(at, "run "), recorder->run), "\n");
 }
 
-/* Whether the whole file was written and no event was lost. */
+/* Whether the whole file was written and no event was lost. Not of a seat that was opened, whose file has most events already: it is
+ * closed. */
 static inline int scq_seat_write(const scq_seat *seat, const char *name) {
     const scq_log *log = seat->log;
     char line[SCQ_LINE];
-    FILE *file = fopen(name, "w");
+    FILE *file = log->file < 0 ? fopen(name, "w") : NULL;
     if (!file) return 0;
     size_t head = (size_t)(scq_add_head(line, log->recorder) - line);
     int good = fwrite(line, 1, head, file) == head;

@@ -30,7 +30,7 @@
 
 use std::cell::UnsafeCell;
 use std::fs::File;
-use std::io::{BufWriter, Error, Write};
+use std::io::{BufWriter, Error, ErrorKind, Write};
 use std::path::Path;
 use std::sync::atomic::{AtomicBool, AtomicU64, AtomicUsize, Ordering};
 use std::sync::{Arc, OnceLock};
@@ -343,8 +343,11 @@ impl Seat<'_> {
         self.ended();
     }
 
-    /// Writes the events of a seat that has no file open.
+    /// Writes the events of a seat that has no file open. One that was opened has most events there already, and is closed.
     pub fn write(&self, name: impl AsRef<Path>) -> Result<(), Error> {
+        if self.log.file.is_some() {
+            return Err(Error::new(ErrorKind::InvalidInput, "the seat has its file open: it has to be closed"));
+        }
         let events = unsafe { &*self.log.events.get() };
         let mut file = File::create(name)?;
         file.write_all(self.recorder.head().as_bytes())?;

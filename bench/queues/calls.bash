@@ -6,6 +6,8 @@
 # From the environment: PAIRS, how many pairs of calls one thread makes in a run (4000000; other runs in
 # proportion); LIMIT, in how many seconds a run has to end (50).
 kept_in "$@"
+# shellcheck source=over.bash
+. "$bench/queues/over.bash"
 turns=$(rounds 9)
 pairs=$(many "${PAIRS:-4000000}")
 limit=${LIMIT:-50}
@@ -24,14 +26,6 @@ calm 2 pairs/100 two threads that pause
 order 4 pairs/40
 stop 3 $(many 150)*3 one of two threads stopped 150 times for 50 ms"
 
-# Compiles calls.cpp over this queue, with these flags behind it.
-calls_over() {
-    local queue=$1 program=$2
-    shift 2
-    g++ -std=c++17 -O3 -march=x86-64-v2 -pthread -Wall -Wextra -Werror -I "$bench/queues" \
-        -I "$top/bindings/c" -DQUEUE="\"$queue.hpp\"" "$bench/queues/calls.cpp" "$@" -o "$program"
-}
-
 # The plain C++ of the step table, over the rings or the queue: by the kit's compiler, as `ours` is.
 plain_over() {
     local program
@@ -39,27 +33,6 @@ plain_over() {
         by_kit "$program" -I "$bench/queues" -DBARE -DQUEUE="\"$1.hpp\"" \
             "$([ "$program" = plain ] || echo -DSEATED)" "$bench/queues/calls.cpp"
     done
-}
-
-# The same over a queue in Rust, with the features behind it too: `array` is ArrayQueue of Debian's
-# packages, `scq` the crate of bindings/rust over `archive`. Fails where there is no cargo or no package.
-rust_over() {
-    local kind=$1 program=$2 crate=rust_$1 needs="scq = { path = \"$top/bindings/rust\" }"
-    shift 2
-    command -v cargo >/dev/null || return 1
-    if [ "$kind" = array ]; then
-        packages librust-{crossbeam-queue,crossbeam-utils,cfg-if}-dev || return 1
-        needs='crossbeam-queue = "0.3"'
-    fi
-    mkdir -p "$crate/src" library
-    cp "$bench"/queues/rust/*.rs "$crate/src"
-    [ -z "$archive" ] || cp "$archive" library/libscq.a
-    cargo_of_debian "$crate" "$needs" '[lib]' 'crate-type = ["staticlib"]' \
-        '[features]' 'array = []' 'scq = []' 'bare = []'
-    (cd "$crate" && SCQ_LIB_DIR=$folder/library RUSTFLAGS='-C target-cpu=x86-64-v2' \
-        cargo build -q --release --offline --features "$kind $*")
-    [ "$*" != bare ] || set -- -DBARE
-    calls_over rust "$program" "$@" "$crate/target/release/lib$crate.a" -ldl
 }
 
 # Runs a program once, PROGRAM.MODE.ORDER, and notes what it says under this key: million pairs a second;
