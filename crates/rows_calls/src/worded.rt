@@ -27,12 +27,18 @@ pub fn many(alloc: Global, given: &str) -> Result<String> {
     for _ in 0..number(given, 0)? {
         words.push(word_of(alloc, field(given, 2))?)?;
     }
-    let files = match read_words(alloc, words.as_slice()) {
-        Ok(Request::Run(run)) => run.files.len(),
-        Ok(Request::Stages(stages)) => stages.files.len(),
-        Ok(Request::Judge(judge)) => judge.files.len(),
-        Ok(_) => 0,
-        Err(error) => return Ok(format!(in alloc; "{error}")?),
+    match read_words(alloc, words.as_slice()) {
+        Ok(request) => files_text(alloc, &request),
+        Err(error) => Ok(format!(in alloc; "{error}")?),
+    }
+}
+
+fn files_text(alloc: Global, request: &Request) -> Result<String> {
+    let files = match request {
+        Request::Run(run) => run.files.len(),
+        Request::Stages(stages) => stages.files.len(),
+        Request::Judge(judge) => judge.files.len(),
+        Request::SelfRun(_) | Request::Text(_) => 0,
     };
     Ok(format!(in alloc; "{files}")?)
 }
