@@ -1,5 +1,6 @@
 -- A worker that passes messages on one by one, or stops at one, whatever a worker is. `IsAt` says
--- where it stands that has passed on these, and `IsOver` where it stopped at the last of them.
+-- where it stands that has passed on these, and `IsOver` where it stands that met a ticket past the
+-- limit with at most these passed on.
 use Rattle.std.proofs.Common.{◌≡◌, refl, sym, ◌∙◌, subst, ℕ, Bool, false, List, [], ◌++◌, append_assoc}
 use Rattle.std.proofs.Common.{Option, None}
 use Rattle.std.proofs.lemmas.List.{append-nil}
@@ -24,7 +25,7 @@ module _ {W B : Type 0} where
     pub work : (before : List Message) → IsAt before old → IsAt (before ++ messages) new
     pub still : IsStill pass_of starved_of old new
 
-  -- it met a ticket past the limit at the last of these messages
+  -- it met a ticket past the limit, with at most those before and these passed on
   pub record HasStoppedAt (pass_of : W → PassStanding B) (starved_of : W → Bool)
       (IsAt : List Message → W → Type 0)
       (IsOver : List Message → W → Option (HeldStanding B) → Type 0)

@@ -12,6 +12,7 @@ use Rattle.scq_queue.specs.Passes.{PassStanding, after_look, having_seen, caller
 use Rattle.scq_queue.proofs.Records.{takes-append}
 use Rattle.scq_passes.specs.Records.{Puts}
 use Rattle.scq_passes.specs.Leaving.{TookNothing, FoundTopicEmpty, HasOnlyCalled, IsSweep}
+use Rattle.scq_passes.specs.Taking.{HasEmptiedAll}
 use Rattle.scq_passes.specs.Waiting.{TookMore}
 use Rattle.scq_passes.specs.Calls.{HasTakenFollowed}
 use Rattle.scq_passes.proofs.Kept.{taken-calls}
@@ -52,9 +53,17 @@ module _ {B : Type 0} where
       → looked ≡ having_seen looked.seen (after_look found p)
       → IsReadingInRun queue.setup (opening_of contents queue.given) p.retired (caller_of p) (caller_of looked) found
       → HasTakenFollowed By looked q → HasOnlyCalled contents queue looked q
-      → ((topic : ℕ) → topic < topics → FoundTopicEmpty topic looked q) → IsSweep contents queue By topics found p q
-  sweep-of topics found p looked q is reading taken only empty =
-      record { asked = looked; answer = is; reading = reading; taken = taken; only = only; empty = empty }
+      → HasEmptiedAll topics looked q → IsSweep contents queue By topics found p q
+  sweep-of topics found p looked q is reading taken only emptied = record {
+    asked = looked;
+    answer = is;
+    reading = reading;
+    taken = taken;
+    only = only;
+    empty = emptied.found;
+    once = emptied.vain;
+    last = emptied.last;
+  }
 
   -- it took nothing since it was about to ask, or something
   pub took-nothing : (found : ℕ) (p looked q : PassStanding B) → looked ≡ having_seen looked.seen (after_look found p)

@@ -12,6 +12,11 @@ module _ {B : Type 0} where
       → HasEmptied topic p q × TookNothing p q
   found-nothing topic head p q low found =
       let calls = ap (λ (x : PassStanding B). x.calls) found.pass in (
-        record { past = found-past topic head p q low found; found = found-now topic p q calls; vain = vain-none topic p q calls },
+        record {
+          past = found-past topic head p q low found;
+          found = found-now topic p q calls;
+          vain = vain-none topic p q calls;
+          last = record { before = p.calls; calls = calls };
+        },
         found-takes topic p q calls,
       )

@@ -10,6 +10,7 @@ use Rattle.scq_queue.specs.Lists.{takes_of}
 use Rattle.scq_queue.specs.Passes.{PassStanding, after_look, having_seen, caller_of}
 use Rattle.scq_passes.specs.Records.{Puts}
 use Rattle.scq_passes.specs.Calls.{HasTakenFollowed, after_retire}
+use Rattle.scq_passes.specs.Waiting.{TookInVain}
 
 module _ {B : Type 0} where
   -- the pass took nothing meanwhile
@@ -22,6 +23,11 @@ module _ {B : Type 0} where
     pub after : List Ended
     pub calls : new.calls ≡ ((old.calls ++ before) ++ Nothing (suc topic) ∷ []) ++ after
 
+  -- the last of its calls found a topic empty
+  pub record EndsAtEmpty (topic : ℕ) (p : PassStanding B) : Type 0 where
+    pub before : List Ended
+    pub calls : p.calls ≡ before ++ Nothing (suc topic) ∷ []
+
   -- it made calls meanwhile, one or more, and asked nothing. They stand in the run one behind the
   -- other, the first behind all that the pass had seen
   pub record HasOnlyCalled (contents : B → List ℕ) (queue : Identity B) (old new : PassStanding B)
@@ -32,8 +38,8 @@ module _ {B : Type 0} where
     pub gate : new.gate ≡ old.gate
 
   -- a sweep: the pass asked whether all had retired, when so many had not, as a reading in the run;
-  -- behind that reading it took from so many topics, each until it was empty, and asked no more.
-  -- Such puts follow the takes
+  -- behind that reading it took from so many topics, each until it was empty, and asked no more. It
+  -- found each empty once, and ended with the last of them. Such puts follow the takes
   pub record IsSweep (contents : B → List ℕ) (queue : Identity B) (By : Puts) (topics found : ℕ)
       (old new : PassStanding B) : Type 0 where
     pub asked : PassStanding B
@@ -43,10 +49,13 @@ module _ {B : Type 0} where
     pub taken : HasTakenFollowed By asked new
     pub only : HasOnlyCalled contents queue asked new
     pub empty : (topic : ℕ) → topic < topics → FoundTopicEmpty topic asked new
+    pub once : TookInVain topics asked new
+    pub last : (topic : ℕ) → suc topic ≡ topics → EndsAtEmpty topic new
 
   -- sweeps in a row, each begun where the one before ended, of which just the last `idle` took
-  -- nothing. The worker went on after each: not all had retired before it, and where it took
-  -- nothing the number of such in a row `Goes` on
+  -- nothing. Behind each the worker could go on: not all had retired at a moment before it, and
+  -- where it took nothing the number of such in a row `Goes` on. A pass keeps what the last of its
+  -- readings found alone, so what each of these found is any number that a reading there could find
   pub data AreSweeps (contents : B → List ℕ) (queue : Identity B) (By : Puts) (topics : ℕ)
       (Goes : ℕ → Type 0) : ℕ → PassStanding B → PassStanding B → Type 0 where
     no_sweep : (p : PassStanding B) → AreSweeps contents queue By topics Goes 0 p p
@@ -59,8 +68,8 @@ module _ {B : Type 0} where
         → IsSweep contents queue By topics found old new → 0 < found → TookNothing old new
         → Goes (idle + 1) → AreSweeps contents queue By topics Goes (idle + 1) first new
 
-  -- it swept, and left after the first sweep before which all had retired, or where so many in a
-  -- row took nothing
+  -- it swept, and left after a sweep before which all had retired, or where so many in a row took
+  -- nothing
   pub record HasSweptLast (contents : B → List ℕ) (queue : Identity B) (By : Puts)
       (topics most : ℕ) (old new : PassStanding B) : Type 0 where
     pub idle : ℕ

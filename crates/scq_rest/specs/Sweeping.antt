@@ -16,8 +16,8 @@ module _ {B : Type 0} {contents : B → List ℕ} {queue : Identity B} {By : Put
   idle_sweeps (and_idle found before sweep left none goes) = idle_sweeps before + 1
 
 module _ {B : Type 0} where
-  -- it swept, rested once behind each sweep that took nothing and behind no other, so often, and
-  -- left after the first sweep before which all had retired. There is no other way to leave
+  -- it swept, rested as often as sweeps before the last took nothing, and left after a sweep before
+  -- which it was told that all had retired
   pub record HasSweptTold (contents : B → List ℕ) (queue : Identity B) (By : Puts)
       (topics rests : ℕ) (old new : PassStanding B) : Type 0 where
     pub idle : ℕ

@@ -13,8 +13,8 @@ use Rattle.scq_rest.specs.Sweeping.{HasLeftTold}
 
 -- a worker that waited has done its work, unless it met a ticket past the limit: it was told that
 -- all had retired, took in vain no more often than one does that rests after each sweep that took
--- nothing, rested once behind each such sweep, and left after the first before which all had
--- retired
+-- nothing, rested as often as sweeps before its last took nothing, and left after a sweep before
+-- which it was told that all had retired
 pub record HasWaited {B : Type 0} (contents : B
     → List ℕ) (topics rests : ℕ) (p : PassStanding B) : Type 0 where
   pub told : p.spent ≡ None → p.gate ≡ Some 0
@@ -29,8 +29,9 @@ EachWaited topics stands passes =
 
 -- all workers: each saw that all had retired, as its pass read the gate, rested no more often than
 -- it was woken, took in vain no more often than one does that rests after each sweep that took
--- nothing, rested once behind each such sweep, and left after the first before which all had
--- retired. A count of rests stands still at the last value of 64 bits
+-- nothing, rested as often as sweeps before its last took nothing, and left after a sweep before
+-- which it was told that all had retired. A count of rests stands still at the last value of 64
+-- bits
 pub record HaveWaited (topics workers : ℕ) (passes : List (PassStanding Frame)) (saw : List Bool)
     (rested : List Rested) : Type 0 where
   pub each_saw : length saw ≡ workers

@@ -97,7 +97,7 @@ pub fn stage_work<R: Threads + Sync, S: Source>(
         MemoryIsFirst job.now.size S.faults S.ends S.left sources.items result.sources.items
         fault) }
 
-    // Each worker asked before each of its sweeps whether all had retired, and left after the first
+    // Each worker asked before each of its sweeps whether all had retired, and left after one
     // before which they had, or after 64 in a row that took nothing.
     ensures behind { IfSome result.passes (λ passes.
         All (HasLeftSwept bytes_of IsGivenBack 2 64) passes.value.items) }

@@ -46,7 +46,7 @@ pub fn work<R: Threads + Sync, S: Source, G: Gate + Sync>(
     requires { vec_len sources ≤ 64 }
     ensures end { EndsWork job.now S.faults S.ends S.left sources.items result }
 
-    // Each worker asked before each of its sweeps whether all had retired, and left after the first
+    // Each worker asked before each of its sweeps whether all had retired, and left after one
     // before which they had, or after 64 in a row that took nothing.
     ensures behind { IfSome result.passes (λ passes.
         All (HasLeftSwept bytes_of IsReturn (length job.now.topics + 1) 64) passes.value.items) }

@@ -29,7 +29,7 @@ others_more number (suc k) ns =
     if k == number then others_more number k ns else one_more k (others_more number k ns)
 
 module _ {B : Type 0} (number workers : ℕ) where
-  -- by these wakes a worker of this number has woken the next one once after each send of its pass
+  -- by these wakes a worker of this number has woken the next one as often as its pass sent
   abbrev pub RingsEachSend : PassStanding B → List ℕ → List ℕ → Type 0
   RingsEachSend p first is =
       is ≡ more_often (next_of number workers) (length (sends_of p.calls)) first
@@ -39,7 +39,7 @@ module _ {B : Type 0} (number workers : ℕ) where
   RingsOn p q was is =
       (first : List ℕ) → RingsEachSend p first was → RingsEachSend q first is
 
-  -- so it did at each send, and each other worker it has woken once since
+  -- in all it has woken the next one as often as it sent, and each other worker once more
   abbrev pub HasRung : PassStanding B → List ℕ → List ℕ → Type 0
   HasRung p first is = is
       ≡ others_more number workers

@@ -2,7 +2,7 @@ use Rattle.std.proofs.Common.{rules, ◌≡◌, ◌∙◌, ap, sym, subst, arith
 use Rattle.std.proofs.lemmas.Bool.{cases_lt, cases_Bool}
 use Rattle.std.specs.Prelude.{IfErr, Result, Err}
 use Rattle.scq_queue.specs.Passes.{PassStanding}
-use Rattle.scq_passes.specs.Leaving.{FoundTopicEmpty}
+use Rattle.scq_passes.specs.Leaving.{EndsAtEmpty, FoundTopicEmpty}
 use Rattle.scq_passes.proofs.InRun.{only-from, only-found}
 use Rattle.scq_passes.proofs.PassLemmas.{suits-taken, taken-nothing, taken-along, left-falls, left-falls-at, empty-more}
 use Rattle.scq_passes.proofs.Sweeps.{found-earlier, found-later}
@@ -13,7 +13,12 @@ pub swept-init : goal.swept-init
 swept-init g c = record {
   taken = taken-nothing (g.T.Taker.pass c.args.taker.now);
   made = g.met.T.Taker.made_none c.args.with.now c.args.taker.now;
-  emptied = record { past = λ t low. absurd (omega arith); found = λ t low. absurd (omega arith); vain = omega arith };
+  emptied = record {
+    past = λ t low. absurd (omega arith);
+    found = λ t low. absurd (omega arith);
+    vain = omega arith;
+    last = λ t is. absurd (omega (arith, is));
+  };
   fewer = λ h. absurd (cc);
   nothing = λ none. refl;
   more = λ h. absurd (cc);
@@ -47,6 +52,7 @@ swept-preserved g c =
               subst (λ u. FoundTopicEmpty u p r) same (found-earlier c.swept.topic p q r inv.taken its.emptied.found)
         ];
         vain = omega (arith, inv.emptied.vain, its.emptied.vain);
+        last = λ t is. subst (λ u. EndsAtEmpty u r) (omega (arith, is)) its.emptied.last;
       };
       fewer = λ h.
           elim c.if-some.branch [

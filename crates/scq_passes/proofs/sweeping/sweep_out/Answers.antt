@@ -31,7 +31,7 @@ swept-once g c =
     let read = c.closed-over.ensures.in_run said.0 (ap (λ (x : PassStanding _). x.gate) said.1) in
     let its = c.in_ok-some.ensures in
     sweep-of c.args.topics said.0 (pass c.sweeps.taker) (pass c.closed-over.new.self) (pass c.sweep.new.taker) said.1 read its.taken its.only
-    its.emptied.found
+    its.emptied
 
 pub sweeps-init : goal.sweeps-init
 sweeps-init g c =

@@ -75,6 +75,7 @@ returns-else-more-clause-emptied g c =
       past = none_.past;
       found = found-earlier c.args.topic _ _ _ c.takes.invariant.taken none_.found;
       vain = omega (arith, c.takes.invariant.vain, none_.vain);
+      last = none_.last;
     }
 
 pub returns-else-more-clause-some : goal.returns-else-more-clause-some
