@@ -1,8 +1,8 @@
 -- A worker that passes messages on one by one, or stops at one, whatever a worker is. `IsAt` says
 -- where it stands that has passed on these, and `IsOver` where it stands that met a ticket past the
 -- limit with at most these passed on.
-use Rattle.std.proofs.Common.{◌≡◌, refl, sym, ◌∙◌, subst, ℕ, Bool, false, List, [], ◌++◌, append_assoc}
-use Rattle.std.proofs.Common.{Option, None}
+use Rattle.std.proofs.Common.{◌≡◌, refl, sym, ◌∙◌, subst, ℕ, Bool, false, List, [], ◌++◌}
+use Rattle.std.proofs.Common.{append_assoc, Option, None}
 use Rattle.std.proofs.lemmas.List.{append-nil}
 use Rattle.scq_frames.specs.declared.message.Message.{Message}
 use Rattle.scq_band.specs.Standing.{Identity}

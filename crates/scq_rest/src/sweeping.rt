@@ -11,7 +11,8 @@ use scq_word::Buffer;
 use std::sync::Wait;
 
 /// Sweeps so many topics until all have retired, and rests once after each sweep that took nothing,
-/// and after no other. It leaves only after a sweep before which all had retired: where no wake comes it never returns.
+/// and after no other. It leaves only after a sweep before which all had retired: where no wake
+/// comes it never returns.
 pub fn sweep_and_rest<C, B: Buffer, T: Taker<C, B>, R: Wait>(
     taker: &mut T,
     with: &C,
