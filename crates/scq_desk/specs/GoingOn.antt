@@ -16,7 +16,7 @@ module _ {W B : Type 0} where
     pub fed : starved_of new ≡ false → starved_of old ≡ false
     pub number : (pass_of new).number ≡ (pass_of old).number
 
-  -- it has passed these messages on, and goes on
+  -- behind whatever it had passed on it has passed these messages on, and goes on
   pub record HasGoneOn (pass_of : W → PassStanding B) (starved_of : W → Bool)
       (IsAt : List Message → W → Type 0) (shared : Identity B) (declared : ℕ)
       (messages : List Message) (old new : W) : Type 0 where
@@ -25,7 +25,8 @@ module _ {W B : Type 0} where
     pub work : (before : List Message) → IsAt before old → IsAt (before ++ messages) new
     pub still : IsStill pass_of starved_of old new
 
-  -- it met a ticket past the limit, with at most those before and these passed on
+  -- where it had passed on those before, it met a ticket past the limit with at most those and these
+  -- passed on
   pub record HasStoppedAt (pass_of : W → PassStanding B) (starved_of : W → Bool)
       (IsAt : List Message → W → Type 0)
       (IsOver : List Message → W → Option (HeldStanding B) → Type 0)

@@ -37,9 +37,9 @@ module _ {B : Type 0} where
     pub gates : new.gates ≡ old.gates
     pub gate : new.gate ≡ old.gate
 
-  -- a sweep: the pass asked whether all had retired, when so many had not, as a reading in the run;
-  -- behind that reading it took from so many topics, each until it was empty, and asked no more. It
-  -- found each empty once, and ended with the last of them. Such puts follow the takes
+  -- a sweep: the pass asked whether all had retired, and found this number, as a reading in the run;
+  -- behind that reading it made takes alone, and asked no more. Of so many topics it found each empty
+  -- once, the last one at its end. Such puts follow the takes
   pub record IsSweep (contents : B → List ℕ) (queue : Identity B) (By : Puts) (topics found : ℕ)
       (old new : PassStanding B) : Type 0 where
     pub asked : PassStanding B
@@ -52,10 +52,10 @@ module _ {B : Type 0} where
     pub once : TookInVain topics asked new
     pub last : (topic : ℕ) → suc topic ≡ topics → EndsAtEmpty topic new
 
-  -- sweeps in a row, each begun where the one before ended, of which just the last `idle` took
-  -- nothing. Behind each the worker could go on: not all had retired at a moment before it, and
-  -- where it took nothing the number of such in a row `Goes` on. A pass keeps what the last of its
-  -- readings found alone, so what each of these found is any number that a reading there could find
+  -- sweeps in a row, each begun where the one before ended, of which the last `idle` took nothing,
+  -- and the one before these, if there is one, something. Where a sweep took nothing the number of
+  -- such in a row `Goes` on. The reading of each may have found that not all had retired: a pass
+  -- keeps what the last of its readings found, and of those before no more
   pub data AreSweeps (contents : B → List ℕ) (queue : Identity B) (By : Puts) (topics : ℕ)
       (Goes : ℕ → Type 0) : ℕ → PassStanding B → PassStanding B → Type 0 where
     no_sweep : (p : PassStanding B) → AreSweeps contents queue By topics Goes 0 p p

@@ -24,14 +24,12 @@ module _ {B : Type 0} where
   abbrev pub TookMore : PassStanding B → PassStanding B → Type 0
   TookMore old new = length (takes_of old.calls) < length (takes_of new.calls)
 
-  -- a worker that reads its files: it takes in vain only where it helps, and that once from each
-  -- topic after each Full
+  -- a worker that reads its files: it took in vain at most once for each topic and each Full
   abbrev pub HelpsInVain : ℕ → PassStanding B → Type 0
   HelpsInVain topics p = vain_takes p.calls ≤ topics * length p.fulls
 
-  -- a worker that sweeps: each sweep takes in vain once from each topic, and each but the last got
-  -- something or was followed by a rest. `begun` is 1 once its last sweep has begun, and 0 before
-  -- it
+  -- a worker that sweeps: it took in vain at most as often as there are topics for its last sweep,
+  -- each rest, each take and each Full. `begun` is 1 once its last sweep has begun, and 0 before it
   abbrev pub SweepsInVain : ℕ → ℕ → ℕ → PassStanding B → Type 0
   SweepsInVain topics begun rests p =
       vain_takes p.calls ≤ topics * (begun + rests + length (takes_of p.calls) + length p.fulls)

@@ -7,7 +7,7 @@ use Rattle.scq_queue.specs.Passes.{PassStanding}
 use Rattle.scq_rest.specs.Waiting.{EachWaited}
 use Rattle.scq_rest.specs.declared.resting.RestingRoom.{RestingRoom}
 
--- empty lists with room for so many workers
+-- so many flags, and empty lists with room for so many workers
 pub record HasRoom {S : Type 0} (workers : ℕ) (b : RestingRoom S) : Type 0 where
   pub flags : length b.flags.items ≡ workers
   pub none : (b.given.items ≡ []) × (b.places.items ≡ []) × (b.ends.items ≡ [])

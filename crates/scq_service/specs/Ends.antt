@@ -84,8 +84,8 @@ abbrev pub IfTold : {S : Type 0} → (S → Option (List ℕ)) → List S → (L
     → Type 0
 IfTold left got P = IfSome (all_left left got) P
 
--- sources were got in order, with no fault counted. Where the table is visible each told its name's
--- content, and each has left what follows the bytes that it gave. Where all were got, the count of
+-- sources were got, with no fault counted. Where the table is visible each told its name's content,
+-- in order, and each has left what follows the bytes that it gave. Where all were got, the count of
 -- files was kept
 pub record HasGotSources {S : Type 0} (faults : S → ℕ) (left : S
     → Option (List ℕ)) (names : List (List ℕ)) (got : List S) (r : Inputs S) : Type 0 where

@@ -62,9 +62,8 @@ pub record EndsWork {S : Type 0} (j : Job) (faults end_count : S → ℕ) (left 
   pub worked : IfOk end.result (λ w.
       (given : List (List Message)) × AreGiven j.topics j.longest left 1 sources given
       × HasWorked j.topics j.size j.workers given w)
-  -- whatever the answer is, the queue was closed with each buffer free: each pass has retired, what
-  -- was sent was taken, and the block was merged. Only where there was no memory for a queue there
-  -- was none
+  -- whatever the answer is, the queue was closed with each buffer free: each pass has retired, and
+  -- what was sent was taken. Only where there was no memory for a queue there was none
   pub none_stranded : IfSome end.left (λ l. IsSomeAnd end.passes (λ p. IsSomeAnd end.frames (λ f.
       NothingIsStranded j.order (length j.topics
       + 1) j.workers p.value.items f.value.items l.items)))

@@ -11,13 +11,13 @@ use Rattle.scq_worker.specs.Working.{IsAtWork, HasStopped}
 use Rattle.scq_worker.specs.declared.worker.Worker.{Worker}
 
 module _ {B : Type 0} (shared : Identity B) (topics : List (List ℕ × Kind)) (size : ℕ) where
-  -- it has passed on the parts of these messages, and took in vain only where it helped
+  -- it has passed on the parts of these messages, and took in vain no more than it helped
   abbrev pub IsAt : List Message → Worker B → Type 0
   IsAt messages w =
       IsAtWork topics (parts_in size messages) w.pass w.members.items w.starved
       × HelpsInVain (length topics + 1) w.pass
 
-  -- it met a ticket past the limit at the last of these messages
+  -- it met a ticket past the limit, with at most the parts of these messages passed on
   abbrev pub IsOver : List Message → Worker B → Option (HeldStanding B) → Type 0
   IsOver messages w kept = HasStopped shared (length (parts_in size messages)) w.pass kept
 
@@ -26,7 +26,7 @@ module _ {B : Type 0} (shared : Identity B) (topics : List (List ℕ × Kind)) (
   HasGoneOn messages old new =
       going.HasGoneOn (λ w. w.pass) (λ w. w.starved) IsAt shared (length topics) messages old new
 
-  -- it met a ticket past the limit at the last of these messages
+  -- it met a ticket past the limit, with at most those before and these passed on
   abbrev pub HasStoppedAt : List Message → Worker B → Worker B → Option (HeldStanding B) → Type 0
   HasStoppedAt messages old new kept =
       going.HasStoppedAt (λ w. w.pass) (λ w. w.starved) IsAt IsOver messages old new kept
