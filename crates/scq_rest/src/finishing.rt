@@ -37,6 +37,7 @@ pub fn finish<S: Source, G: Gate, R: Wait>(
         + 1) stand.new.rests desk.new.worker.worker.pass }
     ensures number { desk.new.worker.worker.pass.number ≡ desk.old.worker.worker.pass.number }
     ensures stand { (stand.new.crew ≡ stand.old.crew) × (stand.new.worker ≡ stand.old.worker) }
+    ensures wakes { stand.new.wakes ≡ stand.old.wakes }
 {
     match desk.worker.worker.pass.spent() {
         Some(_) => {}
@@ -67,6 +68,7 @@ fn rest_out<S: Source, G: Gate, R: Wait>(
         + 1) stand.new.rests desk.new.worker.worker.pass }
     ensures number { desk.new.worker.worker.pass.number ≡ desk.old.worker.worker.pass.number }
     ensures stand { (stand.new.crew ≡ stand.old.crew) × (stand.new.worker ≡ stand.old.worker) }
+    ensures wakes { stand.new.wakes ≡ stand.old.wakes }
 {
     let with = Takes {
         alloc,

@@ -36,6 +36,7 @@ pub fn sweep_and_rest<C, B: Buffer, T: Taker<C, B>, R: Wait>(
         → SweepsInVain topics 1 stand.new.rests (T.pass taker.new)) }
     ensures left { IfErr result (λ l. T.left with.now taker.old taker.new l.held) }
     ensures stand { (stand.new.crew ≡ stand.old.crew) × (stand.new.worker ≡ stand.old.worker) }
+    ensures wakes { stand.new.wakes ≡ stand.old.wakes }
 {
     'sweeps: for _ in rt.forever() {
         let over = taker.closed(with);

@@ -49,6 +49,7 @@ sweeps-init g c =
       sweeps = (0, no_sweep p, omega arith);
       crew = refl;
       worker = refl;
+      wakes = refl;
     }
 
 pub closed-over-requires : goal.closed-over-requires
@@ -146,6 +147,7 @@ sweeps-preserved-then-not-some g c =
       );
       crew = ap (λ (s : Post). s.crew) c.rest.ensures ∙ inv.crew;
       worker = ap (λ (s : Post). s.worker) c.rest.ensures ∙ inv.worker;
+      wakes = ap (λ (s : Post). s.wakes) c.rest.ensures ∙ inv.wakes;
     }
 
 -- it took something
@@ -178,4 +180,5 @@ sweeps-preserved g c =
       );
       crew = inv.crew;
       worker = inv.worker;
+      wakes = inv.wakes;
     }

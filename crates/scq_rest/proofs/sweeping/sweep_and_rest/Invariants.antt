@@ -21,4 +21,5 @@ invariant-sweeps g l =
           × (l.stand.rests ≡ l.fn.stand.rests + idle_sweeps all);
       crew : l.stand.crew ≡ l.fn.stand.crew;
       worker : l.stand.worker ≡ l.fn.stand.worker;
+      wakes : l.stand.wakes ≡ l.fn.stand.wakes;
     }
