@@ -69,15 +69,15 @@ module _ {B : Type 0} where
     pub firsts : HasFinishedFirsts old new was is
     pub directs : GotNo is_direct was is
 
-  -- a pass that has taken once from this topic, and given back what it got: from first nothing below
-  -- the head that it knew, and none of it was moved where the topic is second
+  -- a pass that has taken once from this topic, and given back what it got: nothing from below the
+  -- head that it knew of first, and from second nothing was moved
   pub record HasTakenOne (topic : ℕ) (old new : PassStanding B) : Type 0 where
     pub taken : HasGivenBack old new
     pub one : filter_map take_topic (since old new) ≡ topic ∷ []
     pub below : TookNoneBelow first old new
     pub moves : topic ≡ second → HasMovedIts old new
 
-  -- what it got became a member, and no First one where the topic is second
+  -- what it got became a member, and from second no First one
   pub record HasFinishedOne (topic : ℕ) (old new : PassStanding B)
       (was is : List Finished) : Type 0 where
     pub finished : HasFinished old new was is

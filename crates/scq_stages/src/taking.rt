@@ -1,10 +1,9 @@
 //! What a worker makes of what it takes.
-ghost use Rattle.std.specs.Prelude.{◌≡◌, ◌⊎◌, ℕ, suc, ◌<◌, ◌++◌, ◌∷◌, List, [], true, false};
-ghost use Rattle.std.specs.Prelude.{length, Some, None, Ok, IfErr, IfSome, IsSomeAnd, OnOk};
+ghost use Rattle.std.specs.Prelude.{◌≡◌, ◌⊎◌, ℕ, suc, ◌<◌, ◌≤◌, ◌++◌, ◌∷◌, List, [], true, false};
+ghost use Rattle.std.specs.Prelude.{Some, None, Ok, IfErr, IfSome, IsSomeAnd, OnOk};
 ghost use Rattle.std.specs.List.{filter_map};
 ghost use Rattle.scq_core.specs.declared.ended.Ended.{Ended as TheEnded};
 ghost use Rattle.scq_frames.specs.Encoded.{BeginsWith, part_at};
-ghost use Rattle.scq_queue.specs.Lists.{takes_of};
 ghost use Rattle.scq_band.specs.Buffers.{opening_of};
 ghost use Rattle.scq_band.specs.RunSeen.{IsCallInRun};
 ghost use Rattle.scq_queue.specs.Passes.{caller_of, known_on, IsHeldBy, WasGivenBack, after_put};

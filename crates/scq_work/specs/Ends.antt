@@ -25,12 +25,6 @@ as_end (TooLong file line len) = ends.TooLong file line len
 as_end (TooLarge file bytes) = ends.TooLarge file bytes
 as_end NoMemory = ends.NoMemory
 
--- want of memory comes before any other fault
-abbrev pub MemoryIsFirst : {S : Type 0} → ℕ → (S → ℕ) → (S → ℕ) → (S → Option (List ℕ)) → List S
-    → List S → WorkFault → Type 0
-MemoryIsFirst size faults end_count left olds news fault =
-    workers.MemoryIsFirst size faults end_count left olds news (as_end fault)
-
 -- the cause of each fault
 abbrev pub HasCause : {S : Type 0} → ℕ → (S → ℕ) → (S → ℕ) → (S → Option (List ℕ)) → List S → List S
     → WorkFault → Type 0
@@ -73,5 +67,6 @@ pub record EndsWork {S : Type 0} (j : Job) (faults end_count : S → ℕ) (left 
   -- a fault is that of its file, and those in front of it were read to their ends. Where there is
   -- one of a file, each source is as one whose reading didn't stop for want of memory
   pub cause : IfErr end.result (HasCause j.longest faults end_count left sources end.sources.items)
-  pub memory_first : IfErr end.result
-      (MemoryIsFirst j.longest faults end_count left sources end.sources.items)
+  pub memory_first : IfErr end.result (λ fault.
+      workers.MemoryIsFirst j.longest faults end_count left sources end.sources.items
+      (as_end fault))

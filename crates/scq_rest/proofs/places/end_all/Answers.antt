@@ -19,7 +19,7 @@ ends-init g c =
     let R : Work S → Work S → Type 0 =
     HasDone (task c.args.queue.now c.args.job.now c.args.crew.now g.S.Source.faults g.S.Source.ends g.S.Source.left) in
     let Held : Runner S → Type 0 =
-    HasWork R c.args.queue.now c.args.job.now c.args.crew.now g.S.Source.faults g.S.Source.ends g.S.Source.left in
+    HasWork HasDone c.args.queue.now c.args.job.now c.args.crew.now g.S.Source.faults g.S.Source.ends g.S.Source.left in
     record {
       ended = λ more so. subst (λ es. AllZip R (map given_to all) (es ++ more)) (sym none) (subst (λ ps. AllZip R (map given_to ps) more) back so);
       stands = subst (All Held) (sym back) c.requires.stands;
@@ -32,7 +32,7 @@ end-requires-clause-stands g c κs within =
     let R : Work S → Work S → Type 0 =
     HasDone (task c.args.queue.now c.args.job.now c.args.crew.now g.S.Source.faults g.S.Source.ends g.S.Source.left) in
     let Held : Runner S → Type 0 =
-    HasWork R c.args.queue.now c.args.job.now c.args.crew.now g.S.Source.faults g.S.Source.ends g.S.Source.left in
+    HasWork HasDone c.args.queue.now c.args.job.now c.args.crew.now g.S.Source.faults g.S.Source.ends g.S.Source.left in
     let rest = c.pop.new.self.items in
     let place = c.in-Some.place in
     All-head Held place (reverse rest) (subst (All Held) (turned c.ends.places.items rest place c.in-Some.ensures.items) c.ends.invariant.stands)
@@ -46,7 +46,7 @@ ends-preserved g c =
     let R : Work S → Work S → Type 0 =
     HasDone (task c.args.queue.now c.args.job.now c.args.crew.now g.S.Source.faults g.S.Source.ends g.S.Source.left) in
     let Held : Runner S → Type 0 =
-    HasWork R c.args.queue.now c.args.job.now c.args.crew.now g.S.Source.faults g.S.Source.ends g.S.Source.left in
+    HasWork HasDone c.args.queue.now c.args.job.now c.args.crew.now g.S.Source.faults g.S.Source.ends g.S.Source.left in
     record {
       ended = λ more so. subst (λ es. AllZip R (map given_to c.args.places.items) (es ++ more)) (sym c.push_reserved.ensures.items)
           (zipped-next R given_to (map given_to c.args.places.items) c.ends.places.items rest place c.ends.ends.items c.end.result inv.ended
