@@ -1,6 +1,6 @@
 -- How the work on all files ended: the fault of the workers and its cause, and what is known of
 -- each end. Files are numbered from 1.
-use Rattle.std.specs.Prelude.{◌≡◌, ℕ, ◌+◌, ◌<◌, List, length, map, slice_index_or, Option, Some}
+use Rattle.std.specs.Prelude.{◌≡◌, ℕ, ◌+◌, ◌<◌, List, length, map, slice_index_or, Option}
 use Rattle.std.specs.Prelude.{None, IfOk, IfErr, IfSome, IsErrOf, IsSomeAnd, OnOk}
 use Rattle.std.specs.List.Sorted.{IsPermutation}
 use Rattle.scq_frames.specs.declared.message.Message.{Message}

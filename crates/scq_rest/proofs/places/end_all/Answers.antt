@@ -29,8 +29,6 @@ ends-init g c =
 pub end-requires-clause-stands : goal.end-requires-clause-stands
 end-requires-clause-stands g c κs within =
     let S = g.row.S.Denot in
-    let R : Work S → Work S → Type 0 =
-    HasDone (task c.args.queue.now c.args.job.now c.args.crew.now g.S.Source.faults g.S.Source.ends g.S.Source.left) in
     let Held : Runner S → Type 0 =
     HasWork HasDone c.args.queue.now c.args.job.now c.args.crew.now g.S.Source.faults g.S.Source.ends g.S.Source.left in
     let rest = c.pop.new.self.items in

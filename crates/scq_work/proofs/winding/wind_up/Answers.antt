@@ -35,8 +35,7 @@ wind_up_desks-sources-requires-clause-seats g c κs within =
     (omega (arith, c.requires.count, c.args.job.now.valid.some_workers), c.requires.setup.2 ∙ sym c.requires.count)
 
 pub wind_up_desks-sources-requires-clause-own : goal.wind_up_desks-sources-requires-clause-own
-wind_up_desks-sources-requires-clause-own g c κs within k d less =
-    let ran = c.requires.run k d less in (ran.queue, ran.held, ran.its)
+wind_up_desks-sources-requires-clause-own g c κs within k d less = let ran = c.requires.run k d less in (ran.queue, ran.held, ran.its)
 
 -- what the workers did
 ran : (g : _) (c : After-conclude g) → AllRan c.args.queue.setup c.args.queue c.args.job.now.topics c.args.job.now.size c.args.job.now.longest
