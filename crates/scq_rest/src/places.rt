@@ -109,8 +109,7 @@ impl<S: Source> Runner<S> {
         crew: &Crew,
     ) -> Work<S>
         requires ready { IsReady (task queue.now job.now crew.now S.faults S.ends S.left) }
-        requires stands { HasWork HasDone queue.now job.now crew.now S.faults S.ends S.left
-            self }
+        requires stands { HasWork HasDone queue.now job.now crew.now S.faults S.ends S.left self }
         ensures { HasDone (task queue.now job.now crew.now S.faults S.ends S.left)
             (given_to self) result }
     {

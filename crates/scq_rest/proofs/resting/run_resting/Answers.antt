@@ -7,11 +7,10 @@ use Rattle.atomic_table.specs.Seated.{TableId}
 use Rattle.scq_block.specs.declared.frame.Frame.{Frame}
 use Rattle.scq_park.specs.Crews.{Post, AreAll, first_posts}
 use Rattle.scq_park.proofs.Firsts.{firsts_all}
-use Rattle.scq_worker.specs.Seats.{IsFresh, Seated}
-use Rattle.scq_files.specs.OwnFiles.{IsNew}
+use Rattle.scq_worker.specs.Seats.{Seated}
 use Rattle.scq_worker.specs.Desks.{HasRun}
 use Rattle.scq_rest.specs.Resting.{AreSettled}
-use Rattle.scq_rest.specs.Threads.{Task, task, IsGiven, HasDone}
+use Rattle.scq_rest.specs.Threads.{task, IsGiven, HasDone}
 use Rattle.scq_files.specs.declared.desk.Desk.{Desk}
 use Rattle.scq_rest.specs.declared.threads.Work.{Work}
 use Rattle.scq_rest.proofs.Settling.{zip-length, desk_of, stand_of, IsFirst, firsts-new, all-given, desks-same, each-done, settled}
@@ -26,13 +25,6 @@ new-of : (crew : List TableId) (workers : ℕ) (stands : List Post) → stands �
 new-of crew workers stands are = subst (All (IsFirst crew)) (sym are) (firsts-new crew workers)
 
 module _ {S : Type 0} where
-  -- each worker is given what it begins with
-  each-given : (t : Task S) (desks : List (Desk (Seated Frame) S)) (stands : List Post) (first : Work S) (given : List (Work S))
-      → desks ≡ map desk_of (first ∷ given) → stands ≡ map stand_of (first ∷ given) → All (λ (d : Desk (Seated Frame) S). IsFresh t.queue d.worker) desks
-      → All (λ (d : Desk (Seated Frame) S). All IsNew d.files.items) desks → All (IsFirst t.crew) stands → All (IsGiven t) (first ∷ given)
-  each-given t desks stands first given desks_are stands_are fresh unread new =
-      all-given t (first ∷ given) desks stands desks_are stands_are fresh unread new
-
   -- one fewer are given than there are desks
   few-given : (desks : List (Desk (Seated Frame) S)) (first : Work S) (given : List (Work S)) → desks ≡ map desk_of (first ∷ given)
       → length given + 1 ≡ length desks
@@ -49,8 +41,8 @@ run_all-first-requires g c κs within =
     let first = c.pair-first.result in
     let given = c.pair-first.new.given in
     let new = new-of c.args.crew.now c.args.job.now.workers c.args.stands.items c.requires.stands in
-    let each = each-given t c.args.desks.items c.args.stands.items first given.items c.pair-first.ensures.desks c.pair-first.ensures.stands c.requires.fresh
-    c.requires.unread new in
+    let each = all-given t (first ∷ given.items) c.args.desks.items c.args.stands.items c.pair-first.ensures.desks c.pair-first.ensures.stands
+    c.requires.fresh c.requires.unread new in
     let few = few-given c.args.desks.items first given.items c.pair-first.ensures.desks in
     let room = c.requires.resting_room in (
       record { rings = c.requires.rings; room = c.requires.room; crew = c.requires.workers.1; some = c.args.job.now.valid.some_workers },
