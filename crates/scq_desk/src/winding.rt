@@ -1,6 +1,6 @@
 //! How the work of all workers ends.
-ghost use Rattle.std.specs.Prelude.{◌≡◌, ℕ, ◌<◌, ◌≤◌, ◌||◌, None, false, length, map, flat_map};
-ghost use Rattle.std.specs.Prelude.{vec_len, IfSome};
+ghost use Rattle.std.specs.Prelude.{◌≡◌, ℕ, ◌<◌, ◌||◌, None, false, length, map, flat_map};
+ghost use Rattle.std.specs.Prelude.{IfSome};
 ghost use Rattle.std.specs.List.{All};
 ghost use Rattle.std.specs.Option.{option_to_list};
 ghost use Rattle.scq_block.specs.Blocks.{AreAllOf};
@@ -61,10 +61,9 @@ pub fn wind_up_desks<M: Drop, W: Sits<Pass<Frame>, M>, S: Source>(
     requires seats { (0 < length desks.items) × (queue.setup.seats ≡ length desks.items) }
     requires all { AreAllOf block queue.given }
     requires dealt { AreDealt 1 laid.was.value.items desks.items }
-    requires own { All (λ d. (W.pass_of d.worker.worker).queue ≡ queue) desks.items }
-    requires held { All (λ d.
-        (W.pass_of d.worker.worker).held ≡ index_of d.worker.kept) desks.items }
-    requires its { All (λ d. IfSome d.worker.kept (λ h. h.queue ≡ queue)) desks.items }
+    requires own { All (λ d. ((W.pass_of d.worker.worker).queue ≡ queue)
+        × ((W.pass_of d.worker.worker).held ≡ index_of d.worker.kept)
+        × IfSome d.worker.kept (λ h. h.queue ≡ queue)) desks.items }
     ensures gathered { (size : ℕ) → AllEnded size S.faults S.ends S.left desks.items
         → AreGathered size S.faults S.ends S.left laid.was.value.items result.sources.items
         result.fault result.starved }

@@ -2,10 +2,12 @@
 //! and how its reading ended is told by `IsRead` (`specs/Reading`), and what that says of all files
 //! by `specs/Ends`. Which files are a worker's is `specs/Files`. A worker has its files on a desk,
 //! whatever else it has there: `deal` lays them on the desks, and `gather` takes them off in their
-//! order and says how the reading of all ended (`specs/Desks`). It stands on `scq_frames`, whose
-//! messages these are. What is done with the messages isn't said here.
+//! order and says how the reading of all ended (`specs/Desks`). `work_apart` has work done at each
+//! desk, side by side. It stands on `scq_frames`, whose messages these are. What is done with the
+//! messages isn't said here.
 #![tactic(auto)]
 
+mod apart;
 mod dealing;
 mod desk;
 mod gathering;
@@ -15,6 +17,7 @@ mod own_file;
 mod own_lists;
 mod reading;
 
+pub use apart::work_apart;
 pub use dealing::deal;
 pub use desk::Desk;
 pub use gathering::{Gathered, gather};

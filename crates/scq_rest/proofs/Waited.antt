@@ -1,7 +1,5 @@
 -- A worker that has retired, and what its sweeps and rests make of it.
-use Rattle.std.proofs.Common.{◌≡◌, sym, subst, ℕ, ◌+◌, List, length, Option, Some, Bool}
-use Rattle.scq_topics.specs.declared.kind.Kind.{Kind}
-use Rattle.scq_collect.specs.declared.answered.Answered.{Answered}
+use Rattle.std.proofs.Common.{◌≡◌, sym, subst, ℕ, ◌+◌, List, length, Option, Some}
 use Rattle.scq_band.specs.Standing.{Identity}
 use Rattle.scq_queue.specs.Passes.{PassStanding, HeldStanding}
 use Rattle.scq_files.specs.declared.own_file.OwnFile.{OwnFile}
@@ -10,6 +8,8 @@ use Rattle.scq_passes.specs.Records.{IsReturn}
 use Rattle.scq_passes.specs.Waiting.{SweepsInVain}
 use Rattle.scq_passes.proofs.Vain.{sweeps-begin}
 use Rattle.scq_worker.specs.Desks.{IsToSweep}
+use Rattle.scq_worker.specs.declared.job.Job.{Job}
+use Rattle.scq_worker.specs.declared.worker.Worker.{Worker}
 use Rattle.scq_worker.proofs.Produced.{none-or, queue-swept}
 use Rattle.scq_rest.specs.Sweeping.{HasLeftTold, HasSweptTold}
 use Rattle.scq_rest.specs.Waiting.{HasWaited}
@@ -24,28 +24,29 @@ module _ {B : Type 0} where
     left = λ none. absurd (none-or p.spent ticket is none);
   }
 
-module _ {B S : Type 0} (shared : Identity B) (topics : List (List ℕ × Kind)) (size longest : ℕ) (faults end_count : S → ℕ) (left : S → Option (List ℕ))
-    (files : List (OwnFile S)) where
-  module _ (p q : PassStanding B) (was is : List Answered) (before after : Bool) (kept : Option (HeldStanding B))
-      (t : IsToSweep shared topics size longest faults end_count left files p was before kept) where
-    left-told : (contents : B → List ℕ) (rests : ℕ) → HasTaken p q → HasSweptTold contents shared IsReturn (length topics + 1) rests p q
-        → HasLeftTold contents IsReturn (length topics + 1) rests q
-    left-told contents rests taken end = record {
-      before = t.before;
-      unasked = t.work.producing.unasked;
-      swept = subst (λ (k : Identity B). HasSweptTold contents k IsReturn (length topics + 1) rests (after_retire t.before) q)
-          (sym (queue-swept shared topics size longest faults end_count left files p q was is before after kept t taken))
-          (subst (λ (x : PassStanding B). HasSweptTold contents shared IsReturn (length topics + 1) rests x q) t.retired end);
-    }
+module _ {B S : Type 0} (shared : Identity B) (job : Job) (faults end_count : S → ℕ) (left : S → Option (List ℕ)) (files : List (OwnFile S)) (was now : Worker B)
+    (kept : Option (HeldStanding B))
+    (t : IsToSweep shared job.topics job.size job.longest faults end_count left files was.pass was.members.items was.starved kept) where
+  left-told : (contents : B → List ℕ) (topics rests : ℕ) → HasTaken was.pass now.pass → HasSweptTold contents shared IsReturn topics rests was.pass now.pass
+      → HasLeftTold contents IsReturn topics rests now.pass
+  left-told contents topics rests taken end = record {
+    before = t.before;
+    unasked = t.work.producing.unasked;
+    swept = subst (λ (k : Identity B). HasSweptTold contents k IsReturn topics rests (after_retire t.before) now.pass)
+        (sym (queue-swept shared job faults end_count left files was now kept t taken))
+        (subst (λ (x : PassStanding B). HasSweptTold contents shared IsReturn topics rests x now.pass) t.retired end);
+  }
 
-    -- it swept and rested until it was told
-    pub waited-told : (contents : B → List ℕ) (first rests : ℕ) → HasTaken p q → HasSweptTold contents shared IsReturn (length topics + 1) rests p q
-        → q.gate ≡ Some 0 → (SweepsInVain (length topics + 1) 0 first p → SweepsInVain (length topics + 1) 1 rests q)
-        → HasWaited contents (length topics + 1) rests q
-    waited-told contents first rests taken end told more =
-        record {
-          told = λ awake. told;
-          vain = λ awake. more (subst (λ (x : PassStanding B). SweepsInVain (length topics + 1) 0 first x) (sym t.retired)
-              (sweeps-begin (length topics + 1) first t.before t.vain));
-          left = λ awake. left-told contents rests taken end;
-        }
+  -- it swept and rested until it was told
+  pub waited-told : (contents : B → List ℕ) (first rests n : ℕ) → n ≡ length job.topics → HasTaken was.pass now.pass
+      → HasSweptTold contents shared IsReturn (n + 1) rests was.pass now.pass → now.pass.gate ≡ Some 0
+      → (SweepsInVain (n + 1) 0 first was.pass → SweepsInVain (n + 1) 1 rests now.pass) → HasWaited contents (length job.topics + 1) rests now.pass
+  waited-told contents first rests n many taken end told more =
+      record {
+        told = λ awake. told;
+        vain = λ awake. subst (λ m. SweepsInVain (m + 1) 1 rests now.pass) many
+            (more (subst (λ m. SweepsInVain (m + 1) 0 first was.pass) (sym many)
+            (subst (λ (x : PassStanding B). SweepsInVain (length job.topics + 1) 0 first x) (sym t.retired)
+            (sweeps-begin (length job.topics + 1) first t.before t.vain))));
+        left = λ awake. subst (λ m. HasLeftTold contents IsReturn (m + 1) rests now.pass) many (left-told contents (n + 1) rests taken end);
+      }

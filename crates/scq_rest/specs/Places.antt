@@ -1,9 +1,11 @@
 -- What becomes of the workers that are to be started.
-use Rattle.std.specs.Prelude.{◌≡◌, ℕ, List, Option}
+use Rattle.std.specs.Prelude.{◌≡◌, ℕ, ◌≤◌, List, [], Option, Vec, vec_len, vec_capacity, All}
+use Rattle.std.specs.Global.{Global}
+use Rattle.std.specs.List.{AllZip}
 use Rattle.atomic_table.specs.Seated.{TableId}
 use Rattle.scq_block.specs.declared.frame.Frame.{Frame}
 use Rattle.scq_band.specs.Standing.{Identity}
-use Rattle.scq_rest.specs.Threads.{task, IsGiven, HasDone}
+use Rattle.scq_rest.specs.Threads.{Task, task, IsReady, IsGiven, HasDone}
 use Rattle.scq_worker.specs.declared.job.Job.{Job}
 use Rattle.scq_rest.specs.declared.places.Runner.{Runner}
 use Rattle.scq_rest.specs.declared.places.Runner.TheVariants.{Started, Here, Done}
@@ -27,14 +29,30 @@ module _ {S : Type 0} where
 
   -- so stands the worker of a place: where it has a thread of its own, that will tell; where the
   -- caller runs it, R holds of what it was given and what it has
-  abbrev pub HasWork : (Work S → Work S → Type 0) → Identity Frame → Job → List TableId → (S → ℕ)
-      → (S → ℕ) → (S → Option (List ℕ)) → Runner S → Type 0
+  abbrev pub HasWork : (Task S → Work S → Work S → Type 0) → Identity Frame → Job → List TableId
+      → (S → ℕ) → (S → ℕ) → (S → Option (List ℕ)) → Runner S → Type 0
   HasWork R q j crew faults end_count left (Started h) =
       Begins q j crew faults end_count left h.promise
   HasWork R q j crew faults end_count left (Here was work) =
-      Begins q j crew faults end_count left was × R was.work.value work
+      Begins q j crew faults end_count left was
+      × R (task q j crew faults end_count left) was.work.value work
   HasWork R q j crew faults end_count left (Done was work) =
       HasDone (task q j crew faults end_count left) was.work.value work
 
-  abbrev pub IsUntouched : Work S → Work S → Type 0
-  IsUntouched given work = work ≡ given
+  abbrev pub IsUntouched : Task S → Work S → Work S → Type 0
+  IsUntouched t given work = work ≡ given
+
+  -- the first worker and the others can begin: there are so many flags for the others, and room for
+  -- their places and ends
+  abbrev pub CanAllBegin : Task S → ℕ → Work S → Vec (Work S) Global → Vec (Runner S) Global
+      → Vec (Work S) Global → Type 0
+  CanAllBegin t flags first given places ends =
+      IsReady t × IsGiven t first × All (IsGiven t) given.items × (vec_len given ≤ flags)
+      × (places.items ≡ []) × (ends.items ≡ []) × (vec_len given ≤ vec_capacity places)
+      × (vec_len given ≤ vec_capacity ends)
+
+  -- and all have done their work, in order
+  abbrev pub HaveDone : Task S → Work S → Vec (Work S) Global → Work S → Vec (Work S) Global
+      → Type 0
+  HaveDone t first given done ends =
+      HasDone t first done × AllZip (HasDone t) given.items ends.items

@@ -3,7 +3,7 @@
 ghost use Rattle.std.specs.Prelude.{◌≡◌, ◌≤◌, [], length, map, All, vec_len, vec_capacity};
 ghost use Rattle.std.specs.List.{AllZip};
 ghost use Rattle.scq_rest.specs.Threads.{task, IsReady, IsGiven, HasBegun, HasDone};
-ghost use Rattle.scq_rest.specs.Places.{given_to, HasWork, IsUntouched};
+ghost use Rattle.scq_rest.specs.Places.{given_to, HasWork, IsUntouched, CanAllBegin, HaveDone};
 
 use crate::threads::{HandedBack, Work, WorksOn, start};
 use scq_block::Frame;
@@ -65,9 +65,7 @@ impl<S: Source> Runner<S> {
         requires stands { HasWork IsUntouched queue.now job.now crew.now S.faults S.ends S.left
             self.old }
         ensures given { given_to self.new ≡ given_to self.old }
-        ensures stands { HasWork
-            (HasBegun (task queue.now job.now crew.now S.faults S.ends S.left)) queue.now job.now
-            crew.now S.faults S.ends S.left
+        ensures stands { HasWork HasBegun queue.now job.now crew.now S.faults S.ends S.left
             self.new }
     {
         match self {
@@ -87,14 +85,10 @@ impl<S: Source> Runner<S> {
         gate: &G,
         crew: &Crew,
     )
-        requires stands { HasWork
-            (HasBegun (task queue.now job.now crew.now S.faults S.ends S.left)) queue.now job.now
-            crew.now S.faults S.ends S.left
+        requires stands { HasWork HasBegun queue.now job.now crew.now S.faults S.ends S.left
             self.old }
         ensures given { given_to self.new ≡ given_to self.old }
-        ensures stands { HasWork
-            (HasDone (task queue.now job.now crew.now S.faults S.ends S.left)) queue.now job.now
-            crew.now S.faults S.ends S.left
+        ensures stands { HasWork HasDone queue.now job.now crew.now S.faults S.ends S.left
             self.new }
     {
         match self {
@@ -115,10 +109,7 @@ impl<S: Source> Runner<S> {
         crew: &Crew,
     ) -> Work<S>
         requires ready { IsReady (task queue.now job.now crew.now S.faults S.ends S.left) }
-        requires stands { HasWork
-            (HasDone (task queue.now job.now crew.now S.faults S.ends S.left)) queue.now job.now
-            crew.now S.faults S.ends S.left
-            self }
+        requires stands { HasWork HasDone queue.now job.now crew.now S.faults S.ends S.left self }
         ensures { HasDone (task queue.now job.now crew.now S.faults S.ends S.left)
             (given_to self) result }
     {
@@ -151,9 +142,7 @@ fn produce_all<S: Source, G: Gate>(
         (HasWork IsUntouched queue.now job.now crew.now S.faults S.ends S.left) places.old }
     ensures given { map given_to places.new ≡ map given_to places.old }
     ensures stands { All
-        (HasWork (HasBegun (task queue.now job.now crew.now S.faults S.ends S.left)) queue.now
-        job.now crew.now S.faults S.ends S.left)
-        places.new }
+        (HasWork HasBegun queue.now job.now crew.now S.faults S.ends S.left) places.new }
 {
     'places: for place in places.iter_mut() {
         place.produce(alloc, job, queue, gate, crew);
@@ -170,14 +159,10 @@ fn finish_all<S: Source, G: Gate, R: Wait>(
     crew: &Crew,
 )
     requires stands { All
-        (HasWork (HasBegun (task queue.now job.now crew.now S.faults S.ends S.left)) queue.now
-        job.now crew.now S.faults S.ends S.left)
-        places.old }
+        (HasWork HasBegun queue.now job.now crew.now S.faults S.ends S.left) places.old }
     ensures given { map given_to places.new ≡ map given_to places.old }
     ensures stands { All
-        (HasWork (HasDone (task queue.now job.now crew.now S.faults S.ends S.left)) queue.now
-        job.now crew.now S.faults S.ends S.left)
-        places.new }
+        (HasWork HasDone queue.now job.now crew.now S.faults S.ends S.left) places.new }
 {
     'places: for place in places.iter_mut() {
         place.finish(rt, alloc, job, queue, gate, crew);
@@ -227,9 +212,7 @@ fn end_all<S: Source, G: Gate, R: Threads + Wait>(
 )
     requires ready { IsReady (task queue.now job.now crew.now S.faults S.ends S.left) }
     requires stands { All
-        (HasWork (HasDone (task queue.now job.now crew.now S.faults S.ends S.left)) queue.now
-        job.now crew.now S.faults S.ends S.left)
-        places.items }
+        (HasWork HasDone queue.now job.now crew.now S.faults S.ends S.left) places.items }
     requires empty { ends.old.items ≡ [] }
     requires room { vec_len places ≤ vec_capacity ends.old }
     ensures { AllZip (HasDone (task queue.now job.now crew.now S.faults S.ends S.left))
@@ -257,18 +240,10 @@ fn all_in<'s, E, R: Threads + Wait + Sync + 's, S: Source + 's, G: Gate + Sync +
     mut places: Vec<Runner<S>>,
     mut ends: Vec<Work<S>>,
 ) -> (Work<S>, Vec<Work<S>>)
-    requires ready { IsReady (task queue.now job.now crew.now S.faults S.ends S.left) }
-    requires first { IsGiven (task queue.now job.now crew.now S.faults S.ends S.left) first }
-    requires given { All
-        (IsGiven (task queue.now job.now crew.now S.faults S.ends S.left)) given.items }
-    requires flags { vec_len given ≤ length flags.now }
-    requires empty { (places.items ≡ []) × (ends.items ≡ []) }
-    requires room { (vec_len given ≤ vec_capacity places) × (vec_len given ≤ vec_capacity ends) }
-    ensures first { HasDone
-        (task queue.now job.now crew.now S.faults S.ends S.left) first result.0 }
-    ensures others { AllZip
-        (HasDone (task queue.now job.now crew.now S.faults S.ends S.left)) given.items
-        result.1.items }
+    requires { CanAllBegin (task queue.now job.now crew.now S.faults S.ends S.left)
+        (length flags.now) first given places ends }
+    ensures { HaveDone (task queue.now job.now crew.now S.faults S.ends S.left) first given
+        result.0 result.1 }
 {
     begin_all(
         rt,
@@ -304,35 +279,20 @@ pub fn run_all<R: Threads + Wait + Sync, S: Source, G: Gate + Sync>(
     places: Vec<Runner<S>>,
     ends: Vec<Work<S>>,
 ) -> (Work<S>, Vec<Work<S>>)
-    requires ready { IsReady (task queue.now job.now crew.now S.faults S.ends S.left) }
-    requires first { IsGiven (task queue.now job.now crew.now S.faults S.ends S.left) first }
-    requires given { All
-        (IsGiven (task queue.now job.now crew.now S.faults S.ends S.left)) given.items }
-    requires flags { vec_len given ≤ length flags.now }
-    requires empty { (places.items ≡ []) × (ends.items ≡ []) }
-    requires room { (vec_len given ≤ vec_capacity places) × (vec_len given ≤ vec_capacity ends) }
-    ensures first { HasDone
-        (task queue.now job.now crew.now S.faults S.ends S.left) first result.0 }
-    ensures others { AllZip
-        (HasDone (task queue.now job.now crew.now S.faults S.ends S.left)) given.items
-        result.1.items }
+    requires { CanAllBegin (task queue.now job.now crew.now S.faults S.ends S.left)
+        (length flags.now) first given places ends }
+    ensures { HaveDone (task queue.now job.now crew.now S.faults S.ends S.left) first given
+        result.0 result.1 }
 {
     thread::scope(
         thread::scope_env(),
         rt,
         move |scope| -> (Work<S>, Vec<Work<S>>)
-            requires { IsReady (task queue.now job.now crew.now S.faults S.ends S.left)
-                × IsGiven (task queue.now job.now crew.now S.faults S.ends S.left) first
-                × All (IsGiven (task queue.now job.now crew.now S.faults S.ends S.left)) given.items
-                × (vec_len given ≤ length flags.now)
-                × (places.items ≡ []) × (ends.items ≡ []) × (vec_len given ≤ vec_capacity places)
-                × (vec_len given ≤ vec_capacity ends) }
-            ensures first { HasDone
+            requires { CanAllBegin (task queue.now job.now crew.now S.faults S.ends S.left)
+                (length flags.now) first given places ends }
+            ensures { HaveDone
                 (task queue.entry.now job.entry.now crew.entry.now S.faults S.ends S.left) first
-                result.0 }
-            ensures others { AllZip
-                (HasDone (task queue.entry.now job.entry.now crew.entry.now S.faults S.ends S.left))
-                given.items result.1.items }
+                given result.0 result.1 }
         {
             all_in(
                 rt, scope, alloc, job, queue, gate, crew, flags, first, given, places, ends,

@@ -1,5 +1,5 @@
 -- What one take makes of a worker's list and of its moves, and what several make of them, one behind the other.
-use Rattle.std.proofs.Common.{◌≡◌, refl, sym, ◌∙◌, ap, subst, suc, ℕ, List, [], ◌∷◌, ◌++◌, append_assoc, Option, Some, None, Bool, inl}
+use Rattle.std.proofs.Common.{◌≡◌, refl, sym, ◌∙◌, ap, subst, arith, zero, suc, ℕ, ◌<◌, ◌≤◌, length, List, [], ◌∷◌, ◌++◌, append_assoc, Option, Some, None, Bool, inl}
 use Rattle.std.specs.Prelude.{filter, IfSome, IsSomeAnd, ◌⊎◌}
 use Rattle.std.specs.List.{filter_map}
 use Rattle.std.proofs.lemmas.List.{append-nil}
@@ -8,23 +8,23 @@ use Rattle.scq_core.specs.declared.ended.Ended.TheVariants.{Done, Got, Nothing}
 use Rattle.scq_frames.specs.Parts.{Part}
 use Rattle.scq_frames.specs.Encoded.{BeginsWith, part_at}
 use Rattle.scq_queue.specs.Lists.{Placed, sends_of, takes_of}
-use Rattle.scq_queue.specs.Passes.{PassStanding, HeldStanding, HasGot, FoundEmpty, having_seen, after_put, after_spent_put, after_spent_get}
+use Rattle.scq_queue.specs.Passes.{PassStanding, HeldStanding, HasGot, FoundEmpty, WasGivenBack, known_on, having_seen, after_put, after_spent_put, after_spent_get}
 use Rattle.scq_queue.proofs.Records.{sends-append}
 use Rattle.scq_passes.specs.Records.{on}
 use Rattle.scq_passes.specs.Becoming.{BecomeSoFar, and_became, and_passed_over}
 use Rattle.scq_passes.specs.Calls.{HasLeftSo, since, taken_since}
 use Rattle.scq_passes.proofs.OnTopics.{on-append}
-use Rattle.scq_passes.proofs.PassLemmas.{got-and-put}
-use Rattle.scq_passes.proofs.Since.{since-of, since-taken_on}
+use Rattle.scq_passes.proofs.PassLemmas.{got-and-put, took-and-gave, found-none}
+use Rattle.scq_passes.proofs.Since.{since-of, since-taken_on, none_below-nothing, none_below-one}
 use Rattle.scq_passes.proofs.LeftLemmas.{left-so-at-get, left-so-at-put}
 use Rattle.scq_stages.specs.declared.finished.Finished.{Finished}
 use Rattle.scq_stages.specs.declared.finished.StageWay.{StageWay}
 use Rattle.scq_stages.specs.declared.finished.StageWay.TheVariants.{Second, First}
-use Rattle.scq_stages.specs.Stages.{redacted, squeezed, both}
+use Rattle.scq_stages.specs.Stages.{redacted, squeezed, both, stages_left}
 use Rattle.scq_stages.specs.Handling.{after}
-use Rattle.scq_stages.specs.Members.{is_second, is_first, is_direct, finished}
+use Rattle.scq_stages.specs.Members.{FinishesTake, IsNoPart, is_second, is_first, is_direct, finished, way_from}
 use Rattle.scq_stages.specs.Records.{first, second, take_topic}
-use Rattle.scq_stages.specs.Steps.{SecondsSoFar, FirstsSoFar, MovesSoFar, GotNo, HasMovedIts, HasFinishedSeconds, HasFinishedFirsts, HasFinished, HasFinishedOnlySeconds}
+use Rattle.scq_stages.specs.Steps.{SecondsSoFar, FirstsSoFar, MovesSoFar, GotNo, HasMovedIts, HasFinishedSeconds, HasFinishedFirsts, HasFinished, HasFinishedOne, HasFinishedOnlySeconds, HasTakenOne}
 use Rattle.scq_stages.specs.Working.{HasFewStageCalls}
 use Rattle.scq_stages.proofs.FewCalls.{few_calls-at_get, few_calls-at_put}
 
@@ -36,29 +36,22 @@ longer xs ys zs whole is = ap (λ l. xs ++ l) is ∙ sym (append_assoc xs ys zs)
 abbrev WasListed : (ℕ → StageWay) → (List ℕ → List ℕ) → ℕ → Option Part → List Finished → List Finished → Type 0
 WasListed way stage place o was is = IfSome o (λ part. is ≡ was ++ finished (way place) stage part ∷ []) × (o ≡ None → is ≡ was)
 
-seconds-one : (place : ℕ) (bytes : List ℕ) (was is : List Finished) (takes : List Placed) (o : Option Part) → part_at bytes ≡ o
-    → WasListed Second squeezed place o was is → SecondsSoFar takes (filter is_second was)
-    → SecondsSoFar (takes ++ record { topic = second; place = place; bytes = bytes } ∷ []) (filter is_second is)
-seconds-one place bytes was is takes None none listed before =
-    let take : Placed = record { topic = second; place = place; bytes = bytes } in
-    subst (SecondsSoFar (takes ++ take ∷ [])) (sym (ap (filter is_second) (listed.1 refl))) (and_passed_over take before none)
-seconds-one place bytes was is takes (Some part) some listed before =
-    let take : Placed = record { topic = second; place = place; bytes = bytes } in
-    let f = finished (Second place) squeezed part in
-    let grown : filter is_second is ≡ filter is_second was ++ f ∷ [] = ap (filter is_second) listed.0 ∙ filter-append is_second was (f ∷ []) in
-    subst (SecondsSoFar (takes ++ take ∷ [])) (sym grown) (and_became take f before (record { part = part; decodes = some; is = refl }))
-
-firsts-one : (place : ℕ) (bytes : List ℕ) (was is : List Finished) (takes : List Placed) (o : Option Part) → part_at bytes ≡ o
-    → WasListed First both place o was is → FirstsSoFar takes (filter is_first was)
-    → FirstsSoFar (takes ++ record { topic = first; place = place; bytes = bytes } ∷ []) (filter is_first is)
-firsts-one place bytes was is takes None none listed before =
-    let take : Placed = record { topic = first; place = place; bytes = bytes } in
-    subst (FirstsSoFar (takes ++ take ∷ [])) (sym (ap (filter is_first) (listed.1 refl))) (and_passed_over take before none)
-firsts-one place bytes was is takes (Some part) some listed before =
-    let take : Placed = record { topic = first; place = place; bytes = bytes } in
-    let f = finished (First place) both part in
-    let grown : filter is_first is ≡ filter is_first was ++ f ∷ [] = ap (filter is_first) listed.0 ∙ filter-append is_first was (f ∷ []) in
-    subst (FirstsSoFar (takes ++ take ∷ [])) (sym grown) (and_became take f before (record { part = part; decodes = some; is = refl }))
+-- so it became a member of its kind, or was passed over
+kind-one : (kind : Finished → Bool) (way : ℕ → StageWay) (stage : List ℕ → List ℕ) (topic place : ℕ) (bytes : List ℕ) (was is : List Finished)
+    (takes : List Placed) (o : Option Part)
+    → ((part : Part) → filter kind (finished (way place) stage part ∷ []) ≡ finished (way place) stage part ∷ []) → part_at bytes ≡ o
+    → WasListed way stage place o was is → BecomeSoFar IsNoPart (FinishesTake way stage) takes (filter kind was)
+    → BecomeSoFar IsNoPart (FinishesTake way stage) (takes ++ record { topic = topic; place = place; bytes = bytes } ∷ []) (filter kind is)
+kind-one kind way stage topic place bytes was is takes None own none listed before =
+    let take : Placed = record { topic = topic; place = place; bytes = bytes } in
+    subst (BecomeSoFar IsNoPart (FinishesTake way stage) (takes ++ take ∷ [])) (sym (ap (filter kind) (listed.1 refl))) (and_passed_over take before none)
+kind-one kind way stage topic place bytes was is takes (Some part) own some listed before =
+    let take : Placed = record { topic = topic; place = place; bytes = bytes } in
+    let f = finished (way place) stage part in
+    let grown : filter kind is ≡ filter kind was ++ f ∷ [] =
+    ap (filter kind) listed.0 ∙ filter-append kind was (f ∷ []) ∙ ap (λ l. filter kind was ++ l) (own part) in
+    subst (BecomeSoFar IsNoPart (FinishesTake way stage) (takes ++ take ∷ [])) (sym grown)
+    (and_became take f before (record { part = part; decodes = some; is = refl }))
 
 -- of another kind there is none more
 other-kind : (kind : Finished → Bool) (way : ℕ → StageWay) (stage : List ℕ → List ℕ) (place : ℕ) (was is : List Finished) (o : Option Part)
@@ -89,43 +82,35 @@ module _ {B : Type 0} where
       let all : takes ++ taken_since topic p q ≡ takes = ap (λ l. takes ++ l) none ∙ append-nil takes in
       subst (λ l. BecomeSoFar Over Becomes l is) (sym all) (subst (BecomeSoFar Over Becomes takes) (sym same) before)
 
-  -- a take of second that was finished
-  pub finished-second : (place back : ℕ) (bytes later : List ℕ) (p r : PassStanding B) (was is : List Finished)
-      → since p r ≡ Got (suc second) place bytes ∷ Done 0 back later ∷ [] → WasListed Second squeezed place (part_at bytes) was is → HasFinished p r was is
-  finished-second place back bytes later p r was is calls listed =
-      let seconds : taken_since second p r ≡ record { topic = second; place = place; bytes = bytes } ∷ [] = ap (λ l. on second (takes_of l)) calls in
-      let firsts : taken_since first p r ≡ [] = ap (λ l. on first (takes_of l)) calls in
-      record {
-        seconds = λ takes before. subst (λ l. SecondsSoFar (takes ++ l) (filter is_second is)) (sym seconds)
-            (seconds-one place bytes was is takes (part_at bytes) refl listed before);
-        firsts = λ takes before. still first p r takes (filter is_first was) (filter is_first is) firsts
-            (other-kind is_first Second squeezed place was is (part_at bytes) (λ part. refl) listed) before;
-        directs = other-kind is_direct Second squeezed place was is (part_at bytes) (λ part. refl) listed;
-      }
-
-  pub helped-second : (place back : ℕ) (bytes later : List ℕ) (p r : PassStanding B) (was is : List Finished)
-      → since p r ≡ Got (suc second) place bytes ∷ Done 0 back later ∷ [] → WasListed Second squeezed place (part_at bytes) was is → HasFinishedOnlySeconds p r was is
-  helped-second place back bytes later p r was is calls listed =
-      let all = finished-second place back bytes later p r was is calls listed in
-      record {
-        seconds = all.seconds;
-        firsts = other-kind is_first Second squeezed place was is (part_at bytes) (λ part. refl) listed;
-        directs = all.directs;
-      }
-
-  -- a take of first that was finished
-  pub finished-first : (place back : ℕ) (bytes later : List ℕ) (p r : PassStanding B) (was is : List Finished)
-      → since p r ≡ Got (suc first) place bytes ∷ Done 0 back later ∷ [] → WasListed First both place (part_at bytes) was is → HasFinished p r was is
-  finished-first place back bytes later p r was is calls listed =
+  -- a take that was finished
+  pub finished-one : (topic place back : ℕ) (bytes later : List ℕ) (p r : PassStanding B) (was is : List Finished) → topic ≤ 1
+      → since p r ≡ Got (suc topic) place bytes ∷ Done 0 back later ∷ [] → WasListed (way_from topic) (stages_left topic) place (part_at bytes) was is
+      → HasFinishedOne topic p r was is
+  finished-one zero place back bytes later p r was is low calls listed =
       let firsts : taken_since first p r ≡ record { topic = first; place = place; bytes = bytes } ∷ [] = ap (λ l. on first (takes_of l)) calls in
-      let seconds : taken_since second p r ≡ [] = ap (λ l. on second (takes_of l)) calls in
       record {
-        seconds = λ takes before. still second p r takes (filter is_second was) (filter is_second is) seconds
-            (other-kind is_second First both place was is (part_at bytes) (λ part. refl) listed) before;
-        firsts = λ takes before. subst (λ l. FirstsSoFar (takes ++ l) (filter is_first is)) (sym firsts)
-            (firsts-one place bytes was is takes (part_at bytes) refl listed before);
-        directs = other-kind is_direct First both place was is (part_at bytes) (λ part. refl) listed;
+        finished = record {
+          seconds = λ takes before. still second p r takes (filter is_second was) (filter is_second is) (ap (λ l. on second (takes_of l)) calls)
+              (other-kind is_second First both place was is (part_at bytes) (λ part. refl) listed) before;
+          firsts = λ takes before. subst (λ l. FirstsSoFar (takes ++ l) (filter is_first is)) (sym firsts)
+              (kind-one is_first First both first place bytes was is takes (part_at bytes) (λ part. refl) refl listed before);
+          directs = other-kind is_direct First both place was is (part_at bytes) (λ part. refl) listed;
+        };
+        firsts = λ other. absurd (omega (arith, other));
       }
+  finished-one (suc zero) place back bytes later p r was is low calls listed =
+      let seconds : taken_since second p r ≡ record { topic = second; place = place; bytes = bytes } ∷ [] = ap (λ l. on second (takes_of l)) calls in
+      let none : GotNo is_first was is = other-kind is_first Second squeezed place was is (part_at bytes) (λ part. refl) listed in
+      record {
+        finished = record {
+          seconds = λ takes before. subst (λ l. SecondsSoFar (takes ++ l) (filter is_second is)) (sym seconds)
+              (kind-one is_second Second squeezed second place bytes was is takes (part_at bytes) (λ part. refl) refl listed before);
+          firsts = λ takes before. still first p r takes (filter is_first was) (filter is_first is) (ap (λ l. on first (takes_of l)) calls) none before;
+          directs = other-kind is_direct Second squeezed place was is (part_at bytes) (λ part. refl) listed;
+        };
+        firsts = λ own. none;
+      }
+  finished-one (suc (suc topic)) place back bytes later p r was is low calls listed = absurd (omega (arith, low))
 
   -- where nothing was taken, the list is as it was
   pub finished-nothing : (p q : PassStanding B) (was : List Finished) → takes_of (since p q) ≡ [] → HasFinished p q was was
@@ -217,6 +202,38 @@ module _ {B : Type 0} where
       (subst (MovesSoFar ((takes ++ taken_since first p q) ++ taken_since first q r))
       (sym (longer sends (on second (sends_of (since p q))) (on second (sends_of (since q r))) (on second (sends_of (since p r))) sent))
       (more (takes ++ taken_since first p q) (sends ++ on second (sends_of (since p q))) (one takes sends before)))
+
+  -- a take that got something and gave it back
+  pub took-one : (contents : B → List ℕ) (topic place : ℕ) (later : List ℕ) (p q r : PassStanding B) (h : HeldStanding B) → suc topic < length p.numbers
+      → topic ≤ 1 → HasGot contents (suc topic) place p q h → WasGivenBack later h.index q r → (known_on topic p).head ≤ place → HasTakenOne topic p r
+  took-one contents zero place later p q r h within low got given high =
+      let calls = since-took contents (suc first) place 0 given.place later p q r h got given.pass in
+      record {
+        taken = took-and-gave contents first place later p q r h within got given refl;
+        one = ap (filter_map take_topic) calls;
+        below = none_below-one first p r (record { topic = first; place = place; bytes = contents h.buffer }) (ap (λ l. on first (takes_of l)) calls) high;
+        moves = λ other. absurd (omega (arith, other));
+      }
+  took-one contents (suc zero) place later p q r h within low got given high =
+      let calls = since-took contents (suc second) place 0 given.place later p q r h got given.pass in
+      record {
+        taken = took-and-gave contents second place later p q r h within got given refl;
+        one = ap (filter_map take_topic) calls;
+        below = none_below-nothing first p r (ap (λ l. on first (takes_of l)) calls);
+        moves = λ own. moved-nothing p r (ap (λ l. on first (takes_of l)) calls) (ap (λ l. on second (sends_of l)) calls);
+      }
+  took-one contents (suc (suc topic)) place later p q r h within low got given high = absurd (omega (arith, low))
+
+  -- and one that found nothing
+  pub found-one : (topic head : ℕ) (p q : PassStanding B) → suc topic < length p.numbers → FoundEmpty topic head p q → HasTakenOne topic p q
+  found-one topic head p q within found =
+      let calls = since-found topic head p q found in
+      record {
+        taken = found-none topic head p q within found;
+        one = ap (filter_map take_topic) calls;
+        below = none_below-nothing first p q (ap (λ l. on first (takes_of l)) calls);
+        moves = λ own. moved-nothing p q (ap (λ l. on first (takes_of l)) calls) (ap (λ l. on second (sends_of l)) calls);
+      }
 
   -- the topics that were taken from
   pub topics-along : (p q r : PassStanding B) (xs ys : List ℕ) → since p r ≡ since p q ++ since q r → filter_map take_topic (since p q) ≡ xs

@@ -6,7 +6,7 @@ use Rattle.byteorder.specs.Endian.{big_bytes}
 use Rattle.scq_frames.specs.Parts.{Part}
 use Rattle.scq_frames.specs.Encoded.{BeginsWith, message_bytes}
 use Rattle.scq_frames.proofs.EncodedLemmas.{begins-room}
-use Rattle.scq_stages.specs.Stages.{redacted, redacted_byte, squeezed}
+use Rattle.scq_stages.specs.Stages.{redacted, redacted_byte}
 use Rattle.scq_stages.specs.Handling.{after}
 use Rattle.scq_stages.specs.declared.handling.Rest.{Rest}
 
@@ -49,19 +49,19 @@ redacted-over old new q (Some p) begins same is =
           (length-map q.payload redacted_byte) (ap redacted (begins-room old q begins).1))),
     )
 
--- what squeezing leaves comes first behind the numbers
-pub squeezed-over : (old new : List ℕ) (q : Part) (o : Option Part) (rest : Rest) → BeginsWith old q → Some q ≡ o → rest.file ≡ q.file → rest.line ≡ q.line
-    → 24 + rest.len ≤ length new → take rest.len (drop 24 new) ≡ squeezed (take (length q.payload) (drop 24 old))
+-- what a stage leaves comes first behind the numbers
+pub left-over : (stage : List ℕ → List ℕ) (old new : List ℕ) (q : Part) (o : Option Part) (rest : Rest) → BeginsWith old q → Some q ≡ o → rest.file ≡ q.file → rest.line ≡ q.line
+    → 24 + rest.len ≤ length new → take rest.len (drop 24 new) ≡ stage (take (length q.payload) (drop 24 old))
     → IfSome o (λ p. IsSomeAnd (Some rest) (λ rest. (rest.file ≡ p.file) × (rest.line ≡ p.line) × (24 + rest.len ≤ length new)
-    × (take rest.len (drop 24 new) ≡ squeezed p.payload)))
-squeezed-over old new q None rest begins same file line within left = absurd (cc)
-squeezed-over old new q (Some p) rest begins same file line within left =
+    × (take rest.len (drop 24 new) ≡ stage p.payload)))
+left-over stage old new q None rest begins same file line within left = absurd (cc)
+left-over stage old new q (Some p) rest begins same file line within left =
     let one : q ≡ p = cc in
-    let P : Part → Type 0 = λ p. (rest.file ≡ p.file) × (rest.line ≡ p.line) × (24 + rest.len ≤ length new) × (take rest.len (drop 24 new) ≡ squeezed p.payload) in
-    subst P one (file, line, within, left ∙ ap squeezed (begins-room old q begins).1)
+    let P : Part → Type 0 = λ p. (rest.file ≡ p.file) × (rest.line ≡ p.line) × (24 + rest.len ≤ length new) × (take rest.len (drop 24 new) ≡ stage p.payload) in
+    subst P one (file, line, within, left ∙ ap stage (begins-room old q begins).1)
 
 -- bytes of a part that were redacted stand where they stood
-redacted-there : (old mid : List ℕ) (len : ℕ) → 24 + len ≤ length old → mid ≡ take 24 old ++ (redacted (take len (drop 24 old)) ++ drop len (drop 24 old))
+pub redacted-there : (old mid : List ℕ) (len : ℕ) → 24 + len ≤ length old → mid ≡ take 24 old ++ (redacted (take len (drop 24 old)) ++ drop len (drop 24 old))
     → take len (drop 24 mid) ≡ redacted (take len (drop 24 old))
 redacted-there old mid len room is =
     let xs : List ℕ = take len (drop 24 old) in
@@ -71,17 +71,3 @@ redacted-there old mid len room is =
     length-map xs redacted_byte ∙ length-take-le len (drop 24 old) (omega (arith, room, length-drop 24 old)) in
     ap (λ (l : List ℕ). take len (drop 24 l)) is ∙ ap (take len) (drop_at (take 24 old) (redacted xs ++ rest) 24 numbers)
     ∙ take_at (redacted xs) rest len long
-
--- what both stages leave comes first behind the numbers
-pub finished-over : (old mid new : List ℕ) (q : Part) (o : Option Part) (rest : Rest) → BeginsWith old q → Some q ≡ o → rest.file ≡ q.file → rest.line ≡ q.line
-    → mid ≡ take 24 old ++ (redacted (take (length q.payload) (drop 24 old)) ++ drop (length q.payload) (drop 24 old))
-    → 24 + rest.len ≤ length new → take rest.len (drop 24 new) ≡ squeezed (take (length q.payload) (drop 24 mid))
-    → IfSome o (λ p. IsSomeAnd (Some rest) (λ rest. (rest.file ≡ p.file) × (rest.line ≡ p.line) × (24 + rest.len ≤ length new)
-    × (take rest.len (drop 24 new) ≡ squeezed (redacted p.payload))))
-finished-over old mid new q None rest begins same file line is within left = absurd (cc)
-finished-over old mid new q (Some p) rest begins same file line is within left =
-    let one : q ≡ p = cc in
-    let room = begins-room old q begins in
-    let P : Part → Type 0 = λ p. (rest.file ≡ p.file) × (rest.line ≡ p.line) × (24 + rest.len ≤ length new)
-    × (take rest.len (drop 24 new) ≡ squeezed (redacted p.payload)) in
-    subst P one (file, line, within, left ∙ ap squeezed (redacted-there old mid (length q.payload) room.0 is ∙ ap redacted room.1))

@@ -15,12 +15,6 @@ as_end (TooLong file line len) = ends.TooLong file line len
 as_end (TooLarge file bytes) = ends.TooLarge file bytes
 as_end NoMemory = ends.NoMemory
 
--- want of memory comes before any other fault
-abbrev pub MemoryIsFirst : {S : Type 0} → ℕ → (S → ℕ) → (S → ℕ) → (S → Option (List ℕ)) → List S
-    → List S → StageFault → Type 0
-MemoryIsFirst size faults end_count left olds news fault =
-    workers.MemoryIsFirst size faults end_count left olds news (as_end fault)
-
 -- the cause of each fault
 abbrev pub HasCause : {S : Type 0} → ℕ → (S → ℕ) → (S → ℕ) → (S → Option (List ℕ)) → List S → List S
     → StageFault → Type 0

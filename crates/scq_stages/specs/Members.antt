@@ -1,6 +1,6 @@
 -- A worker's list of finished messages, against what its pass took. What was taken is read as a
 -- part.
-use Rattle.std.specs.Prelude.{◌≡◌, ℕ, Bool, true, false, List, filter, Some, None}
+use Rattle.std.specs.Prelude.{◌≡◌, ℕ, zero, suc, Bool, true, false, List, filter, Some, None}
 use Rattle.std.specs.List.{AllZip}
 use Rattle.scq_frames.specs.Parts.{Part}
 use Rattle.scq_frames.specs.Encoded.{BeginsWith, part_at}
@@ -35,6 +35,11 @@ is_first f = is_way_first f.way
 
 abbrev pub is_direct : Finished → Bool
 is_direct f = is_way_direct f.way
+
+-- the way of what was taken from this topic at this place
+abbrev pub way_from : ℕ → ℕ → StageWay
+way_from zero place = First place
+way_from (suc topic) place = Second place
 
 -- a part that went through this stage, and came to a list in this way
 abbrev pub finished : StageWay → (List ℕ → List ℕ) → Part → Finished

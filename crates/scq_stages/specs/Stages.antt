@@ -1,5 +1,6 @@
 -- What the two stages make of a payload.
-use Rattle.std.specs.Prelude.{ℕ, Bool, true, false, ◌&&◌, List, [], ◌∷◌, map, if◌then◌else◌}
+use Rattle.std.specs.Prelude.{ℕ, zero, suc, Bool, true, false, ◌&&◌, List, [], ◌∷◌, map}
+use Rattle.std.specs.Prelude.{if◌then◌else◌}
 use Rattle.std.specs.Char.{is_ascii_digit}
 use Rattle.scq_topics.specs.Runs.{is_space}
 
@@ -24,3 +25,8 @@ squeezed payload = squeezed_behind false payload
 -- both stages, one after the other
 abbrev pub both : List ℕ → List ℕ
 both payload = squeezed (redacted payload)
+
+-- the stages that are left for what was taken from this topic: both, or the second
+abbrev pub stages_left : ℕ → List ℕ → List ℕ
+stages_left zero payload = both payload
+stages_left (suc topic) payload = squeezed payload

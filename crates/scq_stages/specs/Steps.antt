@@ -1,15 +1,16 @@
 -- What a worker's calls make of its pass and of its list, told by the calls that it made meanwhile.
-use Rattle.std.specs.Prelude.{◌≡◌, ◌⊎◌, ℕ, suc, Bool, List, ◌++◌, filter}
+use Rattle.std.specs.Prelude.{◌≡◌, ◌⊎◌, ℕ, suc, Bool, List, [], ◌∷◌, ◌++◌, filter}
+use Rattle.std.specs.List.{filter_map}
 use Rattle.scq_queue.specs.Lists.{Placed, sends_of}
 use Rattle.scq_queue.specs.Passes.{PassStanding}
 use Rattle.scq_passes.specs.Records.{IsGivenBack, on}
 use Rattle.scq_passes.specs.Becoming.{BecomeSoFar}
-use Rattle.scq_passes.specs.Calls.{HasTakenFollowed, since, taken_since}
+use Rattle.scq_passes.specs.Calls.{HasTakenFollowed, TookNoneBelow, since, taken_since}
 use Rattle.scq_stages.specs.declared.finished.Finished.{Finished}
 use Rattle.scq_stages.specs.declared.finished.StageWay.TheVariants.{Second, First}
 use Rattle.scq_stages.specs.Stages.{squeezed, both}
 use Rattle.scq_stages.specs.Members.{FinishesTake, IsMove, IsNoPart, is_second, is_first, is_direct}
-use Rattle.scq_stages.specs.Records.{first, second}
+use Rattle.scq_stages.specs.Records.{first, second, take_topic}
 
 -- what was taken from second so far became Second members, but for what is no part's bytes; and
 -- what from first, First members
@@ -67,6 +68,20 @@ module _ {B : Type 0} where
     pub seconds : HasFinishedSeconds old new was is
     pub firsts : HasFinishedFirsts old new was is
     pub directs : GotNo is_direct was is
+
+  -- a pass that has taken once from this topic, and given back what it got: nothing from below the
+  -- head that it knew of first, and from second nothing was moved
+  pub record HasTakenOne (topic : ℕ) (old new : PassStanding B) : Type 0 where
+    pub taken : HasGivenBack old new
+    pub one : filter_map take_topic (since old new) ≡ topic ∷ []
+    pub below : TookNoneBelow first old new
+    pub moves : topic ≡ second → HasMovedIts old new
+
+  -- what it got became a member, and from second no First one
+  pub record HasFinishedOne (topic : ℕ) (old new : PassStanding B)
+      (was is : List Finished) : Type 0 where
+    pub finished : HasFinished old new was is
+    pub firsts : topic ≡ second → GotNo is_first was is
 
   -- before it retired: what it took from second became members, and there are no others more
   pub record HasFinishedOnlySeconds (old new : PassStanding B)

@@ -12,10 +12,10 @@ use crate::StageJob;
 use crate::running::run;
 use crate::worker::StageDesk;
 use scq_block::Frame;
+use scq_files::work_apart;
 use scq_outside::Source;
 use scq_queue::Queue;
 use std::alloc::Global;
-use std::thread;
 use std::thread::Threads;
 
 /// The work of all workers, each in a thread, of which none waits. The desks come back in their
@@ -46,38 +46,6 @@ pub(crate) fn run_all<R: Threads + Sync, S: Source>(
     ensures behind { All (λ d. d.worker.worker.pass.spent ≡ None
         → HasLeftSwept bytes_of IsGivenBack 2 64 d.worker.worker.pass) result.items }
 {
-    let mut desks = desks;
-    run_each(rt, alloc, job, queue, desks.as_mut_slice());
-    desks
-}
-
-/// Lets each worker work, in threads of their own.
-fn run_each<R: Threads + Sync, S: Source>(
-    rt: &R,
-    alloc: Global,
-    job: &StageJob,
-    queue: &Queue<Frame>,
-    desks: &mut [StageDesk<S>],
-)
-    requires some { 0 < length desks.old }
-    requires rings { queue.now.setup.rings ≡ 3 }
-    requires room { All (λ b. job.now.size + 24 ≤ length b.bytes.items) queue.now.given }
-    requires fresh { All (λ d. IsFresh queue.now d.worker) desks.old }
-    requires unread { All (λ d. All IsNew d.files.items) desks.old }
-    ensures same { (w : ℕ) (d : _) → w < length desks.old
-        → ids_of (slice_index_or desks.new w d).files.items
-        ≡ ids_of (slice_index_or desks.old w d).files.items }
-    ensures numbers { (w : ℕ) (d : _) → w < length desks.old
-        → (slice_index_or desks.new w d).worker.worker.pass.number
-        ≡ (slice_index_or desks.old w d).worker.worker.pass.number }
-    ensures run { All (λ d.
-        HasRun queue.now job.now.size S.faults S.ends S.left d.files.items d.worker.worker.pass
-        d.worker.worker.members.items d.worker.worker.starved d.worker.kept)
-        desks.new }
-    ensures behind { All (λ d. d.worker.worker.pass.spent ≡ None
-        → HasLeftSwept bytes_of IsGivenBack 2 64 d.worker.worker.pass) desks.new }
-{
-    let threads = desks.len();
     let run_one = |_: usize, desk: &mut StageDesk<S>|
         requires { (queue.now.setup.rings ≡ 3)
             × All (λ b. job.now.size + 24 ≤ length b.bytes.items) queue.now.given
@@ -91,5 +59,5 @@ fn run_each<R: Threads + Sync, S: Source>(
             × (desk.exit.now.worker.worker.pass.spent ≡ None
             → HasLeftSwept bytes_of IsGivenBack 2 64 desk.exit.now.worker.worker.pass) }
     { run(desk, alloc, job, queue) };
-    thread::for_each_mut(rt, desks, threads, &run_one);
+    work_apart(rt, desks, &run_one)
 }

@@ -2,10 +2,11 @@
 ghost use Rattle.std.specs.Prelude.{◌≡◌, ◌+◌, ◌≤◌, ◌++◌, true, false, None, length, take, drop};
 ghost use Rattle.std.specs.Prelude.{IfSome, IsSomeAnd};
 ghost use Rattle.scq_frames.specs.Encoded.{BeginsWith, part_at};
-ghost use Rattle.scq_stages.specs.Stages.{redacted, squeezed};
+ghost use Rattle.scq_stages.specs.Stages.{redacted, squeezed, stages_left};
 ghost use Rattle.scq_stages.specs.Handling.{after};
 
 use crate::in_place::{redact, squeeze};
+use crate::worker::FIRST;
 use scq_frames::decode;
 
 /// Where the bytes of a part begin, behind its numbers.
@@ -45,13 +46,13 @@ fn redact_behind(bytes: &mut [u8], len: usize)
     redact(&mut bytes[HEADER..HEADER + len]);
 }
 
-/// Squeezes the spaces of the part that comes first. What is left of its bytes comes first behind
-/// its numbers.
-pub fn squeeze_part(bytes: &mut [u8]) -> Option<Rest>
-    ensures squeezed { IfSome (part_at bytes.old) (λ p.
+/// Does the stages that are left to the part that comes first, where it was taken from this topic.
+/// What is left of its bytes comes first behind its numbers.
+pub fn finish_part(bytes: &mut [u8], topic: u32) -> Option<Rest>
+    ensures finished { IfSome (part_at bytes.old) (λ p.
         IsSomeAnd result (λ rest. (rest.file ≡ p.file) × (rest.line ≡ p.line)
         × (24 + rest.len ≤ length bytes.new)
-        × (take rest.len (drop 24 bytes.new) ≡ squeezed p.payload))) }
+        × (take rest.len (drop 24 bytes.new) ≡ stages_left topic p.payload))) }
     ensures none { part_at bytes.old ≡ None → result ≡ None }
     ensures len { length bytes.new ≡ length bytes.old }
 {
@@ -61,7 +62,7 @@ pub fn squeeze_part(bytes: &mut [u8]) -> Option<Rest>
     let file = view.file;
     let line = view.line;
     let len = view.payload.len();
-    let left = squeeze_behind(bytes, len);
+    let left = finish_behind(bytes, len, topic);
     Some(Rest {
         file,
         line,
@@ -69,29 +70,19 @@ pub fn squeeze_part(bytes: &mut [u8]) -> Option<Rest>
     })
 }
 
-/// Does both stages to the part that comes first. What is left of its bytes comes first behind its
-/// numbers.
-pub fn finish_part(bytes: &mut [u8]) -> Option<Rest>
-    ensures finished { IfSome (part_at bytes.old) (λ p.
-        IsSomeAnd result (λ rest. (rest.file ≡ p.file) × (rest.line ≡ p.line)
-        × (24 + rest.len ≤ length bytes.new)
-        × (take rest.len (drop 24 bytes.new) ≡ squeezed (redacted p.payload)))) }
-    ensures none { part_at bytes.old ≡ None → result ≡ None }
+/// Does the stages that are left to so many bytes behind the numbers. What is left of them, so
+/// many, comes first there.
+fn finish_behind(bytes: &mut [u8], len: usize, topic: u32) -> usize
+    requires { 24 + len ≤ length bytes.old }
+    ensures within { 24 + result ≤ length bytes.new }
+    ensures left { take result (drop 24 bytes.new)
+        ≡ stages_left topic (take len (drop 24 bytes.old)) }
     ensures len { length bytes.new ≡ length bytes.old }
 {
-    let Some(view) = decode(bytes) else {
-        return None;
-    };
-    let file = view.file;
-    let line = view.line;
-    let len = view.payload.len();
-    redact_behind(bytes, len);
-    let kept = squeeze_behind(bytes, len);
-    Some(Rest {
-        file,
-        line,
-        len: kept,
-    })
+    if topic == FIRST {
+        redact_behind(bytes, len);
+    }
+    squeeze_behind(bytes, len)
 }
 
 /// Squeezes so many bytes behind the numbers. What is left of them, so many, comes first there.

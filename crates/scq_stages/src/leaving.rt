@@ -9,7 +9,7 @@ ghost use Rattle.scq_passes.specs.Leaving.{HasSweptLast};
 ghost use Rattle.scq_stages.specs.Steps.{HasGivenBack};
 ghost use Rattle.scq_stages.specs.Working.{HasFewStageCalls, IsDone, IsLeaving};
 
-use crate::worker::{FIRST, Worker};
+use crate::worker::Worker;
 use scq_block::Frame;
 use scq_passes::{AtLimit, Taker, sweep_out};
 use scq_queue::Queue;
@@ -44,11 +44,7 @@ impl<'a> Taker<Takes<'a>, Frame> for Worker<Frame> {
     /// Takes once from first or from second. What it got goes through what stages are left, is
     /// finished and given back.
     fn take_once(&mut self, with: &Takes<'a>, topic: u32) -> Result<bool, AtLimit<Frame>> {
-        if topic == FIRST {
-            self.finish_one(with.alloc, with.queue)
-        } else {
-            self.take_second(with.alloc, with.queue)
-        }
+        self.finish_one(with.alloc, with.queue, topic)
     }
 
     fn closed(&mut self, with: &Takes<'a>) -> bool {

@@ -10,8 +10,9 @@ ghost use Rattle.scq_passes.specs.Leaving.{HasLeftSwept};
 ghost use Rattle.scq_passes.specs.Records.{IsGivenBack};
 ghost use Rattle.scq_files.specs.Ends.{AreGiven, HasMoved, StopsAtFaults, all_left, messages_in};
 ghost use Rattle.scq_files.specs.Reading.{IsWhole};
+ghost use Rattle.scq_desk.specs.Faults.{MemoryIsFirst};
 ghost use Rattle.scq_stages.specs.AllStages.{HasStaged, NothingIsStranded};
-ghost use Rattle.scq_stages.specs.Ends.{HasCause, MemoryIsFirst};
+ghost use Rattle.scq_stages.specs.Ends.{HasCause, as_end};
 ghost use Rattle.scq_stages.specs.Output.{finished_in, all_handled, without_way};
 
 use crate::apart::run_all;
@@ -95,7 +96,7 @@ pub fn stage_work<R: Threads + Sync, S: Source>(
         HasCause job.now.size S.faults S.ends S.left sources.items result.sources.items fault) }
     ensures memory_first { IfErr result.result (λ fault.
         MemoryIsFirst job.now.size S.faults S.ends S.left sources.items result.sources.items
-        fault) }
+        (as_end fault)) }
 
     // Each worker asked before each of its sweeps whether all had retired, and left after one
     // before which they had, or after 64 in a row that took nothing.

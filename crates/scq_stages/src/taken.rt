@@ -2,10 +2,10 @@
 ghost use Rattle.std.specs.Prelude.{◌≡◌, ◌+◌, ◌≤◌, true, false, None, length, take, drop, IfSome};
 ghost use Rattle.std.specs.Prelude.{IsSomeAnd};
 ghost use Rattle.scq_frames.specs.Encoded.{BeginsWith, part_at};
-ghost use Rattle.scq_stages.specs.Stages.{redacted, squeezed, both};
+ghost use Rattle.scq_stages.specs.Stages.{redacted, stages_left};
 ghost use Rattle.scq_stages.specs.Handling.{after};
 
-use crate::handling::{Rest, finish_part, redact_part, squeeze_part};
+use crate::handling::{Rest, finish_part, redact_part};
 use scq_queue::Held;
 use scq_word::BufferMut;
 
@@ -20,30 +20,16 @@ pub fn redact_in<B: BufferMut>(held: &mut Held<B>) -> bool
     redact_part(held.bytes_mut())
 }
 
-/// Squeezes the spaces of the part that comes first. What is left of its bytes comes first behind
-/// its numbers.
-pub fn squeeze_in<B: BufferMut>(held: &mut Held<B>) -> Option<Rest>
-    ensures squeezed { IfSome (part_at (B.contents held.old.buffer)) (λ p.
-        IsSomeAnd result (λ rest. (rest.file ≡ p.file) × (rest.line ≡ p.line)
-        × (24 + rest.len ≤ length (B.contents held.new.buffer))
-        × (take rest.len (drop 24 (B.contents held.new.buffer)) ≡ squeezed p.payload))) }
-    ensures none { part_at (B.contents held.old.buffer) ≡ None → result ≡ None }
-    ensures same { (held.new.index ≡ held.old.index) × (held.new.queue ≡ held.old.queue)
-        × (held.new.pass ≡ held.old.pass) }
-{
-    squeeze_part(held.bytes_mut())
-}
-
-/// Does both stages to the part that comes first. What is left of its bytes comes first behind its
-/// numbers.
-pub fn finish_in<B: BufferMut>(held: &mut Held<B>) -> Option<Rest>
+/// Does the stages that are left to the part that comes first, where it was taken from this topic.
+/// What is left of its bytes comes first behind its numbers.
+pub fn finish_in<B: BufferMut>(held: &mut Held<B>, topic: u32) -> Option<Rest>
     ensures finished { IfSome (part_at (B.contents held.old.buffer)) (λ p.
         IsSomeAnd result (λ rest. (rest.file ≡ p.file) × (rest.line ≡ p.line)
         × (24 + rest.len ≤ length (B.contents held.new.buffer))
-        × (take rest.len (drop 24 (B.contents held.new.buffer)) ≡ both p.payload))) }
+        × (take rest.len (drop 24 (B.contents held.new.buffer)) ≡ stages_left topic p.payload))) }
     ensures none { part_at (B.contents held.old.buffer) ≡ None → result ≡ None }
     ensures same { (held.new.index ≡ held.old.index) × (held.new.queue ≡ held.old.queue)
         × (held.new.pass ≡ held.old.pass) }
 {
-    finish_part(held.bytes_mut())
+    finish_part(held.bytes_mut(), topic)
 }

@@ -1,74 +1,52 @@
 //! What a worker makes of what it takes.
-ghost use Rattle.std.specs.Prelude.{◌≡◌, ◌⊎◌, ℕ, suc, ◌<◌, ◌++◌, ◌∷◌, List, [], true, false};
-ghost use Rattle.std.specs.Prelude.{length, Some, None, Ok, IfErr, IfSome, IsSomeAnd, OnOk};
+ghost use Rattle.std.specs.Prelude.{◌≡◌, ◌⊎◌, ℕ, suc, ◌<◌, ◌≤◌, ◌++◌, ◌∷◌, List, [], true, false};
+ghost use Rattle.std.specs.Prelude.{Some, None, Ok, IfErr, IfSome, IsSomeAnd, OnOk};
 ghost use Rattle.std.specs.List.{filter_map};
 ghost use Rattle.scq_core.specs.declared.ended.Ended.{Ended as TheEnded};
 ghost use Rattle.scq_frames.specs.Encoded.{BeginsWith, part_at};
-ghost use Rattle.scq_queue.specs.Lists.{takes_of};
 ghost use Rattle.scq_band.specs.Buffers.{opening_of};
 ghost use Rattle.scq_band.specs.RunSeen.{IsCallInRun};
 ghost use Rattle.scq_queue.specs.Passes.{caller_of, known_on, IsHeldBy, WasGivenBack, after_put};
 ghost use Rattle.scq_queue.specs.Passes.{after_spent_put, having_seen};
-ghost use Rattle.scq_passes.specs.Calls.{Suits, HasLeftSo, TookNoneBelow, since};
+ghost use Rattle.scq_passes.specs.Calls.{Suits, HasLeftSo, since};
 ghost use Rattle.scq_passes.specs.Leaving.{HasOnlyCalled, TookNothing};
 ghost use Rattle.scq_passes.specs.Taking.{HasEmptied, HasTakenFrom};
 ghost use Rattle.scq_passes.specs.Waiting.{TookInVain};
-ghost use Rattle.scq_stages.specs.Stages.{redacted, squeezed, both};
+ghost use Rattle.scq_stages.specs.Stages.{redacted, stages_left};
 ghost use Rattle.scq_stages.specs.Handling.{after};
-ghost use Rattle.scq_stages.specs.Members.{finished};
+ghost use Rattle.scq_stages.specs.Members.{finished, way_from};
 ghost use Rattle.scq_stages.specs.Records.{first, second, take_topic};
-ghost use Rattle.scq_stages.specs.Steps.{HasGivenBack, HasTakenOrMoved, HasMovedIts};
-ghost use Rattle.scq_stages.specs.Steps.{HasFinishedOnlySeconds, HasFinished};
+ghost use Rattle.scq_stages.specs.Steps.{HasTakenOrMoved, HasMovedIts, HasTakenOne};
+ghost use Rattle.scq_stages.specs.Steps.{HasFinishedOne, HasFinishedOnlySeconds};
 ghost use Rattle.scq_stages.specs.Working.{HasFewStageCalls};
 
 use crate::finished::StageWay;
-use crate::taken::{finish_in, redact_in, squeeze_in};
+use crate::taken::{finish_in, redact_in};
 use crate::worker::{FIRST, SECOND, Worker};
 use scq_passes::AtLimit;
 use scq_queue::{Held, Queue, TakeRefusal};
 use scq_word::BufferMut;
 use std::alloc::Global;
 
-impl<B: BufferMut> Worker<B> {
-    /// Ends what was taken from second at this place: squeezes it, finishes it and gives it back.
-    fn end_second(
-        &mut self,
-        alloc: Global,
-        queue: &Queue<B>,
-        place: u64,
-        held: Held<B>,
-    ) -> Result<(), AtLimit<B>>
-        requires pass { (self.old.pass.queue ≡ queue.now) × (self.old.pass.spent ≡ None) }
-        requires held { IsHeldBy self.old.pass held }
-        ensures given { OnOk result ((later : List ℕ)
-            × WasGivenBack later held.index self.old.pass self.new.pass) }
-        ensures run { IsCallInRun queue.now.setup (opening_of B.contents queue.now.given)
-            (caller_of self.old.pass) (caller_of self.new.pass) }
-        ensures finished { self.new.starved ≡ false
-            → IfSome (part_at (B.contents held.buffer)) (λ part.
-            self.new.members.items
-            ≡ self.old.members.items ++ finished (StageWay.Second place) squeezed part ∷ []) }
-        ensures passed_over { part_at (B.contents held.buffer) ≡ None
-            → self.new.members.items ≡ self.old.members.items }
-        ensures back { IfErr result (λ l.
-            IsSomeAnd l.held (λ h. (h.index ≡ held.index) × (h.queue ≡ held.queue)
-            × ((ticket : ℕ) × (self.new.pass
-            ≡ having_seen self.new.pass.seen (after_spent_put 0 ticket self.old.pass))))) }
-        ensures starved { self.new.starved ≡ false → self.old.starved ≡ false }
-    {
-        let mut held = held;
-        if let Some(rest) = squeeze_in(&mut held) {
-            self.finish(alloc, rest, held.bytes(), StageWay::Second { place });
-        }
-        self.give_back(queue, held)
+/// How what was taken from this topic at this place came to a list.
+fn way_at(topic: u32, place: u64) -> StageWay
+    ensures { result ≡ way_from topic place }
+{
+    if topic == FIRST {
+        StageWay::First { place }
+    } else {
+        StageWay::Second { place }
     }
+}
 
-    /// Ends what was taken from first at this place, behind the retirement: does both stages to it,
+impl<B: BufferMut> Worker<B> {
+    /// Ends what was taken from this topic at this place: does the stages that are left to it,
     /// finishes it and gives it back.
-    fn end_first(
+    fn end_taken(
         &mut self,
         alloc: Global,
         queue: &Queue<B>,
+        topic: u32,
         place: u64,
         held: Held<B>,
     ) -> Result<(), AtLimit<B>>
@@ -81,7 +59,8 @@ impl<B: BufferMut> Worker<B> {
         ensures finished { self.new.starved ≡ false
             → IfSome (part_at (B.contents held.buffer)) (λ part.
             self.new.members.items
-            ≡ self.old.members.items ++ finished (StageWay.First place) both part ∷ []) }
+            ≡ self.old.members.items ++ finished (way_from topic place) (stages_left topic) part
+            ∷ []) }
         ensures passed_over { part_at (B.contents held.buffer) ≡ None
             → self.new.members.items ≡ self.old.members.items }
         ensures back { IfErr result (λ l.
@@ -91,8 +70,8 @@ impl<B: BufferMut> Worker<B> {
         ensures starved { self.new.starved ≡ false → self.old.starved ≡ false }
     {
         let mut held = held;
-        if let Some(rest) = finish_in(&mut held) {
-            self.finish(alloc, rest, held.bytes(), StageWay::First { place });
+        if let Some(rest) = finish_in(&mut held, topic) {
+            self.finish(alloc, rest, held.bytes(), way_at(topic, place));
         }
         self.give_back(queue, held)
     }
@@ -125,46 +104,6 @@ impl<B: BufferMut> Worker<B> {
             self.send_on(queue, held)
         } else {
             self.give_back(queue, held)
-        }
-    }
-
-    /// Takes once from second. What it got it squeezes, finishes and gives back. Whether it got
-    /// anything.
-    pub(crate) fn take_second(
-        &mut self,
-        alloc: Global,
-        queue: &Queue<B>,
-    ) -> Result<bool, AtLimit<B>>
-        requires suits { Suits queue.now 1 self.old.pass }
-        ensures taken { OnOk result (HasGivenBack self.old.pass self.new.pass) }
-        ensures one { OnOk result (filter_map take_topic (since self.old.pass self.new.pass)
-            ≡ second ∷ []) }
-        ensures moves { OnOk result (HasMovedIts self.old.pass self.new.pass) }
-        ensures finished { OnOk result (self.new.starved ≡ false
-            → HasFinished self.old.pass self.new.pass self.old.members.items
-            self.new.members.items) }
-        ensures helped { OnOk result (self.new.starved ≡ false
-            → HasFinishedOnlySeconds self.old.pass self.new.pass self.old.members.items
-            self.new.members.items) }
-        ensures below { OnOk result (TookNoneBelow first self.old.pass self.new.pass) }
-        ensures some { result ≡ Ok true
-            → HasTakenFrom queue.now.setup.limit second self.old.pass self.new.pass
-            × TookInVain 0 self.old.pass self.new.pass }
-        ensures none { result ≡ Ok false → HasEmptied second self.old.pass self.new.pass
-            × TookNothing self.old.pass self.new.pass }
-        ensures only { OnOk result
-            (HasOnlyCalled B.contents queue.now self.old.pass self.new.pass) }
-        ensures left { IfErr result (λ l. (messages : ℕ)
-            → HasLeftSo HasFewStageCalls messages messages self.old.pass self.new.pass l.held) }
-        ensures starved { self.new.starved ≡ false → self.old.starved ≡ false }
-    {
-        match queue.take(&mut self.pass, SECOND) {
-            Ok((place, held)) => {
-                self.end_second(alloc, queue, place, held)?;
-                Ok(true)
-            }
-            Err(TakeRefusal::Empty { .. }) => Ok(false),
-            Err(TakeRefusal::Spent { .. }) => Err(AtLimit { held: None }),
         }
     }
 
@@ -202,19 +141,24 @@ impl<B: BufferMut> Worker<B> {
         }
     }
 
-    /// Takes once from first, behind the retirement. What it got goes through both stages, is
-    /// finished and given back. Whether it got anything.
-    pub(crate) fn finish_one(&mut self, alloc: Global, queue: &Queue<B>) -> Result<bool, AtLimit<B>>
+    /// Takes once from this topic. What it got goes through the stages that are left, is finished
+    /// and given back. Whether it got anything.
+    pub(crate) fn finish_one(
+        &mut self,
+        alloc: Global,
+        queue: &Queue<B>,
+        topic: u32,
+    ) -> Result<bool, AtLimit<B>>
         requires suits { Suits queue.now 1 self.old.pass }
-        ensures taken { OnOk result (HasGivenBack self.old.pass self.new.pass) }
+        requires topic { topic ≤ 1 }
+        ensures taken { OnOk result (HasTakenOne topic self.old.pass self.new.pass) }
         ensures finished { OnOk result (self.new.starved ≡ false
-            → HasFinished self.old.pass self.new.pass self.old.members.items
+            → HasFinishedOne topic self.old.pass self.new.pass self.old.members.items
             self.new.members.items) }
-        ensures below { OnOk result (TookNoneBelow first self.old.pass self.new.pass) }
         ensures some { result ≡ Ok true
-            → HasTakenFrom queue.now.setup.limit first self.old.pass self.new.pass
+            → HasTakenFrom queue.now.setup.limit topic self.old.pass self.new.pass
             × TookInVain 0 self.old.pass self.new.pass }
-        ensures none { result ≡ Ok false → HasEmptied first self.old.pass self.new.pass
+        ensures none { result ≡ Ok false → HasEmptied topic self.old.pass self.new.pass
             × TookNothing self.old.pass self.new.pass }
         ensures only { OnOk result
             (HasOnlyCalled B.contents queue.now self.old.pass self.new.pass) }
@@ -222,9 +166,9 @@ impl<B: BufferMut> Worker<B> {
             → HasLeftSo HasFewStageCalls messages messages self.old.pass self.new.pass l.held) }
         ensures starved { self.new.starved ≡ false → self.old.starved ≡ false }
     {
-        match queue.take(&mut self.pass, FIRST) {
+        match queue.take(&mut self.pass, topic) {
             Ok((place, held)) => {
-                self.end_first(alloc, queue, place, held)?;
+                self.end_taken(alloc, queue, topic, place, held)?;
                 Ok(true)
             }
             Err(TakeRefusal::Empty { .. }) => Ok(false),
@@ -248,7 +192,7 @@ impl<B: BufferMut> Worker<B> {
             → HasLeftSo HasFewStageCalls messages messages self.old.pass self.new.pass l.held) }
         ensures starved { self.new.starved ≡ false → self.old.starved ≡ false }
     {
-        self.take_second(alloc, queue)?;
+        self.finish_one(alloc, queue, SECOND)?;
         self.move_one(queue)?;
         Ok(())
     }

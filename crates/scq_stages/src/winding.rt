@@ -1,5 +1,5 @@
 //! The end of the stages, once each worker has done its own work.
-ghost use Rattle.std.specs.Prelude.{◌≡◌, ℕ, ◌^◌, ◌<◌, ◌≤◌, List, [], None, Some, false, length};
+ghost use Rattle.std.specs.Prelude.{◌≡◌, ℕ, ◌^◌, ◌<◌, List, [], None, Some, false, length};
 ghost use Rattle.std.specs.Prelude.{map, slice_index_or, IfOk, IfErr, IfSome, IsSome, IsErrOf};
 ghost use Rattle.std.specs.Prelude.{IsSomeAnd, OnOk};
 ghost use Rattle.std.specs.List.{All};
@@ -11,8 +11,8 @@ ghost use Rattle.scq_files.specs.Ends.{AreGiven, HasMoved, StopsAtFaults, all_le
 ghost use Rattle.scq_files.specs.Reading.{IsWhole};
 ghost use Rattle.scq_desk.specs.Rooms.{IsLaid};
 ghost use Rattle.scq_stages.specs.AllStages.{HasStaged, NothingIsStranded};
-ghost use Rattle.scq_desk.specs.Faults.{fault_of_workers};
-ghost use Rattle.scq_stages.specs.Ends.{HasCause, MemoryIsFirst, as_end};
+ghost use Rattle.scq_desk.specs.Faults.{MemoryIsFirst, fault_of_workers};
+ghost use Rattle.scq_stages.specs.Ends.{HasCause, as_end};
 ghost use Rattle.scq_stages.specs.Output.{finished_in, all_handled, without_way};
 ghost use Rattle.scq_stages.specs.Working.{HasRun};
 
@@ -108,7 +108,7 @@ pub(crate) fn wind_up<S: Source>(
         fault) }
     ensures memory_first { IfErr result.result (λ fault.
         MemoryIsFirst job.now.size S.faults S.ends S.left laid.was.value.items result.sources.items
-        fault) }
+        (as_end fault)) }
 {
     let WoundUp {
         sources,

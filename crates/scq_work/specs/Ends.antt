@@ -1,6 +1,6 @@
 -- How the work on all files ended: the fault of the workers and its cause, and what is known of
 -- each end. Files are numbered from 1.
-use Rattle.std.specs.Prelude.{◌≡◌, ℕ, ◌+◌, ◌<◌, List, length, map, slice_index_or, Option, Some}
+use Rattle.std.specs.Prelude.{◌≡◌, ℕ, ◌+◌, ◌<◌, List, length, map, slice_index_or, Option}
 use Rattle.std.specs.Prelude.{None, IfOk, IfErr, IfSome, IsErrOf, IsSomeAnd, OnOk}
 use Rattle.std.specs.List.Sorted.{IsPermutation}
 use Rattle.scq_frames.specs.declared.message.Message.{Message}
@@ -24,12 +24,6 @@ as_end (Read file) = ends.Read file
 as_end (TooLong file line len) = ends.TooLong file line len
 as_end (TooLarge file bytes) = ends.TooLarge file bytes
 as_end NoMemory = ends.NoMemory
-
--- want of memory comes before any other fault
-abbrev pub MemoryIsFirst : {S : Type 0} → ℕ → (S → ℕ) → (S → ℕ) → (S → Option (List ℕ)) → List S
-    → List S → WorkFault → Type 0
-MemoryIsFirst size faults end_count left olds news fault =
-    workers.MemoryIsFirst size faults end_count left olds news (as_end fault)
 
 -- the cause of each fault
 abbrev pub HasCause : {S : Type 0} → ℕ → (S → ℕ) → (S → ℕ) → (S → Option (List ℕ)) → List S → List S
@@ -72,5 +66,6 @@ pub record EndsWork {S : Type 0} (j : Job) (faults end_count : S → ℕ) (left 
   -- a fault is that of its file, and those in front of it were read to their ends. Where there is
   -- one of a file, each source is as one whose reading didn't stop for want of memory
   pub cause : IfErr end.result (HasCause j.longest faults end_count left sources end.sources.items)
-  pub memory_first : IfErr end.result
-      (MemoryIsFirst j.longest faults end_count left sources end.sources.items)
+  pub memory_first : IfErr end.result (λ fault.
+      workers.MemoryIsFirst j.longest faults end_count left sources end.sources.items
+      (as_end fault))

@@ -1,5 +1,5 @@
 -- A worker that has read its files and retired, and what becomes of it by its sweeps.
-use Rattle.std.proofs.Common.{◌≡◌, sym, ◌∙◌, ap, subst, arith, ℕ, ◌+◌, ◌<◌, List, length, Option, Some, None, Bool, false}
+use Rattle.std.proofs.Common.{◌≡◌, sym, ◌∙◌, ap, subst, arith, ℕ, ◌+◌, ◌<◌, List, length, Option, Some, None, Bool}
 use Rattle.scq_topics.specs.declared.kind.Kind.{Kind}
 use Rattle.scq_collect.specs.declared.answered.Answered.{Answered}
 use Rattle.scq_band.specs.Standing.{Identity}
@@ -13,6 +13,10 @@ use Rattle.scq_passes.specs.Waiting.{HelpsInVain}
 use Rattle.scq_passes.specs.Calls.{Suits, HasTaken, HasLeft, after_retire}
 use Rattle.scq_worker.specs.Working.{HasAnswered, IsAtWork, HasStopped}
 use Rattle.scq_files.specs.declared.own_file.OwnFile.{OwnFile}
+use Rattle.scq_worker.specs.Seats.{Seated}
+use Rattle.scq_worker.specs.Sweeping.{HasAnsweredAll}
+use Rattle.scq_worker.specs.declared.job.Job.{Job}
+use Rattle.scq_worker.specs.declared.worker.Worker.{Worker}
 use Rattle.scq_worker.proofs.RunLemmas.{AllRead, run-left, run-late, run-stopped}
 
 -- no ticket is kept, or this one
@@ -67,40 +71,45 @@ module _ {B S : Type 0} (shared : Identity B) (topics : List (List ℕ × Kind))
             run-stopped shared topics size longest faults end_count left files p q is after kept held read stops end retired same;
       }
 
-  module _ (p q : PassStanding B) (was is : List Answered) (before after : Bool) (kept : Option (HeldStanding B))
-      (t : IsToSweep shared topics size longest faults end_count left files p was before kept) where
-    -- so its calls find its pass
-    pub sweep-suits : Suits shared (length topics) p
-    sweep-suits = subst (λ (x : PassStanding B). Suits shared (length topics) x) (sym t.retired) (suits-retired shared (length topics) t.before t.suits)
+module _ {B S : Type 0} (shared : Identity B) (job : Job) (faults end_count : S → ℕ) (left : S → Option (List ℕ)) (files : List (OwnFile S)) (was now : Worker B)
+    (kept : Option (HeldStanding B))
+    (t : IsToSweep shared job.topics job.size job.longest faults end_count left files was.pass was.members.items was.starved kept) where
+  -- so its calls find its pass
+  pub sweep-suits : Suits shared (length job.topics) was.pass
+  sweep-suits = subst (λ (x : PassStanding B). Suits shared (length job.topics) x) (sym t.retired) (suits-retired shared (length job.topics) t.before t.suits)
 
-    -- it has swept, and left
-    pub swept-out : HasTaken p q → ((k : ℕ) → k < length topics + 1 → (known_on k q).finished < (known_on k q).head) → (after ≡ false → before ≡ false)
-        → (after ≡ false → HasAnswered topics p q was is) → HasRun shared topics size longest faults end_count left files q is after kept
-    swept-out taken empty fed more =
-        run-left shared topics size longest faults end_count left files t.before q was is before after kept t.read t.stops t.suits t.work
-        (subst (λ (x : PassStanding B). HasTaken x q) t.retired taken) empty fed
-        (λ all. answered-awake topics t.before q was is (subst (λ (x : PassStanding B). HasAnswered topics x q was is) t.retired (more all))) t.none
+  -- it has swept, and left
+  pub swept-out : (n : ℕ) → n ≡ length job.topics → HasTaken was.pass now.pass
+      → ((k : ℕ) → k < n + 1 → (known_on k now.pass).finished < (known_on k now.pass).head) → HasAnsweredAll job.topics was now
+      → HasRun shared job.topics job.size job.longest faults end_count left files now.pass now.members.items now.starved kept
+  swept-out n many taken past made =
+      run-left shared job.topics job.size job.longest faults end_count left files t.before now.pass was.members.items now.members.items was.starved now.starved
+      kept t.read t.stops t.suits t.work (subst (λ (x : PassStanding B). HasTaken x now.pass) t.retired taken)
+      (subst (λ m. (k : ℕ) → k < m + 1 → (known_on k now.pass).finished < (known_on k now.pass).head) many past) made.fed
+      (λ all. answered-awake job.topics t.before now.pass was.members.items now.members.items
+      (subst (λ (x : PassStanding B). HasAnswered job.topics x now.pass was.members.items now.members.items) t.retired (made.answered all))) t.none
 
-    -- it met a ticket past the limit in a sweep
-    pub late-out : (now held : Option (HeldStanding B)) → ((n : ℕ) → HasLeft n n p q held) → now ≡ held
-        → HasRun shared topics size longest faults end_count left files q is after now
-    late-out now held end same =
-        let n = length (parts_in size (all_given files)) in
-        run-late shared topics size longest faults end_count left files t.before q was is before after now held t.read t.stops t.suits t.work
-        (subst (λ (x : PassStanding B). HasLeft n n x q held) t.retired (end n)) same
+  -- it met a ticket past the limit in a sweep, and keeps what came back
+  pub late-out : (seat : Seated B) (held : Option (HeldStanding B)) → ((n : ℕ) → HasLeft n n was.pass now.pass held) → seat.worker ≡ now → seat.kept ≡ held
+      → HasRun shared job.topics job.size job.longest faults end_count left files seat.worker.pass seat.worker.members.items seat.worker.starved seat.kept
+  late-out seat held end same keeps =
+      let n = length (parts_in job.size (all_given files)) in
+      subst (λ (w : Worker B). HasRun shared job.topics job.size job.longest faults end_count left files w.pass w.members.items w.starved seat.kept) (sym same)
+      (run-late shared job.topics job.size job.longest faults end_count left files t.before now.pass was.members.items now.members.items was.starved now.starved
+      seat.kept held t.read t.stops t.suits t.work (subst (λ (x : PassStanding B). HasLeft n n x now.pass held) t.retired (end n)) keeps)
 
-    -- its queue, once it has swept
-    pub queue-swept : HasTaken p q → q.queue ≡ shared
-    queue-swept taken =
-        ap (λ (x : PassStanding B). x.queue) taken.pass ∙ ap (λ (x : PassStanding B). x.queue) t.retired ∙ t.suits.queue
+  -- its queue, once it has swept
+  pub queue-swept : HasTaken was.pass now.pass → now.pass.queue ≡ shared
+  queue-swept taken =
+      ap (λ (x : PassStanding B). x.queue) taken.pass ∙ ap (λ (x : PassStanding B). x.queue) t.retired ∙ t.suits.queue
 
-    -- it swept until it left
-    pub left-swept : (contents : B → List ℕ) → HasTaken p q → HasSweptLast contents shared IsReturn (length topics + 1) 64 p q
-        → HasLeftSwept contents IsReturn (length topics + 1) 64 q
-    left-swept contents taken end = record {
-      before = t.before;
-      unasked = t.work.producing.unasked;
-      swept = subst (λ (k : Identity B). HasSweptLast contents k IsReturn (length topics + 1) 64 (after_retire t.before) q)
-          (sym (queue-swept taken))
-          (subst (λ (x : PassStanding B). HasSweptLast contents shared IsReturn (length topics + 1) 64 x q) t.retired end);
-    }
+  -- it swept until it left
+  pub left-swept : (contents : B → List ℕ) (n : ℕ) → n ≡ length job.topics → HasTaken was.pass now.pass
+      → HasSweptLast contents shared IsReturn (n + 1) 64 was.pass now.pass → HasLeftSwept contents IsReturn (length job.topics + 1) 64 now.pass
+  left-swept contents n many taken end = record {
+    before = t.before;
+    unasked = t.work.producing.unasked;
+    swept = subst (λ m. HasSweptLast contents now.pass.queue IsReturn (m + 1) 64 (after_retire t.before) now.pass) many
+        (subst (λ (k : Identity B). HasSweptLast contents k IsReturn (n + 1) 64 (after_retire t.before) now.pass) (sym (queue-swept taken))
+        (subst (λ (x : PassStanding B). HasSweptLast contents shared IsReturn (n + 1) 64 x now.pass) t.retired end));
+  }

@@ -1,6 +1,6 @@
 -- The end of the work of all workers. A slice of the desks is lent, and written back whole.
-use Rattle.std.proofs.Common.{◌≡◌, ◌∙◌, sym, ap, subst, arith, false, ℕ, ◌++◌, List, length, map, take, drop}
-use Rattle.std.specs.Prelude.{slice_index_or, flat_map, Vec}
+use Rattle.std.proofs.Common.{◌≡◌, ◌∙◌, sym, ap, subst, arith, false, ◌++◌, List, length, map, take, drop}
+use Rattle.std.specs.Prelude.{slice_index_or, Vec}
 use Rattle.std.specs.Global.{Global}
 use Rattle.std.specs.List.{All}
 use Rattle.std.proofs.lemmas.Bool.{or_parts}
@@ -48,7 +48,7 @@ pub close-buffers-requires-clause-passes : goal.close-buffers-requires-clause-pa
 close-buffers-requires-clause-passes g c lifetimes =
     let its = passes g (goal.at.close-buffers-requires-clause-passes g c).After-clear in
     let P : PassStanding Frame → Type 0 = λ p. p.queue ≡ c.args.queue in
-    subst (All P) (sym its) (All-map P (pass_at g.W.Sits.pass_of) c.args.desks.items c.requires.own)
+    subst (All P) (sym its) (All-map P (pass_at g.W.Sits.pass_of) c.args.desks.items (λ k d less. (c.requires.own k d less).0))
 
 pub close-buffers-requires-clause-all : goal.close-buffers-requires-clause-all
 close-buffers-requires-clause-all g c lifetimes =
@@ -60,7 +60,8 @@ close-buffers-requires-clause-held g c lifetimes =
     let at = (goal.at.close-buffers-requires-clause-held g c).After-clear in
     subst (λ (ps : List (PassStanding Frame)). AreTheHeld c.args.queue ps c.clear.new.left.held.items) (sym (passes g at))
     (subst (λ (hs : List (HeldStanding Frame)). AreTheHeld c.args.queue (map (pass_at g.W.Sits.pass_of) c.args.desks.items) hs) (sym (held g at))
-    (are-held g.W.Sits.pass_of c.args.queue c.args.desks.items c.requires.its c.requires.held))
+    (are-held g.W.Sits.pass_of c.args.queue c.args.desks.items (λ k d less. (c.requires.own k d less).2)
+    (λ k d less. (c.requires.own k d less).1)))
 
 -- each buffer that comes back is the frame that went in at its place
 pub merge-requires : goal.merge-requires

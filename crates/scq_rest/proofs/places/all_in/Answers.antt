@@ -10,11 +10,8 @@ use Rattle.scq_rest.proofs.places.all_in.Goals as goal
 pub finish-requires-clause-begun : goal.finish-requires-clause-begun
 finish-requires-clause-begun g c κs within = c.produce.ensures.begun
 
-pub returns-clause-first : goal.returns-clause-first
-returns-clause-first g c = c.finish.ensures c.args.first c.produce.ensures
-
-pub returns-clause-others : goal.returns-clause-others
-returns-clause-others g c =
+pub returns : goal.returns
+returns g c =
     let S = g.row.S.Denot in
     let R : Work S → Work S → Type 0 =
     HasDone (task c.args.queue.now c.args.job.now c.args.crew.now g.S.Source.faults g.S.Source.ends g.S.Source.left) in
@@ -31,4 +28,4 @@ returns-clause-others g c =
     written-back n third (take n (second ++ drop (length second) first)) longer in
     let given : map given_to third ≡ c.args.given.items =
     c.finish_all.ensures.given ∙ ap (map given_to) same ∙ c.produce_all.ensures.given ∙ ap (map given_to) is ∙ c.begin_all.ensures.given in
-    subst (λ l. AllZip R l c.end_all.new.ends.items) (ap (map given_to) all ∙ given) c.end_all.ensures
+    (c.finish.ensures c.args.first c.produce.ensures, subst (λ l. AllZip R l c.end_all.new.ends.items) (ap (map given_to) all ∙ given) c.end_all.ensures)

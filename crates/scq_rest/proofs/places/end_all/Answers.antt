@@ -19,7 +19,7 @@ ends-init g c =
     let R : Work S → Work S → Type 0 =
     HasDone (task c.args.queue.now c.args.job.now c.args.crew.now g.S.Source.faults g.S.Source.ends g.S.Source.left) in
     let Held : Runner S → Type 0 =
-    HasWork R c.args.queue.now c.args.job.now c.args.crew.now g.S.Source.faults g.S.Source.ends g.S.Source.left in
+    HasWork HasDone c.args.queue.now c.args.job.now c.args.crew.now g.S.Source.faults g.S.Source.ends g.S.Source.left in
     record {
       ended = λ more so. subst (λ es. AllZip R (map given_to all) (es ++ more)) (sym none) (subst (λ ps. AllZip R (map given_to ps) more) back so);
       stands = subst (All Held) (sym back) c.requires.stands;
@@ -29,10 +29,8 @@ ends-init g c =
 pub end-requires-clause-stands : goal.end-requires-clause-stands
 end-requires-clause-stands g c κs within =
     let S = g.row.S.Denot in
-    let R : Work S → Work S → Type 0 =
-    HasDone (task c.args.queue.now c.args.job.now c.args.crew.now g.S.Source.faults g.S.Source.ends g.S.Source.left) in
     let Held : Runner S → Type 0 =
-    HasWork R c.args.queue.now c.args.job.now c.args.crew.now g.S.Source.faults g.S.Source.ends g.S.Source.left in
+    HasWork HasDone c.args.queue.now c.args.job.now c.args.crew.now g.S.Source.faults g.S.Source.ends g.S.Source.left in
     let rest = c.pop.new.self.items in
     let place = c.in-Some.place in
     All-head Held place (reverse rest) (subst (All Held) (turned c.ends.places.items rest place c.in-Some.ensures.items) c.ends.invariant.stands)
@@ -46,7 +44,7 @@ ends-preserved g c =
     let R : Work S → Work S → Type 0 =
     HasDone (task c.args.queue.now c.args.job.now c.args.crew.now g.S.Source.faults g.S.Source.ends g.S.Source.left) in
     let Held : Runner S → Type 0 =
-    HasWork R c.args.queue.now c.args.job.now c.args.crew.now g.S.Source.faults g.S.Source.ends g.S.Source.left in
+    HasWork HasDone c.args.queue.now c.args.job.now c.args.crew.now g.S.Source.faults g.S.Source.ends g.S.Source.left in
     record {
       ended = λ more so. subst (λ es. AllZip R (map given_to c.args.places.items) (es ++ more)) (sym c.push_reserved.ensures.items)
           (zipped-next R given_to (map given_to c.args.places.items) c.ends.places.items rest place c.ends.ends.items c.end.result inv.ended

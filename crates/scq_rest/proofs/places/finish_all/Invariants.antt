@@ -1,11 +1,11 @@
 use Rattle.std.proofs.Common.{map}
-use Rattle.scq_rest.specs.Threads.{task, HasBegun, HasDone}
+use Rattle.scq_rest.specs.Threads.{HasBegun, HasDone}
 use Rattle.scq_rest.specs.Places.{given_to, HasWork}
 use Rattle.scq_rest.proofs.PlaceLemmas.{Replaced}
 use Rattle.scq_rest.proofs.places.finish_all.Given as goal
 
 abbrev pub invariant-places : goal.invariant-places
 invariant-places g l =
-    Replaced (HasWork (HasBegun (task l.queue l.job l.crew g.S.Source.faults g.S.Source.ends g.S.Source.left)) l.queue l.job l.crew g.S.Source.faults g.S.Source.ends g.S.Source.left)
-    (HasWork (HasDone (task l.queue l.job l.crew g.S.Source.faults g.S.Source.ends g.S.Source.left)) l.queue l.job l.crew g.S.Source.faults g.S.Source.ends g.S.Source.left) given_to
+    Replaced (HasWork HasBegun l.queue l.job l.crew g.S.Source.faults g.S.Source.ends g.S.Source.left)
+    (HasWork HasDone l.queue l.job l.crew g.S.Source.faults g.S.Source.ends g.S.Source.left) given_to
     (map given_to l.fn.places) l.places l.place-index

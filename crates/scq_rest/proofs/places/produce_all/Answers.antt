@@ -1,5 +1,5 @@
 use Rattle.std.proofs.Common.{arith, map}
-use Rattle.scq_rest.specs.Threads.{task, HasBegun}
+use Rattle.scq_rest.specs.Threads.{HasBegun}
 use Rattle.scq_rest.specs.Places.{given_to, HasWork, IsUntouched}
 use Rattle.scq_rest.proofs.PlaceLemmas.{replaced-next}
 use Rattle.scq_rest.proofs.places.produce_all.Goals as goal
@@ -7,6 +7,6 @@ use Rattle.scq_rest.proofs.places.produce_all.Goals as goal
 pub places-preserved : goal.places-preserved
 places-preserved g c =
     replaced-next (HasWork IsUntouched c.args.queue.now c.args.job.now c.args.crew.now g.S.Source.faults g.S.Source.ends g.S.Source.left)
-    (HasWork (HasBegun (task c.args.queue.now c.args.job.now c.args.crew.now g.S.Source.faults g.S.Source.ends g.S.Source.left)) c.args.queue.now c.args.job.now c.args.crew.now g.S.Source.faults g.S.Source.ends g.S.Source.left) given_to
+    (HasWork HasBegun c.args.queue.now c.args.job.now c.args.crew.now g.S.Source.faults g.S.Source.ends g.S.Source.left) given_to
     (map given_to c.args.places.now) c.places.places c.places.place-index c.produce.new.self c.place-item.result c.places.invariant (omega arith)
     c.produce.ensures.given c.produce.ensures.stands

@@ -1,5 +1,5 @@
 use Rattle.std.proofs.Common.{map}
-use Rattle.scq_rest.specs.Threads.{task, HasBegun}
+use Rattle.scq_rest.specs.Threads.{HasBegun}
 use Rattle.scq_rest.specs.Places.{given_to, HasWork, IsUntouched}
 use Rattle.scq_rest.proofs.PlaceLemmas.{Replaced}
 use Rattle.scq_rest.proofs.places.produce_all.Given as goal
@@ -7,5 +7,5 @@ use Rattle.scq_rest.proofs.places.produce_all.Given as goal
 abbrev pub invariant-places : goal.invariant-places
 invariant-places g l =
     Replaced (HasWork IsUntouched l.queue l.job l.crew g.S.Source.faults g.S.Source.ends g.S.Source.left)
-    (HasWork (HasBegun (task l.queue l.job l.crew g.S.Source.faults g.S.Source.ends g.S.Source.left)) l.queue l.job l.crew g.S.Source.faults g.S.Source.ends g.S.Source.left) given_to
+    (HasWork HasBegun l.queue l.job l.crew g.S.Source.faults g.S.Source.ends g.S.Source.left) given_to
     (map given_to l.fn.places) l.places l.place-index

@@ -7,11 +7,10 @@ use Rattle.atomic_table.specs.Seated.{TableId}
 use Rattle.scq_block.specs.declared.frame.Frame.{Frame}
 use Rattle.scq_park.specs.Crews.{Post, AreAll, first_posts}
 use Rattle.scq_park.proofs.Firsts.{firsts_all}
-use Rattle.scq_worker.specs.Seats.{IsFresh, Seated}
-use Rattle.scq_files.specs.OwnFiles.{IsNew}
+use Rattle.scq_worker.specs.Seats.{Seated}
 use Rattle.scq_worker.specs.Desks.{HasRun}
 use Rattle.scq_rest.specs.Resting.{AreSettled}
-use Rattle.scq_rest.specs.Threads.{Task, task, IsGiven, HasDone}
+use Rattle.scq_rest.specs.Threads.{task, IsGiven, HasDone}
 use Rattle.scq_files.specs.declared.desk.Desk.{Desk}
 use Rattle.scq_rest.specs.declared.threads.Work.{Work}
 use Rattle.scq_rest.proofs.Settling.{zip-length, desk_of, stand_of, IsFirst, firsts-new, all-given, desks-same, each-done, settled}
@@ -26,13 +25,6 @@ new-of : (crew : List TableId) (workers : ℕ) (stands : List Post) → stands �
 new-of crew workers stands are = subst (All (IsFirst crew)) (sym are) (firsts-new crew workers)
 
 module _ {S : Type 0} where
-  -- each worker is given what it begins with
-  each-given : (t : Task S) (desks : List (Desk (Seated Frame) S)) (stands : List Post) (first : Work S) (given : List (Work S))
-      → desks ≡ map desk_of (first ∷ given) → stands ≡ map stand_of (first ∷ given) → All (λ (d : Desk (Seated Frame) S). IsFresh t.queue d.worker) desks
-      → All (λ (d : Desk (Seated Frame) S). All IsNew d.files.items) desks → All (IsFirst t.crew) stands → All (IsGiven t) (first ∷ given)
-  each-given t desks stands first given desks_are stands_are fresh unread new =
-      all-given t (first ∷ given) desks stands desks_are stands_are fresh unread new
-
   -- one fewer are given than there are desks
   few-given : (desks : List (Desk (Seated Frame) S)) (first : Work S) (given : List (Work S)) → desks ≡ map desk_of (first ∷ given)
       → length given + 1 ≡ length desks
@@ -43,32 +35,24 @@ pair-first-requires-clause-many g c κs within =
     let all = all-of c.args.crew.now c.args.job.now.workers c.args.stands.items c.requires.stands c.requires.workers.1 in
     omega (arith, all.many, c.requires.workers.0, c.requires.workers.1, c.args.desks.ok.0, c.args.stands.ok.0)
 
-pub run_all-first-requires-clause-first : goal.run_all-first-requires-clause-first
-run_all-first-requires-clause-first g c κs within =
+pub run_all-first-requires : goal.run_all-first-requires
+run_all-first-requires g c κs within =
     let t = task c.args.queue.now c.args.job.now c.args.crew.now g.S.Source.faults g.S.Source.ends g.S.Source.left in
+    let first = c.pair-first.result in
+    let given = c.pair-first.new.given in
     let new = new-of c.args.crew.now c.args.job.now.workers c.args.stands.items c.requires.stands in
-    All-head (IsGiven t) c.pair-first.result c.pair-first.new.given.items
-    (each-given t c.args.desks.items c.args.stands.items c.pair-first.result c.pair-first.new.given.items c.pair-first.ensures.desks
-    c.pair-first.ensures.stands c.requires.fresh c.requires.unread new)
-
-pub run_all-first-requires-clause-given : goal.run_all-first-requires-clause-given
-run_all-first-requires-clause-given g c κs within =
-    let t = task c.args.queue.now c.args.job.now c.args.crew.now g.S.Source.faults g.S.Source.ends g.S.Source.left in
-    let new = new-of c.args.crew.now c.args.job.now.workers c.args.stands.items c.requires.stands in
-    All-tail (IsGiven t) c.pair-first.result c.pair-first.new.given.items
-    (each-given t c.args.desks.items c.args.stands.items c.pair-first.result c.pair-first.new.given.items c.pair-first.ensures.desks
-    c.pair-first.ensures.stands c.requires.fresh c.requires.unread new)
-
-pub run_all-first-requires-clause-flags : goal.run_all-first-requires-clause-flags
-run_all-first-requires-clause-flags g c κs within =
-    let few = few-given c.args.desks.items c.pair-first.result c.pair-first.new.given.items c.pair-first.ensures.desks in
-    omega (arith, few, c.pair-first.new.given.ok.0, c.requires.workers.0, c.requires.resting_room.flags, ap length c.as_slice.ensures.value)
-
-pub run_all-first-requires-clause-room : goal.run_all-first-requires-clause-room
-run_all-first-requires-clause-room g c κs within =
-    let few = few-given c.args.desks.items c.pair-first.result c.pair-first.new.given.items c.pair-first.ensures.desks in (
-      omega (arith, few, c.pair-first.new.given.ok.0, c.requires.workers.0, c.requires.resting_room.all.1),
-      omega (arith, few, c.pair-first.new.given.ok.0, c.requires.workers.0, c.requires.resting_room.all.2),
+    let each = all-given t (first ∷ given.items) c.args.desks.items c.args.stands.items c.pair-first.ensures.desks c.pair-first.ensures.stands
+    c.requires.fresh c.requires.unread new in
+    let few = few-given c.args.desks.items first given.items c.pair-first.ensures.desks in
+    let room = c.requires.resting_room in (
+      record { rings = c.requires.rings; room = c.requires.room; crew = c.requires.workers.1; some = c.args.job.now.valid.some_workers },
+      All-head (IsGiven t) first given.items each,
+      All-tail (IsGiven t) first given.items each,
+      omega (arith, few, given.ok.0, c.requires.workers.0, room.flags, ap length c.as_slice.ensures.value),
+      room.none.1,
+      room.none.2,
+      omega (arith, few, given.ok.0, c.requires.workers.0, room.all.1),
+      omega (arith, few, given.ok.0, c.requires.workers.0, room.all.2),
     )
 
 pub take_apart-requires-clause-room : goal.take_apart-requires-clause-room
@@ -77,7 +61,7 @@ take_apart-requires-clause-room g c κs within =
     let few = few-given c.args.desks.items c.pair-first.result c.pair-first.new.given.items c.pair-first.ensures.desks in
     let all = all-of c.args.crew.now c.args.job.now.workers c.args.stands.items c.requires.stands c.requires.workers.1 in
     let ends = c.run_all-first.result.1 in
-    let long = zip-length (HasDone t) c.pair-first.new.given.items ends.items c.run_all-first.ensures.others in (
+    let long = zip-length (HasDone t) c.pair-first.new.given.items ends.items c.run_all-first.ensures.1 in (
       omega (arith, few, long, ends.ok.0, c.pair-first.ensures.kept.0, c.args.desks.ok.0, c.args.desks.ok.1),
       omega (
         arith,
@@ -98,7 +82,7 @@ returns-clause-count g c =
     let t = task c.args.queue.now c.args.job.now c.args.crew.now g.S.Source.faults g.S.Source.ends g.S.Source.left in
     let xs = c.pair-first.result ∷ c.pair-first.new.given.items in
     let ys = c.run_all-first.result.0 ∷ c.run_all-first.result.1.items in
-    let z : AllZip (HasDone t) xs ys = (c.run_all-first.ensures.first, c.run_all-first.ensures.others) in
+    let z : AllZip (HasDone t) xs ys = c.run_all-first.ensures in
     ap length c.take_apart.ensures.desks ∙ length-map ys desk_of ∙ zip-length (HasDone t) xs ys z ∙ sym (length-map xs desk_of)
     ∙ sym (ap length c.pair-first.ensures.desks)
 
@@ -108,7 +92,7 @@ returns-clause-same g c w d less =
     let x = c.pair-first.result in
     let y = c.run_all-first.result.0 in
     (desks-same t (x ∷ c.pair-first.new.given.items) (y ∷ c.run_all-first.result.1.items) x y c.args.desks.items c.take_apart.new.desks.items
-    (c.run_all-first.ensures.first, c.run_all-first.ensures.others) c.pair-first.ensures.desks c.take_apart.ensures.desks w d less).0
+    c.run_all-first.ensures c.pair-first.ensures.desks c.take_apart.ensures.desks w d less).0
 
 pub returns-clause-numbers : goal.returns-clause-numbers
 returns-clause-numbers g c w d less =
@@ -116,7 +100,7 @@ returns-clause-numbers g c w d less =
     let x = c.pair-first.result in
     let y = c.run_all-first.result.0 in
     (desks-same t (x ∷ c.pair-first.new.given.items) (y ∷ c.run_all-first.result.1.items) x y c.args.desks.items c.take_apart.new.desks.items
-    (c.run_all-first.ensures.first, c.run_all-first.ensures.others) c.pair-first.ensures.desks c.take_apart.ensures.desks w d less).1
+    c.run_all-first.ensures c.pair-first.ensures.desks c.take_apart.ensures.desks w d less).1
 
 pub returns-clause-run : goal.returns-clause-run
 returns-clause-run g c =
@@ -128,7 +112,7 @@ returns-clause-run g c =
     let P : Desk (Seated Frame) S → Type 0 = λ d. HasRun c.args.queue.now job.topics job.size job.longest g.S.Source.faults g.S.Source.ends g.S.Source.left
     d.files.items d.worker.worker.pass d.worker.worker.members.items d.worker.worker.starved d.worker.kept in
     subst (All P) (sym c.take_apart.ensures.desks)
-    (All-map P desk_of ys (each-done t (λ (w : Work S). P w.desk) xs ys (c.run_all-first.ensures.first, c.run_all-first.ensures.others) (λ x y done. done.run)))
+    (All-map P desk_of ys (each-done t (λ (w : Work S). P w.desk) xs ys c.run_all-first.ensures (λ x y done. done.run)))
 
 pub returns-clause-settled : goal.returns-clause-settled
 returns-clause-settled g c =
@@ -141,4 +125,4 @@ returns-clause-settled g c =
     let all = subst (AreAll crew) c.pair-first.ensures.stands (all-of crew c.args.job.now.workers c.args.stands.items c.requires.stands c.requires.workers.1) in
     subst (λ (ps : List Post). AreSettled crew topics ps (map (λ (d : Desk (Seated Frame) S). d.worker.worker.pass) c.take_apart.new.desks.items)) (sym c.take_apart.ensures.stands)
     (subst (λ (ds : List (Desk (Seated Frame) S)). AreSettled crew topics (map stand_of ys) (map (λ (d : Desk (Seated Frame) S). d.worker.worker.pass) ds))
-    (sym c.take_apart.ensures.desks) (settled t xs ys (c.run_all-first.ensures.first, c.run_all-first.ensures.others) all))
+    (sym c.take_apart.ensures.desks) (settled t xs ys c.run_all-first.ensures all))

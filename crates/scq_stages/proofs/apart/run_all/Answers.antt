@@ -1,57 +1,47 @@
--- A slice of the desks is lent, and written back whole.
-use Rattle.std.proofs.Common.{◌≡◌, ◌∙◌, sym, ap, subst, arith, List, ◌++◌, None, length, take, drop}
-use Rattle.std.specs.Prelude.{slice_index_or}
-use Rattle.std.specs.List.{All}
-use Rattle.scq_block.specs.declared.frame.Frame.{Frame}
+use Rattle.std.proofs.Common.{◌≡◌, subst, arith, None}
+use denote.Param.Send.{IsSync, param_sync}
+use Rattle.std.proofs.Crossing as crossing
 use Rattle.scq_block.specs.Frames.{bytes_of}
+use Rattle.scq_block.specs.declared.frame.Frame.{Frame}
 use Rattle.scq_passes.specs.Leaving.{HasLeftSwept}
 use Rattle.scq_passes.specs.Records.{IsGivenBack}
-use Rattle.scq_files.specs.OwnFiles.{ids_of}
 use Rattle.scq_files.specs.declared.desk.Desk.{Desk}
 use Rattle.scq_stages.specs.Seats.{Seated}
-use Rattle.scq_stages.specs.Working.{HasRun}
-use Rattle.scq_files.proofs.Lists.{written-back}
+use Rattle.scq_block.proofs.FramesSent.{frame_sent, frame_shared}
+use Rattle.scq_block.specs.contracts.frame.Frame as frame
+use Rattle.scq_block.specs.contracts.frame.FrameBuffer.TheImpl as buffer
+use Rattle.scq_queue.specs.contracts.queue.Queue as queue
+use Rattle.scq_queue.proofs.QueuesShared.{queue_sync}
+use Rattle.scq_stages.specs.contracts.job.StageJob as job
+use Rattle.scq_stages.proofs.job.StageJob.TheSendSync as jobs
+use Rattle.scq_stages.proofs.apart.run_all.Lts.{arg-0-2}
 use Rattle.scq_stages.proofs.apart.run_all.Goals as goal
-use Rattle.scq_stages.proofs.apart.run_all.Goals.{After-run_each}
 
-whole : (g : _) (c : After-run_each g)
-    → take c.args.desks.len (c.run_each.new.desks ++ drop (length c.run_each.new.desks) c.args.desks.items) ≡ c.run_each.new.desks
-whole g c =
-    written-back c.args.desks.len c.run_each.new.desks c.args.desks.items (c.run_each.auto.desks ∙ c.as_mut_slice.ensures.len)
+queue_shared : IsSync (queue.the_row frame.the_row buffer.ghosts)
+queue_shared = queue_sync frame.the_row buffer.ghosts frame_sent frame_shared
 
-pub returns-clause-count : goal.returns-clause-count
-returns-clause-count g c =
-    ap length (whole g (goal.at.returns-clause-count g c).After-run_each) ∙ c.run_each.auto.desks ∙ ap length c.as_mut_slice.ensures.value
-
-pub returns-clause-same : goal.returns-clause-same
-returns-clause-same g c w d less =
-    let S = g.row.S.Denot in
-    let is : c.as_mut_slice.result.now ≡ c.args.desks.items = c.as_mut_slice.ensures.value in
-    subst (λ (ds : List (Desk (Seated Frame) S)). ids_of (slice_index_or ds w d).files.items ≡ ids_of (slice_index_or c.args.desks.items w d).files.items)
-    (sym (whole g (goal.at.returns-clause-same g c).After-run_each))
-    (subst (λ (ds : List (Desk (Seated Frame) S)). ids_of (slice_index_or c.run_each.new.desks w d).files.items ≡ ids_of (slice_index_or ds w d).files.items) is
-    (c.run_each.ensures.same w d (omega (arith, less, ap length is))))
-
-pub returns-clause-numbers : goal.returns-clause-numbers
-returns-clause-numbers g c w d less =
-    let S = g.row.S.Denot in
-    let is : c.as_mut_slice.result.now ≡ c.args.desks.items = c.as_mut_slice.ensures.value in
-    subst (λ (ds : List (Desk (Seated Frame) S)). (slice_index_or ds w d).worker.worker.pass.number ≡ (slice_index_or c.args.desks.items w d).worker.worker.pass.number)
-    (sym (whole g (goal.at.returns-clause-numbers g c).After-run_each))
-    (subst (λ (ds : List (Desk (Seated Frame) S)). (slice_index_or c.run_each.new.desks w d).worker.worker.pass.number ≡ (slice_index_or ds w d).worker.worker.pass.number) is
-    (c.run_each.ensures.numbers w d (omega (arith, less, ap length is))))
-
-pub returns-clause-run : goal.returns-clause-run
-returns-clause-run g c =
-    let S = g.row.S.Denot in
-    let job = c.args.job.now in
-    subst (λ (ds : List (Desk (Seated Frame) S)). All (λ d. HasRun c.args.queue.now job.size g.S.Source.faults g.S.Source.ends
-    g.S.Source.left d.files.items d.worker.worker.pass d.worker.worker.members.items d.worker.worker.starved d.worker.kept) ds)
-    (sym (whole g (goal.at.returns-clause-run g c).After-run_each)) c.run_each.ensures.run
+-- what the closure borrows may be shared: the allocator, the job and the queue
+pub work_apart-requires-sync-F : goal.work_apart-requires-sync-F
+work_apart-requires-sync-F g c κs within =
+    let row = arg-0-2 g.row.R g.row.S g.R.laws g.S.laws g.R.Threads-dict g.S.Source-dict g.S.Destruct-dict κs in
+    let memory = crossing.sync in
+    let its_job : IsSync job.the_row = jobs.the_sync in
+    let here : IsSync row =
+    record {
+      shared = λ x b o κ. (
+        (
+          ((λ q. tt), memory.shared _ _ _ κ),
+          (((λ q. tt), its_job.shared x.1.now _ _ κ), (((λ q. tt), queue_shared.shared _ _ _ _), tt)),
+        ),
+        λ q. tt,
+      );
+    } in
+    param_sync 2 row here
 
 pub returns-clause-behind : goal.returns-clause-behind
-returns-clause-behind g c =
+returns-clause-behind g c k d less awake =
     let S = g.row.S.Denot in
-    subst (λ (ds : List (Desk (Seated Frame) S)). All (λ d. d.worker.worker.pass.spent ≡ None
-    → HasLeftSwept bytes_of IsGivenBack 2 64 d.worker.worker.pass) ds)
-    (sym (whole g (goal.at.returns-clause-behind g c).After-run_each)) c.run_each.ensures.behind
+    let at = (c.work_apart.ensures.each k d (omega (arith, less, c.work_apart.ensures.count))).1 in
+    let P : Desk (Seated Frame) S → Type 0 = λ e. e.worker.worker.pass.spent ≡ None
+    → HasLeftSwept bytes_of IsGivenBack 2 64 e.worker.worker.pass in
+    subst P at.left at.call.3 awake

@@ -1,5 +1,5 @@
 -- The end of the stages.
-use Rattle.std.proofs.Common.{◌≡◌, ◌∙◌, refl, sym, ap, subst, arith, ℕ, ◌^◌, List, [], length, map}
+use Rattle.std.proofs.Common.{◌≡◌, ◌∙◌, refl, sym, ap, subst, arith, ℕ, ◌^◌, List, [], map}
 use Rattle.std.specs.Prelude.{Vec}
 use Rattle.std.specs.Global.{Global}
 use Rattle.scq_block.specs.declared.frame.Frame.{Frame}
@@ -16,7 +16,7 @@ use Rattle.scq_desk.specs.Rooms.{IsLaid}
 use Rattle.scq_stages.specs.declared.finished.Finished.{Finished}
 use Rattle.scq_stages.specs.declared.staged.StageFault.{StageFault}
 use Rattle.scq_stages.specs.declared.staged.Staged.{Staged}
-use Rattle.scq_stages.specs.AllStages.{HasStaged, HaveFinished, NothingIsStranded}
+use Rattle.scq_stages.specs.AllStages.{HasStaged, HaveFinished}
 use Rattle.scq_stages.specs.Output.{finished_in}
 use Rattle.scq_stages.proofs.DeskWorks.{AllRan, all-ended, desks-gave, desks-shared, desks-staged, lists_at, messages_given, passes_at}
 use Rattle.scq_stages.specs.Ends.{as_end}
@@ -34,13 +34,7 @@ wind_up_desks-sources-requires-clause-seats g c κs within =
     (omega (arith, c.requires.count, c.args.job.now.valid.some_workers), c.requires.setup.2 ∙ sym c.requires.count)
 
 pub wind_up_desks-sources-requires-clause-own : goal.wind_up_desks-sources-requires-clause-own
-wind_up_desks-sources-requires-clause-own g c κs within k d less = (c.requires.run k d less).queue
-
-pub wind_up_desks-sources-requires-clause-held : goal.wind_up_desks-sources-requires-clause-held
-wind_up_desks-sources-requires-clause-held g c κs within k d less = (c.requires.run k d less).held
-
-pub wind_up_desks-sources-requires-clause-its : goal.wind_up_desks-sources-requires-clause-its
-wind_up_desks-sources-requires-clause-its g c κs within k d less = (c.requires.run k d less).its
+wind_up_desks-sources-requires-clause-own g c κs within k d less = let ran = c.requires.run k d less in (ran.queue, ran.held, ran.its)
 
 -- what the workers did
 ran : (g : _) (c : After-conclude g) → AllRan c.args.queue.setup c.args.queue c.args.job.now.size g.S.Source.faults g.S.Source.ends g.S.Source.left

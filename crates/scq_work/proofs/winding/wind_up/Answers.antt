@@ -1,5 +1,5 @@
 -- The end of the work of all workers.
-use Rattle.std.proofs.Common.{◌≡◌, ◌∙◌, refl, sym, ap, subst, arith, ℕ, ◌+◌, ◌^◌, List, length, map}
+use Rattle.std.proofs.Common.{◌≡◌, ◌∙◌, refl, sym, ap, subst, arith, ℕ, ◌^◌, List, map}
 use Rattle.std.specs.Prelude.{Vec, IfOk}
 use Rattle.std.specs.Global.{Global}
 use Rattle.scq_block.specs.declared.frame.Frame.{Frame}
@@ -35,13 +35,7 @@ wind_up_desks-sources-requires-clause-seats g c κs within =
     (omega (arith, c.requires.count, c.args.job.now.valid.some_workers), c.requires.setup.2 ∙ sym c.requires.count)
 
 pub wind_up_desks-sources-requires-clause-own : goal.wind_up_desks-sources-requires-clause-own
-wind_up_desks-sources-requires-clause-own g c κs within k d less = (c.requires.run k d less).queue
-
-pub wind_up_desks-sources-requires-clause-held : goal.wind_up_desks-sources-requires-clause-held
-wind_up_desks-sources-requires-clause-held g c κs within k d less = (c.requires.run k d less).held
-
-pub wind_up_desks-sources-requires-clause-its : goal.wind_up_desks-sources-requires-clause-its
-wind_up_desks-sources-requires-clause-its g c κs within k d less = (c.requires.run k d less).its
+wind_up_desks-sources-requires-clause-own g c κs within k d less = let ran = c.requires.run k d less in (ran.queue, ran.held, ran.its)
 
 -- what the workers did
 ran : (g : _) (c : After-conclude g) → AllRan c.args.queue.setup c.args.queue c.args.job.now.topics c.args.job.now.size c.args.job.now.longest

@@ -1,4 +1,4 @@
-use Rattle.std.proofs.Common.{rules, ◌≡◌, ◌∙◌, sym, subst, ◌++◌, ◌∷◌, [], ℕ, Err, Result}
+use Rattle.std.proofs.Common.{rules, ◌≡◌, ◌∙◌, refl, sym, subst, ◌++◌, ◌∷◌, [], ℕ, Err, Result}
 use Rattle.std.specs.Prelude.{IfErr}
 use Rattle.scq_passes.specs.Calls.{HasLeftSo, since}
 use Rattle.scq_passes.proofs.PassLemmas.{taken-along}
@@ -14,16 +14,16 @@ use Rattle.scq_stages.proofs.worker.Worker.help.Goals.{In_ok-move_one}
 
 -- the calls of both takes
 both-calls : (g : _) (c : In_ok-move_one g) → since c.args.self.now.pass c.move_one.new.self.pass
-    ≡ since c.args.self.now.pass c.take_second.new.self.pass ++ since c.take_second.new.self.pass c.move_one.new.self.pass
+    ≡ since c.args.self.now.pass c.finish_one.new.self.pass ++ since c.finish_one.new.self.pass c.move_one.new.self.pass
 both-calls g c =
-    since-takes c.args.self.now.pass c.take_second.new.self.pass c.move_one.new.self.pass c.in_ok-take_second.ensures.taken c.in_ok-move_one.ensures.taken
+    since-takes c.args.self.now.pass c.finish_one.new.self.pass c.move_one.new.self.pass c.in_ok-finish_one.ensures.taken.taken c.in_ok-move_one.ensures.taken
 
 pub returns-in_err-move_one-clause-left : goal.returns-in_err-move_one-clause-left
 returns-in_err-move_one-clause-left g c =
     let p = c.args.self.now.pass in
-    let q = c.take_second.new.self.pass in
+    let q = c.finish_one.new.self.pass in
     let r = c.move_one.new.self.pass in
-    let taken = moved-of p q c.in_ok-take_second.ensures.taken in
+    let taken = moved-of p q c.in_ok-finish_one.ensures.taken.taken in
     let is : c.from_residual-in_err-move_one.result ≡ Err c.in_err-move_one.field-0.0 = search rules in
     subst (λ (x : Result _ _). IfErr x (λ l. (messages : ℕ) → HasLeftSo HasFewStageCalls messages messages p r l.held)) (sym is)
     (λ messages. left-so-taken HasFewStageCalls messages messages messages p q r _ taken (few_calls-moved messages p q taken)
@@ -32,24 +32,25 @@ returns-in_err-move_one-clause-left g c =
 pub returns-clause-taken : goal.returns-clause-taken
 returns-clause-taken g c =
     let p = c.args.self.now.pass in
-    let q = c.take_second.new.self.pass in
-    taken-along p q c.move_one.new.self.pass (moved-of p q c.in_ok-take_second.ensures.taken) c.in_ok-move_one.ensures.taken
+    let q = c.finish_one.new.self.pass in
+    taken-along p q c.move_one.new.self.pass (moved-of p q c.in_ok-finish_one.ensures.taken.taken) c.in_ok-move_one.ensures.taken
 
 pub returns-clause-each : goal.returns-clause-each
 returns-clause-each g c =
-    topics-along c.args.self.now.pass c.take_second.new.self.pass c.move_one.new.self.pass (second ∷ []) (first ∷ []) (both-calls g c)
-    c.in_ok-take_second.ensures.one c.in_ok-move_one.ensures.one
+    topics-along c.args.self.now.pass c.finish_one.new.self.pass c.move_one.new.self.pass (second ∷ []) (first ∷ []) (both-calls g c)
+    c.in_ok-finish_one.ensures.taken.one c.in_ok-move_one.ensures.one
 
 pub returns-clause-moves : goal.returns-clause-moves
 returns-clause-moves g c =
-    moved-along c.args.self.now.pass c.take_second.new.self.pass c.move_one.new.self.pass (both-calls g c) c.in_ok-take_second.ensures.moves
+    moved-along c.args.self.now.pass c.finish_one.new.self.pass c.move_one.new.self.pass (both-calls g c) (c.in_ok-finish_one.ensures.taken.moves refl)
     c.in_ok-move_one.ensures.moves
 
 pub returns-clause-helped : goal.returns-clause-helped
 returns-clause-helped g c fed =
-    let mid = c.take_second.new.self in
+    let mid = c.finish_one.new.self in
+    let its = c.in_ok-finish_one.ensures.finished (sym c.move_one.ensures.same.1 ∙ fed) in
     helped-along c.args.self.now.pass mid.pass c.move_one.new.self.pass c.args.self.now.members.items mid.members.items c.move_one.new.self.members.items
-    (both-calls g c) (c.in_ok-take_second.ensures.helped (sym c.move_one.ensures.same.1 ∙ fed)) c.in_ok-move_one.ensures.helped
+    (both-calls g c) (record { seconds = its.finished.seconds; firsts = its.firsts refl; directs = its.finished.directs }) c.in_ok-move_one.ensures.helped
 
 pub returns-clause-gates : goal.returns-clause-gates
-returns-clause-gates g c = c.in_ok-move_one.ensures.gates ∙ c.in_ok-take_second.ensures.only.gates
+returns-clause-gates g c = c.in_ok-move_one.ensures.gates ∙ c.in_ok-finish_one.ensures.only.gates
