@@ -75,16 +75,11 @@ in_turn() {
 # Notes a number of this round under a key.
 note() { echo "$1 $round $2" >>"$folder/samples"; }
 
-# The median of a key's numbers, and the largest of them.
-median() { numbers "$1" | awk '{ it[NR] = $1 } END { print it[int((NR + 1) / 2)] }'; }
-most() { numbers "$1" | tail -n 1; }
-numbers() { awk -v key="$1" '$1 == key { print $3 }' "$folder/samples" | sort -g; }
-
-# The median of a key's numbers, and in brackets the lowest and the highest.
-spread() {
-    numbers "$1" | awk '{ it[NR] = $1 }
-        END { if (NR) print it[int((NR + 1) / 2)] " (" it[1] "-" it[NR] ")"; else print "-" }'
-}
+# A key's numbers; the median of them, with the lowest and the highest in brackets, and the largest.
+numbers() { awk -v key="$1" '$1 == key { print $3 }' "$folder/samples"; }
+median() { numbers "$1" | middle; }
+spread() { numbers "$1" | middle spread; }
+most() { numbers "$1" | sort -g | tail -n 1; }
 
 # The median of the rounds' ratios of a key to another, and with `spread` the lowest and the highest.
 ratio() {
@@ -92,12 +87,16 @@ ratio() {
         $1 == key { mine[$2] = $3 }
         $1 == other { its[$2] = $3 }
         END { for (r in mine) if (its[r] > 0) printf "%.2f\n", mine[r] / its[r] }' "$folder/samples" |
-        sort -g | awk -v spread="${3-}" '
-            { it[NR] = $1 }
-            END {
-                at = NR ? it[int((NR + 1) / 2)] : "-"
-                print spread && NR ? at " (" it[1] "-" it[NR] ")" : at
-            }'
+        middle "${3-}"
+}
+
+middle() {
+    sort -g | awk -v spread="${1-}" '
+        { it[NR] = $1 }
+        END {
+            at = NR ? it[int((NR + 1) / 2)] : "-"
+            print spread && NR ? at " (" it[1] "-" it[NR] ")" : at
+        }'
 }
 
 # What awk makes of a formula, with two digits behind the point.
@@ -106,7 +105,7 @@ calc() { awk "BEGIN { printf \"%.2f\", $1 }"; }
 # Whether a number is in this sense what is aimed at: >=, <=, < or ==.
 verdict() {
     local aim=$1 number=$2 sense=$3 wanted=$4 word=met
-    awk "BEGIN { exit !(${number:-0} $sense $wanted) }" || word=missed
+    awk "BEGIN { exit !(\"$number\" + 0 $sense $wanted) }" || word=missed
     [ "$word" = met ] || missed=$((missed + 1))
     echo "$word: $aim: $number, wanted $sense $wanted"
 }

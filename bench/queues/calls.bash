@@ -26,12 +26,28 @@ calm 2 pairs/100 two threads that pause
 order 4 pairs/40
 stop 3 $(many 150)*3 one of two threads stopped 150 times for 50 ms"
 
-# The plain C++ of the step table, over the rings or the queue: by the kit's compiler, as `ours` is.
-plain_over() {
-    local program
-    for program in plain seated; do
-        by_kit "$program" -I "$bench/queues" -DBARE -DQUEUE="\"$1.hpp\"" \
-            "$([ "$program" = plain ] || echo -DSEATED)" "$bench/queues/calls.cpp"
+# `ours`, the driver in Rattle of this name, and the plain C++ of the step table over this header, by the
+# kit's compiler too: `plain`, and `seated`, of which each thread keeps what it knows.
+ours_and_plain() {
+    proved "$1" one 3 1
+    cp "$ours" ours
+    by_kit plain -I "$bench/queues" -DBARE -DQUEUE="\"$2.hpp\"" "$bench/queues/calls.cpp"
+    by_kit seated -I "$bench/queues" -DBARE -DQUEUE="\"$2.hpp\"" -DSEATED "$bench/queues/calls.cpp"
+}
+
+# Those of these programs that were built.
+built() {
+    local it found=()
+    for it; do [ ! -x "$it" ] || found+=("$it"); done
+    echo "${found[*]}"
+}
+
+# The aim that a program's speed in a mode is at each order so many times that of another in it.
+aim() {
+    local what=$1 mine=$2 other=$3 mode=$4 wanted=$5 order
+    [ -x "$other" ] || return 0
+    for order in 6 12; do
+        verdict "$what at order $order" "$(ratio "$mine.$mode.$order" "$other.$mode.$order")" '>=' "$wanted"
     done
 }
 
