@@ -135,6 +135,16 @@ once() {
     note "$key.wall" "$wall"
 }
 
+# A line for each of these keys of `once`: medians by the clock and of the processor, and the most memory.
+spent_by() {
+    local key
+    printf '%-26s %10s %10s %11s\n' '' clock processor memory
+    for key; do
+        printf '%-26s %8.2f s %8.2f s %8d KB\n' "$key" "$(median "$key.wall")" "$(median "$key.time")" \
+            "$(most "$key.memory")"
+    done
+}
+
 # Whether a file of dist/ is of these sources, and is what dist/RECORD says.
 is_fresh() { ! "$top/dist/make" --fresh 2>&1 | grep -q "^dist/make: dist/x86_64-linux/$1 "; }
 
