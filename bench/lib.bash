@@ -10,7 +10,6 @@
 #   ROUNDS    how often each program is run, in place of the script's own number
 #   JOBS      how many checks may run side by side where a driver is proved (1)
 #   RESULTS   the folder for results: bench/results where neither SHORT nor ROUNDS is set, else none
-#   PRIORITY  of real time, with which the programs that are timed run; none where it isn't set
 set -eu
 export LC_ALL=C
 bench=$(dirname "$(readlink -f "${BASH_SOURCE[0]}")")
@@ -194,15 +193,14 @@ preload() {
 # Runs a program with its threads each on a processor of its own, so many and the last ones; where
 # there are more threads than processors, wherever the kernel lays them.
 pinned() {
-    local threads=$1 cores at list='' under=()
+    local threads=$1 cores at list=''
     shift
-    [ -z "${PRIORITY-}" ] || under=(chrt -f "$PRIORITY")
     [ -e threads.so ] || preload threads
     mapfile -t cores < <(taskset -cp $$ | sed 's/.*: //; s/,/\n/g' |
         while IFS=- read -r first last; do seq "$first" "${last:-$first}"; done)
     at=$((${#cores[@]} - threads))
     [ "$at" -lt 0 ] || list=${cores[*]:at}
-    "${under[@]}" env LD_PRELOAD="$folder/threads.so" PIN="$list" "$@"
+    env LD_PRELOAD="$folder/threads.so" PIN="$list" "$@"
 }
 
 # The crate that a text of bench/proved/ says in its first line how to lay out, with the crates that

@@ -31,23 +31,20 @@ inline void pause_us(long us) {
 
 namespace Stopped {
 
-// The threads of a program but its first, the oldest first.
-inline std::vector<pid_t> others_of(pid_t pid) {
-    std::vector<pid_t> ids;
-    for (const auto &it :
-         std::filesystem::directory_iterator("/proc/" + std::to_string(pid) + "/task"))
-        ids.push_back(std::stoi(it.path().filename()));
-    ids.erase(std::remove(ids.begin(), ids.end(), pid), ids.end());
-    std::sort(ids.begin(), ids.end());
-    return ids;
-}
-
-// The same, once there are so many.
+// The threads of a program but its first, the oldest first, once there are so many.
 inline std::vector<pid_t> others_of(pid_t pid, size_t many) {
-    for (int i = 0; i < 2000 && others_of(pid).size() < many; i++) pause_us(1000);
-    const std::vector<pid_t> ids = others_of(pid);
-    must(ids.size() >= many, "threads");
-    return ids;
+    const std::string tasks = "/proc/" + std::to_string(pid) + "/task";
+    for (int i = 0; i < 2000; i++) {
+        std::vector<pid_t> ids;
+        for (const auto &it : std::filesystem::directory_iterator(tasks))
+            ids.push_back(std::stoi(it.path().filename()));
+        ids.erase(std::remove(ids.begin(), ids.end(), pid), ids.end());
+        std::sort(ids.begin(), ids.end());
+        if (ids.size() >= many) return ids;
+        pause_us(1000);
+    }
+    must(false, "threads");
+    return {};
 }
 
 // Whether a thread neither sleeps nor has ended.
@@ -134,7 +131,7 @@ inline int hold(pid_t pid, bool goes, char kind, uint64_t number, size_t threads
     };
     for (bool all_done = false; !all_done && took.count() < 120;) {
         pause_us(20000);
-        const std::vector<pid_t> now = others_of(pid);
+        const std::vector<pid_t> now = others_of(pid, 0);
         all_done = std::none_of(now.begin(), now.end(), works);
         took = std::chrono::steady_clock::now() - start;
     }
