@@ -1,7 +1,9 @@
 # shellcheck shell=bash disable=SC2034,SC2154
-# What bench/rings, bench/queue, bench/c and bench/peers have in common, who read this file behind
-# lib.bash: programs that make calls on a queue (calls.cpp, or a driver that takes the same words), run
-# in turn, each thread on a processor of its own.
+# What bench/rings, bench/queue, bench/c and bench/peers have in common, who read this file behind lib.bash:
+# programs that make calls on a queue (calls.cpp, or a driver that takes the same words), run in turn, nine
+# times, at orders 6 and 12, each thread on a processor of its own; medians count. A pair is lend, send, take and
+# give_back, in the first three with no byte written. The loops that are timed are functions that aren't inlined,
+# and take the queue by reference. What one thread saw is compared.
 #
 # From the environment: PAIRS, how many pairs of calls one thread makes in a run (4000000; other runs in
 # proportion); LIMIT, in how many seconds a run has to end (50).
