@@ -1,9 +1,8 @@
 # shellcheck shell=bash disable=SC2034
-# What the scripts of bench/ have in common, who read this file first: a folder of their own, which
-# is removed at their end; rounds in turn, medians, ratios and verdicts; the program that is
-# measured; threads that keep to a processor each; drivers in Rattle, which are proved first; and
-# results as text. The script goes on in its folder, with `top` and `bench` as the names of the
-# repository and of bench/.
+# What the scripts of bench/ have in common, who read this file first: a folder of their own, which is removed at
+# their end; rounds in turn, medians, ratios and verdicts; the program that is measured; threads that keep to a
+# processor each; drivers in Rattle, which are proved first; and results as text. The script goes on in its folder,
+# with `top` and `bench` as the names of the repository and of bench/.
 #
 # From the environment, for each script:
 #   SHORT=1   a short run, to see that it works: one round, and a fiftieth of each size
@@ -47,8 +46,8 @@ stop() {
 # `run FOLDER` it does one of them there. Sets `builds` and `runs`.
 kept_in() {
     builds=yes runs=yes
-    [ $# != 0 ] || return 0
-    case $#-$1 in
+    case $#-${1-} in
+        0-) return ;;
         2-build) runs= ;;
         2-run) builds= ;;
         *) stop "not understood; bench/$script [build FOLDER | run FOLDER]" ;;
@@ -103,10 +102,8 @@ calc() { awk "BEGIN { printf \"%.2f\", $1 }"; }
 
 # Whether a number is in this sense what is aimed at: >=, <=, < or ==.
 verdict() {
-    local aim=$1 number=$2 sense=$3 wanted=$4 word=met
-    awk "BEGIN { exit !(\"$number\" + 0 $sense $wanted) }" || word=missed
-    [ "$word" = met ] || missed=$((missed + 1))
-    echo "$word: $aim: $number, wanted $sense $wanted"
+    local said="$1: $2, wanted $3 $4"
+    if awk "BEGIN { exit !(\"$2\" + 0 $3 $4) }"; then echo "met: $said"; else miss "$said"; fi
 }
 
 # A case that went wrong.
@@ -320,17 +317,12 @@ result() {
     exec {screen}>&1 > >(tee "$scratch/said" >&"$screen")
     tee=$!
     at_end=write_result
-    echo "bench/$script, $(date -u '+%F %R') UTC, $(commit)"
+    echo "bench/$script, $(date -u '+%F %R') UTC, of commit $(git -C "$top" rev-parse --short=12 HEAD)$(
+        git -C "$top" diff --quiet HEAD -- crates dist bench bindings || echo ' and changes')"
     echo "machine: $(sed -n 's/^model name.*: //p' /proc/cpuinfo | head -n 1), $(nproc) processors," \
         "$(awk '/^MemTotal/ { printf "%.0f GB", $2 / 1e6 }' /proc/meminfo), $(uname -sr)"
     echo "versions: $(versions "$@")"
     echo "load at the start: $(cut -d ' ' -f 1-3 /proc/loadavg)"
-}
-
-commit() {
-    echo "of commit $(git -C "$top" rev-parse --short=12 HEAD)$(
-        git -C "$top" diff --quiet HEAD -- crates dist bench bindings || echo ' and changes'
-    )"
 }
 
 # The kit's version, and those of these commands.
