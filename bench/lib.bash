@@ -330,8 +330,7 @@ versions() {
     local it
     recorded kit
     for it; do
-        if command -v "$it" >/dev/null; then "$it" --version 2>&1 || "$it" -W version 2>&1; else echo "no $it"; fi |
-            sed '/^$/d' | head -n 1
+        { "$it" --version || "$it" -W version || echo "no $it"; } 2>/dev/null | sed '/^$/d' | head -n 1
     done
 } 
 

@@ -51,192 +51,183 @@ struct Run {
         : mode(mode), order(order), many(many), queue(order, threads), ports(threads),
           seen(threads) {}
 
-    uint64_t in_threads(const Work &work);
-    int say(const std::string &figures, uint64_t sum, bool is_right);
-    bool is_complete();
+    // Has each thread do the work with a port of its own, the first in this one, and tells how long
+    // it took. Nobody begins before all are there.
+    uint64_t in_threads(const Work &work) {
+        std::atomic<size_t> waiting{ports.size()};
+        Clock::time_point start;
+        const auto begin = [&](size_t number) {
+            auto port = std::make_unique<Port>(queue, number);
+            Port &its = *port;
+            Seen mine = {};
+            ports[number] = std::move(port);
+            waiting--;
+            while (waiting) std::this_thread::yield();
+            if (number == 0) start = Clock::now();
+            work(number, its, mine);
+            seen[number] = mine;
+        };
+        std::vector<std::thread> others;
+        for (size_t number = 1; number < ports.size(); number++) others.emplace_back(begin, number);
+        begin(0);
+        for (std::thread &other : others) other.join();
+        return nanos_since(start);
+    }
+
+    int say(const std::string &figures, uint64_t sum, bool is_right) {
+        std::printf("%s %u %s %llu\n", mode.c_str(), order, figures.c_str(),
+                    static_cast<unsigned long long>(sum));
+        std::fflush(stdout);
+        if (!is_right) std::fprintf(stderr, "what was got isn't what was put\n");
+        return !is_right;
+    }
+
+    // Gets what is left, and tells whether as much was got as put.
+    bool is_complete() {
+        Seen all = {};
+        uint64_t value;
+        for (auto &port : ports) {
+            port->flush();
+            while (port->get(value)) all.gets++, all.got_sum += value;
+        }
+        for (const Seen &one : seen) {
+            all.puts += one.puts;
+            all.put_sum += one.put_sum;
+            all.gets += one.gets;
+            all.got_sum += one.got_sum;
+        }
+        return all.puts == all.gets && (bare || all.put_sum == all.got_sum);
+    }
 
     // The roles of threads: they put, get, do both in turn, or find nothing.
-    int pairs(const std::string &roles);
-    int latency(bool pauses);
-    int stops();
-    int in_order();
-};
-
-// Has each thread do the work with a port of its own, the first in this one, and tells how long it
-// took. Nobody begins before all are there.
-uint64_t Run::in_threads(const Work &work) {
-    std::atomic<size_t> waiting{ports.size()};
-    Clock::time_point start;
-    const auto begin = [&](size_t number) {
-        auto port = std::make_unique<Port>(queue, number);
-        Port &its = *port;
-        Seen mine = {};
-        ports[number] = std::move(port);
-        waiting--;
-        while (waiting) std::this_thread::yield();
-        if (number == 0) start = Clock::now();
-        work(number, its, mine);
-        seen[number] = mine;
-    };
-    std::vector<std::thread> others;
-    for (size_t number = 1; number < ports.size(); number++) others.emplace_back(begin, number);
-    begin(0);
-    for (std::thread &other : others) other.join();
-    return nanos_since(start);
-}
-
-int Run::say(const std::string &figures, uint64_t sum, bool is_right) {
-    std::printf("%s %u %s %llu\n", mode.c_str(), order, figures.c_str(),
-                static_cast<unsigned long long>(sum));
-    std::fflush(stdout);
-    if (!is_right) std::fprintf(stderr, "what was got isn't what was put\n");
-    return !is_right;
-}
-
-// Gets what is left, and tells whether as much was got as put.
-bool Run::is_complete() {
-    Seen all = {};
-    uint64_t value;
-    for (auto &port : ports) {
-        port->flush();
-        while (port->get(value)) all.gets++, all.got_sum += value;
+    int pairs(const std::string &roles) {
+        std::atomic<int> putting{static_cast<int>(std::count(roles.begin(), roles.end(), 'p'))};
+        const uint64_t took = in_threads([&](size_t number, Port &port, Seen &mine) {
+            switch (roles[number]) {
+            case 'p':
+                put_many(port, many, mine);
+                putting--;
+                break;
+            case 'g': get_all(port, putting, mine); break;
+            case 'b': both_many(port, many, mine); break;
+            default: get_none(port, many, mine);
+            }
+        });
+        uint64_t sum = 0;
+        for (const Seen &one : seen) sum += one.got_sum;
+        return say(std::to_string(took), sum, roles == "e" || is_complete());
     }
-    for (const Seen &one : seen) {
-        all.puts += one.puts;
-        all.put_sum += one.put_sum;
-        all.gets += one.gets;
-        all.got_sum += one.got_sum;
-    }
-    return all.puts == all.gets && (bare || all.put_sum == all.got_sum);
-}
 
-int Run::pairs(const std::string &roles) {
-    std::atomic<int> putting{static_cast<int>(std::count(roles.begin(), roles.end(), 'p'))};
-    const uint64_t took = in_threads([&](size_t number, Port &port, Seen &mine) {
-        switch (roles[number]) {
-        case 'p':
-            put_many(port, many, mine);
-            putting--;
-            break;
-        case 'g': get_all(port, putting, mine); break;
-        case 'b': both_many(port, many, mine); break;
-        default: get_none(port, many, mine);
-        }
-    });
-    uint64_t sum = 0;
-    for (const Seen &one : seen) sum += one.got_sum;
-    return say(std::to_string(took), sum, roles == "e" || is_complete());
-}
-
-// Ends when the first thread is through: what that one keeps, where messages go packed, others
-// would wait for.
-int Run::latency(bool pauses) {
-    std::vector<std::vector<uint32_t>> times(ports.size());
-    std::atomic<bool> is_over{false};
-    const auto until_over = [&](auto call) {
-        while (!call()) {
-            if (is_over) return false;
-            __builtin_ia32_pause();
-        }
-        return true;
-    };
-    const uint64_t first = __builtin_ia32_rdtsc();
-    const auto begun = Clock::now();
-    for (auto &its : times) its.reserve(many);
-    in_threads([&](size_t number, Port &port, Seen &mine) {
-        uint64_t value, last = 0;
-        while (mine.puts < many && !is_over) {
-            for (uint64_t until = __builtin_ia32_rdtsc() + 10 * last;
-                 pauses && __builtin_ia32_rdtsc() < until;)
+    // Ends when the first thread is through: what that one keeps, where messages go packed, others
+    // would wait for.
+    int latency(bool pauses) {
+        std::vector<std::vector<uint32_t>> times(ports.size());
+        std::atomic<bool> is_over{false};
+        const auto until_over = [&](auto call) {
+            while (!call()) {
+                if (is_over) return false;
                 __builtin_ia32_pause();
-            const uint64_t start = __builtin_ia32_rdtsc();
-            if (!until_over([&] { return port.put(mine.puts); })) break;
-            mine.put_sum += mine.puts++;
-            if (!until_over([&] { return port.get(value); })) break;
-            mine.gets++, mine.got_sum += value;
-            last = std::min(uint64_t(__builtin_ia32_rdtsc() - start), uint64_t(UINT32_MAX));
-            times[number].push_back(static_cast<uint32_t>(last));
-            last = std::min(last, uint64_t(10000));
+            }
+            return true;
+        };
+        const uint64_t first = __builtin_ia32_rdtsc();
+        const auto begun = Clock::now();
+        for (auto &its : times) its.reserve(many);
+        in_threads([&](size_t number, Port &port, Seen &mine) {
+            uint64_t value, last = 0;
+            while (mine.puts < many && !is_over) {
+                for (uint64_t until = __builtin_ia32_rdtsc() + 10 * last;
+                     pauses && __builtin_ia32_rdtsc() < until;)
+                    __builtin_ia32_pause();
+                const uint64_t start = __builtin_ia32_rdtsc();
+                if (!until_over([&] { return port.put(mine.puts); })) break;
+                mine.put_sum += mine.puts++;
+                if (!until_over([&] { return port.get(value); })) break;
+                mine.gets++, mine.got_sum += value;
+                last = std::min(uint64_t(__builtin_ia32_rdtsc() - start), uint64_t(UINT32_MAX));
+                times[number].push_back(static_cast<uint32_t>(last));
+                last = std::min(last, uint64_t(10000));
+            }
+            is_over = true;
+        });
+        const double nanos = static_cast<double>(nanos_since(begun)) /
+                             static_cast<double>(__builtin_ia32_rdtsc() - first);
+        std::vector<uint32_t> all;
+        for (const auto &its : times) all.insert(all.end(), its.begin(), its.end());
+        std::string figures;
+        for (const double part : {0.5, 0.99, 0.999}) {
+            const auto at = all.begin() + static_cast<long>(part * static_cast<double>(all.size()));
+            std::nth_element(all.begin(), at, all.end());
+            figures += (figures.empty() ? "" : " ") + std::to_string(uint64_t(*at * nanos));
         }
-        is_over = true;
-    });
-    const double nanos = static_cast<double>(nanos_since(begun)) /
-                         static_cast<double>(__builtin_ia32_rdtsc() - first);
-    std::vector<uint32_t> all;
-    for (const auto &its : times) all.insert(all.end(), its.begin(), its.end());
-    std::string figures;
-    for (const double part : {0.5, 0.99, 0.999}) {
-        const auto at = all.begin() + static_cast<long>(part * static_cast<double>(all.size()));
-        std::nth_element(all.begin(), at, all.end());
-        figures += (figures.empty() ? "" : " ") + std::to_string(uint64_t(*at * nanos));
+        return say(figures, 0, is_complete());
     }
-    return say(figures, 0, is_complete());
-}
 
-// The third thread stops the second, wherever it is, and looks how long the first waits.
-int Run::stops() {
-    std::atomic<bool> is_over{false};
-    std::atomic<uint64_t> longest{0};
-    std::atomic<pthread_t> victim{};
-    uint64_t held = 0, most = 0;
-    std::signal(SIGUSR1, [](int) { sleep_for(50000); });
-    std::thread stopper([&] {
-        while (!victim.load()) std::this_thread::yield();
-        for (uint64_t stop = 0; stop < many; stop++) {
-            sleep_for(10000 + static_cast<long>(stop * 7919 % 1000));
-            longest = 0;
-            pthread_kill(victim, SIGUSR1);
-            sleep_for(70000);
-            held += longest > 20000000;
-            most = std::max(most, longest.load());
-        }
-        is_over = true;
-    });
-    in_threads([&](size_t number, Port &port, Seen &mine) {
-        uint64_t value;
-        auto last = Clock::now();
-        if (number == 1) victim = pthread_self();
-        while (!is_over) {
-            if (port.put(mine.puts)) mine.put_sum += mine.puts++;
-            if (!port.get(value)) continue;
-            mine.gets++, mine.got_sum += value;
-            const uint64_t wait = nanos_since(last);
-            if (number == 0 && wait > longest) longest = wait;
-            last = Clock::now();
-        }
-    });
-    stopper.join();
-    return say(std::to_string(held) + " " + std::to_string(most), 0, is_complete());
-}
-
-// A value is its thread and its number. No thread may get a thread's values but in their order, and
-// all have to be got just once.
-int Run::in_order() {
-    constexpr int BITS = 40;
-    std::vector<std::vector<uint64_t>> got(ports.size());
-    std::vector<uint64_t> put, all;
-    bool is_right = true;
-    in_threads([&](size_t number, Port &port, Seen &mine) {
-        uint64_t value;
-        for (uint64_t i = 0; i < 2 * many; i++) {
-            if (port.put(uint64_t(number) << BITS | mine.puts)) mine.puts++;
-            if (port.get(value)) got[number].push_back(value);
-        }
-    });
-    for (size_t number = 0; number < ports.size(); number++) {
-        std::vector<uint64_t> next(ports.size());
-        for (const uint64_t value : got[number]) {
-            is_right &= value >= next.at(value >> BITS);
-            next[value >> BITS] = value + 1;
-        }
-        for (uint64_t i = 0; i < seen[number].puts; i++) put.push_back(number << BITS | i);
-        ports[number]->flush();
-        for (uint64_t value; ports[number]->get(value);) got[number].push_back(value);
-        all.insert(all.end(), got[number].begin(), got[number].end());
+    // The third thread stops the second, wherever it is, and looks how long the first waits.
+    int stops() {
+        std::atomic<bool> is_over{false};
+        std::atomic<uint64_t> longest{0};
+        std::atomic<pthread_t> victim{};
+        uint64_t held = 0, most = 0;
+        std::signal(SIGUSR1, [](int) { sleep_for(50000); });
+        std::thread stopper([&] {
+            while (!victim.load()) std::this_thread::yield();
+            for (uint64_t stop = 0; stop < many; stop++) {
+                sleep_for(10000 + static_cast<long>(stop * 7919 % 1000));
+                longest = 0;
+                pthread_kill(victim, SIGUSR1);
+                sleep_for(70000);
+                held += longest > 20000000;
+                most = std::max(most, longest.load());
+            }
+            is_over = true;
+        });
+        in_threads([&](size_t number, Port &port, Seen &mine) {
+            uint64_t value;
+            auto last = Clock::now();
+            if (number == 1) victim = pthread_self();
+            while (!is_over) {
+                if (port.put(mine.puts)) mine.put_sum += mine.puts++;
+                if (!port.get(value)) continue;
+                mine.gets++, mine.got_sum += value;
+                const uint64_t wait = nanos_since(last);
+                if (number == 0 && wait > longest) longest = wait;
+                last = Clock::now();
+            }
+        });
+        stopper.join();
+        return say(std::to_string(held) + " " + std::to_string(most), 0, is_complete());
     }
-    std::sort(all.begin(), all.end());
-    return say(std::to_string(all.size()), 0, is_right && all == put);
-}
+
+    // A value is its thread and its number. No thread may get a thread's values but in their order,
+    // and all have to be got just once.
+    int in_order() {
+        constexpr int BITS = 40;
+        std::vector<std::vector<uint64_t>> got(ports.size());
+        std::vector<uint64_t> put, all;
+        bool is_right = true;
+        in_threads([&](size_t number, Port &port, Seen &mine) {
+            uint64_t value;
+            for (uint64_t i = 0; i < 2 * many; i++) {
+                if (port.put(uint64_t(number) << BITS | mine.puts)) mine.puts++;
+                if (port.get(value)) got[number].push_back(value);
+            }
+        });
+        for (size_t number = 0; number < ports.size(); number++) {
+            std::vector<uint64_t> next(ports.size());
+            for (const uint64_t value : got[number]) {
+                is_right &= value >= next.at(value >> BITS);
+                next[value >> BITS] = value + 1;
+            }
+            for (uint64_t i = 0; i < seen[number].puts; i++) put.push_back(number << BITS | i);
+            ports[number]->flush();
+            for (uint64_t value; ports[number]->get(value);) got[number].push_back(value);
+            all.insert(all.end(), got[number].begin(), got[number].end());
+        }
+        std::sort(all.begin(), all.end());
+        return say(std::to_string(all.size()), 0, is_right && all == put);
+    }
+};
 
 int main(int argc, char **argv) {
     if (argc != 4) return 2;
