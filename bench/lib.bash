@@ -119,8 +119,8 @@ finish() {
     exit
 }
 
-# Runs a command once. Its seconds of the processor and by the clock, and the most memory that it
-# held in KB, are notes KEY.time, KEY.wall and KEY.memory; what it writes is the file KEY.out.
+# Runs a command once. Its seconds of the processor and by the clock, and the most memory that it held in KB, are
+# notes KEY.time, KEY.wall and KEY.memory; what it writes is the file KEY.out.
 once() {
     local key=$1 user system memory wall
     shift
@@ -144,8 +144,8 @@ spent_by() {
 # Whether a file of dist/ is of these sources, and is what dist/RECORD says.
 is_fresh() { ! "$top/dist/make" --fresh 2>&1 | grep -q "^dist/make: dist/x86_64-linux/$1 "; }
 
-# The program scq or scq_wait: that of dist/, or where it is of other sources the one that its
-# launcher proves and builds. Its path is the variable of this name.
+# The program scq or scq_wait, to the variable of this name: that of dist/, or where it is of other sources the one
+# that its launcher proves and builds.
 program() {
     local crate=$1 path=$top/dist/x86_64-linux/$1
     is_fresh "$1" || {
@@ -157,8 +157,7 @@ program() {
     echo "$1 is $(named "$path")"
 }
 
-# libscq.a, likewise, to the variable `archive`: the one that ARCHIVE names, or that of dist/, or what
-# dist/make makes of these sources in a copy.
+# libscq.a, to `archive`: the one that ARCHIVE names, or that of dist/, or what dist/make makes in a copy.
 archive() {
     archive=${ARCHIVE:-$top/dist/x86_64-linux/libscq.a}
     [ -n "${ARCHIVE-}" ] || is_fresh libscq.a || {
@@ -200,10 +199,10 @@ pinned() {
     env LD_PRELOAD="$folder/threads.so" PIN="$list" "$@"
 }
 
-# The crate that a text of bench/proved/ says in its first line how to lay out, with the crates that
-# it stands on, as a repository in this folder. In the text a line `== FILE` begins a file of the
-# crate; where names stand behind it, one for each name, with the name in place of each @. A line
-# `<< FILE` stands for this file of proved/, and `~~ WORD LINE` says what $WORD is in it.
+# The crate that a text of bench/proved/ says in its first line how to lay out, with those that it stands on, as a
+# repository in this folder. In the text a line `== FILE` begins a file of the crate, or with names behind it one for
+# each, with the name in place of each @; `<< FILE` stands for this file of proved/, and `~~ WORD LINE` says what
+# $WORD is in it.
 laid_out() {
     local text=$bench/proved/$1.txt line below it part
     line=$(sed -n '1s/^crate //p' "$text")

@@ -21,22 +21,17 @@
 #include <algorithm>
 #include <chrono>
 #include <csignal>
-#include <ctime>
 #include <functional>
 #include <map>
 #include <string>
 #include <thread>
+#include <unistd.h>
 
 using Clock = std::chrono::steady_clock;
 using Work = std::function<void(size_t number, Port &port, Seen &mine)>;
 
 static uint64_t nanos_since(Clock::time_point start) {
     return static_cast<uint64_t>(std::chrono::nanoseconds(Clock::now() - start).count());
-}
-
-static void sleep_for(long micros) {
-    const timespec time = {micros / 1000000, micros % 1000000 * 1000};
-    nanosleep(&time, nullptr);
 }
 
 struct Run {
@@ -169,14 +164,14 @@ struct Run {
         std::atomic<uint64_t> longest{0};
         std::atomic<pthread_t> victim{};
         uint64_t held = 0, most = 0;
-        std::signal(SIGUSR1, [](int) { sleep_for(50000); });
+        std::signal(SIGUSR1, [](int) { usleep(50000); });
         std::thread stopper([&] {
             while (!victim.load()) std::this_thread::yield();
             for (uint64_t stop = 0; stop < many; stop++) {
-                sleep_for(10000 + static_cast<long>(stop * 7919 % 1000));
+                usleep(10000 + static_cast<unsigned>(stop * 7919 % 1000));
                 longest = 0;
                 pthread_kill(victim, SIGUSR1);
-                sleep_for(70000);
+                usleep(70000);
                 held += longest > 20000000;
                 most = std::max(most, longest.load());
             }

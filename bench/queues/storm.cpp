@@ -139,7 +139,7 @@ static int counted(pid_t pid, uint32_t order, size_t threads, uint64_t rounds, u
     std::vector<pid_t> ids = Stopped::others_of(pid, threads);
     for (const pid_t id : ids) Stopped::tell(PTRACE_SEIZE, id);
     for (uint64_t round = 0; round < rounds; round++) {
-        pause_us(drawn(2000));
+        usleep(drawn(2000));
         for (const pid_t id : ids) Stopped::tell(PTRACE_INTERRUPT, id);
         for (const pid_t id : ids) Stopped::wait(id);
         for (size_t i = 0; i < ids.size(); i++) {
