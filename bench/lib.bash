@@ -1,16 +1,14 @@
 # shellcheck shell=bash disable=SC2034
-# What the scripts of bench/ have in common, who read this file first: a folder of their own, which
-# is removed at their end; rounds in turn, medians, ratios and verdicts; the program that is
-# measured; threads that keep to a processor each; drivers in Rattle, which are proved first; and
-# results as text. The script goes on in its folder, with `top` and `bench` as the names of the
-# repository and of bench/.
+# What the scripts of bench/ have in common, who read this file first: a folder of their own, which is removed at
+# their end; rounds in turn, medians, ratios and verdicts; the program that is measured; threads that keep to a
+# processor each; drivers in Rattle, which are proved first; and results as text. The script goes on in its folder,
+# with `top` and `bench` as the names of the repository and of bench/.
 #
 # From the environment, for each script:
 #   SHORT=1   a short run, to see that it works: one round, and a fiftieth of each size
 #   ROUNDS    how often each program is run, in place of the script's own number
 #   JOBS      how many checks may run side by side where a driver is proved (1)
 #   RESULTS   the folder for results: bench/results where neither SHORT nor ROUNDS is set, else none
-#   PRIORITY  of real time, with which the programs that are timed run; none where it isn't set
 set -eu
 export LC_ALL=C
 bench=$(dirname "$(readlink -f "${BASH_SOURCE[0]}")")
@@ -48,8 +46,8 @@ stop() {
 # `run FOLDER` it does one of them there. Sets `builds` and `runs`.
 kept_in() {
     builds=yes runs=yes
-    [ $# != 0 ] || return 0
-    case $#-$1 in
+    case $#-${1-} in
+        0-) return ;;
         2-build) runs= ;;
         2-run) builds= ;;
         *) stop "not understood; bench/$script [build FOLDER | run FOLDER]" ;;
@@ -75,16 +73,11 @@ in_turn() {
 # Notes a number of this round under a key.
 note() { echo "$1 $round $2" >>"$folder/samples"; }
 
-# The median of a key's numbers, and the largest of them.
-median() { numbers "$1" | awk '{ it[NR] = $1 } END { print it[int((NR + 1) / 2)] }'; }
-most() { numbers "$1" | tail -n 1; }
-numbers() { awk -v key="$1" '$1 == key { print $3 }' "$folder/samples" | sort -g; }
-
-# The median of a key's numbers, and in brackets the lowest and the highest.
-spread() {
-    numbers "$1" | awk '{ it[NR] = $1 }
-        END { if (NR) print it[int((NR + 1) / 2)] " (" it[1] "-" it[NR] ")"; else print "-" }'
-}
+# A key's numbers; the median of them, with the lowest and the highest in brackets, and the largest.
+numbers() { awk -v key="$1" '$1 == key { print $3 }' "$folder/samples"; }
+median() { numbers "$1" | middle; }
+spread() { numbers "$1" | middle spread; }
+most() { numbers "$1" | sort -g | tail -n 1; }
 
 # The median of the rounds' ratios of a key to another, and with `spread` the lowest and the highest.
 ratio() {
@@ -92,12 +85,16 @@ ratio() {
         $1 == key { mine[$2] = $3 }
         $1 == other { its[$2] = $3 }
         END { for (r in mine) if (its[r] > 0) printf "%.2f\n", mine[r] / its[r] }' "$folder/samples" |
-        sort -g | awk -v spread="${3-}" '
-            { it[NR] = $1 }
-            END {
-                at = NR ? it[int((NR + 1) / 2)] : "-"
-                print spread && NR ? at " (" it[1] "-" it[NR] ")" : at
-            }'
+        middle "${3-}"
+}
+
+middle() {
+    sort -g | awk -v spread="${1-}" '
+        { it[NR] = $1 }
+        END {
+            at = NR ? it[int((NR + 1) / 2)] : "-"
+            print spread && NR ? at " (" it[1] "-" it[NR] ")" : at
+        }'
 }
 
 # What awk makes of a formula, with two digits behind the point.
@@ -105,10 +102,8 @@ calc() { awk "BEGIN { printf \"%.2f\", $1 }"; }
 
 # Whether a number is in this sense what is aimed at: >=, <=, < or ==.
 verdict() {
-    local aim=$1 number=$2 sense=$3 wanted=$4 word=met
-    awk "BEGIN { exit !(${number:-0} $sense $wanted) }" || word=missed
-    [ "$word" = met ] || missed=$((missed + 1))
-    echo "$word: $aim: $number, wanted $sense $wanted"
+    local said="$1: $2, wanted $3 $4"
+    if awk "BEGIN { exit !(\"$2\" + 0 $3 $4) }"; then echo "met: $said"; else miss "$said"; fi
 }
 
 # A case that went wrong.
@@ -124,8 +119,8 @@ finish() {
     exit
 }
 
-# Runs a command once. Its seconds of the processor and by the clock, and the most memory that it
-# held in KB, are notes KEY.time, KEY.wall and KEY.memory; what it writes is the file KEY.out.
+# Runs a command once. Its seconds of the processor and by the clock, and the most memory that it held in KB, are
+# notes KEY.time, KEY.wall and KEY.memory; what it writes is the file KEY.out.
 once() {
     local key=$1 user system memory wall
     shift
@@ -136,11 +131,21 @@ once() {
     note "$key.wall" "$wall"
 }
 
+# A line for each of these keys of `once`: medians by the clock and of the processor, and the most memory.
+spent_by() {
+    local key
+    printf '%-26s %10s %10s %11s\n' '' clock processor memory
+    for key; do
+        printf '%-26s %8.2f s %8.2f s %8d KB\n' "$key" "$(median "$key.wall")" "$(median "$key.time")" \
+            "$(most "$key.memory")"
+    done
+}
+
 # Whether a file of dist/ is of these sources, and is what dist/RECORD says.
 is_fresh() { ! "$top/dist/make" --fresh 2>&1 | grep -q "^dist/make: dist/x86_64-linux/$1 "; }
 
-# The program scq or scq_wait: that of dist/, or where it is of other sources the one that its
-# launcher proves and builds. Its path is the variable of this name.
+# The program scq or scq_wait, to the variable of this name: that of dist/, or where it is of other sources the one
+# that its launcher proves and builds.
 program() {
     local crate=$1 path=$top/dist/x86_64-linux/$1
     is_fresh "$1" || {
@@ -152,8 +157,7 @@ program() {
     echo "$1 is $(named "$path")"
 }
 
-# libscq.a, likewise, to the variable `archive`: the one that ARCHIVE names, or that of dist/, or what
-# dist/make makes of these sources in a copy.
+# libscq.a, to `archive`: the one that ARCHIVE names, or that of dist/, or what dist/make makes in a copy.
 archive() {
     archive=${ARCHIVE:-$top/dist/x86_64-linux/libscq.a}
     [ -n "${ARCHIVE-}" ] || is_fresh libscq.a || {
@@ -185,21 +189,20 @@ preload() {
 # Runs a program with its threads each on a processor of its own, so many and the last ones; where
 # there are more threads than processors, wherever the kernel lays them.
 pinned() {
-    local threads=$1 cores at list='' under=()
+    local threads=$1 cores at list=''
     shift
-    [ -z "${PRIORITY-}" ] || under=(chrt -f "$PRIORITY")
     [ -e threads.so ] || preload threads
     mapfile -t cores < <(taskset -cp $$ | sed 's/.*: //; s/,/\n/g' |
         while IFS=- read -r first last; do seq "$first" "${last:-$first}"; done)
     at=$((${#cores[@]} - threads))
     [ "$at" -lt 0 ] || list=${cores[*]:at}
-    "${under[@]}" env LD_PRELOAD="$folder/threads.so" PIN="$list" "$@"
+    env LD_PRELOAD="$folder/threads.so" PIN="$list" "$@"
 }
 
-# The crate that a text of bench/proved/ says in its first line how to lay out, with the crates that
-# it stands on, as a repository in this folder. In the text a line `== FILE` begins a file of the
-# crate; where names stand behind it, one for each name, with the name in place of each @. A line
-# `<< FILE` stands for this file of proved/, and `~~ WORD LINE` says what $WORD is in it.
+# The crate that a text of bench/proved/ says in its first line how to lay out, with those that it stands on, as a
+# repository in this folder. In the text a line `== FILE` begins a file of the crate, or with names behind it one for
+# each, with the name in place of each @; `<< FILE` stands for this file of proved/, and `~~ WORD LINE` says what
+# $WORD is in it.
 laid_out() {
     local text=$bench/proved/$1.txt line below it part
     line=$(sed -n '1s/^crate //p' "$text")
@@ -313,17 +316,12 @@ result() {
     exec {screen}>&1 > >(tee "$scratch/said" >&"$screen")
     tee=$!
     at_end=write_result
-    echo "bench/$script, $(date -u '+%F %R') UTC, $(commit)"
+    echo "bench/$script, $(date -u '+%F %R') UTC, of commit $(git -C "$top" rev-parse --short=12 HEAD)$(
+        git -C "$top" diff --quiet HEAD -- crates dist bench bindings || echo ' and changes')"
     echo "machine: $(sed -n 's/^model name.*: //p' /proc/cpuinfo | head -n 1), $(nproc) processors," \
         "$(awk '/^MemTotal/ { printf "%.0f GB", $2 / 1e6 }' /proc/meminfo), $(uname -sr)"
     echo "versions: $(versions "$@")"
     echo "load at the start: $(cut -d ' ' -f 1-3 /proc/loadavg)"
-}
-
-commit() {
-    echo "of commit $(git -C "$top" rev-parse --short=12 HEAD)$(
-        git -C "$top" diff --quiet HEAD -- crates dist bench bindings || echo ' and changes'
-    )"
 }
 
 # The kit's version, and those of these commands.
@@ -331,8 +329,7 @@ versions() {
     local it
     recorded kit
     for it; do
-        if command -v "$it" >/dev/null; then "$it" --version 2>&1 || "$it" -W version 2>&1; else echo "no $it"; fi |
-            sed '/^$/d' | head -n 1
+        { "$it" --version || "$it" -W version || echo "no $it"; } 2>/dev/null | sed '/^$/d' | head -n 1
     done
 } 
 

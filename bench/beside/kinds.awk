@@ -1,11 +1,7 @@
 # What `scq run` writes with these four topics, for any files.
 BEGIN {
-    n = split("get=words err=echo put=len tick=sum", declared, " ")
-    for (i = 1; i <= n; i++) {
-        split(declared[i], part, "=")
-        name[i] = part[1]
-        kind[part[1]] = part[2]
-    }
+    n = split("get words err echo put len tick sum", declared, " ")
+    for (i = 1; i < n; i += 2) kind[declared[i]] = declared[i + 1]
 }
 FNR == 1 { file++ }
 length($0) {
@@ -24,6 +20,6 @@ length($0) {
     bytes[topic] += length(payload)
 }
 END {
-    for (i = 1; i <= n; i++) printf "total %s %d %d\n", name[i], count[name[i]], bytes[name[i]]
-    printf "total - %d %d\n", count["-"], bytes["-"]
+    declared[n + 1] = "-"
+    for (i = 1; topic = declared[i]; i += 2) printf "total %s %d %d\n", topic, count[topic], bytes[topic]
 }

@@ -11,8 +11,7 @@ void *__libc_realloc(void *, size_t);
 
 static long calls, reads;
 
-/* Whether this call is the one that gets nothing; that it came is told by a byte on descriptor 9.
- */
+// Whether this call is the one that gets nothing; that it came is told by a byte on descriptor 9.
 static int fails(void) {
     const char *which = getenv("WANT");
     if (!which || __atomic_add_fetch(&calls, 1, __ATOMIC_SEQ_CST) != atol(which)) return 0;
@@ -22,7 +21,7 @@ static int fails(void) {
 void *malloc(size_t size) { return fails() ? NULL : __libc_malloc(size); }
 void *realloc(void *old, size_t size) { return fails() ? NULL : __libc_realloc(old, size); }
 
-/* A read of at most PIECE bytes, where that is said; the second one of the file BAD fails. */
+// A read of at most PIECE bytes, where that is said; the second one of the file BAD fails.
 ssize_t read(int file, void *into, size_t size) {
     static ssize_t (*next)(int, void *, size_t);
     const char *piece = getenv("PIECE"), *bad = getenv("BAD");

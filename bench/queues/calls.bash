@@ -1,7 +1,9 @@
 # shellcheck shell=bash disable=SC2034,SC2154
-# What bench/rings, bench/queue, bench/c and bench/peers have in common, who read this file behind
-# lib.bash: programs that make calls on a queue (calls.cpp, or a driver that takes the same words), run
-# in turn, each thread on a processor of its own.
+# What bench/rings, bench/queue, bench/c and bench/peers have in common, who read this file behind lib.bash:
+# programs that make calls on a queue (calls.cpp, or a driver that takes the same words), run in turn, nine
+# times, at orders 6 and 12, each thread on a processor of its own; medians count. A pair is lend, send, take and
+# give_back, in the first three with no byte written. The loops that are timed are functions that aren't inlined,
+# and take the queue by reference. What one thread saw is compared.
 #
 # From the environment: PAIRS, how many pairs of calls one thread makes in a run (4000000; other runs in
 # proportion); LIMIT, in how many seconds a run has to end (50).
@@ -26,12 +28,28 @@ calm 2 pairs/100 two threads that pause
 order 4 pairs/40
 stop 3 $(many 150)*3 one of two threads stopped 150 times for 50 ms"
 
-# The plain C++ of the step table, over the rings or the queue: by the kit's compiler, as `ours` is.
-plain_over() {
-    local program
-    for program in plain seated; do
-        by_kit "$program" -I "$bench/queues" -DBARE -DQUEUE="\"$1.hpp\"" \
-            "$([ "$program" = plain ] || echo -DSEATED)" "$bench/queues/calls.cpp"
+# `ours`, the driver in Rattle of this name, and the plain C++ of the step table over this header, by the
+# kit's compiler too: `plain`, and `seated`, of which each thread keeps what it knows.
+ours_and_plain() {
+    proved "$1" one 3 1
+    cp "$ours" ours
+    by_kit plain -I "$bench/queues" -DBARE -DQUEUE="\"$2.hpp\"" "$bench/queues/calls.cpp"
+    by_kit seated -I "$bench/queues" -DBARE -DQUEUE="\"$2.hpp\"" -DSEATED "$bench/queues/calls.cpp"
+}
+
+# Those of these programs that were built.
+built() {
+    local it found=()
+    for it; do [ ! -x "$it" ] || found+=("$it"); done
+    echo "${found[*]}"
+}
+
+# The aim that a program's speed in a mode is at each order so many times that of another in it.
+aim() {
+    local what=$1 mine=$2 other=$3 mode=$4 wanted=$5 order
+    [ -x "$other" ] || return 0
+    for order in 6 12; do
+        verdict "$what at order $order" "$(ratio "$mine.$mode.$order" "$other.$mode.$order")" '>=' "$wanted"
     done
 }
 

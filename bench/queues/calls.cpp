@@ -19,140 +19,116 @@
 #include "loops.hpp"
 #include QUEUE
 #include <algorithm>
-#include <cerrno>
 #include <chrono>
 #include <csignal>
-#include <ctime>
 #include <functional>
 #include <map>
 #include <string>
 #include <thread>
+#include <unistd.h>
 
 using Clock = std::chrono::steady_clock;
-using Work = std::function<void(size_t number, Port &port)>;
+using Work = std::function<void(size_t number, Port &port, Seen &mine)>;
 
 static uint64_t nanos_since(Clock::time_point start) {
     return static_cast<uint64_t>(std::chrono::nanoseconds(Clock::now() - start).count());
 }
 
-static void sleep_for(long micros) {
-    const timespec time = {micros / 1000000, micros % 1000000 * 1000};
-    nanosleep(&time, nullptr);
-}
-
-// Has so many threads do the work, each with a port of its own, the first in this one, and tells
-// how long it took. Nobody begins before all are there.
-static uint64_t in_threads(Queue &queue, size_t threads, const Work &work,
-                           std::vector<std::unique_ptr<Port>> &ports) {
-    std::atomic<size_t> waiting{threads};
-    Clock::time_point start;
-    const auto begin = [&](size_t number) {
-        auto port = std::make_unique<Port>(queue, number);
-        Port &mine = *port;
-        ports[number] = std::move(port);
-        waiting--;
-        while (waiting) std::this_thread::yield();
-        if (number == 0) start = Clock::now();
-        work(number, mine);
-    };
-    std::vector<std::thread> others;
-    ports.resize(threads);
-    for (size_t number = 1; number < threads; number++) others.emplace_back(begin, number);
-    begin(0);
-    for (std::thread &other : others) other.join();
-    return nanos_since(start);
-}
-
 struct Run {
+    std::string mode;
     uint32_t order;
     uint64_t many;
-    std::string mode;
+    Queue queue;
+    std::vector<std::unique_ptr<Port>> ports;
+    std::vector<Seen> seen;
 
-    // The roles of threads: they put, get, do both in turn, or find nothing.
-    int pairs(const std::string &roles) const;
-    int latency(size_t threads, bool pauses) const;
-    int stops() const;
-    int in_order() const;
+    Run(const char *mode, uint32_t order, uint64_t many, size_t threads)
+        : mode(mode), order(order), many(many), queue(order, threads), ports(threads),
+          seen(threads) {}
 
-    bool is_complete(std::vector<std::unique_ptr<Port>> &ports, std::vector<Seen> &seen) const;
-    uint64_t say(const std::string &figures, uint64_t sum) const {
+    // Has each thread do the work with a port of its own, the first in this one, and tells how long
+    // it took. Nobody begins before all are there.
+    uint64_t in_threads(const Work &work) {
+        std::atomic<size_t> waiting{ports.size()};
+        Clock::time_point start;
+        const auto begin = [&](size_t number) {
+            auto port = std::make_unique<Port>(queue, number);
+            Port &its = *port;
+            Seen mine = {};
+            ports[number] = std::move(port);
+            waiting--;
+            while (waiting) std::this_thread::yield();
+            if (number == 0) start = Clock::now();
+            work(number, its, mine);
+            seen[number] = mine;
+        };
+        std::vector<std::thread> others;
+        for (size_t number = 1; number < ports.size(); number++) others.emplace_back(begin, number);
+        begin(0);
+        for (std::thread &other : others) other.join();
+        return nanos_since(start);
+    }
+
+    int say(const std::string &figures, uint64_t sum, bool is_right) {
         std::printf("%s %u %s %llu\n", mode.c_str(), order, figures.c_str(),
                     static_cast<unsigned long long>(sum));
         std::fflush(stdout);
-        return 0;
+        if (!is_right) std::fprintf(stderr, "what was got isn't what was put\n");
+        return !is_right;
     }
-};
 
-// Gets what is left, and tells whether as much was got as put.
-bool Run::is_complete(std::vector<std::unique_ptr<Port>> &ports, std::vector<Seen> &seen) const {
-    Seen all = {};
-    uint64_t value;
-    for (auto &port : ports) {
-        port->flush();
-        while (port->get(value)) all.gets++, all.got_sum += value;
+    // Gets what is left, and tells whether as much was got as put.
+    bool is_complete() {
+        Seen all = {};
+        uint64_t value;
+        for (auto &port : ports) {
+            port->flush();
+            while (port->get(value)) all.gets++, all.got_sum += value;
+        }
+        for (const Seen &one : seen) {
+            all.puts += one.puts;
+            all.put_sum += one.put_sum;
+            all.gets += one.gets;
+            all.got_sum += one.got_sum;
+        }
+        return all.puts == all.gets && (bare || all.put_sum == all.got_sum);
     }
-    for (const Seen &one : seen) {
-        all.puts += one.puts;
-        all.put_sum += one.put_sum;
-        all.gets += one.gets;
-        all.got_sum += one.got_sum;
-    }
-    const bool is_same = all.puts == all.gets && (bare || all.put_sum == all.got_sum);
-    if (!is_same)
-        std::fprintf(stderr, "%s: what was got isn't what was put\n", program_invocation_name);
-    return is_same;
-}
 
-int Run::pairs(const std::string &roles) const {
-    Queue queue(order, roles.size());
-    std::vector<std::unique_ptr<Port>> ports;
-    std::vector<Seen> seen(roles.size());
-    std::atomic<int> putting{static_cast<int>(std::count(roles.begin(), roles.end(), 'p'))};
-    const uint64_t took = in_threads(
-        queue, roles.size(),
-        [&](size_t number, Port &port) {
-            Seen mine = {};
-            if (roles[number] == 'p') {
+    // The roles of threads: they put, get, do both in turn, or find nothing.
+    int pairs(const std::string &roles) {
+        std::atomic<int> putting{static_cast<int>(std::count(roles.begin(), roles.end(), 'p'))};
+        const uint64_t took = in_threads([&](size_t number, Port &port, Seen &mine) {
+            switch (roles[number]) {
+            case 'p':
                 put_many(port, many, mine);
                 putting--;
-            } else if (roles[number] == 'g') {
-                get_all(port, putting, mine);
-            } else if (roles[number] == 'b') {
-                both_many(port, many, mine);
-            } else {
-                get_none(port, many, mine);
+                break;
+            case 'g': get_all(port, putting, mine); break;
+            case 'b': both_many(port, many, mine); break;
+            default: get_none(port, many, mine);
             }
-            seen[number] = mine;
-        },
-        ports);
-    uint64_t sum = 0;
-    for (const Seen &one : seen) sum += one.got_sum;
-    say(std::to_string(took), sum);
-    return roles != "e" && !is_complete(ports, seen);
-}
+        });
+        uint64_t sum = 0;
+        for (const Seen &one : seen) sum += one.got_sum;
+        return say(std::to_string(took), sum, roles == "e" || is_complete());
+    }
 
-// Ends when the first thread is through: what that one keeps, where messages go packed, others
-// would wait for.
-int Run::latency(size_t threads, bool pauses) const {
-    Queue queue(order, threads);
-    std::vector<std::unique_ptr<Port>> ports;
-    std::vector<std::vector<uint32_t>> times(threads);
-    std::vector<Seen> seen(threads);
-    std::atomic<bool> is_over{false};
-    const auto until_over = [&](auto call) {
-        while (!call()) {
-            if (is_over) return false;
-            __builtin_ia32_pause();
-        }
-        return true;
-    };
-    const uint64_t first = __builtin_ia32_rdtsc();
-    const auto begun = Clock::now();
-    for (auto &its : times) its.reserve(many);
-    in_threads(
-        queue, threads,
-        [&](size_t number, Port &port) {
-            Seen &mine = seen[number];
+    // Ends when the first thread is through: what that one keeps, where messages go packed, others
+    // would wait for.
+    int latency(bool pauses) {
+        std::vector<std::vector<uint32_t>> times(ports.size());
+        std::atomic<bool> is_over{false};
+        const auto until_over = [&](auto call) {
+            while (!call()) {
+                if (is_over) return false;
+                __builtin_ia32_pause();
+            }
+            return true;
+        };
+        const uint64_t first = __builtin_ia32_rdtsc();
+        const auto begun = Clock::now();
+        for (auto &its : times) its.reserve(many);
+        in_threads([&](size_t number, Port &port, Seen &mine) {
             uint64_t value, last = 0;
             while (mine.puts < many && !is_over) {
                 for (uint64_t until = __builtin_ia32_rdtsc() + 10 * last;
@@ -168,49 +144,40 @@ int Run::latency(size_t threads, bool pauses) const {
                 last = std::min(last, uint64_t(10000));
             }
             is_over = true;
-        },
-        ports);
-    const double nanos = static_cast<double>(nanos_since(begun)) /
-                         static_cast<double>(__builtin_ia32_rdtsc() - first);
-    std::vector<uint32_t> all;
-    for (const auto &its : times) all.insert(all.end(), its.begin(), its.end());
-    std::string figures;
-    for (const double part : {0.5, 0.99, 0.999}) {
-        const auto at = all.begin() + static_cast<long>(part * static_cast<double>(all.size()));
-        std::nth_element(all.begin(), at, all.end());
-        figures += std::to_string(static_cast<uint64_t>(*at * nanos)) + " ";
-    }
-    figures.pop_back();
-    say(figures, 0);
-    return !is_complete(ports, seen);
-}
-
-// The third thread stops the second, wherever it is, and looks how long the first waits.
-int Run::stops() const {
-    Queue queue(order, 2);
-    std::vector<std::unique_ptr<Port>> ports;
-    std::vector<Seen> seen(2);
-    std::atomic<bool> is_over{false};
-    std::atomic<uint64_t> longest{0};
-    std::atomic<pthread_t> victim{};
-    uint64_t held = 0, most = 0;
-    std::signal(SIGUSR1, [](int) { sleep_for(50000); });
-    std::thread stopper([&] {
-        while (!victim.load()) std::this_thread::yield();
-        for (uint64_t stop = 0; stop < many; stop++) {
-            sleep_for(10000 + static_cast<long>(stop * 7919 % 1000));
-            longest = 0;
-            pthread_kill(victim, SIGUSR1);
-            sleep_for(70000);
-            held += longest > 20000000;
-            most = std::max(most, longest.load());
+        });
+        const double nanos = static_cast<double>(nanos_since(begun)) /
+                             static_cast<double>(__builtin_ia32_rdtsc() - first);
+        std::vector<uint32_t> all;
+        for (const auto &its : times) all.insert(all.end(), its.begin(), its.end());
+        std::string figures;
+        for (const double part : {0.5, 0.99, 0.999}) {
+            const auto at = all.begin() + static_cast<long>(part * static_cast<double>(all.size()));
+            std::nth_element(all.begin(), at, all.end());
+            figures += (figures.empty() ? "" : " ") + std::to_string(uint64_t(*at * nanos));
         }
-        is_over = true;
-    });
-    in_threads(
-        queue, 2,
-        [&](size_t number, Port &port) {
-            Seen &mine = seen[number];
+        return say(figures, 0, is_complete());
+    }
+
+    // The third thread stops the second, wherever it is, and looks how long the first waits.
+    int stops() {
+        std::atomic<bool> is_over{false};
+        std::atomic<uint64_t> longest{0};
+        std::atomic<pthread_t> victim{};
+        uint64_t held = 0, most = 0;
+        std::signal(SIGUSR1, [](int) { usleep(50000); });
+        std::thread stopper([&] {
+            while (!victim.load()) std::this_thread::yield();
+            for (uint64_t stop = 0; stop < many; stop++) {
+                usleep(10000 + static_cast<unsigned>(stop * 7919 % 1000));
+                longest = 0;
+                pthread_kill(victim, SIGUSR1);
+                usleep(70000);
+                held += longest > 20000000;
+                most = std::max(most, longest.load());
+            }
+            is_over = true;
+        });
+        in_threads([&](size_t number, Port &port, Seen &mine) {
             uint64_t value;
             auto last = Clock::now();
             if (number == 1) victim = pthread_self();
@@ -222,74 +189,61 @@ int Run::stops() const {
                 if (number == 0 && wait > longest) longest = wait;
                 last = Clock::now();
             }
-        },
-        ports);
-    stopper.join();
-    say(std::to_string(held) + " " + std::to_string(most), 0);
-    return !is_complete(ports, seen);
-}
+        });
+        stopper.join();
+        return say(std::to_string(held) + " " + std::to_string(most), 0, is_complete());
+    }
 
-// A value is its thread and its number; each thread keeps which number of each it saw last.
-int Run::in_order() const {
-    constexpr size_t THREADS = 4;
-    constexpr int BITS = 40;
-    Queue queue(order, THREADS);
-    std::vector<std::unique_ptr<Port>> ports;
-    std::vector<std::vector<bool>> got(THREADS, std::vector<bool>(THREADS * (2 * many + 1)));
-    std::vector<uint64_t> puts(THREADS);
-    std::atomic<bool> is_late{false};
-    const auto mark = [&](std::vector<bool> &mine, uint64_t value) {
-        const size_t place = (value >> BITS) * (2 * many + 1) + (value & ((1ULL << BITS) - 1));
-        if (mine.at(place)) is_late = true;
-        mine[place] = true;
-    };
-    in_threads(
-        queue, THREADS,
-        [&](size_t number, Port &port) {
-            std::vector<uint64_t> next(THREADS);
+    // A value is its thread and its number. No thread may get a thread's values but in their order,
+    // and all have to be got just once.
+    int in_order() {
+        constexpr int BITS = 40;
+        std::vector<std::vector<uint64_t>> got(ports.size());
+        std::vector<uint64_t> put, all;
+        bool is_right = true;
+        in_threads([&](size_t number, Port &port, Seen &mine) {
             uint64_t value;
             for (uint64_t i = 0; i < 2 * many; i++) {
-                if (port.put(uint64_t(number) << BITS | puts[number])) puts[number]++;
-                if (!port.get(value)) continue;
-                uint64_t &after = next.at(value >> BITS);
-                const uint64_t its = (value & ((1ULL << BITS) - 1)) + 1;
-                if (its <= after) is_late = true;
-                after = its;
-                mark(got[number], value);
+                if (port.put(uint64_t(number) << BITS | mine.puts)) mine.puts++;
+                if (port.get(value)) got[number].push_back(value);
             }
-        },
-        ports);
-    uint64_t value, count = 0, sent = 0;
-    for (auto &port : ports) {
-        port->flush();
-        while (port->get(value)) mark(got[0], value);
+        });
+        for (size_t number = 0; number < ports.size(); number++) {
+            std::vector<uint64_t> next(ports.size());
+            for (const uint64_t value : got[number]) {
+                is_right &= value >= next.at(value >> BITS);
+                next[value >> BITS] = value + 1;
+            }
+            for (uint64_t i = 0; i < seen[number].puts; i++) put.push_back(number << BITS | i);
+            ports[number]->flush();
+            for (uint64_t value; ports[number]->get(value);) got[number].push_back(value);
+            all.insert(all.end(), got[number].begin(), got[number].end());
+        }
+        std::sort(all.begin(), all.end());
+        return say(std::to_string(all.size()), 0, is_right && all == put);
     }
-    for (size_t place = 0; place < got[0].size(); place++) {
-        size_t times = 0;
-        for (const auto &its : got) times += its[place];
-        if (times > 1) is_late = true;
-        count += times;
-    }
-    for (const uint64_t its : puts) sent += its;
-    if (is_late || count != sent)
-        std::fprintf(stderr, "%s: lost, twice or out of order\n", program_invocation_name);
-    say(std::to_string(count), 0);
-    return is_late || count != sent;
-}
+};
 
 int main(int argc, char **argv) {
     if (argc != 4) return 2;
-    const Run run = {static_cast<uint32_t>(std::atoi(argv[2])), std::strtoull(argv[3], nullptr, 10),
-                     argv[1]};
-    const std::map<std::string, std::string> roles = {
-        {"one", "b"},    {"empty", "e"},   {"pair", "pg"},
-        {"two", "pgpg"}, {"four", "bbbb"}, {"many", std::string(16, 'b')}};
-    const auto mine = roles.find(run.mode);
-    int status = 2;
-    if (mine != roles.end()) status = run.pairs(mine->second);
-    if (run.mode == "busy") status = run.latency(4, false);
-    if (run.mode == "calm") status = run.latency(2, true);
-    if (run.mode == "stop") status = run.stops();
-    if (run.mode == "order") status = run.in_order();
+    const std::string mode = argv[1];
+    const std::map<std::string, std::string> roles_of = {
+        {"one", "b"},     {"empty", "e"},   {"pair", "pg"},
+        {"two", "pgpg"},  {"four", "bbbb"}, {"many", std::string(16, 'b')},
+        {"busy", "...."}, {"calm", ".."},   {"stop", ".."},
+        {"order", "...."}};
+    const auto roles = roles_of.find(mode);
+    if (roles == roles_of.end()) return 2;
+    Run run(argv[1], static_cast<uint32_t>(std::atoi(argv[2])), std::strtoull(argv[3], nullptr, 10),
+            roles->second.size());
+    int status;
+    if (mode == "stop")
+        status = run.stops();
+    else if (mode == "order")
+        status = run.in_order();
+    else if (roles->second[0] == '.')
+        status = run.latency(mode == "calm");
+    else
+        status = run.pairs(roles->second);
     std::_Exit(status);
 }

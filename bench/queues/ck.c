@@ -1,5 +1,5 @@
-// ck_ring.h doesn't compile as C++. With -flto these calls stand where they are made. -DIS_CK_TRY takes
-// the call that tells "empty" where another thread was faster.
+// ck_ring.h doesn't compile as C++. With -flto these calls stand where they are made. -DIS_CK_TRY
+// takes the call that tells "empty" where another thread was faster.
 #include <ck_ring.h>
 #include <stdbool.h>
 #include <stdlib.h>

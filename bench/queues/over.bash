@@ -40,6 +40,8 @@ peers() {
     for it; do over_peer "$it" || echo "left out: $it"; done
 }
 
+said_packages() { echo "packages: $(cat packages/*.there | sed 's,.*/,,; s,\.deb$,,' | tr '\n' ' ')"; }
+
 over_peer() {
     local include=$folder/packages/usr/include libraries=$folder/packages/usr/lib/x86_64-linux-gnu
     # shellcheck disable=SC2054

@@ -1,6 +1,6 @@
-// Values in a ring behind a mutex, of which every 500th put goes wrong: with -DLOST it writes over the
-// value before it, as two threads do that both read the same end; with -DREORDERED its value waits until
-// the ring is empty; with -DFULL it is refused although half of the places are free.
+// Values in a ring behind a mutex, of which every 500th put goes wrong: with -DLOST it writes over
+// the value before it, as two threads do that both read the same end; with -DREORDERED its value
+// waits until the ring is empty; with -DFULL it is refused although half of the places are free.
 #include <deque>
 #include <mutex>
 

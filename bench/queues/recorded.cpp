@@ -2,9 +2,9 @@
 //
 //     recorded FOLDER CALLS [counter]
 //
-// Each makes so many steps, of two puts for one get and the other way round in turn, so that the queue of
-// 64 buffers is full and empty now and then. By the processor's clock, or the counter; the files are
-// FOLDER/1.log to 4.log.
+// Each makes so many steps, of two puts for one get and the other way round in turn, so that the
+// queue of 64 buffers is full and empty now and then. By the processor's clock, or the counter; the
+// files are FOLDER/1.log to 4.log.
 #include "recorder.h"
 #include "queue.hpp"
 #include QUEUE

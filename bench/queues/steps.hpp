@@ -5,11 +5,8 @@ using Word = std::atomic<uint64_t>;
 
 constexpr uint64_t ZERO_LEVEL = uint64_t(1) << 32;
 
-// How many words the gate, Tail, Head and Threshold stand apart, as in `scq_band`; 1 packs the
-// words.
-#ifndef DISTANCE
-#define DISTANCE size_t(16)
-#endif
+// How many words the gate, Tail, Head and Threshold stand apart, as in `scq_band`.
+constexpr size_t DISTANCE = 16;
 
 // A ring: its Tail, Head and Threshold, behind which the entries stand by slot, and what a call
 // needs of the setup.

@@ -24,30 +24,22 @@ inline void must(bool is, const char *what) {
     std::exit(2);
 }
 
-inline void pause_us(long us) {
-    const timespec time = {us / 1000000, us % 1000000 * 1000};
-    nanosleep(&time, nullptr);
-}
-
 namespace Stopped {
 
-// The threads of a program but its first, the oldest first.
-inline std::vector<pid_t> others_of(pid_t pid) {
-    std::vector<pid_t> ids;
-    for (const auto &it :
-         std::filesystem::directory_iterator("/proc/" + std::to_string(pid) + "/task"))
-        ids.push_back(std::stoi(it.path().filename()));
-    ids.erase(std::remove(ids.begin(), ids.end(), pid), ids.end());
-    std::sort(ids.begin(), ids.end());
-    return ids;
-}
-
-// The same, once there are so many.
+// The threads of a program but its first, the oldest first, once there are so many.
 inline std::vector<pid_t> others_of(pid_t pid, size_t many) {
-    for (int i = 0; i < 2000 && others_of(pid).size() < many; i++) pause_us(1000);
-    const std::vector<pid_t> ids = others_of(pid);
-    must(ids.size() >= many, "threads");
-    return ids;
+    const std::string tasks = "/proc/" + std::to_string(pid) + "/task";
+    for (int i = 0; i < 2000; i++) {
+        std::vector<pid_t> ids;
+        for (const auto &it : std::filesystem::directory_iterator(tasks))
+            ids.push_back(std::stoi(it.path().filename()));
+        ids.erase(std::remove(ids.begin(), ids.end(), pid), ids.end());
+        std::sort(ids.begin(), ids.end());
+        if (ids.size() >= many) return ids;
+        usleep(1000);
+    }
+    must(false, "threads");
+    return {};
 }
 
 // Whether a thread neither sleeps nor has ended.
@@ -111,7 +103,7 @@ inline Step step(pid_t pid, pid_t id) {
 // status this is.
 inline int hold(pid_t pid, bool goes, char kind, uint64_t number, size_t threads) {
     const std::vector<pid_t> ids = others_of(pid, threads);
-    pause_us(5000 + 1000 * long(number));
+    usleep(5000 + 1000 * unsigned(number));
     // The newest have most of their calls before them.
     const pid_t id = ids[ids.size() - 1 - (number - 1) % ids.size()];
     tell(PTRACE_SEIZE, id);
@@ -129,12 +121,12 @@ inline int hold(pid_t pid, bool goes, char kind, uint64_t number, size_t threads
     // No call sleeps: who sleeps is done, and waits for the end of another.
     const auto works = [&](pid_t it) {
         if (it == id || !is_at_work(pid, it)) return false;
-        pause_us(50000);
+        usleep(50000);
         return is_at_work(pid, it);
     };
     for (bool all_done = false; !all_done && took.count() < 120;) {
-        pause_us(20000);
-        const std::vector<pid_t> now = others_of(pid);
+        usleep(20000);
+        const std::vector<pid_t> now = others_of(pid, 0);
         all_done = std::none_of(now.begin(), now.end(), works);
         took = std::chrono::steady_clock::now() - start;
     }

@@ -7,8 +7,6 @@
 #include "scq.h"
 #include "stopped.hpp"
 #include <array>
-#include <bitset>
-#include <cstring>
 #include <set>
 #include <thread>
 
@@ -24,88 +22,50 @@ static Message message(uint64_t name) {
     return {name, mix, ~name, (mix << 32 | mix >> 32) ^ name};
 }
 
-// What is counted: of these `Torn` are takes whose bytes are no message of the topic, `Twice`
-// messages that came again, and `Late` those that came after a later one of the same sender and
-// topic.
-enum Count { Sent, SentSum, Taken, TakenSum, Full, Empty, Torn, Twice, Late, COUNTS };
-using Counts = std::array<uint64_t, COUNTS>;
-
 constexpr uint64_t ENDLESS = uint64_t(1) << 50;
 
-// A thread, what it sent and took, a bit for each number of each sender that it took, and for each
-// sender and topic one more than the number that it took last. It has no atomics of its own.
+// A thread, what it counted, and the names that it took, in their order. It has no atomics of its
+// own.
 struct alignas(128) Thread {
     scq_port *port;
     uint64_t sender, many;
-    Counts count{};
-    std::vector<uint64_t> seen, next;
-
-    Thread(scq_port *port, uint64_t sender, uint64_t senders, uint64_t many)
-        : port(port), sender(sender), many(many), seen(many == ENDLESS ? 0 : stride() * senders),
-          next(2 * senders) {}
-    uint64_t stride() const { return many / 64 + 1; }
+    uint64_t sent = 0, full = 0, empty = 0, torn = 0;
+    std::vector<uint64_t> taken = {};
 
     void send(uint32_t topic) {
         scq_held held;
         uint64_t place;
         const uint32_t answer = scq_lend(port, &held);
-        count[Full] += answer == SCQ_FULL;
+        full += answer == SCQ_FULL;
         if (answer == SCQ_FULL) return;
         must(answer == SCQ_OK, "lend");
-        const Message sent = message(count[Sent] << 8 | sender << 1 | topic);
-        std::memcpy(held.at, &sent, sizeof sent);
+        const Message it = message(sent++ << 8 | sender << 1 | topic);
+        std::memcpy(held.at, &it, sizeof it);
         must(scq_send(port, held.index, topic, &place) == SCQ_OK, "send");
-        count[Sent]++;
-        count[SentSum] += sent[1];
     }
 
     bool take(uint32_t topic) {
         scq_held held;
-        Message taken;
+        Message it;
         const uint32_t answer = scq_take(port, topic, &held);
-        count[Empty] += answer == SCQ_EMPTY;
+        empty += answer == SCQ_EMPTY;
         if (answer == SCQ_EMPTY) return false;
         must(answer == SCQ_OK, "take");
-        std::memcpy(&taken, held.at, sizeof taken);
-        note(taken, topic);
+        std::memcpy(&it, held.at, sizeof it);
+        torn += it != message(it[0]) || (it[0] & 1) != topic;
+        if (many != ENDLESS) taken.push_back(it[0]);
         must(scq_give_back(port, held.index) == SCQ_OK, "give back");
         return true;
     }
 
-    void note(const Message &taken, uint32_t topic) {
-        const uint64_t from = taken[0] >> 1 & 127, number = taken[0] >> 8;
-        const bool is_whole = taken == message(taken[0]) && (taken[0] & 1) == topic &&
-                              2 * from < next.size() && number < many;
-        count[Taken]++;
-        count[Torn] += !is_whole;
-        if (!is_whole) return;
-        uint64_t &after = next[2 * from + topic];
-        count[TakenSum] += taken[1];
-        count[Late] += number < after;
-        after = number + 1;
-        if (seen.empty()) return;
-        uint64_t &word = seen[stride() * from + number / 64];
-        count[Twice] += word >> number % 64 & 1;
-        word |= uint64_t(1) << number % 64;
-    }
-
     // Of four rounds one sends twice and one takes twice, so that Full and Empty come.
     void work() {
-        for (uint32_t round = 0; count[Sent] < many; round++) {
-            const uint32_t topic = count[Sent] & 1;
+        for (uint32_t round = 0; sent < many; round++) {
+            const uint32_t topic = sent & 1;
             send(topic);
-            if (round % 4 == 0 && count[Sent] < many) send(1 - topic);
+            if (round % 4 == 0 && sent < many) send(1 - topic);
             take(round & 1);
             if (round % 4 == 1) take(1 - (round & 1));
-        }
-    }
-
-    // A message that both took was taken twice.
-    void add(const Thread &other) {
-        for (size_t i = 0; i < COUNTS; i++) count[i] += other.count[i];
-        for (size_t i = 0; i < seen.size(); i++) {
-            count[Twice] += std::bitset<64>(seen[i] & other.seen[i]).count();
-            seen[i] |= other.seen[i];
         }
     }
 };
@@ -117,14 +77,31 @@ static int run(uint32_t order, size_t threads, uint64_t many) {
     must(scq_open(order, 2, 32, 1, SCQ_MAX_LIMIT, ports.data(), threads) == SCQ_OK, "open");
     std::vector<Thread> all;
     std::vector<std::thread> running;
-    for (scq_port &port : ports) all.emplace_back(&port, all.size(), threads, many);
+    for (scq_port &port : ports) all.push_back({&port, all.size(), many});
     for (Thread &one : all) running.emplace_back([&one] { one.work(); });
     for (std::thread &one : running) one.join();
     Thread &last = all.back();
     for (uint32_t topic = 0; topic < 2;) topic += !last.take(topic);
-    for (size_t i = 0; i + 1 < threads; i++) last.add(all[i]);
-    uint64_t different = 0;
-    for (const uint64_t word : last.seen) different += std::bitset<64>(word).count();
+
+    // Late are those that came to a thread behind a later one of the same sender and topic.
+    uint64_t late = 0, torn = 0, full = 0, empty = 0;
+    std::vector<uint64_t> names;
+    for (const Thread &one : all) {
+        std::array<uint64_t, 256> after{};
+        for (const uint64_t name : one.taken) {
+            late += name < after[name & 255];
+            after[name & 255] = name + 1;
+            names.push_back(name >> 1);
+        }
+        torn += one.torn, full += one.full, empty += one.empty;
+    }
+    const size_t taken = names.size();
+    std::sort(names.begin(), names.end());
+    names.erase(std::unique(names.begin(), names.end()), names.end());
+    bool is_right = torn == 0 && late == 0 && taken == every && names.size() == every;
+    for (uint64_t i = 0; i < names.size(); i++)
+        is_right &= names[i] == (i / threads << 7 | i % threads);
+
     scq_held held;
     std::set<uint32_t> free;
     for (size_t i = 0; i < n && scq_lend(last.port, &held) == SCQ_OK; i++) {
@@ -138,15 +115,13 @@ static int run(uint32_t order, size_t threads, uint64_t many) {
     scq_free(last.port);
     scq_counts sum = {0, 0, 0};
     for (const auto &it : counts) sum.sent += it.sent, sum.taken += it.taken, sum.full += it.full;
-    const auto &count = last.count;
-    const Counts wanted = {every, count[SentSum], every, count[SentSum], sum.full, count[Empty]};
-    std::printf("order %u, %zu threads: %zu messages sent, %zu taken, %zu of them different; full "
-                "%zu, empty %zu; torn %zu, twice %zu, late %zu; %zu buffers free; the ports' "
-                "counts are %zu, %zu and %zu\n",
-                order, threads, count[Sent], count[Taken], different, count[Full], count[Empty],
-                count[Torn], count[Twice], count[Late], free.size(), sum.sent, sum.taken, sum.full);
-    return count != wanted || different != every || free.size() != n || sum.sent != every ||
-           sum.taken != every;
+    std::printf("order %u, %zu threads: %zu messages, %zu taken, %zu of them different; full %zu, "
+                "empty %zu; torn %zu, late %zu; %zu buffers free; the ports' counts are %zu, %zu "
+                "and %zu\n",
+                order, threads, every, taken, names.size(), full, empty, torn, late, free.size(),
+                sum.sent, sum.taken, sum.full);
+    return !is_right || free.size() != n || sum.sent != every || sum.taken != every ||
+           sum.full != full;
 }
 
 // Of a program whose threads make calls without an end: all are stopped at once, wherever they are,
@@ -164,7 +139,7 @@ static int counted(pid_t pid, uint32_t order, size_t threads, uint64_t rounds, u
     std::vector<pid_t> ids = Stopped::others_of(pid, threads);
     for (const pid_t id : ids) Stopped::tell(PTRACE_SEIZE, id);
     for (uint64_t round = 0; round < rounds; round++) {
-        pause_us(drawn(2000));
+        usleep(drawn(2000));
         for (const pid_t id : ids) Stopped::tell(PTRACE_INTERRUPT, id);
         for (const pid_t id : ids) Stopped::wait(id);
         for (size_t i = 0; i < ids.size(); i++) {

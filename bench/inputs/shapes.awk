@@ -2,7 +2,7 @@
 # names, one a line. Seats, queues and numbers that share low or high bits, or a hash, or rise, or
 # fall, and calls that break an aspect each, wait, overlap, or never end.
 #
-#     awk -v shape=SHAPE -v calls=N -f bench/shapes.awk
+#     awk -v shape=SHAPE -v calls=N -f bench/inputs/shapes.awk
 function start_put(s, q) { print "start " s " put " q " -" }
 function start_get(s, q) { print "start " s " get " q }
 function done(s) { print "end " s " done" }
