@@ -4,6 +4,7 @@ pub mod CodingLaws
 pub mod LogWalks
 pub mod Cuts
 pub mod Cutting
+pub mod Distinct
 pub mod InChunks
 pub mod Lines
 pub mod Merged
