@@ -46,7 +46,7 @@ returns-clause-run g c =
     let S = g.row.S.Denot in
     let job = c.args.job.now in
     subst (λ (ds : List (Desk (Seated Frame) S)). All (λ d. HasRun c.args.queue.now job.topics job.size job.longest g.S.Source.faults g.S.Source.ends
-    g.S.Source.left d.files.items d.worker.worker.pass d.worker.worker.members.items d.worker.worker.starved d.worker.kept) ds)
+    g.S.Source.left d.files.items d.worker.worker.pass d.worker.worker.members d.worker.worker.starved d.worker.kept) ds)
     (sym (whole g (goal.at.returns-clause-run g c).After-run_each)) c.run_each.ensures.run
 
 pub returns-clause-behind : goal.returns-clause-behind

@@ -13,7 +13,7 @@ sweep_out-requires-clause-suits g c κs within =
     let job = c.args.job.now in
     let d = c.args.desk.now in
     sweep-suits c.args.queue.now job.topics job.size job.longest g.S.Source.faults g.S.Source.ends g.S.Source.left d.files.items d.worker.worker.pass d.worker.worker.pass
-    d.worker.worker.members.items d.worker.worker.members.items d.worker.worker.starved d.worker.worker.starved d.worker.kept c.requires.sweep
+    d.worker.worker.members d.worker.worker.members d.worker.worker.starved d.worker.worker.starved d.worker.kept c.requires.sweep
 
 pub returns-in-Ok-clause-run : goal.returns-in-Ok-clause-run
 returns-in-Ok-clause-run g c =
@@ -22,7 +22,7 @@ returns-in-Ok-clause-run g c =
     let now = c.sweep_out.new.taker in
     let end = c.in-Ok.ensures in
     swept-out c.args.queue.now job.topics job.size job.longest g.S.Source.faults g.S.Source.ends g.S.Source.left d.files.items d.worker.worker.pass now.pass
-    d.worker.worker.members.items now.members.items d.worker.worker.starved now.starved d.worker.kept c.requires.sweep end.taken
+    d.worker.worker.members now.members d.worker.worker.starved now.starved d.worker.kept c.requires.sweep end.taken
     (subst (λ n. (t : ℕ) → t < n + 1 → (known_on t now.pass).finished < (known_on t now.pass).head) c.len.ensures.value end.past) end.made.fed
     end.made.answered
 
@@ -39,10 +39,10 @@ returns-in-Err-clause-run g c =
     let d = c.args.desk.now in
     let now = c.sweep_out.new.taker in
     let later = c.keep.new.self in
-    subst (λ (w : Worker _). HasRun c.args.queue.now job.topics job.size job.longest faults end_count left d.files.items w.pass w.members.items
+    subst (λ (w : Worker _). HasRun c.args.queue.now job.topics job.size job.longest faults end_count left d.files.items w.pass w.members
     w.starved later.kept) (sym c.keep.ensures.same)
     (late-out c.args.queue.now job.topics job.size job.longest faults end_count left d.files.items d.worker.worker.pass now.pass
-    d.worker.worker.members.items now.members.items d.worker.worker.starved now.starved d.worker.kept c.requires.sweep later.kept c.in-Err.at_limit.held
+    d.worker.worker.members now.members d.worker.worker.starved now.starved d.worker.kept c.requires.sweep later.kept c.in-Err.at_limit.held
     c.in-Err.ensures.left c.keep.ensures.kept)
 
 pub returns-in-Err-clause-number : goal.returns-in-Err-clause-number
@@ -56,7 +56,7 @@ returns-in-Ok-clause-behind g c awake =
     let now = c.sweep_out.new.taker in
     let end = c.in-Ok.ensures in
     left-swept c.args.queue.now job.topics job.size job.longest g.S.Source.faults g.S.Source.ends g.S.Source.left d.files.items d.worker.worker.pass now.pass
-    d.worker.worker.members.items now.members.items d.worker.worker.starved now.starved d.worker.kept c.requires.sweep bytes_of end.taken
+    d.worker.worker.members now.members d.worker.worker.starved now.starved d.worker.kept c.requires.sweep bytes_of end.taken
     (subst (λ n. HasSweptLast bytes_of c.args.queue.now IsReturn (n + 1) 64 d.worker.worker.pass now.pass) c.len.ensures.value end.swept)
 
 pub returns-in-Err-clause-behind : goal.returns-in-Err-clause-behind
