@@ -1,11 +1,11 @@
 //! Answers merged and written.
 ghost use Rattle.std.specs.Prelude.{◌≡◌, ◌≤◌, All, IfOk, length};
-ghost use Rattle.scq_collect.specs.Merging.{members_in};
+ghost use Rattle.scq_collect.specs.Merging.{members_of};
 
 use crate::given::{bytes_of, long, number, topics_of};
 use anyhow::{Context, Result, ensure};
 use rows_text::field;
-use scq_collect::{Answered, Way, Whole, merge, output};
+use scq_collect::{Answers, Given, PartView, Way, Whole, merge, output};
 use scq_topics::{ReplyBytes, Topics};
 use std::alloc::Global;
 
@@ -14,41 +14,37 @@ fn reply_of(alloc: Global, text: &str) -> Result<ReplyBytes> {
     Ok(ReplyBytes::copy_of(alloc, &bytes_of(alloc, text)?)?)
 }
 
-/// An answer to a part: `FILE LINE TOPIC PART PARTS BYTES WAY NUMBER TEXT`, where the way is
-/// `taken` or `direct`.
-fn answered_of(alloc: Global, text: &str) -> Result<Answered> {
-    let place = long(text, 7)?;
-    Ok(Answered {
-        file: number(text, 0)?,
-        line: number(text, 1)?,
-        topic: number(text, 2)?,
-        part: number(text, 3)?,
-        parts: number(text, 4)?,
-        bytes: long(text, 5)?,
-        text: reply_of(alloc, field(text, 8))?,
-        way: match field(text, 6) {
-            "taken" => Way::Taken { place },
-            _ => Way::Direct { head: place },
-        },
-    })
-}
-
-/// Adds an answer to a part, whose topic is declared or the number behind the last.
-fn push_part(alloc: Global, topics: &Topics, text: &str, to: &mut Vec<Answered>) -> Result<()>
-    requires { All (λ a. a.topic ≤ length topics.now) to.old.items }
-    ensures { All (λ a. a.topic ≤ length topics.now) to.new.items }
+/// Adds an answer to a part, whose topic is declared or the number behind the last:
+/// `FILE LINE TOPIC PART PARTS BYTES WAY NUMBER TEXT`, where the way is `taken` or `direct`.
+fn push_part(alloc: Global, topics: &Topics, given: &str, to: &mut Answers) -> Result<()>
+    requires { All (λ a. a.topic ≤ length topics.now) to.old }
+    ensures { All (λ a. a.topic ≤ length topics.now) to.new }
 {
-    let answer = answered_of(alloc, text)?;
+    let text = bytes_of(alloc, field(given, 8))?;
+    let answer = PartView {
+        file: number(given, 0)?,
+        line: number(given, 1)?,
+        topic: number(given, 2)?,
+        part: number(given, 3)?,
+        parts: number(given, 4)?,
+        bytes: long(given, 5)?,
+        text: &text,
+    };
     ensure!(answer.topic <= topics.len(), "a topic");
-    to.push(answer)?;
+    let place = long(given, 7)?;
+    let way = match field(given, 6) {
+        "taken" => Way::Taken { place },
+        _ => Way::Direct { head: place },
+    };
+    to.push(Given { answer, way })?;
     Ok(())
 }
 
 /// The answers to parts of a text that has `,` between them.
-fn list_of(alloc: Global, topics: &Topics, given: &str) -> Result<Vec<Answered>>
-    ensures { IfOk result (λ list. All (λ a. a.topic ≤ length topics.now) list.items) }
+fn list_of(alloc: Global, topics: &Topics, given: &str) -> Result<Answers>
+    ensures { IfOk result (λ list. All (λ a. a.topic ≤ length topics.now) list) }
 {
-    let mut list = Vec::new(alloc);
+    let mut list = Answers::new(alloc);
     for text in given.split(',') {
         if !text.is_empty() {
             push_part(alloc, topics, text, &mut list)?;
@@ -58,10 +54,10 @@ fn list_of(alloc: Global, topics: &Topics, given: &str) -> Result<Vec<Answered>>
 }
 
 /// Adds a list behind the others.
-fn push_list(topics: &Topics, lists: &mut Vec<Vec<Answered>>, list: Vec<Answered>) -> Result<()>
-    requires list { All (λ a. a.topic ≤ length topics.now) list.items }
-    requires lists { All (λ a. a.topic ≤ length topics.now) (members_in lists.old.items) }
-    ensures { All (λ a. a.topic ≤ length topics.now) (members_in lists.new.items) }
+fn push_list(topics: &Topics, lists: &mut Vec<Answers>, list: Answers) -> Result<()>
+    requires list { All (λ a. a.topic ≤ length topics.now) list }
+    requires lists { All (λ a. a.topic ≤ length topics.now) (members_of lists.old.items) }
+    ensures { All (λ a. a.topic ≤ length topics.now) (members_of lists.new.items) }
 {
     lists.push(list)?;
     Ok(())

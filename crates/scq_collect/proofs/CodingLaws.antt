@@ -7,7 +7,7 @@ use Rattle.std.proofs.lemmas.List.{append_assoc, drop_at, take_at}
 use Rattle.byteorder.specs.Endian.{big_bytes, big_number}
 use Rattle.byteorder.specs.Numbers.{big_number-reads_back}
 use Rattle.scq_collect.specs.Joined.{PartAnswer}
-use Rattle.scq_collect.specs.Coding.{IsCodable, answer_bytes, answer_from, is_alone, number_bytes, number_from, part_bytes, parts_from, short_from, step, stepped, topic_code, width}
+use Rattle.scq_collect.specs.Coding.{IsCodable, answer_bytes, body_bytes, body_from, is_alone, number_bytes, number_from, part_bytes, parts_from, place_from, short_from, step, stepped, topic_code, width}
 
 -- a number's bytes, by how large it is
 pub in_one : (n : ℕ) → n < 253 → number_bytes n ≡ n ∷ []
@@ -103,14 +103,30 @@ same-answer : (a : PartAnswer) (rest : List ℕ) (file line topic : ℕ) (text b
     → text ≡ a.text → behind ≡ rest → ◌≡◌ {A = Option (PartAnswer × List ℕ)} (Some (answer_with a file line topic text, behind)) (Some (a, rest))
 same-answer a rest file line topic text behind e1 e2 e3 e4 e5 = rw (e1, e2, e3, e4, e5) refl
 
-pub answer-again : (before : ℕ × ℕ) (a : PartAnswer) (rest : List ℕ) → before.0 < 2 ^ 32 → before.1 < 2 ^ 32 → IsCodable a
-    → answer_from before (answer_bytes before a ++ rest) ≡ Some (a, rest)
-unfolding answer_from answer_bytes
-answer-again before a rest low1 low2 fits =
+-- where a step led
+same-place : (a : PartAnswer) (rest : List ℕ) (file line : ℕ) → file ≡ a.file → line ≡ a.line
+    → ◌≡◌ {A = Option ((ℕ × ℕ) × List ℕ)} (Some ((file, line), rest)) (Some ((a.file, a.line), rest))
+same-place a rest file line e1 e2 = rw (e1, e2) refl
+
+pub place-again : (before : ℕ × ℕ) (a : PartAnswer) (rest : List ℕ) → before.0 < 2 ^ 32 → before.1 < 2 ^ 32 → IsCodable a
+    → place_from before (answer_bytes before a ++ rest) ≡ Some ((a.file, a.line), body_bytes a ++ rest)
+unfolding place_from answer_bytes
+place-again before a rest low1 low2 fits =
     let s1 : ℕ = step before.0 a.file in
     let s2 : ℕ = step before.1 a.line in
     let n1 : List ℕ = number_bytes s1 in
     let n2 : List ℕ = number_bytes s2 in
+    let r2 : List ℕ = body_bytes a ++ rest in
+    let r1 : List ℕ = n2 ++ r2 in
+    let spread : (n1 ++ n2 ++ body_bytes a) ++ rest ≡ n1 ++ r1 = append_assoc (n1 ++ n2) (body_bytes a) rest ∙ append_assoc n1 n2 r2 in
+    rw spread (
+    ap (option_and_then _) (short-again s1 r1 (mod-lt (a.file + (2 ^ 32 - before.0)) (omega arith)))
+    ∙ ap (option_and_then _) (short-again s2 r2 (mod-lt (a.line + (2 ^ 32 - before.1)) (omega arith)))
+    ∙ same-place a r2 _ _ (step-again before.0 a.file low1 fits.file) (step-again before.1 a.line low2 fits.line))
+
+pub body-again : (a : PartAnswer) (rest : List ℕ) → IsCodable a → body_from (a.file, a.line) (body_bytes a ++ rest) ≡ Some (a, rest)
+unfolding body_from body_bytes
+body-again a rest fits =
     let n3 : List ℕ = number_bytes (topic_code a) in
     let n4 : List ℕ = part_bytes a in
     let n5 : List ℕ = number_bytes a.bytes in
@@ -119,22 +135,26 @@ answer-again before a rest low1 low2 fits =
     let r5 : List ℕ = n6 ++ r6 in
     let r4 : List ℕ = n5 ++ r5 in
     let r3 : List ℕ = n4 ++ r4 in
-    let r2 : List ℕ = n3 ++ r3 in
-    let r1 : List ℕ = n2 ++ r2 in
-    let spread : (n1 ++ n2 ++ n3 ++ n4 ++ n5 ++ n6 ++ a.text) ++ rest ≡ n1 ++ r1 =
-    append_assoc (n1 ++ n2 ++ n3 ++ n4 ++ n5 ++ n6) a.text rest ∙ append_assoc (n1 ++ n2 ++ n3 ++ n4 ++ n5) n6 r6
-    ∙ append_assoc (n1 ++ n2 ++ n3 ++ n4) n5 r5 ∙ append_assoc (n1 ++ n2 ++ n3) n4 r4 ∙ append_assoc (n1 ++ n2) n3 r3 ∙ append_assoc n1 n2 r2 in
+    let spread : (n3 ++ n4 ++ n5 ++ n6 ++ a.text) ++ rest ≡ n3 ++ r3 =
+    append_assoc (n3 ++ n4 ++ n5 ++ n6) a.text rest ∙ append_assoc (n3 ++ n4 ++ n5) n6 r6
+    ∙ append_assoc (n3 ++ n4) n5 r5 ∙ append_assoc n3 n4 r4 in
     let short : nat_lt (topic_code a / 2) (2 ^ 32) ≡ true = ap (λ (t : ℕ). nat_lt t (2 ^ 32)) (code-half a) ∙ lt-ltb a.topic (2 ^ 32) fits.topic in
     let long : nat_lt (length r6) (length a.text) ≡ false = le-ltb (length r6) (length a.text) (omega (arith, length-append a.text rest)) in
     rw spread (
-    ap (option_and_then _) (short-again s1 r1 (mod-lt (a.file + (2 ^ 32 - before.0)) (omega arith)))
-    ∙ ap (option_and_then _) (short-again s2 r2 (mod-lt (a.line + (2 ^ 32 - before.1)) (omega arith)))
-    ∙ ap (option_and_then _) (number-again (topic_code a) r3 (code-fits a fits.topic))
+    ap (option_and_then _) (number-again (topic_code a) r3 (code-fits a fits.topic))
     ∙ ap (option_and_then _) (parts-again a r4 fits)
     ∙ ap (option_and_then _) (number-again a.bytes r5 fits.bytes)
     ∙ ap (option_and_then _) (number-again (length a.text) r6 fits.text)
-    ∙ rw (short, long) (same-answer a rest _ _ _ _ _ (step-again before.0 a.file low1 fits.file) (step-again before.1 a.line low2 fits.line) (code-half a)
+    ∙ rw (short, long) (same-answer a rest _ _ _ _ _ refl refl (code-half a)
     (take_at a.text rest (length a.text) refl) (drop_at a.text rest (length a.text) refl)))
+
+-- an answer's bytes are those of its place, and the rest behind them
+pub in-two : (front n3 n4 n5 n6 text : List ℕ) → front ++ n3 ++ n4 ++ n5 ++ n6 ++ text ≡ front ++ (n3 ++ n4 ++ n5 ++ n6 ++ text)
+in-two front n3 n4 n5 n6 text =
+    ap (λ (l : List ℕ). l ++ text) (
+    ap (λ (l : List ℕ). l ++ n6) (ap (λ (l : List ℕ). l ++ n5) (append_assoc front n3 n4) ∙ append_assoc front (n3 ++ n4) n5)
+    ∙ append_assoc front (n3 ++ n4 ++ n5) n6)
+    ∙ append_assoc front (n3 ++ n4 ++ n5 ++ n6) text
 
 -- bytes that were pushed behind others
 pub pushed : (items front more now new : List ℕ) → now ≡ items ++ front → new ≡ now ++ more → new ≡ items ++ (front ++ more)

@@ -1,12 +1,13 @@
 -- Answers in order, cut in front of each part 1.
-use Rattle.std.proofs.Common.{◌≡◌, ◌≢◌, ◌∙◌, refl, sym, ap, subst, arith, true, false, suc, ℕ, ◌+◌, ◌-◌, ◌<◌, ◌≤◌, Bool, List, [], ◌∷◌, ◌++◌, length, take, drop, cond, Bor}
+use Rattle.std.proofs.Common.{◌≡◌, ◌≢◌, ◌∙◌, refl, sym, ap, subst, arith, true, false, suc, ℕ, ◌+◌, ◌-◌, ◌<◌, ◌≤◌, Bool, List, [], ◌∷◌, ◌++◌, length, take, drop, cond}
 use Rattle.std.specs.Prelude.{◌==◌, slice_index_or}
 use Rattle.std.specs.List.{All}
 use Rattle.std.proofs.lemmas.Bool.Decides.{nat_tests}
 use Rattle.std.proofs.lemmas.List.{drop-drop, get_or-drop, get_or-take, length-drop, length-take-le, map-append, take-append-drop}
 use Rattle.std.proofs.lemmas.List.Elements.{All-head, All-map, All-tail}
-use Rattle.scq_collect.specs.declared.answered.Answered.{Answered}
-use Rattle.scq_collect.specs.Joined.{BeginsMessage, PartAnswer, in_front, messages_in_order, plain, without_way}
+use Rattle.scq_collect.specs.declared.spots.Spot.{Spot}
+use Rattle.scq_collect.specs.Joined.{BeginsMessage, PartAnswer, in_front, messages_in_order}
+use Rattle.scq_collect.specs.Spots.{plain, spot_answer}
 
 -- a part that is none of number 1, as a test
 is-other : (n : ℕ) → n ≢ 1 → (n == 1) ≡ false
@@ -74,43 +75,43 @@ few-messages (x ∷ y ∷ ys) = at (y.part == 1) (few-messages (y ∷ ys)) where
   at false few = front (messages_in_order (y ∷ ys)) few
 
 -- members of which only the first begins a message, and others behind them
-own-first : (own rest : List (Bor Answered)) → 0 < length own → ((k : ℕ) (d : Bor Answered) → 0 < k → k < length own → (slice_index_or own k d).now.part ≢ 1)
+own-first : (own rest : List Spot) → 0 < length own → ((k : ℕ) (d : Spot) → 0 < k → k < length own → (slice_index_or own k d).part ≢ 1)
     → BeginsMessage (plain rest) → messages_in_order (plain (own ++ rest)) ≡ plain own ∷ messages_in_order (plain rest)
 own-first [] rest some others begins = absurd (omega arith)
 own-first (m ∷ ms) rest some others begins =
-    let answer : Bor Answered → PartAnswer = λ m. without_way m.now in
+    let answer : Spot → PartAnswer = spot_answer in
     ap messages_in_order (map-append answer (m ∷ ms) rest)
     ∙ cut-first (answer m) (plain ms) (plain rest)
     (All-map (λ (a : PartAnswer). a.part ≢ 1) answer ms (λ k d less. others (suc k) d (omega arith) (omega (arith, less)))) begins
 
 -- what stands behind an end
-pub behind-end : (xs : List (Bor Answered)) (at end : ℕ) → at < end → drop (end - at) (drop at xs) ≡ drop end xs
+pub behind-end : (xs : List Spot) (at end : ℕ) → at < end → drop (end - at) (drop at xs) ≡ drop end xs
 behind-end xs at end less =
     let same : at + (end - at) ≡ end = omega (arith, less) in
     drop-drop (end - at) at xs ∙ ap (λ (k : ℕ). drop k xs) same
 
-pub message-cut : (xs : List (Bor Answered)) (at end : ℕ) → at < end → end ≤ length xs
-    → ((k : ℕ) (d : Bor Answered) → at + 1 ≤ k → k < end → (slice_index_or xs k d).now.part ≢ 1) → BeginsMessage (plain (drop end xs))
+pub message-cut : (xs : List Spot) (at end : ℕ) → at < end → end ≤ length xs
+    → ((k : ℕ) (d : Spot) → at + 1 ≤ k → k < end → (slice_index_or xs k d).part ≢ 1) → BeginsMessage (plain (drop end xs))
     → messages_in_order (plain (drop at xs)) ≡ plain (take (end - at) (drop at xs)) ∷ messages_in_order (plain (drop end xs))
 message-cut xs at end less within between begins =
     let own = take (end - at) (drop at xs) in
     let rest = behind-end xs at end less in
     let long : length own ≡ end - at = length-take-le (end - at) (drop at xs) (omega (arith, within, less, length-drop at xs)) in
-    let others : (k : ℕ) (d : Bor Answered) → 0 < k → k < length own → (slice_index_or own k d).now.part ≢ 1 = λ k d some short.
+    let others : (k : ℕ) (d : Spot) → 0 < k → k < length own → (slice_index_or own k d).part ≢ 1 = λ k d some short.
     let read : slice_index_or own k d ≡ slice_index_or xs (at + k) d =
     get_or-take (end - at) (drop at xs) k d (omega (arith, short, long)) ∙ get_or-drop at xs k d in
-    subst (λ (m : Bor Answered). m.now.part ≢ 1) (sym read) (between (at + k) d (omega (arith, some)) (omega (arith, short, long, less))) in
-    ap (λ (ys : List (Bor Answered)). messages_in_order (plain ys)) (sym (take-append-drop (end - at) (drop at xs)))
-    ∙ own-first own (drop (end - at) (drop at xs)) (omega (arith, long, less)) others (subst (λ (ys : List (Bor Answered)). BeginsMessage (plain ys)) (sym rest) begins)
-    ∙ ap (λ (ys : List (Bor Answered)). plain own ∷ messages_in_order (plain ys)) rest
+    subst (λ (m : Spot). m.part ≢ 1) (sym read) (between (at + k) d (omega (arith, some)) (omega (arith, short, long, less))) in
+    ap (λ (ys : List Spot). messages_in_order (plain ys)) (sym (take-append-drop (end - at) (drop at xs)))
+    ∙ own-first own (drop (end - at) (drop at xs)) (omega (arith, long, less)) others (subst (λ (ys : List Spot). BeginsMessage (plain ys)) (sym rest) begins)
+    ∙ ap (λ (ys : List Spot). plain own ∷ messages_in_order (plain ys)) rest
 
-pub piece-cut : (xs : List (Bor Answered)) (at end : ℕ) → at < end → BeginsMessage (plain (drop end xs))
+pub piece-cut : (xs : List Spot) (at end : ℕ) → at < end → BeginsMessage (plain (drop end xs))
     → messages_in_order (plain (drop at xs)) ≡ messages_in_order (plain (take (end - at) (drop at xs))) ++ messages_in_order (plain (drop end xs))
 piece-cut xs at end less begins =
-    let answer : Bor Answered → PartAnswer = λ m. without_way m.now in
+    let answer : Spot → PartAnswer = spot_answer in
     let own = take (end - at) (drop at xs) in
     let rest = behind-end xs at end less in
-    ap (λ (ys : List (Bor Answered)). messages_in_order (plain ys)) (sym (take-append-drop (end - at) (drop at xs)))
+    ap (λ (ys : List Spot). messages_in_order (plain ys)) (sym (take-append-drop (end - at) (drop at xs)))
     ∙ ap messages_in_order (map-append answer own (drop (end - at) (drop at xs)))
-    ∙ ap (λ (ys : List (Bor Answered)). messages_in_order (plain own ++ plain ys)) rest
+    ∙ ap (λ (ys : List Spot). messages_in_order (plain own ++ plain ys)) rest
     ∙ cut-between (plain own) (plain (drop end xs)) begins

@@ -1,10 +1,9 @@
 -- Members chunk by chunk.
-use Rattle.std.proofs.Common.{◌≡◌, ◌∙◌, refl, sym, ap, subst, arith, ℕ, ◌+◌, ◌*◌, ◌≤◌, List, [], ◌∷◌, ◌++◌, length, take, drop, get_or, map, Bor, append_assoc}
+use Rattle.std.proofs.Common.{◌≡◌, ◌∙◌, refl, sym, ap, arith, ℕ, ◌+◌, ◌*◌, ◌≤◌, List, [], ◌∷◌, ◌++◌, length, take, drop, get_or, append_assoc}
 use Rattle.std.specs.Prelude.{flat_map}
-use Rattle.std.specs.List.{All}
 use Rattle.std.proofs.Math.Seq.{take-add}
 use Rattle.std.proofs.lemmas.Grind.{flat_map-append}
-use Rattle.std.proofs.lemmas.List.{append-nil, get_or-map, length-append, length-map, length-take}
+use Rattle.std.proofs.lemmas.List.{append-nil, length-append, length-take}
 
 -- the members of a front of the chunks, and of the front with one chunk more
 pub chunk-more : {A : Type 0} (xs : List A) (size n : ℕ) → take (n * size) xs ++ take size (drop (n * size) xs) ≡ take ((n + 1) * size) xs
@@ -21,19 +20,9 @@ pub behind-front : {A : Type 0} (ys zs : List A) (x d : A) → get_or (ys ++ x �
 behind-front [] zs x d = refl
 behind-front (y ∷ ys) zs x d = behind-front ys zs x d
 
-pub maps : {A B C : Type 0} (g : B → C) (f : A → B) (xs : List A) → map g (map f xs) ≡ map (λ x. g (f x)) xs
-maps g f [] = refl
-maps g f (x ∷ xs) = ap (λ ys. g (f x) ∷ ys) (maps g f xs)
-
 pub nothing-left : {A : Type 0} (xs : List A) → length xs ≡ 0 → xs ≡ []
 nothing-left [] none = refl
 nothing-left (x ∷ xs) none = absurd (omega arith)
-
--- what holds of all values holds where they lie
-pub in-place : {A : Type 0} (P : A → Type 0) (xs : List (Bor A)) → All P (map (λ m. m.now) xs) → All (λ m. P m.now) xs
-in-place {A} P xs all k d less =
-    let now : Bor A → A = λ m. m.now in
-    subst P (get_or-map now xs k d (now d) less) (all k (now d) (omega (arith, less, length-map xs now)))
 
 -- what is made of one element more
 pub flat-push : {A B : Type 0} (f : A → List B) (xs : List A) (x : A) → flat_map f (xs ++ x ∷ []) ≡ flat_map f xs ++ f x

@@ -5,7 +5,6 @@ pub mod LogWalks
 pub mod Cuts
 pub mod Cutting
 pub mod Distinct
-pub mod FromSlots
 pub mod InChunks
 pub mod Lines
 pub mod Merged
@@ -13,5 +12,6 @@ pub mod OneEach
 pub mod Parted
 pub mod Orders
 pub mod Positions
+pub mod SpotLaws
 pub mod Sums
 pub mod Threads

@@ -1,12 +1,12 @@
 -- Members merged: what a sort by their positions gives, and that it is told by the members alone.
-use Rattle.std.proofs.Common.{◌≡◌, ◌∙◌, refl, sym, ap, subst, inl, inr, arith, true, ℕ, ◌+◌, ◌<◌, List, [], ◌∷◌, length, map, Bor}
+use Rattle.std.proofs.Common.{◌≡◌, ◌∙◌, refl, sym, ap, subst, inl, inr, arith, true, ℕ, ◌+◌, ◌<◌, List, [], ◌∷◌, length, map}
 use Rattle.std.specs.Prelude.{slice_index_or}
 use Rattle.std.specs.List.{All}
 use Rattle.std.specs.List.Sorted.{IsPermutation, IsSortedByKey}
 use Rattle.std.specs.Ordering.{is_lt, nat_cmp, ordering_then}
 use Rattle.std.proofs.lemmas.Bool.{lt-ltb}
 use Rattle.std.proofs.lemmas.List.{get_or-map, length-map}
-use Rattle.std.proofs.lemmas.List.Sorted.{All-permutation, IsPermutation-map}
+use Rattle.std.proofs.lemmas.List.Sorted.{IsPermutation-map}
 use Rattle.scq_topics.specs.declared.kind.Kind.{Kind}
 use Rattle.scq_collect.specs.declared.answered.Answered.{Answered}
 use Rattle.scq_frames.specs.declared.message.Message.{Message}
@@ -18,20 +18,13 @@ use Rattle.scq_collect.proofs.Orders.{Ascends, apart-distinct, ascends, exactly,
 use Rattle.scq_collect.proofs.Parted.{joined-answers, parts-ascend, position_of_part_answer}
 use Rattle.scq_collect.proofs.Threads.{messages-answered, messages-ascend}
 
--- a member with its position
-abbrev Placed : Type 0
-Placed = ℕ × ℕ × ℕ × Bor Answered
-
-abbrev key : Placed → ℕ × ℕ × ℕ
-key m = (m.0, m.1, m.2)
-
 -- a position that stands before another is less
 before-less : (p q : ℕ × ℕ × ℕ) → IsBefore p q → is_lt (ordering_then (ordering_then (nat_cmp p.0 q.0) (nat_cmp p.1 q.1)) (nat_cmp p.2 q.2)) ≡ true
 before-less p q (inl less) = rw (lt-ltb p.0 q.0 less) refl
 before-less p q (inr (file, inl less)) = grind (arith, lt-ltb)
 before-less p q (inr (file, inr (line, less))) = grind (arith, lt-ltb)
 
-sorted-from : {A : Type 0} (position : A → ℕ × ℕ × ℕ) (xs : List A) → IsSortedByKey position (λ p q. ordering_then (ordering_then (nat_cmp p.0 q.0) (nat_cmp p.1 q.1)) (nat_cmp p.2 q.2)) xs
+pub sorted-from : {A : Type 0} (position : A → ℕ × ℕ × ℕ) (xs : List A) → IsSortedByKey position (λ p q. ordering_then (ordering_then (nat_cmp p.0 q.0) (nat_cmp p.1 q.1)) (nat_cmp p.2 q.2)) xs
     → IsSorted position xs
 sorted-from position xs sorted k d within before =
     let less = before-less (position (slice_index_or xs (k + 1) d)) (position (slice_index_or xs k d)) before in
@@ -48,21 +41,6 @@ sorted-map {A} {B} f position other (x ∷ xs) same sorted k d within before =
     λ j less. same j x less ∙ ap other (sym (get_or-map f (x ∷ xs) j x d less)) in
     sorted k x long (subst (λ p. IsBefore p (position (slice_index_or (x ∷ xs) k x))) (sym (read (k + 1) long))
     (subst (λ p. IsBefore (other (slice_index_or (map f (x ∷ xs)) (k + 1) d)) p) (sym (read k (omega arith))) before))
-
--- members are merged by a sort of them with their positions beside them
-pub merged-by : (given all : List Answered) (members sorted : List Placed) → map (λ m. m.3.now) members ≡ given
-    → All (λ m. (m.0, m.1, m.2) ≡ position_of_part m.3.now) members
-    → IsPermutation members sorted → IsSortedByKey key (λ p q. ordering_then (ordering_then (nat_cmp p.0 q.0) (nat_cmp p.1 q.1)) (nat_cmp p.2 q.2)) sorted
-    → all ≡ map (λ m. m.3.now) sorted → IsMerged position_of_part given all
-merged-by given all members sorted are placed same order copies =
-    let now : Placed → Answered = λ m. m.3.now in
-    let P : List Answered → Type 0 = λ all. IsMerged position_of_part given all in
-    let Q : List Answered → Type 0 = λ given. IsPermutation given (map now sorted) in
-    subst P (sym copies) (record {
-      same = subst Q are (IsPermutation-map now members sorted same);
-      sorted = sorted-map now key position_of_part sorted
-          (All-permutation (λ (m : Placed). key m ≡ position_of_part m.3.now) members sorted same placed) (sorted-from key sorted order);
-    })
 
 -- where no two have one position, they are in order
 pub merged-in-order : (given all : List Answered) → IsMerged position_of_part given all → AreApart position_of_part given → IsInOrder position_of_part all

@@ -37,13 +37,16 @@ topic_code a = 2 * a.topic + (if is_alone a then 0 else 1)
 abbrev pub part_bytes : PartAnswer → List ℕ
 part_bytes a = if is_alone a then [] else number_bytes a.part ++ number_bytes a.parts
 
--- an answer behind one to this file and line: its file and line, its topic, its part, how many
--- bytes the part has, and the text with its length in front
+-- an answer's topic, its part, how many bytes the part has, and the text with its length in front
+unfoldable pub body_bytes : PartAnswer → List ℕ
+body_bytes a =
+    number_bytes (topic_code a) ++ part_bytes a
+    ++ number_bytes a.bytes ++ number_bytes (length a.text) ++ a.text
+
+-- an answer behind one to this file and line: how far its own lie behind them, and the rest
 unfoldable pub answer_bytes : ℕ × ℕ → PartAnswer → List ℕ
 answer_bytes before a =
-    number_bytes (step before.0 a.file) ++ number_bytes (step before.1 a.line)
-    ++ number_bytes (topic_code a) ++ part_bytes a
-    ++ number_bytes a.bytes ++ number_bytes (length a.text) ++ a.text
+    number_bytes (step before.0 a.file) ++ number_bytes (step before.1 a.line) ++ body_bytes a
 
 -- answers one behind the other, of which the first comes behind one to this file and line
 abbrev pub answers_bytes : ℕ × ℕ → List PartAnswer → List ℕ
@@ -81,11 +84,17 @@ parts_from code bytes =
     option_and_then (λ parts. Some ((part.0, parts.0), parts.1)) (short_from part.1))
     (short_from bytes)
 
--- the answer whose bytes come first, behind one to this file and line, and the bytes behind it
-unfoldable pub answer_from : ℕ × ℕ → List ℕ → Option (PartAnswer × List ℕ)
-answer_from before bytes =
+-- the file and line whose steps from these come first, and the bytes behind them
+unfoldable pub place_from : ℕ × ℕ → List ℕ → Option ((ℕ × ℕ) × List ℕ)
+place_from before bytes =
     option_and_then (λ file.
     option_and_then (λ line.
+    Some ((stepped before.0 file.0, stepped before.1 line.0), line.1)) (short_from file.1))
+    (short_from bytes)
+
+-- the answer at this file and line whose other bytes come first, and the bytes behind it
+unfoldable pub body_from : ℕ × ℕ → List ℕ → Option (PartAnswer × List ℕ)
+body_from place bytes =
     option_and_then (λ code.
     option_and_then (λ parts.
     option_and_then (λ count.
@@ -94,8 +103,8 @@ answer_from before bytes =
     if nat_lt (length len.1) len.0 then None
     else Some (
       record {
-        file = stepped before.0 file.0;
-        line = stepped before.1 line.0;
+        file = place.0;
+        line = place.1;
         topic = code.0 / 2;
         part = parts.0.0;
         parts = parts.0.1;
@@ -105,5 +114,9 @@ answer_from before bytes =
       drop len.0 len.1,
     )
     else None)
-    (number_from count.1)) (number_from parts.1)) (parts_from code.0 code.1)) (number_from line.1))
-    (short_from file.1)) (short_from bytes)
+    (number_from count.1)) (number_from parts.1)) (parts_from code.0 code.1)) (number_from bytes)
+
+-- the answer whose bytes come first, behind one to this file and line, and the bytes behind it
+abbrev pub answer_from : ℕ × ℕ → List ℕ → Option (PartAnswer × List ℕ)
+answer_from before bytes =
+    option_and_then (λ place. body_from place.0 place.1) (place_from before bytes)

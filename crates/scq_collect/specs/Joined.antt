@@ -1,7 +1,6 @@
 -- What the answers to the parts of messages say of the messages: the parts of one are joined in
 -- order of their numbers, whoever answered them.
 use Rattle.std.specs.Prelude.{◌≡◌, ℕ, ◌==◌, List, [], ◌∷◌, length, map, flat_map, if◌then◌else◌}
-use denote.Ref.{Bor}
 use Rattle.std.specs.List.{All, Contains}
 use Rattle.scq_topics.specs.declared.kind.Kind.{Kind}
 use Rattle.scq_topics.specs.Reply.{reply_of}
@@ -65,10 +64,6 @@ pub record AreWhole (members : List Answered) : Type 0 where
       → a.line ≡ b.line → (a.topic ≡ b.topic) × (a.parts ≡ b.parts)
   pub each : (a : Answered) (part : ℕ) → Contains members a → IsNumbered part a.parts
       → (b : Answered) × Contains members b × (position_of_part b ≡ (a.file, a.line, part))
-
--- the answers of members, without the ways
-abbrev pub plain : List (Bor Answered) → List PartAnswer
-plain members = map (λ m. without_way m.now) members
 
 -- a message begins here, or nothing is left
 abbrev pub BeginsMessage : List PartAnswer → Type 0

@@ -8,3 +8,4 @@ pub mod Coding
 pub mod PartViews
 pub mod GivenAnswers
 pub mod InBlocks
+pub mod Spots

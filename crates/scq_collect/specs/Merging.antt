@@ -1,6 +1,5 @@
 -- Members of lists, merged in order of file, line and part.
-use Rattle.std.specs.Prelude.{◌≡◌, ◌≢◌, ◌⊎◌, ℕ, ◌<◌, List, length, flat_map, Vec}
-use Rattle.std.specs.Global.{Global}
+use Rattle.std.specs.Prelude.{◌≡◌, ◌≢◌, ◌⊎◌, ℕ, ◌<◌, List, length, flat_map}
 use Rattle.std.specs.List.{AllAdjacentBelow, AllPairs}
 use Rattle.std.specs.List.Sorted.{IsPermutation}
 use Rattle.scq_frames.specs.declared.message.Message.{Message}
@@ -26,8 +25,8 @@ abbrev pub AreApart : {A : Type 0} → (A → ℕ × ℕ × ℕ) → List A → 
 AreApart position members = AllPairs (λ x y. position x ≢ position y) members
 
 -- the members of all lists, one list behind the other
-abbrev pub members_in : List (Vec Answered Global) → List Answered
-members_in lists = flat_map (λ list. list.items) lists
+abbrev pub members_of : List (List Answered) → List Answered
+members_of lists = flat_map (λ list. list) lists
 
 -- the members of a list, in order of their positions
 pub record IsMerged {A : Type 0} (position : A → ℕ × ℕ × ℕ) (members merged : List A) : Type 0 where

@@ -1,8 +1,3 @@
-ghost use Rattle.std.specs.Prelude.{◌≡◌};
-ghost use Rattle.scq_collect.specs.Joined.{answer_of_one, without_way};
-ghost use Rattle.scq_collect.specs.Output.{answer_of_view};
-
-use crate::whole::AnswerView;
 use scq_topics::ReplyBytes;
 
 /// How a worker came to answer a part of a message.
@@ -29,19 +24,4 @@ pub struct Answered {
     pub bytes: u64,
     pub text: ReplyBytes,
     pub way: Way,
-}
-
-impl Answered {
-    /// The answer to the message, where this is its one part.
-    pub fn view(&self) -> AnswerView<'_>
-        ensures { answer_of_view result ≡ answer_of_one (without_way self.now) }
-    {
-        AnswerView {
-            file: self.file,
-            line: self.line,
-            topic: self.topic,
-            bytes: self.bytes,
-            reply: self.text.bytes(),
-        }
-    }
 }

@@ -4,6 +4,7 @@ ghost use Rattle.std.specs.Prelude.{◌≡◌, ◌++◌, ◌∷◌, [], OnOk, On
 use crate::blocks::make_room;
 use crate::coding::{MOST_HEAD, push_answer};
 use crate::log::{Given, Log};
+use crate::spots::{Spot, push_block, push_blocks};
 use scq_word::NoMemory;
 use std::alloc::Global;
 use std::marker::Model;
@@ -18,11 +19,12 @@ pub struct Answers {
     full: Vec<Vec<u8>>,
     block: Vec<u8>,
     before: (u32, u32),
+    count: usize,
     log: Log,
 }
 
 impl Model for Answers {
-    ghost use Rattle.std.specs.Prelude.{List, map};
+    ghost use Rattle.std.specs.Prelude.{◌≡◌, List, length, map};
     ghost use Rattle.scq_collect.specs.declared.answered.Answered.{Answered};
     ghost use Rattle.scq_collect.specs.InBlocks.{AreInBlocks, contents};
     ghost use Rattle.scq_collect.specs.Joined.{without_way};
@@ -32,11 +34,14 @@ impl Model for Answers {
     ghost view = { λ s. s.log.items };
 
     ghost invariant = { λ s. AreInBlocks (contents s.full.items) s.block.items s.before
-        (map without_way s.log.items) };
+        (map without_way s.log.items) × (s.count ≡ length s.log.items) };
 }
 
 impl Answers {
+    ghost use Rattle.std.specs.Prelude.{length, map};
     ghost use Rattle.scq_collect.specs.GivenAnswers.{answered};
+    ghost use Rattle.scq_collect.specs.Joined.{without_way};
+    ghost use Rattle.scq_collect.specs.Spots.{plain};
 
     /// No answers yet. It takes no memory.
     pub fn new(alloc: Global) -> Answers
@@ -47,6 +52,7 @@ impl Answers {
             full: Vec::new(alloc),
             block: Vec::new(alloc),
             before: (0, 0),
+            count: 0,
             log: Log::new(),
         }
     }
@@ -57,6 +63,7 @@ impl Answers {
         ensures kept { OnErr result (self.new ≡ self.old) }
     {
         let answer = given.answer;
+        let count = self.count.checked_add(1).ok_or(NoMemory)?;
         let bytes = answer.text.len().checked_add(MOST_HEAD).ok_or(NoMemory)?;
         let before = make_room(
             self.alloc,
@@ -67,7 +74,34 @@ impl Answers {
         )?;
         push_answer(&mut self.block, before, answer);
         self.before = (answer.file, answer.line);
+        self.count = count;
         self.log = self.log.and(&given);
+        Ok(())
+    }
+
+    /// How many answers there are.
+    pub fn len(&self) -> usize
+        ensures { result ≡ length self.now }
+    {
+        self.count
+    }
+
+    /// How many bytes they take.
+    pub fn bytes(&self) -> usize {
+        let mut bytes = self.block.len();
+        for block in &self.full {
+            bytes = bytes.saturating_add(block.len());
+        }
+        bytes
+    }
+
+    /// Adds where each answer lies, in their order.
+    pub fn push_spots<'a>(&'a self, spots: &mut Vec<Spot<'a>>) -> Result<(), NoMemory>
+        ensures { OnOk result (plain spots.new.items
+            ≡ plain spots.old.items ++ map without_way self.entry.now) }
+    {
+        push_blocks(self.full.as_slice(), spots)?;
+        push_block(self.block.as_slice(), spots)?;
         Ok(())
     }
 }

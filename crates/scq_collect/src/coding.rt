@@ -1,12 +1,14 @@
 //! Answers as bytes: numbers in as few as they need, and an answer behind another.
-ghost use Rattle.std.specs.Prelude.{◌≡◌, ℕ, List, Some, ◌+◌, ◌*◌, ◌≤◌, ◌==◌, ◌&&◌, ◌++◌, ◌∷◌, []};
-ghost use Rattle.std.specs.Prelude.{length, vec_capacity, if◌then◌else◌};
+ghost use Rattle.std.specs.Prelude.{◌≡◌, ◌+◌, ◌*◌, ◌<◌, ◌≤◌, ◌==◌, ◌&&◌, ◌++◌, ◌∷◌, []};
+ghost use Rattle.std.specs.Prelude.{length, vec_capacity, if◌then◌else◌, IfSome};
 ghost use Rattle.std.specs.Option.{option_map};
-ghost use Rattle.scq_collect.specs.Coding.{IsCodable, answer_bytes, answer_from, number_bytes};
-ghost use Rattle.scq_collect.specs.Coding.{number_from, parts_from, short_from};
-ghost use Rattle.scq_collect.specs.Joined.{PartAnswer};
+ghost use Rattle.scq_collect.specs.Coding.{IsCodable, answer_bytes, body_from, number_bytes};
+ghost use Rattle.scq_collect.specs.Coding.{number_from, parts_from, place_from, short_from};
+ghost use Rattle.scq_collect.specs.Joined.{answer_of_one};
+ghost use Rattle.scq_collect.specs.Output.{answer_of_view};
 ghost use Rattle.scq_collect.specs.PartViews.{part_of_view};
 
+use crate::whole::AnswerView;
 use byteorder::{BigEndian, ByteOrder};
 
 /// The most bytes of an answer beside its text.
@@ -22,6 +24,21 @@ pub struct PartView<'a> {
     pub parts: u32,
     pub bytes: u64,
     pub text: &'a [u8],
+}
+
+impl<'a> PartView<'a> {
+    /// The answer to the message, where this is its one part.
+    pub fn whole(&self) -> AnswerView<'a>
+        ensures { answer_of_view result ≡ answer_of_one (part_of_view self.entry.now) }
+    {
+        AnswerView {
+            file: self.file,
+            line: self.line,
+            topic: self.topic,
+            bytes: self.bytes,
+            reply: self.text,
+        }
+    }
 }
 
 /// Adds the bytes of an answer that comes behind one to this file and line, where there is room.
@@ -110,27 +127,27 @@ fn push_bytes(block: &mut Vec<u8>, bytes: &[u8])
     block.extend_from_slice(bytes).unwrap();
 }
 
-/// The answer whose bytes come first, behind one to this file and line, and the bytes behind it.
-/// What `push_answer` wrote is what is read.
-pub fn read_answer(before: (u32, u32), bytes: &[u8]) -> Option<(PartView<'_>, &[u8])>
-    ensures read { option_map (λ found. (part_of_view found.0, found.1.now)) result
-        ≡ answer_from before bytes.now }
-    ensures again { (answer : PartAnswer) (rest : List ℕ) → IsCodable answer
-        → bytes.now ≡ answer_bytes before answer ++ rest
-        → option_map {U = PartAnswer × List ℕ} (λ found. (part_of_view found.0, found.1.now)) result
-        ≡ Some (answer, rest) }
-{
-    answer_at(before, bytes)
-}
-
-#[tactic(auto, unfolding(crate::specs::Coding::answer_from))]
-fn answer_at(before: (u32, u32), bytes: &[u8]) -> Option<(PartView<'_>, &[u8])>
-    ensures { option_map (λ found. (part_of_view found.0, found.1.now)) result
-        ≡ answer_from before bytes.now }
+/// The file and line whose steps from these come first, and the bytes behind them.
+#[tactic(auto, unfolding(crate::specs::Coding::place_from))]
+pub fn read_place(before: (u32, u32), bytes: &[u8]) -> Option<((u32, u32), &[u8])>
+    ensures read { option_map (λ found. (found.0, found.1.now)) result
+        ≡ place_from before bytes.now }
+    ensures shorter { IfSome result (λ found. length found.1.now < length bytes.now) }
 {
     let (file, rest) = read_short(bytes)?;
     let (line, rest) = read_short(rest)?;
-    let (code, rest) = read_number(rest)?;
+    let place = (before.0.wrapping_add(file), before.1.wrapping_add(line));
+    Some((place, rest))
+}
+
+/// The answer at this file and line whose other bytes come first, and the bytes behind it.
+#[tactic(auto, unfolding(crate::specs::Coding::body_from))]
+pub fn read_body(place: (u32, u32), bytes: &[u8]) -> Option<(PartView<'_>, &[u8])>
+    ensures read { option_map (λ found. (part_of_view found.0, found.1.now)) result
+        ≡ body_from place bytes.now }
+    ensures shorter { IfSome result (λ found. length found.1.now ≤ length bytes.now) }
+{
+    let (code, rest) = read_number(bytes)?;
     let ((part, parts), rest) = read_parts(code, rest)?;
     let (count, rest) = read_number(rest)?;
     let (len, rest) = read_number(rest)?;
@@ -140,8 +157,8 @@ fn answer_at(before: (u32, u32), bytes: &[u8]) -> Option<(PartView<'_>, &[u8])>
     }
     let (text, rest) = rest.split_at(len as usize);
     let answer = PartView {
-        file: before.0.wrapping_add(file),
-        line: before.1.wrapping_add(line),
+        file: place.0,
+        line: place.1,
         topic,
         part,
         parts,
@@ -155,7 +172,8 @@ fn answer_at(before: (u32, u32), bytes: &[u8]) -> Option<(PartView<'_>, &[u8])>
 /// it is alone.
 #[tactic(auto, unfolding(crate::specs::Coding::parts_from))]
 fn read_parts(code: u64, bytes: &[u8]) -> Option<((u32, u32), &[u8])>
-    ensures { option_map (λ found. (found.0, found.1.now)) result ≡ parts_from code bytes.now }
+    ensures read { option_map (λ found. (found.0, found.1.now)) result ≡ parts_from code bytes.now }
+    ensures shorter { IfSome result (λ found. length found.1.now ≤ length bytes.now) }
 {
     if code % 2 == 0 {
         return Some(((1, 1), bytes));
@@ -168,7 +186,8 @@ fn read_parts(code: u64, bytes: &[u8]) -> Option<((u32, u32), &[u8])>
 /// The number of 32 bits whose bytes come first, and the bytes behind it.
 #[tactic(auto, unfolding(crate::specs::Coding::short_from))]
 fn read_short(bytes: &[u8]) -> Option<(u32, &[u8])>
-    ensures { option_map (λ found. (found.0, found.1.now)) result ≡ short_from bytes.now }
+    ensures read { option_map (λ found. (found.0, found.1.now)) result ≡ short_from bytes.now }
+    ensures shorter { IfSome result (λ found. length found.1.now < length bytes.now) }
 {
     let (number, rest) = read_number(bytes)?;
     if number >= 1 << 32 {
@@ -180,7 +199,8 @@ fn read_short(bytes: &[u8]) -> Option<(u32, &[u8])>
 /// The number whose bytes come first, and the bytes behind it.
 #[tactic(auto, unfolding(crate::specs::Coding::number_from))]
 fn read_number(bytes: &[u8]) -> Option<(u64, &[u8])>
-    ensures { option_map (λ found. (found.0, found.1.now)) result ≡ number_from bytes.now }
+    ensures read { option_map (λ found. (found.0, found.1.now)) result ≡ number_from bytes.now }
+    ensures shorter { IfSome result (λ found. length found.1.now < length bytes.now) }
 {
     let (first, rest) = bytes.split_first()?;
     if *first < 253 {

@@ -3,26 +3,28 @@ ghost use Rattle.std.specs.Prelude.{◌≡◌, ◌<◌, ◌≤◌, length, IfOk,
 ghost use Rattle.std.specs.List.{All};
 ghost use Rattle.scq_topics.specs.Reply.{reply_of};
 ghost use Rattle.scq_topics.specs.Topics.{kind_of};
-ghost use Rattle.scq_collect.specs.Joined.{joined, plain, text_of_parts};
+ghost use Rattle.scq_collect.specs.Joined.{joined, text_of_parts};
 ghost use Rattle.scq_collect.specs.Output.{answer_of_whole};
+ghost use Rattle.scq_collect.specs.Spots.{plain, spot_answer};
 
-use crate::{Answered, Whole};
+use crate::Whole;
+use crate::spots::{Spot, read_spot};
 use itoa::Buffer;
 use scq_topics::{Kind, ReplyBytes, Topics, reply};
 use scq_word::NoMemory;
 use std::alloc::Global;
 
 /// The answer to the message of these parts.
-pub fn whole_of(alloc: Global, topics: &Topics, parts: &[&Answered]) -> Result<Whole, NoMemory>
+pub fn whole_of(alloc: Global, topics: &Topics, parts: &[Spot<'_>]) -> Result<Whole, NoMemory>
     requires some { 0 < length parts.now }
-    requires known { All (λ m. m.now.topic ≤ length topics.now) parts.now }
+    requires known { All (λ s. (spot_answer s).topic ≤ length topics.now) parts.now }
     ensures whole { IfOk result (λ whole.
         answer_of_whole whole ≡ joined topics.now (plain parts.now)) }
     ensures known { IfOk result (λ whole. whole.topic ≤ length topics.now) }
 {
-    let first = parts[0];
+    let first = read_spot(&parts[0]);
     let (bytes, reply) = if parts.len() == 1 {
-        (first.bytes, ReplyBytes::copy_of(alloc, first.text.bytes())?)
+        (first.bytes, ReplyBytes::copy_of(alloc, first.text)?)
     } else {
         reply_to(alloc, topics, first.topic, parts)?
     };
@@ -41,7 +43,7 @@ fn reply_to(
     alloc: Global,
     topics: &Topics,
     topic: u32,
-    parts: &[&Answered],
+    parts: &[Spot<'_>],
 ) -> Result<(u64, ReplyBytes), NoMemory>
     requires known { topic ≤ length topics.now }
     ensures bytes { IfOk result (λ r. r.0 ≡ length (text_of_parts (plain parts.now))) }
@@ -59,23 +61,23 @@ fn reply_to(
 }
 
 /// The texts of parts, one behind the other: so many bytes.
-fn joined_text(alloc: Global, parts: &[&Answered], len: usize) -> Result<Vec<u8>, NoMemory>
+fn joined_text(alloc: Global, parts: &[Spot<'_>], len: usize) -> Result<Vec<u8>, NoMemory>
     ensures { IfOk result (λ text. text.items ≡ text_of_parts (plain parts.now)) }
 {
     let mut text = Vec::with_capacity(alloc, len)?;
     'parts: for part in parts {
-        text.extend_from_slice(part.text.bytes())?;
+        text.extend_from_slice(read_spot(part).text)?;
     }
     Ok(text)
 }
 
 /// How many bytes the texts of parts have together.
-fn joined_len(parts: &[&Answered]) -> Option<usize>
+fn joined_len(parts: &[Spot<'_>]) -> Option<usize>
     ensures { IfSome result (λ len. len ≡ length (text_of_parts (plain parts.now))) }
 {
     let mut len: usize = 0;
     'parts: for part in parts {
-        len = len.checked_add(part.text.bytes().len())?;
+        len = len.checked_add(read_spot(part).text.len())?;
     }
     Some(len)
 }

@@ -18,6 +18,7 @@ mod merging;
 mod messages;
 mod ordering;
 mod pieces;
+mod spots;
 mod text;
 mod totals;
 mod whole;

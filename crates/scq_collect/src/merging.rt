@@ -3,61 +3,59 @@ ghost use Rattle.std.specs.List.{All};
 ghost use Rattle.std.specs.List.Sorted.{IsPermutation};
 ghost use Rattle.scq_collect.specs.declared.answered.Answered.{Answered as TheAnswered};
 ghost use Rattle.scq_collect.specs.Collected.{messages_to};
-ghost use Rattle.scq_collect.specs.Joined.{AreWhole, IsJoined, answers_of, part_answers, plain};
+ghost use Rattle.scq_collect.specs.Joined.{AreWhole, IsJoined, answers_of, part_answers};
 ghost use Rattle.scq_collect.specs.Joined.{without_way};
-ghost use Rattle.scq_collect.specs.Merging.{IsInOrder, members_in, position_of_answer};
+ghost use Rattle.scq_collect.specs.Merging.{IsInOrder, members_of, position_of_answer};
 ghost use Rattle.scq_collect.specs.Merging.{position_of_part};
 ghost use Rattle.scq_collect.specs.Output.{answer_of_whole, answers_to};
+ghost use Rattle.scq_collect.specs.Spots.{plain, spot_answer};
 
 use crate::joining::whole_of;
 use crate::messages::message_end;
-use crate::ordering::ordered;
-use crate::{Answered, Whole};
+use crate::ordering::spots_in_order;
+use crate::spots::Spot;
+use crate::{Answers, Whole};
 use scq_topics::Topics;
 use scq_word::NoMemory;
 use std::alloc::Global;
 
 /// The answers to the messages whose parts stand in the lists, in order of file and line. The
 /// members of a list may stand in any order.
-pub fn merge(
-    alloc: Global,
-    topics: &Topics,
-    lists: &[Vec<Answered>],
-) -> Result<Vec<Whole>, NoMemory>
-    requires { All (λ a. a.topic ≤ length topics.now) (members_in lists.now) }
+pub fn merge(alloc: Global, topics: &Topics, lists: &[Answers]) -> Result<Vec<Whole>, NoMemory>
+    requires { All (λ a. a.topic ≤ length topics.now) (members_of lists.now) }
     ensures joined { IfOk result (λ wholes.
-        IsJoined topics.now (members_in lists.now) (map answer_of_whole wholes.items)) }
+        IsJoined topics.now (members_of lists.now) (map answer_of_whole wholes.items)) }
 
     // Where all parts of each message are there, each message stands once.
-    ensures in_order { AreWhole (members_in lists.now)
+    ensures in_order { AreWhole (members_of lists.now)
         → IfOk result (λ wholes. IsInOrder position_of_answer (map answer_of_whole wholes.items)) }
 
     // However the members are divided into lists, what is made of them is the same.
     ensures exact { (given : List TheAnswered) → IsInOrder position_of_part given
-        → IsPermutation (members_in lists.now) given
+        → IsPermutation (members_of lists.now) given
         → IfOk result (λ wholes.
         map answer_of_whole wholes.items ≡ answers_of topics.now (map without_way given)) }
     ensures one_thread { (size : ℕ) (contents : List (List ℕ)) → 0 < size
-        → IsPermutation (map without_way (members_in lists.now))
+        → IsPermutation (map without_way (members_of lists.now))
         (part_answers topics.now size (messages_to topics.now 1 contents))
         → IfOk result (λ wholes.
         map answer_of_whole wholes.items ≡ answers_to topics.now 1 contents) }
 {
-    let members = ordered(alloc, lists)?;
-    wholes_of(alloc, topics, members.as_slice())
+    let spots = spots_in_order(alloc, lists)?;
+    wholes_of(alloc, topics, spots.as_slice())
 }
 
 /// The answers to the messages of parts that stand in order.
-fn wholes_of(alloc: Global, topics: &Topics, members: &[&Answered]) -> Result<Vec<Whole>, NoMemory>
-    requires { All (λ m. m.now.topic ≤ length topics.now) members.now }
+fn wholes_of(alloc: Global, topics: &Topics, spots: &[Spot<'_>]) -> Result<Vec<Whole>, NoMemory>
+    requires { All (λ s. (spot_answer s).topic ≤ length topics.now) spots.now }
     ensures { IfOk result (λ wholes.
-        map answer_of_whole wholes.items ≡ answers_of topics.now (plain members.now)) }
+        map answer_of_whole wholes.items ≡ answers_of topics.now (plain spots.now)) }
 {
     let mut wholes = Vec::new(alloc);
     let mut at = 0;
-    'messages: while at < members.len() {
-        let end = message_end(members, at);
-        wholes.push(whole_of(alloc, topics, &members[at..end])?)?;
+    'messages: while at < spots.len() {
+        let end = message_end(spots, at);
+        wholes.push(whole_of(alloc, topics, &spots[at..end])?)?;
         at = end;
     }
     Ok(wholes)

@@ -6,16 +6,18 @@ ghost use Rattle.std.specs.List.{All};
 ghost use Rattle.std.specs.List.Sorted.{IsPermutation};
 ghost use Rattle.scq_collect.specs.Collected.{messages_to};
 ghost use Rattle.scq_collect.specs.Joined.{IsJoined, answers_of, messages_in_order, part_answers};
-ghost use Rattle.scq_collect.specs.Joined.{plain, without_way};
-ghost use Rattle.scq_collect.specs.Merging.{members_in};
+ghost use Rattle.scq_collect.specs.Joined.{without_way};
+ghost use Rattle.scq_collect.specs.Merging.{members_of};
 ghost use Rattle.scq_collect.specs.Output.{Answer, answer_of_view, one_thread_output};
 ghost use Rattle.scq_collect.specs.Output.{text_of_answers};
 ghost use Rattle.scq_collect.specs.Pieces.{ArePiecesOf, IsPieceOf, all_answers, bytes_of};
+ghost use Rattle.scq_collect.specs.Spots.{plain, spot_answer};
 
-use crate::Answered;
+use crate::Answers;
 use crate::joining::whole_of;
 use crate::messages::{message_end, piece_end};
-use crate::ordering::ordered;
+use crate::ordering::spots_in_order;
+use crate::spots::{Spot, read_spot};
 use crate::text::{push_all_totals, push_line};
 use crate::totals::Totals;
 use crate::whole::AnswerView;
@@ -70,25 +72,26 @@ pub fn output_in_pieces<R: Threads + Sync>(
     rt: &R,
     alloc: Global,
     topics: &Topics,
-    lists: &[Vec<Answered>],
+    lists: &[Answers],
     threads: u32,
 ) -> Result<Text, NoMemory>
-    requires { All (λ a. a.topic ≤ length topics.now) (members_in lists.now) }
+    requires { All (λ a. a.topic ≤ length topics.now) (members_of lists.now) }
     ensures text { IfOk result (λ text.
-        (answers : List Answer) × IsJoined topics.now (members_in lists.now) answers
+        (answers : List Answer) × IsJoined topics.now (members_of lists.now) answers
         × (text ≡ text_of_answers topics.now answers)) }
 
     // However the answers to all parts of the messages of files are divided into lists, the pieces
     // are the output of one thread.
     ensures one_thread { (size : ℕ) (contents : List (List ℕ)) → 0 < size
-        → IsPermutation (map without_way (members_in lists.now))
+        → IsPermutation (map without_way (members_of lists.now))
         (part_answers topics.now size (messages_to topics.now 1 contents))
         → IfOk result (λ text. text ≡ one_thread_output topics.now contents) }
 {
     let numbers = topics.len() + 1;
-    let all = ordered(alloc, lists)?;
-    let members = all.as_slice();
-    let cuts = cuts_of(alloc, members, size_of_piece(members, threads))?;
+    let spots = spots_in_order(alloc, lists)?;
+    let all = spots.as_slice();
+    let size = size_of_piece(all.len(), bytes_in(lists), threads);
+    let cuts = cuts_of(alloc, all, size)?;
     let pieces = pieces_of(rt, alloc, topics, cuts.as_slice())?;
     let pieces = joined(alloc, topics, numbers, pieces)?;
     Ok(Text { pieces })
@@ -96,32 +99,32 @@ pub fn output_in_pieces<R: Threads + Sync>(
 
 /// How many parts a piece has at least, where there are to be at most as many pieces as threads,
 /// and each is to have parts enough, or about bytes enough.
-fn size_of_piece(all: &[&Answered], threads: u32) -> usize
+fn size_of_piece(parts: usize, bytes: usize, threads: u32) -> usize
     ensures { 0 < result }
 {
-    let even = all.len().div_ceil((threads as usize).max(1));
+    let even = parts.div_ceil((threads as usize).max(1));
     if even >= PARTS {
         return even;
     }
-    let mean = bytes_in(all) / all.len().max(1);
+    let mean = bytes / parts.max(1);
     even.max((BYTES / mean.max(1)).clamp(1, PARTS))
 }
 
-/// How many bytes the texts of members have together.
-fn bytes_in(members: &[&Answered]) -> usize {
+/// How many bytes the answers of lists take.
+fn bytes_in(lists: &[Answers]) -> usize {
     let mut bytes: usize = 0;
-    for member in members {
-        bytes = bytes.saturating_add(member.text.bytes().len());
+    for list in lists {
+        bytes = bytes.saturating_add(list.bytes());
     }
     bytes
 }
 
-/// Members in order, cut into pieces of about this size, where no message is cut.
-fn cuts_of<'m, 'a>(
+/// Spots in order, cut into pieces of about this size, where no message is cut.
+fn cuts_of<'s, 'a>(
     alloc: Global,
-    all: &'m [&'a Answered],
+    all: &'s [Spot<'a>],
     size: usize,
-) -> Result<Vec<&'m [&'a Answered]>, NoMemory>
+) -> Result<Vec<&'s [Spot<'a>]>, NoMemory>
     requires { 0 < size }
     ensures all { IfOk result (λ cuts. flat_map (λ cut. cut.now) cuts.items ≡ all.now) }
     ensures messages { IfOk result (λ cuts.
@@ -143,10 +146,10 @@ fn pieces_of<R: Threads + Sync>(
     rt: &R,
     alloc: Global,
     topics: &Topics,
-    cuts: &[&[&Answered]],
+    cuts: &[&[Spot<'_>]],
 ) -> Result<Vec<Result<Piece, NoMemory>>, NoMemory>
     requires topics { length topics.now ≤ 16 }
-    requires known { All (λ cut. All (λ m. m.now.topic ≤ length topics.now) cut.now) cuts.now }
+    requires known { All (λ cut. All (λ s. (spot_answer s).topic ≤ length topics.now) cut.now) cuts.now }
     requires few { length
         (all_answers (map (λ cut. answers_of topics.now (plain cut.now)) cuts.now)) < 2 ^ 64 }
     ensures { IfOk result (λ pieces.
@@ -155,7 +158,7 @@ fn pieces_of<R: Threads + Sync>(
 {
     let piece = |n: usize| -> Result<Piece, NoMemory>
         requires { (n < length cuts.now) × (length topics.now ≤ 16)
-            × All (λ cut. All (λ m. m.now.topic ≤ length topics.now) cut.now) cuts.now }
+            × All (λ cut. All (λ s. (spot_answer s).topic ≤ length topics.now) cut.now) cuts.now }
         ensures { (d : _)
             → IfOk result (λ p.
             IsPieceOf topics.entry.now
@@ -166,20 +169,20 @@ fn pieces_of<R: Threads + Sync>(
 }
 
 /// The lines for the messages of these parts, and their totals.
-fn piece_of(alloc: Global, topics: &Topics, members: &[&Answered]) -> Result<Piece, NoMemory>
+fn piece_of(alloc: Global, topics: &Topics, spots: &[Spot<'_>]) -> Result<Piece, NoMemory>
     requires few { length topics.now ≤ 16 }
-    requires known { All (λ m. m.now.topic ≤ length topics.now) members.now }
+    requires known { All (λ s. (spot_answer s).topic ≤ length topics.now) spots.now }
     ensures { IfOk result (λ p.
-        IsPieceOf topics.now (answers_of topics.now (plain members.now)) p) }
+        IsPieceOf topics.now (answers_of topics.now (plain spots.now)) p) }
 {
     let mut piece = Piece {
         text: Vec::new(alloc),
         totals: Totals::none(),
     };
     let mut at = 0;
-    'messages: while at < members.len() {
-        let end = message_end(members, at);
-        piece.push_message(alloc, topics, &members[at..end])?;
+    'messages: while at < spots.len() {
+        let end = message_end(spots, at);
+        piece.push_message(alloc, topics, &spots[at..end])?;
         at = end;
     }
     Ok(piece)
@@ -194,11 +197,11 @@ impl Piece {
         &mut self,
         alloc: Global,
         topics: &Topics,
-        parts: &[&Answered],
+        parts: &[Spot<'_>],
     ) -> Result<(), NoMemory>
         requires some { 0 < length parts.now }
         requires few { length topics.now ≤ 16 }
-        requires known { All (λ m. m.now.topic ≤ length topics.now) parts.now }
+        requires known { All (λ s. (spot_answer s).topic ≤ length topics.now) parts.now }
         requires room { (answers : List Answer) × IsPieceOf topics.now answers self.old
             × (length answers + 1 < 2 ^ 64) }
         ensures { (answers : List Answer) → IsPieceOf topics.now answers self.old
@@ -206,7 +209,7 @@ impl Piece {
             ∷ []) self.new) }
     {
         if parts.len() == 1 {
-            return self.push(topics, &parts[0].view());
+            return self.push(topics, &read_spot(&parts[0]).whole());
         }
         let whole = whole_of(alloc, topics, parts)?;
         self.push(topics, &whole.view())

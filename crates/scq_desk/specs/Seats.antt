@@ -1,13 +1,13 @@
--- Workers before they begin. A worker's pass and its list are as its kind tells them.
-use Rattle.std.specs.Prelude.{◌≡◌, [], None, Vec}
-use Rattle.std.specs.Global.{Global}
+-- Workers before they begin. A worker's pass, and whether its list is empty, are as its kind tells
+-- them.
+use Rattle.std.specs.Prelude.{◌≡◌, None}
 use Rattle.scq_band.specs.Standing.{Identity}
 use Rattle.scq_queue.specs.Passes.{PassStanding, first_pass}
 use Rattle.scq_desk.specs.declared.seat.Seat.{Seat}
 
 -- a worker that is to begin: it has a new pass, an empty list, and keeps no value
-pub record IsFresh {W B M : Type 0} (pass_of : W → PassStanding B) (list_of : W
-    → Vec M Global) (shared : Identity B) (s : Seat W B) : Type 0 where
+pub record IsFresh {W B : Type 0} (pass_of : W → PassStanding B) (has_none : W → Type 0)
+    (shared : Identity B) (s : Seat W B) : Type 0 where
   pub pass : pass_of s.worker ≡ first_pass shared (pass_of s.worker).number
-  pub members : (list_of s.worker).items ≡ []
+  pub members : has_none s.worker
   pub kept : s.kept ≡ None

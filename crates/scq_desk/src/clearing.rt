@@ -15,14 +15,14 @@ use std::alloc::Global;
 
 /// What workers leave behind, in the order of their numbers: their passes, the values that they
 /// kept, their lists, and whether any wanted memory.
-pub struct LeftBehind<M> {
+pub struct LeftBehind<L> {
     pub passes: Vec<Pass<Frame>>,
     pub held: Vec<Held<Frame>>,
-    pub lists: Vec<Vec<M>>,
+    pub lists: Vec<L>,
     pub starved: bool,
 }
 
-impl<M: Drop> LeftBehind<M> {
+impl<L: Drop> LeftBehind<L> {
     ghost use Rattle.std.specs.Prelude.{◌≡◌, ◌+◌, ◌<◌, ◌≤◌, ◌++◌, ◌∷◌, [], false, vec_len};
     ghost use Rattle.std.specs.Prelude.{vec_capacity};
     ghost use Rattle.std.specs.Option.{option_to_list};
@@ -41,7 +41,7 @@ impl<M: Drop> LeftBehind<M> {
     }
 
     /// Takes in what is on a desk, behind the others.
-    fn take_in<W: Sits<Pass<Frame>, M>, S: Source>(&mut self, desk: Desk<Seat<W, Frame>, S>)
+    fn take_in<W: Sits<Pass<Frame>, L>, S: Source>(&mut self, desk: Desk<Seat<W, Frame>, S>)
         requires passes { vec_len self.old.passes < vec_capacity self.old.passes }
         requires held { vec_len self.old.held < vec_capacity self.old.held }
         requires lists { vec_len self.old.lists < vec_capacity self.old.lists }
@@ -73,7 +73,7 @@ impl<M: Drop> LeftBehind<M> {
 }
 
 /// Room for what so many workers leave behind.
-pub(crate) fn make_left<M: Drop>(alloc: Global, workers: usize) -> Result<LeftBehind<M>, NoMemory>
+pub(crate) fn make_left<L: Drop>(alloc: Global, workers: usize) -> Result<LeftBehind<L>, NoMemory>
     ensures { IfOk result (IsClean workers) }
 {
     let passes = Vec::with_capacity(alloc, workers)?;
@@ -88,9 +88,9 @@ pub(crate) fn make_left<M: Drop>(alloc: Global, workers: usize) -> Result<LeftBe
 }
 
 /// Takes the desks apart. What the workers leave behind is put into empty lists with room.
-pub(crate) fn clear<M: Drop, W: Sits<Pass<Frame>, M>, S: Source>(
+pub(crate) fn clear<L: Drop, W: Sits<Pass<Frame>, L>, S: Source>(
     mut desks: Vec<Desk<Seat<W, Frame>, S>>,
-    left: &mut LeftBehind<M>,
+    left: &mut LeftBehind<L>,
 )
     requires clean { IsClean (vec_len desks) left.old }
     ensures passes { left.new.passes.items ≡ map (λ d. W.pass_of d.worker.worker) desks.items }

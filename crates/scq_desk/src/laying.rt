@@ -21,13 +21,13 @@ use std::snapshot::Snapshot;
 
 /// What the work needs room for, beside its queue: the lists of each worker's files, the desks, and
 /// what the workers leave behind.
-pub struct Room<M, W, S: Source> {
+pub struct Room<L, W, S: Source> {
     pub files: Vec<Vec<OwnFile<S>>>,
     pub desks: Vec<Desk<Seat<W, Frame>, S>>,
-    pub left: LeftBehind<M>,
+    pub left: LeftBehind<L>,
 }
 
-impl<M: Drop, W, S: Source> Room<M, W, S> {
+impl<L: Drop, W, S: Source> Room<L, W, S> {
     ghost use Rattle.std.specs.Prelude.{◌≡◌, []};
 
     /// Lets go of the lists and desks, of which there are none yet.
@@ -45,11 +45,11 @@ impl<M: Drop, W, S: Source> Room<M, W, S> {
 }
 
 /// Room for so many workers, each of which may have so many files.
-pub fn make_room<M: Drop, W, S: Source>(
+pub fn make_room<L: Drop, W, S: Source>(
     alloc: Global,
     workers: u32,
     files: usize,
-) -> Result<Room<M, W, S>, NoMemory>
+) -> Result<Room<L, W, S>, NoMemory>
     ensures { IfOk result (IsRoomFor workers files) }
 {
     let lists = make_lists(alloc, workers, files)?;
@@ -67,22 +67,22 @@ pub fn make_room<M: Drop, W, S: Source>(
 
 /// What waits on the work of all workers: what the sources were, their list, now empty, how many
 /// there are, and room for what the workers leave behind.
-pub struct LaidOut<M, S: Source> {
+pub struct LaidOut<L, S: Source> {
     pub was: Snapshot<Vec<S>>,
     pub sources: Vec<S>,
     pub count: usize,
-    pub left: LeftBehind<M>,
+    pub left: LeftBehind<L>,
 }
 
 /// Makes the desks of the workers, and deals the files to them.
-pub fn lay_out<M: Drop, W: Sits<Pass<Frame>, M>, S: Source>(
+pub fn lay_out<L: Drop, W: Sits<Pass<Frame>, L>, S: Source>(
     alloc: Global,
     workers: u32,
     queue: &Queue<Frame>,
     passes: Vec<Pass<Frame>>,
     sources: Vec<S>,
-    room: Room<M, W, S>,
-) -> (LaidOut<M, S>, Vec<Desk<Seat<W, Frame>, S>>)
+    room: Room<L, W, S>,
+) -> (LaidOut<L, S>, Vec<Desk<Seat<W, Frame>, S>>)
     requires few { vec_len sources ≤ 64 }
     requires some { 0 < workers }
     requires seats { queue.now.setup.seats ≡ workers }
@@ -91,7 +91,7 @@ pub fn lay_out<M: Drop, W: Sits<Pass<Frame>, M>, S: Source>(
     ensures was { result.0.was.value ≡ sources }
     ensures laid { IsLaid workers result.0 }
     ensures count { length result.1.items ≡ workers }
-    ensures fresh { All (λ d. IsFresh W.pass_of W.list_of queue.now d.worker) result.1.items }
+    ensures fresh { All (λ d. IsFresh W.pass_of W.has_none queue.now d.worker) result.1.items }
     ensures unread { All (λ d. All IsNew d.files.items) result.1.items }
     ensures dealt { AreDealt 1 result.0.was.value.items result.1.items }
     ensures numbers { (w : ℕ) (d : _) → w < length result.1.items

@@ -14,7 +14,7 @@ use std::alloc::Global;
 
 /// A desk for each of the new passes of a queue, in their order, with one of the lists for files.
 /// They are put into an empty list with room.
-pub fn make_desks<M, W: Sits<Pass<Frame>, M>, S: Source>(
+pub fn make_desks<L, W: Sits<Pass<Frame>, L>, S: Source>(
     alloc: Global,
     queue: &Queue<Frame>,
     mut passes: Vec<Pass<Frame>>,
@@ -29,7 +29,7 @@ pub fn make_desks<M, W: Sits<Pass<Frame>, M>, S: Source>(
     requires empty { All (λ list.
         (list.items ≡ []) × (vec_len list ≡ 0) × (files ≤ vec_capacity list)) lists.items }
     ensures count { length desks.new.items ≡ queue.now.setup.seats }
-    ensures fresh { All (λ d. IsFresh W.pass_of W.list_of queue.now d.worker) desks.new.items }
+    ensures fresh { All (λ d. IsFresh W.pass_of W.has_none queue.now d.worker) desks.new.items }
     ensures passes { map (λ d. W.pass_of d.worker.worker) desks.new.items
         ≡ first_passes queue.now queue.now.setup.seats }
     ensures empty { All (λ d. (d.files.items ≡ []) × (vec_len d.files ≡ 0)

@@ -1,6 +1,5 @@
 //! A worker's seat.
-ghost use Rattle.std.specs.Prelude.{◌≡◌, Bool, None, Vec as VecOf};
-ghost use Rattle.std.specs.Global.{Global as TheHeap};
+ghost use Rattle.std.specs.Prelude.{◌≡◌, Bool, None};
 
 use scq_passes::AtLimit;
 use scq_queue::Held;
@@ -9,23 +8,25 @@ use std::alloc::Global;
 use std::mem;
 
 /// What is known of a worker that sits at a desk: the pass by which it makes its calls (of the type
-/// `P`), its list, and whether it wanted memory.
-pub trait Sits<P, M> {
-    ghost use Rattle.std.specs.Prelude.{◌≡◌, []};
+/// `P`), its list (of the type `L`), whether that is empty, and whether it wanted memory.
+pub trait Sits<P, L> {
+    ghost use Rattle.std.specs.Prelude.{◌≡◌};
 
     ghost pass_of: { Self → P };
 
-    ghost list_of: { Self → VecOf M TheHeap };
+    ghost list_of: { Self → L };
+
+    ghost has_none: { Self → Type 0 };
 
     ghost starved_of: { Self → Bool };
 
     /// The worker of this number, which is to begin.
     fn begin(alloc: Global, number: u32, pass: P) -> Self
         ensures pass { pass_of result ≡ pass }
-        ensures list { (list_of result).items ≡ [] };
+        ensures list { has_none result };
 
     /// Its pass, its list, and whether it wanted memory.
-    fn come_apart(self) -> (P, Vec<M>, bool)
+    fn come_apart(self) -> (P, L, bool)
         ensures pass { result.0 ≡ pass_of self }
         ensures list { result.1 ≡ list_of self }
         ensures starved { result.2 ≡ starved_of self };

@@ -29,11 +29,11 @@ use std::snapshot::Snapshot;
 /// contracts alone the passes as they were when the queue was closed, twice, and the frames that
 /// came back, in their order.
 #[derive(Drop)]
-pub struct WoundUp<M: Drop, S> {
+pub struct WoundUp<L: Drop, S> {
     pub sources: Vec<S>,
     pub fault: Option<(u32, FrameFault)>,
     pub starved: bool,
-    pub lists: Vec<Vec<M>>,
+    pub lists: Vec<L>,
     pub counts: Vec<Counts>,
     pub left: Vec<u64>,
     pub saw: Vec<bool>,
@@ -51,12 +51,12 @@ fn any_wanted(workers: bool, files: bool) -> bool
 
 /// Ends the work of all workers once each has done its own: the files are gathered, the queue is
 /// closed and its block merged, in every answer.
-pub fn wind_up_desks<M: Drop, W: Sits<Pass<Frame>, M>, S: Source>(
-    laid: LaidOut<M, S>,
+pub fn wind_up_desks<L: Drop, W: Sits<Pass<Frame>, L>, S: Source>(
+    laid: LaidOut<L, S>,
     block: Block,
     queue: Queue<Frame>,
     desks: Vec<Desk<Seat<W, Frame>, S>>,
-) -> WoundUp<M, S>
+) -> WoundUp<L, S>
     requires laid { IsLaid (length desks.items) laid }
     requires seats { (0 < length desks.items) × (queue.setup.seats ≡ length desks.items) }
     requires all { AreAllOf block queue.given }

@@ -26,7 +26,7 @@ module _ {B : Type 0} where
 
 module _ {B S : Type 0} (shared : Identity B) (job : Job) (faults end_count : S → ℕ) (left : S → Option (List ℕ)) (files : List (OwnFile S)) (was now : Worker B)
     (kept : Option (HeldStanding B))
-    (t : IsToSweep shared job.topics job.size job.longest faults end_count left files was.pass was.members.items was.starved kept) where
+    (t : IsToSweep shared job.topics job.size job.longest faults end_count left files was.pass was.members was.starved kept) where
   left-told : (contents : B → List ℕ) (topics rests : ℕ) → HasTaken was.pass now.pass → HasSweptTold contents shared IsReturn topics rests was.pass now.pass
       → HasLeftTold contents IsReturn topics rests now.pass
   left-told contents topics rests taken end = record {

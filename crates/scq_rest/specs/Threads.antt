@@ -67,7 +67,7 @@ module _ {S : Type 0} where
   pub record IsBegun (t : Task S) (w : Work S) : Type 0 where
     pub produced : HasProduced t.queue t.topics t.size t.longest t.faults t.end_count t.left
         w.desk.files.items w.desk.worker.worker.pass
-        w.desk.worker.worker.members.items w.desk.worker.worker.starved w.desk.worker.kept
+        w.desk.worker.worker.members w.desk.worker.worker.starved w.desk.worker.kept
     pub stand : w.stand.crew ≡ t.crew
     pub unrested : w.stand.rests ≡ 0
 
@@ -82,7 +82,7 @@ module _ {S : Type 0} where
   pub record HasDone (t : Task S) (old new : Work S) : Type 0 where
     pub run : HasRun t.queue t.topics t.size t.longest t.faults t.end_count t.left
         new.desk.files.items new.desk.worker.worker.pass
-        new.desk.worker.worker.members.items new.desk.worker.worker.starved new.desk.worker.kept
+        new.desk.worker.worker.members new.desk.worker.worker.starved new.desk.worker.kept
     pub waited : HasWaited bytes_of (length t.topics
         + 1) new.stand.rests new.desk.worker.worker.pass
     pub files : ids_of new.desk.files.items ≡ ids_of old.desk.files.items

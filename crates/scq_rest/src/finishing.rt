@@ -27,12 +27,12 @@ pub fn finish<S: Source, G: Gate, R: Wait>(
 )
     requires produced { HasProduced queue.now job.now.topics job.now.size job.now.longest S.faults
         S.ends S.left desk.old.files.items desk.old.worker.worker.pass
-        desk.old.worker.worker.members.items desk.old.worker.worker.starved desk.old.worker.kept }
+        desk.old.worker.worker.members desk.old.worker.worker.starved desk.old.worker.kept }
     requires stand { (stand.old.crew ≡ crew.now) × (stand.old.rests ≡ 0) }
     ensures same { desk.new.files.items ≡ desk.old.files.items }
     ensures run { HasRun queue.now job.now.topics job.now.size job.now.longest S.faults S.ends
         S.left desk.new.files.items desk.new.worker.worker.pass
-        desk.new.worker.worker.members.items desk.new.worker.worker.starved desk.new.worker.kept }
+        desk.new.worker.worker.members desk.new.worker.worker.starved desk.new.worker.kept }
     ensures waited { HasWaited bytes_of (length job.now.topics
         + 1) stand.new.rests desk.new.worker.worker.pass }
     ensures number { desk.new.worker.worker.pass.number ≡ desk.old.worker.worker.pass.number }
@@ -58,12 +58,12 @@ fn rest_out<S: Source, G: Gate, R: Wait>(
 )
     requires sweep { IsToSweep queue.now job.now.topics job.now.size job.now.longest S.faults S.ends
         S.left desk.old.files.items desk.old.worker.worker.pass
-        desk.old.worker.worker.members.items desk.old.worker.worker.starved desk.old.worker.kept }
+        desk.old.worker.worker.members desk.old.worker.worker.starved desk.old.worker.kept }
     requires stand { (stand.old.crew ≡ crew.now) × (stand.old.rests ≡ 0) }
     ensures same { desk.new.files.items ≡ desk.old.files.items }
     ensures run { HasRun queue.now job.now.topics job.now.size job.now.longest S.faults S.ends
         S.left desk.new.files.items desk.new.worker.worker.pass
-        desk.new.worker.worker.members.items desk.new.worker.worker.starved desk.new.worker.kept }
+        desk.new.worker.worker.members desk.new.worker.worker.starved desk.new.worker.kept }
     ensures waited { HasWaited bytes_of (length job.now.topics
         + 1) stand.new.rests desk.new.worker.worker.pass }
     ensures number { desk.new.worker.worker.pass.number ≡ desk.old.worker.worker.pass.number }

@@ -88,7 +88,7 @@ pub fn run_resting<R: Threads + Wait + Sync, S: Source, G: Gate + Sync>(
     ensures run { All (λ d.
         HasRun queue.now job.now.topics job.now.size job.now.longest S.faults S.ends S.left
         d.files.items d.worker.worker.pass
-        d.worker.worker.members.items d.worker.worker.starved d.worker.kept)
+        d.worker.worker.members d.worker.worker.starved d.worker.kept)
         result.0.items }
     ensures settled { AreSettled crew.now (length job.now.topics
         + 1) result.1.items (map (λ d. d.worker.worker.pass) result.0.items) }

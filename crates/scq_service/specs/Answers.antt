@@ -11,7 +11,7 @@ use Rattle.scq_queue.specs.Passes.{PassStanding}
 use Rattle.scq_frames.specs.declared.message.Message.{Message}
 use Rattle.scq_collect.specs.Collected.{messages_to}
 use Rattle.scq_collect.specs.Joined.{part_answers, without_way}
-use Rattle.scq_collect.specs.Merging.{members_in}
+use Rattle.scq_collect.specs.Merging.{members_of}
 use Rattle.scq_self.specs.Generated.{generated, self_topics}
 use Rattle.scq_stages.specs.AllStages as staging
 use Rattle.scq_stages.specs.Output as stage_output
@@ -84,7 +84,7 @@ abbrev pub AreOfParts : {S : Type 0} → List (List ℕ × Kind) → ℕ → (S 
     → Option Worked → Type 0
 AreOfParts topics size left got worked =
     IfSome worked (λ w. IfTold left got (λ contents.
-    IsPermutation (map without_way (members_in w.answered.items))
+    IsPermutation (map without_way (members_of w.answered.items))
     (part_answers topics size (messages_to topics 1 contents))))
 
 -- what workers answered in a run that is asked for this; another run has no workers. Parts of a

@@ -3,7 +3,7 @@ ghost use Rattle.std.specs.Prelude.{◌≡◌, ◌+◌, ◌≤◌, [], Some, Non
 ghost use Rattle.std.specs.Prelude.{vec_len, IfSome, IsErrOf, IsNone, IsSome, IsSomeAnd, OnSome};
 ghost use Rattle.std.specs.Prelude.{vec_capacity};
 ghost use Rattle.std.specs.List.{All};
-ghost use Rattle.scq_collect.specs.Merging.{members_in};
+ghost use Rattle.scq_collect.specs.Merging.{members_of};
 ghost use Rattle.scq_work.specs.AllWorkers.{NothingIsStranded};
 ghost use Rattle.scq_work.specs.Ends.{EndsWork};
 ghost use Rattle.scq_rest.specs.Waiting.{HaveWaited};
@@ -67,7 +67,7 @@ pub fn read_files<R: Threads + Sync, F: Files, G: Gate + Sync>(
     ensures worked { WorkedAt result.fault result.worked }
     ensures unstaged { result.staged ≡ None }
     ensures known { IfSome result.worked (λ w.
-        All (λ a. a.topic ≤ length job.now.topics) (members_in w.answered.items)) }
+        All (λ a. a.topic ≤ length job.now.topics) (members_of w.answered.items)) }
     ensures answers { AreOfParts job.now.topics job.now.size F.Src.left result.got.items
         result.worked }
     ensures told { IsWorkOf job.now.topics job.now.size job.now.workers F.Src.left
@@ -118,7 +118,7 @@ pub fn read_files_waiting<R: Threads + Wait + Sync, F: Files, G: Gate + Sync>(
     ensures worked { WorkedAt result.fault result.worked }
     ensures unstaged { result.staged ≡ None }
     ensures known { IfSome result.worked (λ w.
-        All (λ a. a.topic ≤ length job.now.topics) (members_in w.answered.items)) }
+        All (λ a. a.topic ≤ length job.now.topics) (members_of w.answered.items)) }
     ensures answers { AreOfParts job.now.topics job.now.size F.Src.left result.got.items
         result.worked }
     ensures told { IsWorkOf job.now.topics job.now.size job.now.workers F.Src.left
@@ -184,7 +184,7 @@ fn conclude<F: Files>(
     ensures worked { WorkedAt result.fault result.worked }
     ensures unstaged { result.staged ≡ None }
     ensures known { IfSome result.worked (λ w.
-        All (λ a. a.topic ≤ length job.now.topics) (members_in w.answered.items)) }
+        All (λ a. a.topic ≤ length job.now.topics) (members_of w.answered.items)) }
     ensures answers { AreOfParts job.now.topics job.now.size F.Src.left result.got.items
         result.worked }
     ensures told { IsWorkOf job.now.topics job.now.size job.now.workers F.Src.left

@@ -10,4 +10,4 @@ Seated B = Seat (Worker B) B
 
 -- it is to begin: it has a new pass, an empty list, and keeps no value
 abbrev pub IsFresh : {B : Type 0} → Identity B → Seated B → Type 0
-IsFresh shared s = seats.IsFresh (λ w. w.pass) (λ w. w.members) shared s
+IsFresh shared s = seats.IsFresh (λ w. w.pass) (λ w. w.members.items ≡ []) shared s

@@ -55,7 +55,7 @@ fn conclude(
 /// closed and its block merged, in every answer.
 pub(crate) fn wind_up<S: Source>(
     job: &StageJob,
-    laid: LaidOut<Finished, S>,
+    laid: LaidOut<Vec<Finished>, S>,
     block: Block,
     queue: Queue<Frame>,
     desks: Vec<StageDesk<S>>,

@@ -61,10 +61,12 @@ fn both(alloc: Global, payload: &[u8]) -> Result<Bytes, NoMemory>
 /// A desk at which such a worker sits.
 pub type StageDesk<S> = Desk<Seat<Worker<Frame>, Frame>, S>;
 
-impl<B: Buffer> Sits<Pass<B>, Finished> for Worker<B> {
+impl<B: Buffer> Sits<Pass<B>, Vec<Finished>> for Worker<B> {
     ghost pass_of = { λ w. w.pass };
 
     ghost list_of = { λ w. w.members };
+
+    ghost has_none = { λ w. w.members.items ≡ [] };
 
     ghost starved_of = { λ w. w.starved };
 

@@ -50,7 +50,7 @@ module _ {B S : Type 0} where
     pub some : 0 < length desks
     pub few : length sources ≤ 64
     pub dealt : AreDealt 1 sources desks
-    pub run : All (λ d. HasRun shared topics size longest faults end_count left d.files.items d.worker.worker.pass d.worker.worker.members.items
+    pub run : All (λ d. HasRun shared topics size longest faults end_count left d.files.items d.worker.worker.pass d.worker.worker.members
         d.worker.worker.starved d.worker.kept) desks
     pub setup : shared.setup ≡ c
     pub numbers : (w : ℕ) (d : Desk (Seated B) S) → w < length desks → (slice_index_or desks w d).worker.worker.pass.number ≡ w

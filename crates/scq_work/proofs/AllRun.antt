@@ -2,7 +2,7 @@
 -- ticket past the limit; so each worker has swept, and nothing is left behind. Where no file has a fault and no worker wanted memory, each list
 -- answers for its pass, and together they answer for all messages.
 use Rattle.std.proofs.Common.{◌≡◌, refl, sym, ◌∙◌, ap, subst, inl, inr, arith, false, zero, suc, ℕ, ◌+◌, ◌^◌, ◌<◌, ◌≤◌, List, [], ◌∷◌, length, map, reverse, get_or, Option, Some, None}
-use Rattle.std.specs.Prelude.{slice_get, flat_map, Vec}
+use Rattle.std.specs.Prelude.{slice_get, flat_map}
 use Rattle.std.specs.Global.{Global}
 use Rattle.std.specs.List.{All}
 use Rattle.std.specs.List.Sorted.{IsPermutation}
@@ -18,14 +18,14 @@ use Rattle.scq_frames.specs.Parts.{Part}
 use Rattle.scq_word.specs.declared.setup.Setup.{Setup}
 use Rattle.scq_collect.specs.declared.answered.Answered.{Answered}
 use Rattle.scq_collect.specs.Joined.{part_answer, part_answers, without_way}
-use Rattle.scq_collect.specs.Merging.{members_in}
+use Rattle.scq_collect.specs.Merging.{members_of}
 use Rattle.scq_band.specs.Standing.{Identity}
 use Rattle.scq_band.proofs.ClosedCounts.{sum_by-map}
 use Rattle.scq_queue.specs.Closing.{EachTakeIsASend, NoPlaceIsTakenTwice, NoneIsKeptWithinTheLimit}
 use Rattle.scq_queue.specs.Lists.{sends_of, takes_of}
 use Rattle.scq_queue.specs.Passes.{PassStanding, HeldStanding}
-use Rattle.scq_passes.specs.AllPasses.{OfEachWorker, HaveShared}
-use Rattle.scq_work.specs.AllWorkers.{HaveAnswered, HasHelped}
+use Rattle.scq_passes.specs.AllPasses.{HaveShared}
+use Rattle.scq_work.specs.AllWorkers.{HaveAnswered, HasHelped, OfEachWorker}
 use Rattle.scq_files.specs.Ends.{AreGiven}
 use Rattle.scq_files.specs.Files.{own_of}
 use Rattle.scq_worker.specs.Members.{AnswersItsTakes, AnswersItsFulls}
@@ -55,7 +55,7 @@ use Rattle.scq_passes.proofs.Closed.{all-taken as takes-are-sends, have-shared}
 
 module _ {B S : Type 0} where
   abbrev work_of : ℕ → Desk (Seated B) S → Work B
-  work_of size d = record { pass = d.worker.worker.pass; members = d.worker.worker.members.items; messages = parts_in size (worker_messages d) }
+  work_of size d = record { pass = d.worker.worker.pass; members = d.worker.worker.members; messages = parts_in size (worker_messages d) }
 
   abbrev counted : ℕ → Desk (Seated B) S → ℕ × PassStanding B
   counted size d = (length (parts_in size (worker_messages d)), d.worker.worker.pass)
@@ -63,28 +63,28 @@ module _ {B S : Type 0} where
   abbrev pub passes_at : List (Desk (Seated B) S) → List (PassStanding B)
   passes_at desks = map (λ (d : Desk (Seated B) S). d.worker.worker.pass) desks
 
-  abbrev pub lists_at : List (Desk (Seated B) S) → List (Vec Answered Global)
+  abbrev pub lists_at : List (Desk (Seated B) S) → List (List Answered)
   lists_at desks = map (λ (d : Desk (Seated B) S). d.worker.worker.members) desks
 
   -- so it is of each worker
   of-each : (P : ℕ → PassStanding B → List Answered → Type 0) (desks : List (Desk (Seated B) S))
-      → ((w : ℕ) (d : Desk (Seated B) S) → slice_get desks w ≡ Some d → P w d.worker.worker.pass d.worker.worker.members.items)
+      → ((w : ℕ) (d : Desk (Seated B) S) → slice_get desks w ≡ Some d → P w d.worker.worker.pass d.worker.worker.members)
       → OfEachWorker P (passes_at desks) (lists_at desks)
   of-each P desks each w p list pass_is list_is = by (slice_get desks w) refl where
     pass : Desk (Seated B) S → PassStanding B
     pass d = d.worker.worker.pass
 
-    members : Desk (Seated B) S → Vec Answered Global
+    members : Desk (Seated B) S → List Answered
     members d = d.worker.worker.members
 
-    by : (o : Option (Desk (Seated B) S)) → slice_get desks w ≡ o → P w p list.items
+    by : (o : Option (Desk (Seated B) S)) → slice_get desks w ≡ o → P w p list
     by None is = absurd (cc (slice_get-map pass desks w, pass_is, is))
     by (Some d) is =
         let first : Some d.worker.worker.pass ≡ Some p = sym (slice_get-map pass desks w ∙ ap (option_map pass) is) ∙ pass_is in
         let second : Some d.worker.worker.members ≡ Some list = sym (slice_get-map members desks w ∙ ap (option_map members) is) ∙ list_is in
         let its_pass : d.worker.worker.pass ≡ p = cc in
         let its_list : d.worker.worker.members ≡ list = cc in
-        subst (λ q. P w q list.items) its_pass (subst (λ (l : Vec Answered Global). P w d.worker.worker.pass l.items) its_list (each w d is))
+        subst (λ q. P w q list) its_pass (subst (λ (l : List Answered). P w d.worker.worker.pass l) its_list (each w d is))
 
   module _ (c : Setup) (shared : Identity B) (topics : List (List ℕ × Kind)) (size longest : ℕ) (faults end_count : S → ℕ) (left : S → Option (List ℕ))
       (sources : List S)
@@ -203,13 +203,13 @@ module _ {B S : Type 0} where
         gave = is-given c shared topics size longest faults end_count left sources desks ran whole
 
         listed : (k : ℕ) (d : Desk (Seated B) S) → k < length desks
-            → HasListed topics (parts_in size (worker_messages (get_or desks k d))) (get_or desks k d).worker.worker.pass (get_or desks k d).worker.worker.members.items
+            → HasListed topics (parts_in size (worker_messages (get_or desks k d))) (get_or desks k d).worker.worker.pass (get_or desks k d).worker.worker.members
         listed k d less = (ran.run k d less).listed (spent-none k d less) (fed k d less)
 
         listed-at : (w : ℕ) (d : Desk (Seated B) S) → slice_get desks w ≡ Some d
-            → HasListed topics (parts_in size (worker_messages d)) d.worker.worker.pass d.worker.worker.members.items
+            → HasListed topics (parts_in size (worker_messages d)) d.worker.worker.pass d.worker.worker.members
         listed-at w d is =
-            subst (λ (e : Desk (Seated B) S). HasListed topics (parts_in size (worker_messages e)) e.worker.worker.pass e.worker.worker.members.items)
+            subst (λ (e : Desk (Seated B) S). HasListed topics (parts_in size (worker_messages e)) e.worker.worker.pass e.worker.worker.members)
             (get_or_from_slice_get desks w d d is)
             (listed w d (slice_get_within desks w d is))
 
@@ -222,14 +222,14 @@ module _ {B S : Type 0} where
         work-passes : passes_in (map (work_of size) desks) ≡ passes_at desks
         work-passes = map-map (λ (w : Work B). w.pass) (work_of size) desks
 
-        once : IsPermutation (map without_way (members_in (lists_at desks))) (part_answers topics size (flat_map (λ own. own) messages_given))
+        once : IsPermutation (map without_way (members_of (lists_at desks))) (part_answers topics size (flat_map (λ own. own) messages_given))
         once =
             let all = all-answered topics (map (work_of size) desks) all-works
             (subst (λ (ps : List (PassStanding B)). EachTakeIsASend ps) (sym work-passes) closed.takes)
             (subst (λ (ps : List (PassStanding B)). SendsAreTakes ps) (sym work-passes) same) in
-            let members : members_of (map (work_of size) desks) ≡ members_in (lists_at desks) =
+            let members : members_of (map (work_of size) desks) ≡ members_of (lists_at desks) =
             flat_map-map (λ (w : Work B). w.members) (work_of size) desks ∙ sym
-            (flat_map-map (λ (l : Vec Answered Global). l.items) (λ (d : Desk (Seated B) S). d.worker.worker.members) desks) in
+            (flat_map-map (λ (l : List Answered). l) (λ (d : Desk (Seated B) S). d.worker.worker.members) desks) in
             let parts : messages_in (map (work_of size) desks) ≡ parts_in size (flat_map worker_messages desks) =
             flat_map-map (λ (w : Work B). w.messages) (work_of size) desks ∙ flat-parts size worker_messages desks in
             let passed : List Part = parts_in size (flat_map worker_messages desks) in
@@ -237,8 +237,8 @@ module _ {B S : Type 0} where
             let back : IsPermutation (map (part_answer topics) passed) (map (part_answer topics) given_parts) =
             IsPermutation-map (part_answer topics) passed given_parts
             (IsPermutation-sym given_parts passed (all-parts-passed c shared topics size longest faults end_count left sources desks ran)) in
-            IsPermutation-trans (map without_way (members_in (lists_at desks))) (map (part_answer topics) passed) (map (part_answer topics) given_parts)
-            (subst (IsPermutation (map without_way (members_in (lists_at desks)))) (ap (map (part_answer topics)) parts)
+            IsPermutation-trans (map without_way (members_of (lists_at desks))) (map (part_answer topics) passed) (map (part_answer topics) given_parts)
+            (subst (IsPermutation (map without_way (members_of (lists_at desks)))) (ap (map (part_answer topics)) parts)
             (subst (λ l. IsPermutation (map without_way l) (map (part_answer topics) (messages_in (map (work_of size) desks)))) members all)) back
 
         pub have-answered : HaveAnswered topics size (length desks) messages_given (passes_at desks) (lists_at desks)
@@ -246,17 +246,17 @@ module _ {B S : Type 0} where
           each_pass = length-map desks (λ (d : Desk (Seated B) S). d.worker.worker.pass);
           each_list = length-map desks (λ (d : Desk (Seated B) S). d.worker.worker.members);
           once = once;
-          whole = members-whole topics size longest left sources messages_given (members_in (lists_at desks)) gave once;
-          known = members-known topics size (flat_map (λ own. own) messages_given) (members_in (lists_at desks)) once
+          whole = members-whole topics size longest left sources messages_given (members_of (lists_at desks)) gave once;
+          known = members-known topics size (flat_map (λ own. own) messages_given) (members_of (lists_at desks)) once
               (given-known topics longest left 1 sources messages_given gave);
-          short = members-short topics size (flat_map (λ own. own) messages_given) (members_in (lists_at desks)) once;
+          short = members-short topics size (flat_map (λ own. own) messages_given) (members_of (lists_at desks)) once;
           takes = of-each (λ w p list. AnswersItsTakes topics (takes_of p.calls) list) desks (λ w d is.
               (all-taken topics (map (work_of size) desks) all-works (subst (λ (ps : List (PassStanding B)). EachTakeIsASend ps) (sym work-passes) closed.takes)
               (work_of size d)
               (stands-at (map (work_of size) desks) (work_of size d) w (slice_get-map (work_of size) desks w ∙ ap (option_map (work_of size)) is))).0);
           fulls = of-each (λ w p list. AnswersItsFulls p.fulls list) desks (λ w d is. (listed-at w d is).fulls);
           passed = of-each (λ w p list. HasPassedOn topics (parts_in size (own_of (length desks) w 1 messages_given)) (sends_of p.calls) list) desks (λ w d is.
-              subst (λ ms. HasPassedOn topics ms (sends_of d.worker.worker.pass.calls) d.worker.worker.members.items) (ap (parts_in size) (own-gave w d is))
+              subst (λ ms. HasPassedOn topics ms (sends_of d.worker.worker.pass.calls) d.worker.worker.members) (ap (parts_in size) (own-gave w d is))
               (listed-at w d is).passed);
           follows = of-each (λ w p list. FollowsCalls (parts_in size (own_of (length desks) w 1 messages_given)) p.calls) desks (λ w d is.
               subst (λ ms. FollowsCalls ms d.worker.worker.pass.calls) (ap (parts_in size) (own-gave w d is)) (listed-at w d is).follows);

@@ -1,13 +1,12 @@
 -- What all workers did with the messages of files. `given` has the messages of each file, in the
 -- order of the files. A worker is told by its number, from 0: by it stand its pass among the
 -- passes, and its list among the lists.
-use Rattle.std.specs.Prelude.{◌≡◌, ℕ, ◌^◌, ◌≤◌, List, length, map, flat_map, All, Vec}
-use Rattle.std.specs.Global.{Global}
+use Rattle.std.specs.Prelude.{◌≡◌, ℕ, ◌^◌, ◌≤◌, List, Some, length, map, flat_map, slice_get, All}
 use Rattle.std.specs.List.Sorted.{IsPermutation}
 use Rattle.scq_topics.specs.declared.kind.Kind.{Kind}
 use Rattle.scq_frames.specs.declared.message.Message.{Message}
 use Rattle.scq_collect.specs.Joined.{AreWhole, part_answers, without_way}
-use Rattle.scq_collect.specs.Merging.{members_in}
+use Rattle.scq_collect.specs.Merging.{members_of}
 use Rattle.scq_collect.specs.declared.answered.Answered.{Answered}
 use Rattle.scq_word.specs.declared.setup.Setup.{Setup}
 use Rattle.scq_block.specs.declared.frame.Frame.{Frame}
@@ -20,25 +19,32 @@ use Rattle.scq_worker.specs.Members.{AnswersItsTakes, AnswersItsFulls}
 use Rattle.scq_worker.specs.Passing.{parts_in, HasPassedOn, FollowsCalls}
 use Rattle.scq_passes.specs.Records.{HelpsAfterEachFull, HelpsOnceAfterEachFull}
 use Rattle.scq_passes.specs.Together.{HasRetired}
-use Rattle.scq_passes.specs.AllPasses.{IsSetup, OfEachWorker, HaveShared, lengths_of}
+use Rattle.scq_passes.specs.AllPasses.{IsSetup, HaveShared, lengths_of}
 
 module _ {B : Type 0} where
+  -- P holds of each worker's number, pass and answers
+  abbrev pub OfEachWorker : (ℕ → PassStanding B → List Answered → Type 0)
+      → List (PassStanding B) → List (List Answered) → Type 0
+  OfEachWorker P passes lists =
+      (w : ℕ) (p : PassStanding B) (list : List Answered) → slice_get passes w ≡ Some p
+      → slice_get lists w ≡ Some list → P w p list
+
   -- the workers' lists, against the messages of files and the workers' passes, where a part has at
   -- most `size` bytes
   pub record HaveAnswered (topics : List (List ℕ × Kind)) (size workers : ℕ)
       (given : List (List Message)) (passes : List (PassStanding B))
-      (lists : List (Vec Answered Global)) : Type 0 where
+      (lists : List (List Answered)) : Type 0 where
     pub each_pass : length passes ≡ workers
     pub each_list : length lists ≡ workers
     -- the answers in all lists are those to all parts of all messages, each once
-    pub once : IsPermutation (map without_way (members_in lists))
+    pub once : IsPermutation (map without_way (members_of lists))
         (part_answers topics size (flat_map (λ own. own) given))
     -- so they are whole messages: of each file and line that stands in the lists the members are
     -- its parts 1 to `parts`, each once and on one topic. That is a known one, and no part has more
     -- than `size` bytes.
-    pub whole : AreWhole (members_in lists)
-    pub known : All (λ a. a.topic ≤ length topics) (members_in lists)
-    pub short : All (λ a. a.bytes ≤ size) (members_in lists)
+    pub whole : AreWhole (members_of lists)
+    pub known : All (λ a. a.topic ≤ length topics) (members_of lists)
+    pub short : All (λ a. a.bytes ≤ size) (members_of lists)
     -- one by one and in order, the Taken members of a worker's list are its takes, and the Direct
     -- ones its Full replies
     pub takes : OfEachWorker (λ w p list.

@@ -6,7 +6,7 @@ use Rattle.std.specs.List.Sorted.{IsPermutation}
 use Rattle.scq_frames.specs.declared.message.Message.{Message}
 use Rattle.scq_collect.specs.Collected.{messages_to}
 use Rattle.scq_collect.specs.Joined.{part_answers, without_way}
-use Rattle.scq_collect.specs.Merging.{members_in}
+use Rattle.scq_collect.specs.Merging.{members_of}
 use Rattle.scq_files.specs.Ends.{AreGiven, HasMoved, StopsAtFaults, all_left, messages_in}
 use Rattle.scq_files.specs.Reading.{IsWhole}
 use Rattle.scq_work.specs.AllWorkers.{HasWorked, NothingIsStranded}
@@ -46,7 +46,7 @@ pub record EndsWork {S : Type 0} (j : Job) (faults end_count : S → ℕ) (left 
       → IsWhole j.longest faults end_count left (slice_index_or sources k d)
       (slice_index_or end.sources.items k d))
   pub answers : IfOk end.result (λ w. IfSome (all_left left sources) (λ contents.
-      IsPermutation (map without_way (members_in w.answered.items))
+      IsPermutation (map without_way (members_of w.answered.items))
       (part_answers j.topics j.size (messages_to j.topics 1 contents))))
   -- the lists answer for the messages that the files gave, and the passes for what was sent and
   -- taken: of contents that are visible, and of every source

@@ -41,7 +41,7 @@ pub fn run_apart<R: Threads + Sync, S: Source, G: Gate + Sync>(
     ensures run { All (λ d.
         HasRun queue.now job.now.topics job.now.size job.now.longest S.faults S.ends S.left
         d.files.items d.worker.worker.pass
-        d.worker.worker.members.items d.worker.worker.starved d.worker.kept)
+        d.worker.worker.members d.worker.worker.starved d.worker.kept)
         result.items }
     ensures behind { All (λ d. d.worker.worker.pass.spent ≡ None
         → HasLeftSwept bytes_of IsReturn (length job.now.topics
@@ -56,7 +56,7 @@ pub fn run_apart<R: Threads + Sync, S: Source, G: Gate + Sync>(
             × HasRun queue.entry.now job.entry.now.topics job.entry.now.size job.entry.now.longest
             S.faults S.ends S.left
             desk.exit.now.files.items desk.exit.now.worker.worker.pass
-            desk.exit.now.worker.worker.members.items desk.exit.now.worker.worker.starved
+            desk.exit.now.worker.worker.members desk.exit.now.worker.worker.starved
             desk.exit.now.worker.kept
             × (desk.exit.now.worker.worker.pass.spent ≡ None
             → HasLeftSwept bytes_of IsReturn (length job.entry.now.topics

@@ -14,7 +14,7 @@ use crate::winding::wind_up;
 use crate::working::setup_of;
 use crate::{WorkEnd, WorkFault};
 use scq_block::{Block, Frame};
-use scq_collect::Answered;
+use scq_collect::Answers;
 use scq_desk::{Room, lay_out, make_room};
 use scq_outside::Source;
 use scq_park::{Crew, Rested, Stand};
@@ -63,7 +63,7 @@ impl<S> WaitEnd<S> {
 /// for each worker.
 struct Made<S: Source> {
     resting_room: RestingRoom<S>,
-    room: Room<Answered, Worker<Frame>, S>,
+    room: Room<Answers, Worker<Frame>, S>,
     block: Block,
     queue: Queue<Frame>,
     passes: Vec<Pass<Frame>>,

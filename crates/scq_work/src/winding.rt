@@ -12,7 +12,7 @@ ghost use Rattle.scq_work.specs.Ends.{EndsWork, as_end};
 
 use crate::{WorkEnd, WorkFault, Worked};
 use scq_block::{Block, Frame};
-use scq_collect::Answered;
+use scq_collect::Answers;
 use scq_desk::{EndFault, LaidOut, WoundUp, fault_of_all, wind_up_desks};
 use scq_frames::FrameFault;
 use scq_outside::Source;
@@ -36,7 +36,7 @@ fn work_fault(fault: EndFault) -> WorkFault
 /// that all had retired.
 pub(crate) fn wind_up<S: Source>(
     job: &Job,
-    laid: LaidOut<Answered, S>,
+    laid: LaidOut<Answers, S>,
     block: Block,
     queue: Queue<Frame>,
     desks: Vec<WorkDesk<S>>,
@@ -53,7 +53,7 @@ pub(crate) fn wind_up<S: Source>(
     requires run { All (λ d.
         HasRun queue job.now.topics job.now.size job.now.longest S.faults S.ends S.left
         d.files.items d.worker.worker.pass
-        d.worker.worker.members.items d.worker.worker.starved d.worker.kept)
+        d.worker.worker.members d.worker.worker.starved d.worker.kept)
         desks.items }
     ensures end { EndsWork job.now S.faults S.ends S.left laid.was.value.items result.0 }
     ensures passes { IfSome result.0.passes (λ passes.

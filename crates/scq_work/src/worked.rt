@@ -1,6 +1,6 @@
 //! How the work of all workers ends.
 use scq_block::Frame;
-use scq_collect::Answered;
+use scq_collect::Answers;
 use scq_queue::{Counts, Pass};
 use std::snapshot::Snapshot;
 
@@ -12,7 +12,7 @@ use std::snapshot::Snapshot;
 #[derive(Drop)]
 pub struct Worked {
     pub counts: Vec<Counts>,
-    pub answered: Vec<Vec<Answered>>,
+    pub answered: Vec<Answers>,
     pub passes: Snapshot<Vec<Pass<Frame>>>,
 }
 

@@ -73,7 +73,7 @@ module _ {B S : Type 0} (shared : Identity B) (topics : List (List ℕ × Kind))
 
 module _ {B S : Type 0} (shared : Identity B) (job : Job) (faults end_count : S → ℕ) (left : S → Option (List ℕ)) (files : List (OwnFile S)) (was now : Worker B)
     (kept : Option (HeldStanding B))
-    (t : IsToSweep shared job.topics job.size job.longest faults end_count left files was.pass was.members.items was.starved kept) where
+    (t : IsToSweep shared job.topics job.size job.longest faults end_count left files was.pass was.members was.starved kept) where
   -- so its calls find its pass
   pub sweep-suits : Suits shared (length job.topics) was.pass
   sweep-suits = subst (λ (x : PassStanding B). Suits shared (length job.topics) x) (sym t.retired) (suits-retired shared (length job.topics) t.before t.suits)
@@ -81,21 +81,21 @@ module _ {B S : Type 0} (shared : Identity B) (job : Job) (faults end_count : S 
   -- it has swept, and left
   pub swept-out : (n : ℕ) → n ≡ length job.topics → HasTaken was.pass now.pass
       → ((k : ℕ) → k < n + 1 → (known_on k now.pass).finished < (known_on k now.pass).head) → HasAnsweredAll job.topics was now
-      → HasRun shared job.topics job.size job.longest faults end_count left files now.pass now.members.items now.starved kept
+      → HasRun shared job.topics job.size job.longest faults end_count left files now.pass now.members now.starved kept
   swept-out n many taken past made =
-      run-left shared job.topics job.size job.longest faults end_count left files t.before now.pass was.members.items now.members.items was.starved now.starved
+      run-left shared job.topics job.size job.longest faults end_count left files t.before now.pass was.members now.members was.starved now.starved
       kept t.read t.stops t.suits t.work (subst (λ (x : PassStanding B). HasTaken x now.pass) t.retired taken)
       (subst (λ m. (k : ℕ) → k < m + 1 → (known_on k now.pass).finished < (known_on k now.pass).head) many past) made.fed
-      (λ all. answered-awake job.topics t.before now.pass was.members.items now.members.items
-      (subst (λ (x : PassStanding B). HasAnswered job.topics x now.pass was.members.items now.members.items) t.retired (made.answered all))) t.none
+      (λ all. answered-awake job.topics t.before now.pass was.members now.members
+      (subst (λ (x : PassStanding B). HasAnswered job.topics x now.pass was.members now.members) t.retired (made.answered all))) t.none
 
   -- it met a ticket past the limit in a sweep, and keeps what came back
   pub late-out : (seat : Seated B) (held : Option (HeldStanding B)) → ((n : ℕ) → HasLeft n n was.pass now.pass held) → seat.worker ≡ now → seat.kept ≡ held
-      → HasRun shared job.topics job.size job.longest faults end_count left files seat.worker.pass seat.worker.members.items seat.worker.starved seat.kept
+      → HasRun shared job.topics job.size job.longest faults end_count left files seat.worker.pass seat.worker.members seat.worker.starved seat.kept
   late-out seat held end same keeps =
       let n = length (parts_in job.size (all_given files)) in
-      subst (λ (w : Worker B). HasRun shared job.topics job.size job.longest faults end_count left files w.pass w.members.items w.starved seat.kept) (sym same)
-      (run-late shared job.topics job.size job.longest faults end_count left files t.before now.pass was.members.items now.members.items was.starved now.starved
+      subst (λ (w : Worker B). HasRun shared job.topics job.size job.longest faults end_count left files w.pass w.members w.starved seat.kept) (sym same)
+      (run-late shared job.topics job.size job.longest faults end_count left files t.before now.pass was.members now.members was.starved now.starved
       seat.kept held t.read t.stops t.suits t.work (subst (λ (x : PassStanding B). HasLeft n n x now.pass held) t.retired (end n)) keeps)
 
   -- its queue, once it has swept

@@ -14,7 +14,7 @@ module _ {B : Type 0} (shared : Identity B) (topics : List (List ℕ × Kind)) (
   -- it has passed on the parts of these messages, and took in vain no more than it helped
   abbrev pub IsAt : List Message → Worker B → Type 0
   IsAt messages w =
-      IsAtWork topics (parts_in size messages) w.pass w.members.items w.starved
+      IsAtWork topics (parts_in size messages) w.pass w.members w.starved
       × HelpsInVain (length topics + 1) w.pass
 
   -- it met a ticket past the limit, with at most the parts of these messages passed on

@@ -10,7 +10,7 @@ module _ {B : Type 0} where
   -- what it took meanwhile it has answered, unless it wanted memory
   pub record HasAnsweredAll (topics : List (List ℕ × Kind)) (old new : Worker B) : Type 0 where
     pub answered : new.starved ≡ false
-        → HasAnswered topics old.pass new.pass old.members.items new.members.items
+        → HasAnswered topics old.pass new.pass old.members new.members
     pub fed : new.starved ≡ false → old.starved ≡ false
 
   -- it met a ticket past the limit

@@ -23,7 +23,7 @@ mod sweeping;
 use crate::bell::Bell;
 use crate::{Gate, Job, Point};
 pub(crate) use reading::Calls;
-use scq_collect::{Answered, Way};
+use scq_collect::{Answers, Given, PartView, Way};
 use scq_desk::Sits;
 use scq_frames::{Message, View, decode, encode, view_of};
 use scq_passes::AtLimit;
@@ -39,30 +39,32 @@ pub use sweeping::Takes;
 pub struct Worker<B: Buffer> {
     pub number: u32,
     pub pass: Pass<B>,
-    pub members: Vec<Answered>,
+    pub members: Answers,
     pub starved: bool,
 }
 
-impl<B: Buffer> Sits<Pass<B>, Answered> for Worker<B> {
+impl<B: Buffer> Sits<Pass<B>, Answers> for Worker<B> {
     ghost pass_of = { λ w. w.pass };
 
     ghost list_of = { λ w. w.members };
+
+    ghost has_none = { λ w. w.members ≡ [] };
 
     ghost starved_of = { λ w. w.starved };
 
     fn begin(alloc: Global, number: u32, pass: Pass<B>) -> Worker<B>
         ensures pass { result.pass ≡ pass }
-        ensures list { result.members.items ≡ [] }
+        ensures list { result.members ≡ [] }
     {
         Worker {
             number,
             pass,
-            members: Vec::new(alloc),
+            members: Answers::new(alloc),
             starved: false,
         }
     }
 
-    fn come_apart(self) -> (Pass<B>, Vec<Answered>, bool) {
+    fn come_apart(self) -> (Pass<B>, Answers, bool) {
         let Worker {
             number: _,
             pass,
@@ -90,24 +92,23 @@ impl<B: BufferMut> Worker<B> {
     fn answer(&mut self, alloc: Global, job: &Job, part: View<'_>, way: Way)
         requires { part.topic ≤ length job.now.topics }
         ensures listed { self.new.starved ≡ false
-            → self.new.members.items
-            ≡ self.old.members.items ++ answered job.now.topics way (part_of_view part.entry) ∷ [] }
+            → self.new.members
+            ≡ self.old.members ++ answered job.now.topics way (part_of_view part.entry) ∷ [] }
         ensures starved { self.new.starved ≡ false → self.old.starved ≡ false }
         ensures same { (self.new.pass ≡ self.old.pass) × (self.new.number ≡ self.old.number) }
     {
         match text_of(alloc, job, part) {
             Ok(text) => {
-                let member = Answered {
+                let answer = PartView {
                     file: part.file,
                     line: part.line,
                     topic: part.topic,
                     part: part.part,
                     parts: part.parts,
                     bytes: part.payload.len() as u64,
-                    text,
-                    way,
+                    text: text.bytes(),
                 };
-                if self.members.push(member).is_err() {
+                if self.members.push(Given { answer, way }).is_err() {
                     self.starved = true;
                 }
             }
@@ -119,12 +120,12 @@ impl<B: BufferMut> Worker<B> {
     /// topics.
     fn answer_taken(&mut self, alloc: Global, job: &Job, place: u64, bytes: &[u8])
         ensures takes { self.new.starved ≡ false → (topic : ℕ) (takes : List Placed)
-            → AnswersSoFar job.now.topics takes (filter is_taken self.old.members.items)
+            → AnswersSoFar job.now.topics takes (filter is_taken self.old.members)
             → AnswersSoFar job.now.topics (takes
             ++ record { topic = topic; place = place; bytes = bytes.now }
-            ∷ []) (filter is_taken self.new.members.items) }
+            ∷ []) (filter is_taken self.new.members) }
         ensures directs { self.new.starved ≡ false
-            → filter is_direct self.new.members.items ≡ filter is_direct self.old.members.items }
+            → filter is_direct self.new.members ≡ filter is_direct self.old.members }
         ensures starved { self.new.starved ≡ false → self.old.starved ≡ false }
         ensures same { (self.new.pass ≡ self.old.pass) × (self.new.number ≡ self.old.number) }
     {
@@ -154,8 +155,8 @@ impl<B: BufferMut> Worker<B> {
             → count_by (is_take t) self.new.pass.calls
             ≡ count_by (is_take t) self.old.pass.calls + (if topic == t then 1 else 0)) }
         ensures answered { OnOk result (self.new.starved ≡ false
-            → HasAnswered job.now.topics self.old.pass self.new.pass self.old.members.items
-            self.new.members.items) }
+            → HasAnswered job.now.topics self.old.pass self.new.pass self.old.members
+            self.new.members) }
         ensures some { result ≡ Ok true
             → HasTakenFrom queue.now.setup.limit topic self.old.pass self.new.pass
             × TookInVain 0 self.old.pass self.new.pass }
@@ -197,8 +198,8 @@ impl<B: BufferMut> Worker<B> {
             → count_by (is_take t) self.new.pass.calls
             ≡ count_by (is_take t) self.old.pass.calls + 1) }
         ensures answered { OnOk result (self.new.starved ≡ false
-            → HasAnswered job.now.topics self.old.pass self.new.pass self.old.members.items
-            self.new.members.items) }
+            → HasAnswered job.now.topics self.old.pass self.new.pass self.old.members
+            self.new.members) }
         ensures vain { OnOk result
             (TookInVain (length job.now.topics + 1) self.old.pass self.new.pass) }
         ensures gates { OnOk result (self.new.pass.gates ≡ self.old.pass.gates) }
@@ -227,8 +228,8 @@ impl<B: BufferMut> Worker<B> {
         requires short { length message.now.payload ≤ job.now.longest }
         requires numbered { IsNumbered part (parts_of job.now.size message.now.payload) }
         ensures listed { self.new.starved ≡ false
-            → self.new.members.items
-            ≡ self.old.members.items
+            → self.new.members
+            ≡ self.old.members
             ++ answered job.now.topics (Way.Direct head) (part_of job.now.size message.now part)
             ∷ [] }
         ensures starved { self.new.starved ≡ false → self.old.starved ≡ false }
@@ -265,7 +266,7 @@ impl<B: BufferMut> Worker<B> {
         ensures back { IfErr result (λ l.
             IfSome l.held (λ h. (h.index ≡ held.index) × (h.queue ≡ held.queue))) }
         ensures kept { IfErr result (λ l. IsSome l.held) }
-        ensures same { (self.new.members.items ≡ self.old.members.items)
+        ensures same { (self.new.members ≡ self.old.members)
             × (self.new.starved ≡ self.old.starved) × (self.new.number ≡ self.old.number) }
     {
         // Its numbers are read here, so that it is known of each that it is one of 32 bits, as

@@ -4,7 +4,7 @@ ghost use Rattle.std.specs.Prelude.{IfSome, IsNone, IsSome, IsSomeAnd, OnSome, A
 ghost use Rattle.std.specs.List.Sorted.{IsPermutation};
 ghost use Rattle.scq_collect.specs.Collected.{messages_to};
 ghost use Rattle.scq_collect.specs.Joined.{part_answers, without_way};
-ghost use Rattle.scq_collect.specs.Merging.{members_in};
+ghost use Rattle.scq_collect.specs.Merging.{members_of};
 ghost use Rattle.scq_collect.specs.Output.{one_thread_output};
 ghost use Rattle.scq_work.specs.AllWorkers.{NothingIsStranded};
 ghost use Rattle.scq_rest.specs.Waiting.{HaveWaited};
@@ -140,9 +140,9 @@ fn text_of<R: Threads + Sync>(
     job: &Job,
     worked: &Worked,
 ) -> Result<Text, NoMemory>
-    requires { All (λ a. a.topic ≤ length job.now.topics) (members_in worked.now.answered.items) }
+    requires { All (λ a. a.topic ≤ length job.now.topics) (members_of worked.now.answered.items) }
     ensures { (contents : List (List ℕ))
-        → IsPermutation (map without_way (members_in worked.now.answered.items))
+        → IsPermutation (map without_way (members_of worked.now.answered.items))
         (part_answers job.now.topics job.now.size (messages_to job.now.topics 1 contents))
         → IfOk result (λ text. text ≡ one_thread_output job.now.topics contents) }
 {

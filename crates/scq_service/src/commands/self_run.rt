@@ -4,7 +4,7 @@ ghost use Rattle.std.specs.List.{All};
 ghost use Rattle.std.specs.List.Sorted.{IsPermutation};
 ghost use Rattle.scq_collect.specs.Collected.{messages_to};
 ghost use Rattle.scq_collect.specs.Joined.{part_answers, without_way};
-ghost use Rattle.scq_collect.specs.Merging.{members_in};
+ghost use Rattle.scq_collect.specs.Merging.{members_of};
 ghost use Rattle.scq_self.specs.Generated.{generated as the_file, self_topics as the_topics};
 ghost use Rattle.scq_self.specs.Summary.{self_summary};
 ghost use Rattle.scq_work.specs.AllWorkers.{HasWorked, NothingIsStranded};
@@ -111,9 +111,9 @@ fn answer_file<R: Threads + Sync, G: Gate + Sync>(
     requires seed { seed < 2 ^ 31 }
     requires workers { (0 < workers) × (workers ≤ 4096) }
     ensures known { IfOk result (λ a.
-        All (λ m. m.topic ≤ length the_topics) (members_in a.worked.answered.items)) }
+        All (λ m. m.topic ≤ length the_topics) (members_of a.worked.answered.items)) }
     ensures answers { IfOk result (λ a.
-        IsPermutation (map without_way (members_in a.worked.answered.items))
+        IsPermutation (map without_way (members_of a.worked.answered.items))
         (part_answers the_topics (2 ^ 16) (messages_to the_topics 1 (the_file seed lines ∷ [])))) }
     ensures told { IfOk result (λ a.
         HasWorked the_topics (2 ^ 16) workers
@@ -155,9 +155,9 @@ fn summary_of(
     lines: u32,
     worked: &Worked,
 ) -> Result<Bytes, NoMemory>
-    requires { All (λ a. a.topic ≤ length topics.now) (members_in worked.now.answered.items) }
+    requires { All (λ a. a.topic ≤ length topics.now) (members_of worked.now.answered.items) }
     ensures { (seed : ℕ) → topics.now ≡ the_topics
-        → IsPermutation (map without_way (members_in worked.now.answered.items))
+        → IsPermutation (map without_way (members_of worked.now.answered.items))
         (part_answers the_topics (2 ^ 16) (messages_to the_topics 1 (the_file seed lines ∷ [])))
         → IfOk result (λ text. text ≡ self_summary seed lines) }
 {

@@ -41,11 +41,11 @@ impl<B: BufferMut> Worker<B> {
         ensures suits { OnOk result (Suits queue.now (length job.now.topics) self.new.pass) }
         ensures stays { OnOk result (self.new.pass.retired ≡ None) }
         ensures work { OnOk result ((parts : List ThePart)
-            → IsAtWork job.now.topics parts self.old.pass self.old.members.items self.old.starved
+            → IsAtWork job.now.topics parts self.old.pass self.old.members self.old.starved
             → IsAtWork job.now.topics (parts ++ part_of job.now.size message.now part
-            ∷ []) self.new.pass self.new.members.items self.new.starved) }
+            ∷ []) self.new.pass self.new.members self.new.starved) }
         ensures left { IfErr result (λ l. (parts : List ThePart)
-            → IsAtWork job.now.topics parts self.old.pass self.old.members.items self.old.starved
+            → IsAtWork job.now.topics parts self.old.pass self.old.members self.old.starved
             → HasStopped queue.now
             (length (parts ++ part_of job.now.size message.now part ∷ [])) self.new.pass l.held) }
         ensures vain { OnOk result (HelpsInVain (length job.now.topics + 1) self.old.pass
@@ -93,12 +93,12 @@ impl<B: BufferMut> Worker<B> {
         ensures suits { OnOk result (Suits queue.now (length job.now.topics) self.new.pass) }
         ensures stays { OnOk result (self.new.pass.retired ≡ None) }
         ensures work { OnOk result ((parts : List ThePart)
-            → IsAtWork job.now.topics parts self.old.pass self.old.members.items self.old.starved
+            → IsAtWork job.now.topics parts self.old.pass self.old.members self.old.starved
             → IsAtWork job.now.topics (parts
-            ++ all_parts job.now.size message.now) self.new.pass self.new.members.items
+            ++ all_parts job.now.size message.now) self.new.pass self.new.members
             self.new.starved) }
         ensures left { IfErr result (λ l. (parts : List ThePart)
-            → IsAtWork job.now.topics parts self.old.pass self.old.members.items self.old.starved
+            → IsAtWork job.now.topics parts self.old.pass self.old.members self.old.starved
             → HasStopped queue.now
             (length (parts ++ all_parts job.now.size message.now)) self.new.pass l.held) }
         ensures vain { OnOk result (HelpsInVain (length job.now.topics + 1) self.old.pass

@@ -74,7 +74,7 @@ impl<B: BufferMut> Worker<B> {
         requires stays { self.old.pass.retired ≡ None }
         requires bell { W.fits bell.now (W.kept stand.old) job.now.workers }
         ensures pass { self.new.pass ≡ after_retire self.old.pass }
-        ensures same { (self.new.members.items ≡ self.old.members.items)
+        ensures same { (self.new.members ≡ self.old.members)
             × (self.new.starved ≡ self.old.starved) × (self.new.number ≡ self.old.number) }
         ensures bell { W.kept stand.new ≡ W.kept stand.old }
         ensures rung { W.wakes stand.new

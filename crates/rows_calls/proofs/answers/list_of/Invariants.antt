@@ -4,4 +4,4 @@ use Rattle.rows_calls.proofs.answers.list_of.Given as goal
 
 -- each topic so far is declared, or the number behind the last
 abbrev pub invariant-loop-text : goal.invariant-loop-text
-invariant-loop-text l = All (λ a. a.topic ≤ length l.topics) l.list.items
+invariant-loop-text l = All (λ a. a.topic ≤ length l.topics) l.list

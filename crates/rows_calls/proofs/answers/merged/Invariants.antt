@@ -1,8 +1,8 @@
 use Rattle.std.proofs.Common.{◌≤◌, length}
 use Rattle.std.specs.List.{All}
-use Rattle.scq_collect.specs.Merging.{members_in}
+use Rattle.scq_collect.specs.Merging.{members_of}
 use Rattle.rows_calls.proofs.answers.merged.Given as goal
 
 -- each topic so far is declared, or the number behind the last
 abbrev pub invariant-loop-part : goal.invariant-loop-part
-invariant-loop-part l = All (λ a. a.topic ≤ length l.topics) (members_in l.lists.items)
+invariant-loop-part l = All (λ a. a.topic ≤ length l.topics) (members_of l.lists.items)

@@ -1,12 +1,12 @@
 -- What is pushed in seven steps is the answer's bytes.
 use Rattle.std.proofs.Common.{◌≡◌, ◌∙◌, ap, Bool, List, ℕ, ◌+◌, ◌*◌, ◌++◌, [], cond, length, arith}
-use Rattle.scq_collect.specs.Coding.{answer_bytes, number_bytes, part_bytes, step, topic_code}
+use Rattle.scq_collect.specs.Coding.{answer_bytes, body_bytes, number_bytes, part_bytes, step, topic_code}
 use Rattle.scq_collect.specs.PartViews.{part_of_view}
-use Rattle.scq_collect.proofs.CodingLaws.{pushed}
+use Rattle.scq_collect.proofs.CodingLaws.{in-two, pushed}
 use Rattle.scq_collect.proofs.coding.push_answer.Goals as goal
 
 pub returns-clause-bytes : goal.returns-clause-bytes
-unfolding answer_bytes
+unfolding answer_bytes body_bytes
 returns-clause-bytes c =
     let a = part_of_view c.args.answer in
     let items : List ℕ = c.args.block.now.items in
@@ -30,6 +30,7 @@ returns-clause-bytes c =
     let to_five = pushed items (n1 ++ n2 ++ n3 ++ n4) n5 _ _ to_four c.push_number-4.ensures.bytes in
     let to_six = pushed items (n1 ++ n2 ++ n3 ++ n4 ++ n5) n6 _ _ to_five c.push_number-5.ensures.bytes in
     pushed items (n1 ++ n2 ++ n3 ++ n4 ++ n5 ++ n6) a.text _ _ to_six c.push_bytes.ensures.bytes
+    ∙ ap (λ (l : List ℕ). items ++ l) (in-two (n1 ++ n2) n3 n4 n5 n6 a.text)
 
 pub returns-clause-codable : goal.returns-clause-codable
 returns-clause-codable c = record {

@@ -1,14 +1,15 @@
 use Rattle.std.proofs.Common.{◌≡◌, ◌≤◌, ◌++◌, ◌-◌, drop, length, map}
-use Rattle.scq_collect.specs.Joined.{answers_of, plain}
+use Rattle.scq_collect.specs.Joined.{answers_of}
 use Rattle.scq_collect.specs.Output.{answer_of_whole}
+use Rattle.scq_collect.specs.Spots.{plain}
 use Rattle.scq_collect.proofs.merging.wholes_of.Given as goal
 
 -- the answers so far, and those to the messages behind them
 abbrev pub invariant-messages : goal.invariant-messages
 invariant-messages l = record {
-  within : l.at ≤ length l.members;
-  all : map answer_of_whole l.wholes.items ++ answers_of l.topics (plain (drop l.at l.members)) ≡ answers_of l.topics (plain l.members);
+  within : l.at ≤ length l.spots;
+  all : map answer_of_whole l.wholes.items ++ answers_of l.topics (plain (drop l.at l.spots)) ≡ answers_of l.topics (plain l.spots);
 }
 
 abbrev pub decreases-messages : goal.decreases-messages
-decreases-messages l = length l.members - l.at
+decreases-messages l = length l.spots - l.at

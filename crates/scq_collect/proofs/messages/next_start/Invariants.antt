@@ -5,9 +5,9 @@ use Rattle.scq_collect.proofs.messages.next_start.Given as goal
 abbrev pub invariant-parts : goal.invariant-parts
 invariant-parts l = record {
   from : l.from ≤ l.at;
-  within : l.at ≤ length l.members;
-  between : (k : ℕ) (d : _) → l.from ≤ k → k < l.at → (slice_index_or l.members k d).now.part ≢ 1;
+  within : l.at ≤ length l.spots;
+  between : (k : ℕ) (d : _) → l.from ≤ k → k < l.at → (slice_index_or l.spots k d).part ≢ 1;
 }
 
 abbrev pub decreases-parts : goal.decreases-parts
-decreases-parts l = length l.members - l.at
+decreases-parts l = length l.spots - l.at

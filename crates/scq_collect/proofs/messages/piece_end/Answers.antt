@@ -6,4 +6,4 @@ pub returns-clause-messages : goal.returns-clause-messages
 returns-clause-messages c =
     let ends = c.next_start.ensures in
     let behind : c.args.at < c.next_start.result = search rules in
-    piece-cut c.args.members.now c.args.at c.next_start.result behind ends.begins
+    piece-cut c.args.spots.now c.args.at c.next_start.result behind ends.begins

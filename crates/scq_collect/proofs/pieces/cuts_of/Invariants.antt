@@ -1,6 +1,7 @@
 use Rattle.std.proofs.Common.{◌≡◌, ◌≤◌, ◌++◌, ◌-◌, drop, length}
 use Rattle.std.specs.Prelude.{flat_map}
-use Rattle.scq_collect.specs.Joined.{messages_in_order, plain}
+use Rattle.scq_collect.specs.Joined.{messages_in_order}
+use Rattle.scq_collect.specs.Spots.{plain}
 use Rattle.scq_collect.proofs.pieces.cuts_of.Given as goal
 
 -- the cuts so far, and what stands behind them

@@ -1,15 +1,15 @@
-use Rattle.std.proofs.Common.{rules, ◌∙◌, sym, ap, arith, ◌-◌, ◌<◌, ◌^◌, List, [], ◌∷◌, ◌++◌, append_assoc, drop, take, length, map, Bor}
+use Rattle.std.proofs.Common.{rules, ◌∙◌, sym, ap, arith, ◌-◌, ◌<◌, ◌^◌, List, [], ◌∷◌, ◌++◌, append_assoc, drop, take, length, map}
 use Rattle.std.proofs.lemmas.List.{length-append, length-map}
-use Rattle.scq_collect.specs.declared.answered.Answered.{Answered}
-use Rattle.scq_collect.specs.Joined.{PartAnswer, answers_of, joined, messages_in_order, plain, without_way}
+use Rattle.scq_collect.specs.Joined.{PartAnswer, answers_of, joined, messages_in_order}
 use Rattle.scq_collect.specs.Output.{Answer}
+use Rattle.scq_collect.specs.Spots.{plain, spot_answer}
 use Rattle.scq_collect.proofs.Cutting.{few-messages}
 use Rattle.scq_collect.proofs.pieces.piece_of.Goals as goal
 
 pub push_message-requires-clause-room : goal.push_message-requires-clause-room
 push_message-requires-clause-room c =
     let topics = c.args.topics.now in
-    let members = c.args.members.now in
+    let members = c.args.spots.now in
     let at = c.messages.at in
     let known = c.messages.invariant.piece in
     let small : length members < 2 ^ 64 = search rules in
@@ -25,14 +25,14 @@ push_message-requires-clause-room c =
         ap length c.message_end-end.ensures.message,
         length-map (messages_in_order (plain members)) (joined topics),
         few-messages (plain members),
-        length-map members (λ (m : Bor Answered). without_way m.now),
+        length-map members spot_answer,
       ),
     )
 
 pub messages-preserved : goal.messages-preserved
 messages-preserved c =
     let topics = c.args.topics.now in
-    let members = c.args.members.now in
+    let members = c.args.spots.now in
     let at = c.messages.at in
     let end = c.message_end-end.result in
     let known = c.messages.invariant.piece in

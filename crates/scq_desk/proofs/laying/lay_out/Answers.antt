@@ -29,7 +29,7 @@ returns-clause-count g c =
 pub returns-clause-fresh : goal.returns-clause-fresh
 returns-clause-fresh g c =
     let at = (goal.at.returns-clause-fresh g c).After-deal in
-    let P : Seat _ Frame → Type 0 = IsFresh g.W.Sits.pass_of g.W.Sits.list_of c.args.queue.now in
+    let P : Seat _ Frame → Type 0 = IsFresh g.W.Sits.pass_of g.W.Sits.has_none c.args.queue.now in
     subst (λ (ds : List (Desk (Seat _ Frame) _)). All (λ d. P d.worker) ds) (sym (whole g at))
     (all-same P c.make_desks.new.desks.items c.deal.new.desks (sym (same g at)) c.make_desks.ensures.fresh)
 

@@ -108,7 +108,7 @@ returns-clause-fed g c none =
 pub returns-clause-lists : goal.returns-clause-lists
 returns-clause-lists g c =
     let at = (goal.at.returns-clause-lists g c).After-clear in
-    let list_at : Desk (Seat _ Frame) _ → Vec _ Global = λ d. g.W.Sits.list_of d.worker.worker in
+    let list_at : Desk (Seat _ Frame) _ → _ = λ d. g.W.Sits.list_of d.worker.worker in
     c.clear.ensures.lists ∙ ap (map list_at) (whole g at)
     ∙ same-shown (λ (s : Seat _ Frame). g.W.Sits.list_of s.worker) c.gather.new.desks c.args.desks.items (same g at)
 

@@ -5,7 +5,7 @@ use Rattle.std.specs.Global.{Global}
 use Rattle.scq_block.specs.declared.frame.Frame.{Frame}
 use Rattle.scq_frames.specs.declared.message.Message.{Message}
 use Rattle.scq_collect.specs.declared.answered.Answered.{Answered}
-use Rattle.scq_collect.specs.Merging.{members_in}
+use Rattle.scq_collect.specs.Merging.{members_of}
 use Rattle.scq_queue.specs.Lists.{counts_of}
 use Rattle.scq_queue.specs.Passes.{PassStanding, lists_of}
 use Rattle.scq_passes.specs.AllPasses.{lengths_of}
@@ -86,13 +86,13 @@ returns-clause-end g c =
     let answered = have-answered queue.setup queue topics size longest faults end_count left sources desks f left_in said.closed whole (said.fed is.1) in
     let its_passes : wound.passes.value.items ≡ passes_at desks = said.passes.0 in
     let gave = given queue.setup queue topics size longest faults end_count left sources desks f in
-    let Are : List (PassStanding Frame) → List (Vec Answered Global) → ℕ → Type 0 = λ ps ls n. HaveAnswered topics size n gave ps ls in
+    let Are : List (PassStanding Frame) → List (List Answered) → ℕ → Type 0 = λ ps ls n. HaveAnswered topics size n gave ps ls in
     subst Of (sym is.0) (
       gave,
       is-given queue.setup queue topics size longest faults end_count left sources desks f whole,
       record {
         answered = subst (λ (ps : List (PassStanding Frame)). Are ps wound.lists.items c.args.job.now.workers) (sym its_passes)
-            (subst (λ (ls : List (Vec Answered Global)). Are (passes_at desks) ls c.args.job.now.workers) (sym said.lists)
+            (subst (λ (ls : List (List Answered)). Are (passes_at desks) ls c.args.job.now.workers) (sym said.lists)
             (subst (λ n. Are (passes_at desks) (lists_at desks) n) c.requires.count answered));
         counts = said.counts ∙ ap (map (λ (p : PassStanding Frame). counts_of (lists_of p))) its_passes
             ∙ counts-exact (2 ^ 36) (omega arith) (passes_at desks) shared.bounded ∙ ap (map lengths_of) (sym its_passes);
@@ -105,7 +105,7 @@ returns-clause-end g c =
           (said.stops longest ended (λ w d less. (c.requires.run w d less).stops));
       whole = ok-on result _ _ ok (λ w why. gathered.sound why.2);
       answers = ok-more result Of _ worked
-          (λ w has. members-told topics size longest left sources has.0 (members_in w.answered.items) has.1 has.2.answered.once);
+          (λ w has. members-told topics size longest left sources has.0 (members_of w.answered.items) has.1 has.2.answered.once);
       told = ok-more result Of _ worked (λ w has. told-worked topics size c.args.job.now.workers has.0 w (all_left left sources)
           (given-told topics longest left 1 sources has.0 has.1) has.2);
       worked = worked;

@@ -29,7 +29,7 @@ begun : (g : _) (c : After-read_files g) → IsAt c.args.queue.now c.args.job.no
 begun g c =
     let worker = c.args.desk.now.worker.worker in
     let topics = c.args.job.now.topics in (
-      work-first topics c.args.queue.now worker.pass.number worker.pass worker.members.items worker.starved c.requires.fresh.pass c.requires.fresh.members,
+      work-first topics c.args.queue.now worker.pass.number worker.pass worker.members worker.starved c.requires.fresh.pass c.requires.fresh.members,
       vain-first c.args.queue.now (length topics + 1) worker.pass.number worker.pass c.requires.fresh.pass,
     )
 
@@ -79,10 +79,10 @@ returns-in-Ok-clause-produced g c =
     let gone = c.in-Ok.ensures.handled.0 in
     let at = gone.work [] (begun g (goal.at.returns-in-Ok-clause-produced g c).After-read_files) in
     let files-are = whole g (goal.at.returns-in-Ok-clause-produced g c).After-read_files in
-    subst (λ (fs : List (OwnFile _)). HasProduced c.args.queue.now job.topics job.size job.longest faults end_count left fs now.pass now.members.items
+    subst (λ (fs : List (OwnFile _)). HasProduced c.args.queue.now job.topics job.size job.longest faults end_count left fs now.pass now.members
     now.starved kept)
     (sym files-are)
-    (produced-awake c.args.queue.now job.topics job.size job.longest faults end_count left files was.pass now.pass was.members.items now.members.items
+    (produced-awake c.args.queue.now job.topics job.size job.longest faults end_count left files was.pass now.pass was.members now.members
     was.starved now.starved kept c.read_files.ensures.read c.read_files.ensures.stops gone.suits at.0 at.1 c.retire.ensures.pass c.retire.ensures.same.0
     c.retire.ensures.same.1 c.requires.fresh.kept)
 
@@ -103,8 +103,8 @@ returns-in-Err-clause-produced g c =
     let now = c.keep.new.self in
     let start = begun g (goal.at.returns-in-Err-clause-produced g c).After-read_files in
     subst (λ (fs : List (OwnFile _)). HasProduced c.args.queue.now job.topics job.size job.longest faults end_count left fs now.worker.pass
-    now.worker.members.items now.worker.starved now.kept) (sym (whole g (goal.at.returns-in-Err-clause-produced g c).After-read_files))
-    (produced-stopped c.args.queue.now job.topics job.size job.longest faults end_count left files was.pass now.worker.pass now.worker.members.items
+    now.worker.members now.worker.starved now.kept) (sym (whole g (goal.at.returns-in-Err-clause-produced g c).After-read_files))
+    (produced-stopped c.args.queue.now job.topics job.size job.longest faults end_count left files was.pass now.worker.pass now.worker.members
     now.worker.starved now.kept c.in-Err.at_limit.held c.read_files.ensures.read c.read_files.ensures.stops (c.in-Err.ensures.stopped.0.left [] start)
     (ap (λ (w : Worker _). w.pass) c.keep.ensures.same ∙ c.retire-in-Err.ensures.pass) c.keep.ensures.kept)
 

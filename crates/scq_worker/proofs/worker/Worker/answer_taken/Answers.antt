@@ -9,7 +9,7 @@ use Rattle.scq_worker.proofs.worker.Worker.answer_taken.Goals as goal
 pub returns-then-part-len-clause-takes : goal.returns-then-part-len-clause-takes
 returns-then-part-len-clause-takes g c fed topic takes before =
     let p : Part = part_of_view c.in-Some.part in
-    so-far-answered c.args.job.now.topics takes c.args.self.now.members.items c.answer.new.self.members.items
+    so-far-answered c.args.job.now.topics takes c.args.self.now.members c.answer.new.self.members
     (record { topic = topic; place = c.args.place; bytes = c.args.bytes.now }) p (omega arith)
     c.in-Some.ensures.numbered (search rules) c.in-Some.ensures.found
     (λ other fits begins. let same = c.in-Some.ensures.only other fits begins in cc)

@@ -10,7 +10,7 @@ use Rattle.scq_worker.proofs.worker.Worker.help.Goals as goal
 pub topics-init : goal.topics-init
 topics-init g c = record {
   taken = taken-nothing c.args.self.now.pass;
-  answered = λ fed. answered-nothing c.args.job.now.topics c.args.self.now.pass c.args.self.now.members.items;
+  answered = λ fed. answered-nothing c.args.job.now.topics c.args.self.now.pass c.args.self.now.members;
   starved = λ fed. fed;
   number = refl;
   vain = omega arith;
@@ -24,8 +24,8 @@ topics-preserved g c =
     let inv = c.topics.invariant in
     record {
       taken = taken-along c.args.self.now.pass c.topics.self.pass c.take_one.new.self.pass inv.taken c.in_ok-take_one.ensures.taken;
-      answered = λ fed. answered-along c.args.job.now.topics c.args.self.now.pass c.topics.self.pass c.take_one.new.self.pass c.args.self.now.members.items
-          c.topics.self.members.items c.take_one.new.self.members.items (inv.answered (c.take_one.ensures.starved fed)) (c.in_ok-take_one.ensures.answered fed);
+      answered = λ fed. answered-along c.args.job.now.topics c.args.self.now.pass c.topics.self.pass c.take_one.new.self.pass c.args.self.now.members
+          c.topics.self.members c.take_one.new.self.members (inv.answered (c.take_one.ensures.starved fed)) (c.in_ok-take_one.ensures.answered fed);
       starved = λ fed. inv.starved (c.take_one.ensures.starved fed);
       number = c.take_one.ensures.number ∙ inv.number;
       vain = omega (arith, inv.vain, c.in_ok-take_one.ensures.vain);

@@ -10,7 +10,7 @@ use Rattle.scq_worker.proofs.worker.Worker.help.Given as goal
 abbrev pub invariant-topics : goal.invariant-topics
 invariant-topics g l = record {
   taken : HasTaken l.fn.self.pass l.self.pass;
-  answered : l.self.starved ≡ false → HasAnswered l.job.topics l.fn.self.pass l.self.pass l.fn.self.members.items l.self.members.items;
+  answered : l.self.starved ≡ false → HasAnswered l.job.topics l.fn.self.pass l.self.pass l.fn.self.members l.self.members;
   starved : l.self.starved ≡ false → l.fn.self.starved ≡ false;
   number : l.self.number ≡ l.fn.self.number;
   vain : TookInVain l.topic l.fn.self.pass l.self.pass;

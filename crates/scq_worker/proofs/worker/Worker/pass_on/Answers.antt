@@ -42,7 +42,7 @@ parts-init g c = record {
   suits = c.requires.suits;
   stays = c.requires.stays;
   work = λ parts was.
-      subst (λ (l : List Part). IsAtWork c.args.job.now.topics l c.args.self.now.pass c.args.self.now.members.items c.args.self.now.starved)
+      subst (λ (l : List Part). IsAtWork c.args.job.now.topics l c.args.self.now.pass c.args.self.now.members c.args.self.now.starved)
       (sym (append-nil parts)) was;
   vain = λ was. was;
   bell = refl;
@@ -61,7 +61,7 @@ parts-preserved g c =
       suits = its.suits;
       stays = its.stays;
       work = λ parts was.
-          subst (λ (l : List Part). IsAtWork c.args.job.now.topics l now.pass now.members.items now.starved)
+          subst (λ (l : List Part). IsAtWork c.args.job.now.topics l now.pass now.members now.starved)
           (grown c.args.job.now.size c.parts.before c.args.message.now parts)
           (its.work (parts ++ map (part_of c.args.job.now.size c.args.message.now) (range_with_len 1 c.parts.before)) (inv.work parts was));
       vain = λ was. its.vain (inv.vain was);
@@ -84,7 +84,7 @@ returns-in_err-pass_part-clause-left g c =
     let size = c.args.job.now.size in
     let m = c.args.message.now in
     let is : c.from_residual.result ≡ Err c.in_err-pass_part.field-0.0 = search rules in
-    subst (λ (r : Result _ _). IfErr r (λ l. (parts : List Part) → IsAtWork c.args.job.now.topics parts start.pass start.members.items start.starved
+    subst (λ (r : Result _ _). IfErr r (λ l. (parts : List Part) → IsAtWork c.args.job.now.topics parts start.pass start.members start.starved
     → HasStopped c.args.queue.now (length (parts ++ all_parts size m)) c.pass_part.new.self.pass l.held)) (sym is)
     (λ parts was.
     let front = map (part_of size m) (range_with_len 1 c.parts.before) in

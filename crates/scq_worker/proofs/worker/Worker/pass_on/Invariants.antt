@@ -12,8 +12,8 @@ abbrev pub invariant-parts : goal.invariant-parts
 invariant-parts g l = record {
   suits : Suits l.queue (length l.job.topics) l.self.pass;
   stays : l.self.pass.retired ≡ None;
-  work : (parts : List Part) → IsAtWork l.job.topics parts l.fn.self.pass l.fn.self.members.items l.fn.self.starved
-      → IsAtWork l.job.topics (parts ++ map (part_of l.job.size l.message) (range_with_len 1 l.before)) l.self.pass l.self.members.items l.self.starved;
+  work : (parts : List Part) → IsAtWork l.job.topics parts l.fn.self.pass l.fn.self.members l.fn.self.starved
+      → IsAtWork l.job.topics (parts ++ map (part_of l.job.size l.message) (range_with_len 1 l.before)) l.self.pass l.self.members l.self.starved;
   vain : HelpsInVain (length l.job.topics + 1) l.fn.self.pass → HelpsInVain (length l.job.topics + 1) l.self.pass;
   bell : g.W.Bell.kept l.stand ≡ g.W.Bell.kept l.fn.stand;
   rung : RingsOn l.fn.self.number l.job.workers l.fn.self.pass l.self.pass (g.W.Bell.wakes l.fn.stand) (g.W.Bell.wakes l.stand);

@@ -37,14 +37,14 @@ returns-in_err-send_in-in-Ok-clause-left g c =
     let said = c.in_err-send_in-in-Ok.ensures in
     let is : c.from_residual.result ≡ Err c.in_err-send_in-in-Ok.field-0.0 = search rules in
     subst (λ (r : Result _ _). IfErr r (λ l. (messages : List Part)
-    → IsAtWork c.args.job.now.topics messages p c.args.self.now.members.items c.args.self.now.starved
+    → IsAtWork c.args.job.now.topics messages p c.args.self.now.members c.args.self.now.starved
     → HasStopped c.args.queue.now (length (messages ++ m ∷ [])) c.send_in.new.self.pass l.held)) (sym is)
     (λ messages was.
     let kept = c.in_err-send_in-in-Ok.field-0.0.held in
     let left : HasLeft (length messages) (length messages + 1) p c.send_in.new.self.pass kept =
     left-sent g.B.Buffer.contents (length messages) m.topic said.spent.0 p c.lend.new.pass c.send_in.new.self.pass c.in-Ok.held kept c.in-Ok.ensures.lent
     said.spent.1 said.kept said.back in
-    work-stopped c.args.queue.now c.args.job.now.topics messages m p c.send_in.new.self.pass c.args.self.now.members.items c.args.self.now.starved kept was
+    work-stopped c.args.queue.now c.args.job.now.topics messages m p c.send_in.new.self.pass c.args.self.now.members c.args.self.now.starved kept was
     c.requires.suits.queue c.requires.stays left)
 
 -- it sent the message
@@ -58,9 +58,9 @@ returns-in_ok-send_in-in-Ok-clause-work g c messages was =
     lent-and-sent g.B.Buffer.contents m.topic (Sends m) said.0 said.1 p c.lend.new.pass c.send_in.new.self.pass c.in-Ok.held within c.in-Ok.ensures.lent said.2 said.3 in
     let same = c.in_ok-send_in-in-Ok.ensures.same in
     let now = c.send_in.new.self in
-    subst (λ (starved : Bool). IsAtWork c.args.job.now.topics (messages ++ m ∷ []) now.pass now.members.items starved) (sym same.1)
+    subst (λ (starved : Bool). IsAtWork c.args.job.now.topics (messages ++ m ∷ []) now.pass now.members starved) (sym same.1)
     (subst (λ (members : List Answered). IsAtWork c.args.job.now.topics (messages ++ m ∷ []) now.pass members c.args.self.now.starved) (sym same.0)
-    (work-sent c.args.job.now.topics messages m p now.pass c.args.self.now.members.items c.args.self.now.starved was within sent))
+    (work-sent c.args.job.now.topics messages m p now.pass c.args.self.now.members c.args.self.now.starved was within sent))
 
 -- the lend met Spent
 pub returns-in-Err-Spent-clause-left : goal.returns-in-Err-Spent-clause-left
@@ -68,7 +68,7 @@ returns-in-Err-Spent-clause-left g c messages was =
     let p = c.args.self.now.pass in
     let spent = (c.in-Err-Spent.ensures.spent c.in-Err-Spent.field-0-0 (cc) c.requires.suits.spent).0 in
     work-stopped c.args.queue.now c.args.job.now.topics messages (part_of c.args.job.now.size c.args.message.now c.args.part)
-    p c.lend.new.pass c.args.self.now.members.items
+    p c.lend.new.pass c.args.self.now.members
     c.args.self.now.starved None was
     c.requires.suits.queue c.requires.stays
     (left-more (length messages) p c.lend.new.pass None (left-at-get (length messages) 0 c.in-Err-Spent.field-0-0 p c.lend.new.pass spent))
@@ -95,13 +95,13 @@ returns-in_err-help-in-Err-Full-clause-left g c =
     let kept = c.in_err-help-in-Err-Full.field-0.0.held in
     let is : c.from_residual-in_err-help-in-Err-Full.result ≡ Err c.in_err-help-in-Err-Full.field-0.0 = search rules in
     subst (λ (x : Result _ _). IfErr x (λ l. (messages : List Part)
-    → IsAtWork c.args.job.now.topics messages p c.args.self.now.members.items c.args.self.now.starved
+    → IsAtWork c.args.job.now.topics messages p c.args.self.now.members c.args.self.now.starved
     → HasStopped c.args.queue.now (length (messages ++ m ∷ [])) r l.held)) (sym is)
     (λ messages was.
     let left : HasLeft (length messages + 1) (length messages + 1) c.lend.new.pass r kept =
     subst (λ (q : PassStanding _). HasLeft (length messages + 1) (length messages + 1) q r kept) c.answer_directly.ensures.same.0
     (c.in_err-help-in-Err-Full.ensures.left (length messages + 1)) in
-    work-stopped c.args.queue.now c.args.job.now.topics messages m p r c.args.self.now.members.items c.args.self.now.starved kept was c.requires.suits.queue
+    work-stopped c.args.queue.now c.args.job.now.topics messages m p r c.args.self.now.members c.args.self.now.starved kept was c.requires.suits.queue
     c.requires.stays
     (left-full (length messages) c.in-Err-Full.head p c.lend.new.pass r kept full left))
 
@@ -137,14 +137,14 @@ returns-in_ok-help-in-Err-Full-clause-work g c messages was =
     let mid = c.answer_directly.new.self in
     let same = c.answer_directly.ensures.same.0 in
     work-helped topics messages (part_of c.args.job.now.size c.args.message.now c.args.part) c.in-Err-Full.head
-    c.args.self.now.pass c.lend.new.pass now.pass c.args.self.now.members.items
-    mid.members.items now.members.items
+    c.args.self.now.pass c.lend.new.pass now.pass c.args.self.now.members
+    mid.members now.members
     c.args.self.now.starved now.starved was full (helped g c)
     (λ t low. said.each t low ∙ ap (λ (x : PassStanding _). count_by (is_take t) x.calls + 1) same)
     (said.gates ∙ ap (λ (x : PassStanding _). x.gates) same)
     (λ fed. c.answer_directly.ensures.starved (c.help.ensures.starved fed))
     (λ fed. c.answer_directly.ensures.listed (c.help.ensures.starved fed))
-    (λ fed. subst (λ (x : PassStanding _). HasAnswered topics x now.pass mid.members.items now.members.items) same (said.answered fed))
+    (λ fed. subst (λ (x : PassStanding _). HasAnswered topics x now.pass mid.members now.members) same (said.answered fed))
 
 -- what it took in vain is paid for by its Fulls
 pub returns-in_ok-send_in-in-Ok-clause-vain : goal.returns-in_ok-send_in-in-Ok-clause-vain

@@ -27,8 +27,8 @@ returns-clause-handled g c =
     let r = c.pass_on.result in
     let Fits : Type 0 = Suits queue (length topics) now.pass in
     let Stays : Type 0 = now.pass.retired ≡ None in
-    let Works : Type 0 = (parts : List Part) → IsAtWork topics parts was.pass was.members.items was.starved
-    → IsAtWork topics (parts ++ all_parts size m) now.pass now.members.items now.starved in
+    let Works : Type 0 = (parts : List Part) → IsAtWork topics parts was.pass was.members was.starved
+    → IsAtWork topics (parts ++ all_parts size m) now.pass now.members now.starved in
     let Helps : Type 0 = HelpsInVain (length topics + 1) was.pass → HelpsInVain (length topics + 1) now.pass in
     let Rings : Type 0 =
     RingsOn was.number c.args.with.now.job.now.workers was.pass now.pass (g.W.Bell.wakes c.args.beside.now) (g.W.Bell.wakes c.pass_on.new.stand) in
@@ -38,7 +38,7 @@ returns-clause-handled g c =
         suits = at.0;
         stays = at.1;
         work = λ before so. (
-          subst (λ (parts : List Part). IsAtWork topics parts now.pass now.members.items now.starved) (one-more size before m)
+          subst (λ (parts : List Part). IsAtWork topics parts now.pass now.members now.starved) (one-more size before m)
               (more.0 (parts_in size before) so.0),
           more.1 so.1,
         );
@@ -63,7 +63,7 @@ returns-clause-stopped g c =
     let its = c.pass_on.ensures in
     let kept = g.W.Bell.kept in
     err-then c.pass_on.result
-    (λ l. (parts : List Part) → IsAtWork topics parts was.pass was.members.items was.starved
+    (λ l. (parts : List Part) → IsAtWork topics parts was.pass was.members was.starved
     → HasStopped queue (length (parts ++ all_parts size m)) now.pass l.held)
     (λ l. HasStoppedAt queue topics size (m ∷ []) was now l.held × (kept c.pass_on.new.stand ≡ kept c.args.beside.now))
     (λ l left. (

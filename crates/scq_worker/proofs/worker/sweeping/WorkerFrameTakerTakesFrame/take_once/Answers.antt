@@ -10,6 +10,6 @@ returns-clause-made g c =
     let now = c.take_one.new.self in
     let its = c.take_one.ensures in
     let Answers : Type 0 = now.starved ≡ false
-    → HasAnswered c.args.with.now.job.now.topics was.pass now.pass was.members.items now.members.items in
+    → HasAnswered c.args.with.now.job.now.topics was.pass now.pass was.members now.members in
     on-both c.take_one.result (λ (taken : HasTaken was.pass now.pass) (answered : Answers). record { answered = answered; fed = its.starved }) its.taken
     its.answered
