@@ -1,4 +1,5 @@
 -- Workers at their desks.
+use Rattle.std.specs.Prelude.{◌≡◌, []}
 use Rattle.scq_band.specs.Standing.{Identity}
 use Rattle.scq_desk.specs.Seats as seats
 use Rattle.scq_desk.specs.declared.seat.Seat.{Seat}
