@@ -5,9 +5,9 @@ use Rattle.std.specs.List.{All}
 use Rattle.std.proofs.lemmas.Option.{slice_get_within, get_or_from_slice_get}
 use Rattle.scq_frames.specs.Trouble.{Trouble, LongPayload, ManyBytes}
 use Rattle.scq_frames.specs.Judged.{file_trouble}
-use Rattle.scq_outside.specs.Table.{Table}
 use Rattle.std.specs.Option.{option_map}
 use Rattle.scq_words.specs.declared.text_request.TextCommand.{TextCommand}
+use Rattle.scq_service.specs.Members.{SourceOf}
 use Rattle.scq_service.specs.Causes.{IsTroubled}
 use Rattle.scq_files.specs.Ends.{all_left}
 use Rattle.scq_outside.specs.Counts.{Rose}
@@ -41,27 +41,27 @@ above-none faults sources k quiet some =
     let found = all-at (λ source. faults source ≡ 0) (λ source. 0 < faults source) sources k quiet some in
     omega (arith, found.1, found.2)
 
-pub complete : {S : Type 0} (size : ℕ) (text : List (List ℕ) → List ℕ) (faults end_count : S → ℕ) (left : S → Option (List ℕ)) (names : List (List ℕ))
+pub complete : {S : Type 0} (size : ℕ) (text : List (List ℕ) → List ℕ) (src : SourceOf S) (names : List (List ℕ))
     (got : List S) (r : Inputs S) (w : Wrote) (end : Option Fault)
-    → EndsOver size text faults end_count left names got r w end → IsCalm size faults left names got r w → (end ≡ None) ⊎ (end ≡ Some NoMemory)
-complete size text faults end_count left names got r w None e calm = inl refl
-complete size text faults end_count left names got r w (Some NoMemory) e calm = inr refl
-complete size text faults end_count left names got r w (Some WriteFault) e calm = absurd (calm.writes e.1)
-complete size text faults end_count left names got r w (Some (OpenFault file)) e calm = absurd (calm.opens e.0.missed.rose)
-complete size text faults end_count left names got r w (Some (ReadFault file)) e calm = absurd (above-none faults r.sources (file - 1) calm.quiet e.0.2)
-complete size text faults end_count left names got r w (Some (TooLong file line len limit)) e calm =
-    absurd (never size (LongPayload line len) (all_left left got) file _ calm.visible calm.sound e.0.5 (λ contents t. t))
-complete size text faults end_count left names got r w (Some (TooLarge file limit)) e calm =
-    absurd (never size ManyBytes (all_left left got) file _ calm.visible calm.sound e.0.3 (λ contents t. t.0))
-complete size text faults end_count left names got r w (Some (Words fault)) e calm = absurd (e.0)
-complete size text faults end_count left names got r w (Some (BadLine line)) e calm = absurd (e.0)
-complete size text faults end_count left names got r w (Some (NotEnabled line)) e calm = absurd (e.0)
-complete size text faults end_count left names got r w (Some (Unlawful line)) e calm = absurd (e.0)
-complete size text faults end_count left names got r w (Some (Unfinished seat)) e calm = absurd (e.0)
-complete size text faults end_count left names got r w (Some (BadLineOf file line)) e calm = absurd (e.0)
-complete size text faults end_count left names got r w (Some (SharedOf what file line g m)) e calm = absurd (e.0)
-complete size text faults end_count left names got r w (Some (TwoRunsOf file n g s)) e calm = absurd (e.0)
-complete size text faults end_count left names got r w (Some (UnlawfulOf file line)) e calm = absurd (e.0)
+    → EndsOver size text src names got r w end → IsCalm size src names got r w → (end ≡ None) ⊎ (end ≡ Some NoMemory)
+complete size text src names got r w None e calm = inl refl
+complete size text src names got r w (Some NoMemory) e calm = inr refl
+complete size text src names got r w (Some WriteFault) e calm = absurd (calm.writes e.1)
+complete size text src names got r w (Some (OpenFault file)) e calm = absurd (calm.opens e.0.missed.rose)
+complete size text src names got r w (Some (ReadFault file)) e calm = absurd (above-none src.faults r.sources (file - 1) calm.quiet e.0.2)
+complete size text src names got r w (Some (TooLong file line len limit)) e calm =
+    absurd (never size (LongPayload line len) (all_left src.left got) file _ calm.visible calm.sound e.0.5 (λ contents t. t))
+complete size text src names got r w (Some (TooLarge file limit)) e calm =
+    absurd (never size ManyBytes (all_left src.left got) file _ calm.visible calm.sound e.0.3 (λ contents t. t.0))
+complete size text src names got r w (Some (Words fault)) e calm = absurd (e.0)
+complete size text src names got r w (Some (BadLine line)) e calm = absurd (e.0)
+complete size text src names got r w (Some (NotEnabled line)) e calm = absurd (e.0)
+complete size text src names got r w (Some (Unlawful line)) e calm = absurd (e.0)
+complete size text src names got r w (Some (Unfinished seat)) e calm = absurd (e.0)
+complete size text src names got r w (Some (BadLineOf file line)) e calm = absurd (e.0)
+complete size text src names got r w (Some (SharedOf what file line g m)) e calm = absurd (e.0)
+complete size text src names got r w (Some (TwoRunsOf file n g s)) e calm = absurd (e.0)
+complete size text src names got r w (Some (UnlawfulOf file line)) e calm = absurd (e.0)
 
 -- a run over no file of the outside, none of whose writes failed, ends likewise
 pub complete-alone : (text : List ℕ) (w : Wrote) (end : Option Fault) → EndsAlone text w end → ¬ Rose w.faults.old w.faults.new
@@ -109,23 +109,23 @@ fits-or-large left (g ∷ gs) (x ∷ xs) read one some visible more large fits =
       at (Some content) there large fits = past (left x) (length content) (large 0 x (omega arith)) fits
 
 -- a run over one whole file, in whose way nothing stood, ends by its text or for want of memory
-pub complete-text : {S : Type 0} (command : TextCommand) (faults end_count : S → ℕ) (left : S → Option (List ℕ)) (name : List ℕ) (got : List S) (r : Inputs S)
+pub complete-text : {S : Type 0} (command : TextCommand) (src : SourceOf S) (name : List ℕ) (got : List S) (r : Inputs S)
     (w : Wrote) (end : Option Fault)
-    → EndsWhole command faults end_count left name got r w end → IsCalmText faults left got r w → IsOfTextAlone command end
-complete-text command faults end_count left name got r w None e calm = inl refl
-complete-text command faults end_count left name got r w (Some NoMemory) e calm = inr (inl refl)
-complete-text command faults end_count left name got r w (Some WriteFault) e calm = absurd (calm.writes e.1)
-complete-text command faults end_count left name got r w (Some (OpenFault file)) e calm = absurd (calm.opens e.1.rose)
-complete-text command faults end_count left name got r w (Some (ReadFault file)) e calm = absurd (one-apart faults r.sources e.1.one.one.1 calm.quiet e.1.failed)
-complete-text command faults end_count left name got r w (Some (TooLarge file limit)) e calm =
-    absurd (fits-or-large left got r.sources r.read e.2.one.one.0 e.2.one.one.1 calm.visible e.2.read e.2.bytes calm.fits)
-complete-text command faults end_count left name got r w (Some (BadLine line)) e calm = inr (inr e.0)
-complete-text command faults end_count left name got r w (Some (NotEnabled line)) e calm = inr (inr e.0)
-complete-text command faults end_count left name got r w (Some (Unlawful line)) e calm = inr (inr e.0)
-complete-text command faults end_count left name got r w (Some (Unfinished seat)) e calm = inr (inr e.0)
-complete-text command faults end_count left name got r w (Some (BadLineOf file line)) e calm = inr (inr e.0)
-complete-text command faults end_count left name got r w (Some (SharedOf what file line g m)) e calm = inr (inr e.0)
-complete-text command faults end_count left name got r w (Some (TwoRunsOf file n g s)) e calm = inr (inr e.0)
-complete-text command faults end_count left name got r w (Some (UnlawfulOf file line)) e calm = inr (inr e.0)
-complete-text command faults end_count left name got r w (Some (TooLong file line len limit)) e calm = inr (inr e.0)
-complete-text command faults end_count left name got r w (Some (Words fault)) e calm = inr (inr e.0)
+    → EndsWhole command src name got r w end → IsCalmText src got r w → IsOfTextAlone command end
+complete-text command src name got r w None e calm = inl refl
+complete-text command src name got r w (Some NoMemory) e calm = inr (inl refl)
+complete-text command src name got r w (Some WriteFault) e calm = absurd (calm.writes e.1)
+complete-text command src name got r w (Some (OpenFault file)) e calm = absurd (calm.opens e.1.rose)
+complete-text command src name got r w (Some (ReadFault file)) e calm = absurd (one-apart src.faults r.sources e.1.one.one.1 calm.quiet e.1.failed)
+complete-text command src name got r w (Some (TooLarge file limit)) e calm =
+    absurd (fits-or-large src.left got r.sources r.read e.2.one.one.0 e.2.one.one.1 calm.visible e.2.read e.2.bytes calm.fits)
+complete-text command src name got r w (Some (BadLine line)) e calm = inr (inr e.0)
+complete-text command src name got r w (Some (NotEnabled line)) e calm = inr (inr e.0)
+complete-text command src name got r w (Some (Unlawful line)) e calm = inr (inr e.0)
+complete-text command src name got r w (Some (Unfinished seat)) e calm = inr (inr e.0)
+complete-text command src name got r w (Some (BadLineOf file line)) e calm = inr (inr e.0)
+complete-text command src name got r w (Some (SharedOf what file line g m)) e calm = inr (inr e.0)
+complete-text command src name got r w (Some (TwoRunsOf file n g s)) e calm = inr (inr e.0)
+complete-text command src name got r w (Some (UnlawfulOf file line)) e calm = inr (inr e.0)
+complete-text command src name got r w (Some (TooLong file line len limit)) e calm = inr (inr e.0)
+complete-text command src name got r w (Some (Words fault)) e calm = inr (inr e.0)

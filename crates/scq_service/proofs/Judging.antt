@@ -1,21 +1,25 @@
 -- The sources of recordings that were got, and their contents.
-use Rattle.std.proofs.Common.{◌≡◌, ◌∙◌, refl, sym, ap, subst, arith, ℕ, suc, zero, ◌+◌, ◌<◌, ◌≤◌, Bool, List, [], ◌∷◌, length, take, slice_get, Option, Some, None, Ok, IfSome}
+use Rattle.std.proofs.Common.{◌≡◌, ◌∙◌, refl, sym, ap, subst, arith, ℕ, suc, zero, ◌+◌, ◌<◌, Bool, List, [], ◌∷◌, ◌++◌, length, length-append, take, slice_get, Option, Some, None, Result, Ok, Err, IfOk, IfSome}
 use Rattle.std.specs.Prelude.{slice_index_or, ◌==◌}
 use Rattle.std.specs.Option.{option_map}
 use Rattle.std.proofs.Math.Seq.{take-length}
 use Rattle.scq_outside.specs.Table.{Table}
 use Rattle.scq_judge.specs.Files.{HaveContents}
-use Rattle.scq_judge.specs.Judged.{AreSoundBefore, IsCause, IsCauseIn}
+use Rattle.scq_judge.specs.Judged.{AreSoundBefore, IsCause, IsCauseIn, IsJudged}
 use Rattle.scq_judge.specs.Reads.{AreReadUntil, AreReadWhole, HasGiven, HasStopped, HaveBeenRead, IsOfOneFile, OfEach, Progress}
 use Rattle.scq_judge.specs.Recording.{recording_of}
 use Rattle.scq_judge.specs.declared.judging.JudgeFault.{JudgeFault}
 use Rattle.scq_judge.specs.declared.judging.JudgeFault.TheVariants as judge
 use Rattle.scq_judge.proofs.JudgeLemmas.{cause_of_recorded, sound_all, until_recorded}
 use Rattle.scq_files.specs.Ends.{HasMoved, all_left}
+use Rattle.scq_service.specs.Members.{FilesOf, SourceOf}
 use Rattle.scq_service.specs.Answers.{HaveCome}
 use Rattle.scq_service.specs.Contents.{IsMissing, without_names}
-use Rattle.scq_service.specs.Ends.{Change, Wrote, HasGotSources, HasMissed, HaveAll, EndsJudged, IfTold, IsUnchanged, IsUnopened, IsUnwritten}
+use Rattle.scq_service.specs.Ends.{Change, Wrote, HasGotSources, HasMissed, HaveAll, EndsJudged, IfTold, IsReported, IsUnchanged, IsUnopened, IsUnwritten, inputs_of}
 use Rattle.scq_service.specs.Faults.{fault_of_judge}
+use Rattle.scq_service.specs.declared.fault.Fault.{Fault}
+use Rattle.scq_service.specs.declared.fault.Fault.TheVariants.{OpenFault}
+use Rattle.scq_service.proofs.Coming.{IsGot, IsMissed, IsNext, come-got, come-missed, has-missed}
 use Rattle.scq_service.proofs.Files.{parts}
 use Rattle.scq_service.proofs.Working.{has-got}
 
@@ -43,16 +47,16 @@ told_of {S} left sources P holds = at (all_left left sources) refl where
   at (Some contents) is = holds contents (contents_left left sources contents is)
 
 -- what each source gave
-pub moved_of : {S : Type 0} (faults : S → ℕ) (left : S → Option (List ℕ)) (olds news : List S) → OfEach (length olds) (HasGiven faults left) olds news
-    → (k : ℕ) (d : S) → k < length olds → HasMoved faults left (slice_index_or olds k d) (slice_index_or news k d)
-moved_of {S} faults left olds news given = λ k d lt. let h = given k d lt in record { bytes = h.bytes; moved = h.took; counted = h.counted }
+pub moved_of : {S : Type 0} (src : SourceOf S) (olds news : List S) → OfEach (length olds) (HasGiven src.faults src.left) olds news
+    → (k : ℕ) (d : S) → k < length olds → HasMoved src.faults src.left (slice_index_or olds k d) (slice_index_or news k d)
+moved_of {S} src olds news given = λ k d lt. let h = given k d lt in record { bytes = h.bytes; moved = h.took; counted = h.counted }
 
 -- what is said of the end of a run over these sources, which came so and are now these
-module _ {S : Type 0} (faults end_count : S → ℕ) (left : S → Option (List ℕ)) (names : List (List ℕ)) (table : Change (Option Table)) (opens : Change ℕ) (olds news : List S)
-    (come : HaveCome faults left names (record { table = table; opens = opens; sources = olds; read = 0 })) where
-  pub got_after : length news ≡ length olds → OfEach (length olds) (HasGiven faults left) olds news → (length olds ≡ length names → IsUnchanged opens)
-      → HasGotSources faults left names olds (record { table = table; opens = opens; sources = news; read = 0 })
-  got_after many given kept = has-got 0 faults end_count left names table opens olds news many come 0 (moved_of faults left olds news given) kept
+module _ {S : Type 0} (src : SourceOf S) (names : List (List ℕ)) (table : Change (Option Table)) (opens : Change ℕ) (olds news : List S)
+    (come : HaveCome src names (record { table = table; opens = opens; sources = olds; read = 0 })) where
+  pub got_after : length news ≡ length olds → OfEach (length olds) (HasGiven src.faults src.left) olds news → (length olds ≡ length names → IsUnchanged opens)
+      → HasGotSources src names olds (record { table = table; opens = opens; sources = news; read = 0 })
+  got_after many given kept = has-got 0 src names table opens olds news many come 0 (moved_of src olds news given) kept
 
   -- where all sources came, those that are there now are the sources of all names
   pub have_all : length news ≡ length olds → length olds ≡ length names → IsUnchanged opens
@@ -65,9 +69,9 @@ module _ {S : Type 0} (faults end_count : S → ℕ) (left : S → Option (List 
   }
 
   -- the next source was not got
-  pub unopened : (reader : Progress) (file : ℕ) → HaveBeenRead faults end_count left olds news reader → reader.lone ≡ (length names == 1) → file ≡ length olds + 1
+  pub unopened : (reader : Progress) (file : ℕ) → HaveBeenRead src.faults src.ends src.left olds news reader → reader.lone ≡ (length names == 1) → file ≡ length olds + 1
       → length olds < length names → HasMissed names (record { table = table; opens = opens; sources = olds; read = 0 })
-      → IsUnopened faults end_count left names olds (record { table = table; opens = opens; sources = news; read = 0 }) file
+      → IsUnopened src names olds (record { table = table; opens = opens; sources = news; read = 0 }) file
   unopened reader file had lone next within missed = record {
     next = next ∙ ap (λ n. n + 1) (sym had.many);
     within = omega (arith, within, had.many);
@@ -75,8 +79,8 @@ module _ {S : Type 0} (faults end_count : S → ℕ) (left : S → Option (List 
       rose = missed.rose;
       missing = (let M : ℕ → Type 0 = λ n. IfSome table.old (λ files. IsMissing files names (n + 1)) in subst M (sym had.many) missed.missing);
     };
-    whole = (let W : ℕ → Type 0 = λ n. AreReadWhole faults end_count left n olds news in subst W (sym had.many) had.whole);
-    sound = told_of left olds (λ contents. AreSoundBefore (length names == 1) contents file)
+    whole = (let W : ℕ → Type 0 = λ n. AreReadWhole src.faults src.ends src.left n olds news in subst W (sym had.many) had.whole);
+    sound = told_of src.left olds (λ contents. AreSoundBefore (length names == 1) contents file)
         (λ contents have. let told = had.told contents have in
         let B : Bool → Type 0 = λ b. recording_of b contents ≡ Ok reader.recorded in
         sound_all (length names == 1) contents file reader.recorded told.0 (subst B lone told.1) (next ∙ ap (λ n. n + 1) (sym have.many)));
@@ -85,45 +89,146 @@ module _ {S : Type 0} (faults end_count : S → ℕ) (left : S → Option (List 
 
   module _ (room : Option ℕ) (w : Wrote) (fault : JudgeFault) (kept : IsUnchanged opens) (unwritten : IsUnwritten w) where
     abbrev Ends : JudgeFault → Type 0
-    Ends f = EndsJudged faults end_count left room names olds (record { table = table; opens = opens; sources = news; read = 0 }) w (Some (fault_of_judge f))
+    Ends f = EndsJudged src room names olds (record { table = table; opens = opens; sources = news; read = 0 }) w (Some (fault_of_judge f))
 
     -- a file is at fault
-    pub ends_stopped : HasStopped faults end_count left (length names == 1) olds news fault → Ends fault
+    pub ends_stopped : HasStopped src.faults src.ends src.left (length names == 1) olds news fault → Ends fault
     ends_stopped stop = by fault stop.own stop.cause stop.until where
-      by : (fault : JudgeFault) → IsOfOneFile fault → ((contents : List (List ℕ)) → HaveContents left olds contents → IsCause (length names == 1) contents fault)
-          → AreReadUntil faults end_count left olds news fault → Ends fault
+      by : (fault : JudgeFault) → IsOfOneFile fault → ((contents : List (List ℕ)) → HaveContents src.left olds contents → IsCause (length names == 1) contents fault)
+          → AreReadUntil src.faults src.ends src.left olds news fault → Ends fault
       by (judge.BadLine file line) own cause until =
-          ((judge.BadLine file line, refl, record { got_for = (kept, refl); until = until; cause = told_of left olds _ cause }), unwritten)
+          ((judge.BadLine file line, refl, record { got_for = (kept, refl); until = until; cause = told_of src.left olds _ cause }), unwritten)
       by (judge.ReadFault file) own cause until =
-          ((judge.ReadFault file, refl, record { got_for = (kept, refl); until = until; cause = told_of left olds _ cause }), unwritten)
+          ((judge.ReadFault file, refl, record { got_for = (kept, refl); until = until; cause = told_of src.left olds _ cause }), unwritten)
       by (judge.TooLarge file) own cause until =
-          ((judge.TooLarge file, refl, record { got_for = (kept, refl); until = until; cause = told_of left olds _ cause }), unwritten)
+          ((judge.TooLarge file, refl, record { got_for = (kept, refl); until = until; cause = told_of src.left olds _ cause }), unwritten)
       by (judge.Shared what file line g m) own cause until = absurd own
       by (judge.TwoRuns file run g s) own cause until = absurd own
       by (judge.Unlawful file line) own cause until = absurd own
       by judge.NoMemory own cause until = (omega (arith, come.within, stop.many), until, refl, unwritten)
 
     -- what all files say is at fault
-    pub ends_refused : (reader : Progress) → HaveBeenRead faults end_count left olds news reader → reader.lone ≡ (length names == 1) → length olds ≡ length names
+    pub ends_refused : (reader : Progress) → HaveBeenRead src.faults src.ends src.left olds news reader → reader.lone ≡ (length names == 1) → length olds ≡ length names
         → IsCauseIn reader.recorded fault → Ends fault
     ends_refused reader had lone all in_it =
         by fault in_it (λ contents have. let told = had.told contents have in
         let B : Bool → Type 0 = λ b. recording_of b contents ≡ Ok reader.recorded in
         cause_of_recorded (length names == 1) contents reader.recorded told.0 (subst B lone told.1) fault in_it)
-        (until_recorded faults end_count left olds news reader.recorded had.files had.whole fault in_it) where
+        (until_recorded src.faults src.ends src.left olds news reader.recorded had.files had.whole fault in_it) where
           have : HaveAll names (record { table = table; opens = opens; sources = news; read = 0 })
           have = have_all had.many all kept
 
           by : (fault : JudgeFault) → IsCauseIn reader.recorded fault
-              → ((contents : List (List ℕ)) → HaveContents left olds contents → IsCause (length names == 1) contents fault)
-              → AreReadUntil faults end_count left olds news fault → Ends fault
+              → ((contents : List (List ℕ)) → HaveContents src.left olds contents → IsCause (length names == 1) contents fault)
+              → AreReadUntil src.faults src.ends src.left olds news fault → Ends fault
           by (judge.BadLine file line) h cause until = absurd h
           by (judge.ReadFault file) h cause until = absurd h
           by (judge.TooLarge file) h cause until = absurd h
           by (judge.Shared what file line g m) h cause until =
-              ((judge.Shared what file line g m, refl, record { got_for = have; until = until; cause = told_of left olds _ cause }), unwritten)
+              ((judge.Shared what file line g m, refl, record { got_for = have; until = until; cause = told_of src.left olds _ cause }), unwritten)
           by (judge.TwoRuns file run g s) h cause until =
-              ((judge.TwoRuns file run g s, refl, record { got_for = have; until = until; cause = told_of left olds _ cause }), unwritten)
+              ((judge.TwoRuns file run g s, refl, record { got_for = have; until = until; cause = told_of src.left olds _ cause }), unwritten)
           by (judge.Unlawful file line) h cause until =
-              ((judge.Unlawful file line, refl, record { got_for = have; until = until; cause = told_of left olds _ cause }), unwritten)
+              ((judge.Unlawful file line, refl, record { got_for = have; until = until; cause = told_of src.left olds _ cause }), unwritten)
           by judge.NoMemory h cause until = (omega (arith, come.within, had.many), until, refl, unwritten)
+
+-- what is so where a report was made, of which this was written
+module _ {F S : Type 0} (fs : FilesOf F S) (src : SourceOf S) (names : List (List ℕ)) (room : Option ℕ) (was now : F) (got sources : List S) where
+  pub reported : (report : Result (List ℕ) Fault) (text : List ℕ) → report ≡ Ok text → IfOk report (λ _. HaveAll names (inputs_of fs was now sources 0))
+      → IfOk report (λ _. AreReadWhole src.faults src.ends src.left (length names) got sources)
+      → IfOk report (λ text. (contents : List (List ℕ)) → HaveContents src.left got contents → IsJudged names room contents text)
+      → (P : List ℕ → Type 0) → P text
+      → HaveAll names (inputs_of fs was now sources 0) × AreReadWhole src.faults src.ends src.left (length names) got sources × IsReported src.left names room got P
+  reported (Ok own) text is all whole judged P p =
+      let same : text ≡ own = cc in (
+        all,
+        whole,
+        told_of src.left got (λ contents. (text : List ℕ) × IsJudged names room contents text × P text)
+            (λ contents have. (own, judged contents have, subst P same p)),
+      )
+  reported (Err fault) text is all whole judged P p = absurd (cc)
+
+-- So far recordings of these names were got and read: the first files, as many as the index, of which the last has this number. Files were these
+-- before any was got, and are these now
+pub record IsSoFar {F S : Type 0} (fs : FilesOf F S) (src : SourceOf S) (names : List (List ℕ)) (was now : F) (olds news : List S) (index file : ℕ)
+    (reader : Progress) : Type 0 where
+  pub count : length olds ≡ index
+  pub number : file ≡ index
+  pub lone : reader.lone ≡ (length names == 1)
+  pub kept : fs.faults now ≡ fs.faults was
+  pub come : HaveCome src names (inputs_of fs was now olds 0)
+  pub read : HaveBeenRead src.faults src.ends src.left olds news reader
+
+module _ {F S : Type 0} {fs : FilesOf F S} {src : SourceOf S} {names : List (List ℕ)} {was now : F} {olds news : List S} {index file : ℕ} {reader : Progress}
+    (so : IsSoFar fs src names was now olds news index file reader) where
+  abbrev tables : F → Change (Option Table)
+  tables after = record { old = fs.table was; new = fs.table after }
+
+  abbrev counts : F → Change ℕ
+  counts after = record { old = fs.faults was; new = fs.faults after }
+
+  -- the next one was got and read
+  pub one-more : {name : List ℕ} {after : F} {source : S} (new : S) {reader' : Progress} → IsNext names olds name → IsGot fs src name now after source
+      → reader'.lone ≡ reader.lone → HaveBeenRead src.faults src.ends src.left (olds ++ source ∷ []) (news ++ new ∷ []) reader'
+      → IsSoFar fs src names was after (olds ++ source ∷ []) (news ++ new ∷ []) (index + 1) (file + 1) reader'
+  one-more {source = source} new next got lone read = record {
+    count = length-append olds (source ∷ []) ∙ ap (λ n. n + 1) so.count;
+    number = ap (λ n. n + 1) so.number;
+    lone = lone ∙ so.lone;
+    kept = got.kept ∙ so.kept;
+    come = come-got was next got so.come;
+    read = read;
+  }
+
+  -- it was not got
+  pub missed-got : {name : List ℕ} {after : F} → IsNext names olds name → IsMissed fs name now after → HasGotSources src names olds (inputs_of fs was after news 0)
+  missed-got {name} {after} next miss =
+      got_after src names (tables after) (counts after) olds news (come-missed was miss so.come) so.read.many so.read.given
+      (λ all. absurd (omega (arith, all, next.more)))
+
+  pub missed-ends : {name : List ℕ} {after : F} (room : Option ℕ) (w : Wrote) → IsNext names olds name → IsMissed fs name now after → IsUnwritten w
+      → EndsJudged src room names olds (inputs_of fs was after news 0) w (Some (OpenFault (file + 1)))
+  missed-ends {name} {after} room w next miss unwritten = (
+    unopened src names (tables after) (counts after) olds news (come-missed was miss so.come) reader (file + 1) so.read so.lone
+        (ap (λ n. n + 1) (so.number ∙ sym so.count)) next.more (has-missed was next miss so.come so.kept),
+    unwritten,
+  )
+
+  -- it was got, and is at fault
+  pub stopped-got : {name : List ℕ} {after : F} {source : S} (new : S) {fault : JudgeFault} → IsNext names olds name → IsGot fs src name now after source
+      → HasStopped src.faults src.ends src.left reader.lone (olds ++ source ∷ []) (news ++ new ∷ []) fault
+      → (gots sources : List S) → gots ≡ olds ++ source ∷ [] → sources ≡ news ++ new ∷ [] → HasGotSources src names gots (inputs_of fs was after sources 0)
+  stopped-got {name} {after} {source} new next got stop gots sources is_got are =
+      let G : List S → Type 0 = λ xs. HasGotSources src names xs (inputs_of fs was after sources 0) in
+      let N : List S → Type 0 = λ xs. HasGotSources src names (olds ++ source ∷ []) (inputs_of fs was after xs 0) in
+      subst G (sym is_got) (subst N (sym are)
+      (got_after src names (tables after) (counts after) (olds ++ source ∷ []) (news ++ new ∷ []) (come-got was next got so.come) stop.many stop.given
+      (λ all. got.kept ∙ so.kept)))
+
+  pub stopped-ends : {name : List ℕ} {after : F} {source : S} (new : S) {fault : JudgeFault} (room : Option ℕ) (w : Wrote) → IsNext names olds name
+      → IsGot fs src name now after source
+      → HasStopped src.faults src.ends src.left reader.lone (olds ++ source ∷ []) (news ++ new ∷ []) fault → IsUnwritten w
+      → (gots sources : List S) (end : Fault) → gots ≡ olds ++ source ∷ [] → sources ≡ news ++ new ∷ [] → end ≡ fault_of_judge fault
+      → EndsJudged src room names gots (inputs_of fs was after sources 0) w (Some end)
+  stopped-ends {name} {after} {source} new {fault} room w next got stop unwritten gots sources end is_got are is_end =
+      let H : Bool → Type 0 = λ lone. HasStopped src.faults src.ends src.left lone (olds ++ source ∷ []) (news ++ new ∷ []) fault in
+      let E : List S → List S → Fault → Type 0 = λ a b f. EndsJudged src room names a (inputs_of fs was after b 0) w (Some f) in
+      subst (λ a. E a sources end) (sym is_got) (subst (λ b. E (olds ++ source ∷ []) b end) (sym are)
+      (subst (λ f. E (olds ++ source ∷ []) (news ++ new ∷ []) f) (sym is_end)
+      (ends_stopped src names (tables after) (counts after) (olds ++ source ∷ []) (news ++ new ∷ []) (come-got was next got so.come) room w fault
+      (got.kept ∙ so.kept) unwritten (subst H so.lone stop))))
+
+  -- no name is behind them
+  pub all-got : HasGotSources src names olds (inputs_of fs was now news 0)
+  all-got = got_after src names (tables now) (counts now) olds news so.come so.read.many so.read.given (λ all. so.kept)
+
+  pub all-there : length olds ≡ length names → HaveAll names (inputs_of fs was now news 0)
+  all-there all = have_all src names (tables now) (counts now) olds news so.come so.read.many all so.kept
+
+  pub all-read : length olds ≡ length names → AreReadWhole src.faults src.ends src.left (length names) olds news
+  all-read all = let W : ℕ → Type 0 = λ n. AreReadWhole src.faults src.ends src.left n olds news in subst W all so.read.whole
+
+  pub all-ends : (fault : JudgeFault) (room : Option ℕ) (w : Wrote) → length olds ≡ length names → IsCauseIn reader.recorded fault → IsUnwritten w
+      → EndsJudged src room names olds (inputs_of fs was now news 0) w (Some (fault_of_judge fault))
+  all-ends fault room w all cause unwritten =
+      ends_refused src names (tables now) (counts now) olds news so.come room w fault so.kept unwritten reader so.read so.lone all cause

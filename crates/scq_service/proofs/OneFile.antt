@@ -10,6 +10,7 @@ use Rattle.scq_frames.specs.declared.fault.FrameFault.TheVariants as frame
 use Rattle.scq_outside.specs.Counts.{Rose}
 use Rattle.scq_frames.specs.Judged.{file_trouble, Judges}
 use Rattle.scq_files.specs.Reading as reading
+use Rattle.scq_service.specs.Members.{SourceOf}
 use Rattle.scq_service.specs.Causes.{given_of, file_fault}
 use Rattle.scq_service.specs.declared.fault.Fault.{Fault}
 use Rattle.scq_service.specs.declared.fault.Fault.TheVariants.{ReadFault, TooLong, TooLarge, NoMemory}
@@ -43,50 +44,50 @@ pub record Told (size : ℕ) (content bytes : List ℕ) (after : Option (List �
   pub whole : content ≡ bytes ++ rest
   pub judges : Judges size bytes rest (Some fault)
 
-module _ {S : Type 0} (size : ℕ) (faults end_count : S → ℕ) (left : S → Option (List ℕ)) where
+module _ {S : Type 0} (size : ℕ) (src : SourceOf S) where
   -- the fault of one source
   abbrev pub fault_of_one : ℕ → List ℕ → S → Option Fault
-  fault_of_one file content source = let failed = nat_lt 0 (faults source) in
-      file_fault size file failed (file_trouble size failed (given_of content (unwrap_or (left source) [])))
+  fault_of_one file content source = let failed = nat_lt 0 (src.faults source) in
+      file_fault size file failed (file_trouble size failed (given_of content (unwrap_or (src.left source) [])))
 
   -- the fault of one source, by the bytes that it gave
-  one-fault : (file : ℕ) (content bytes rest : List ℕ) (source : S) (failed : Bool) (trouble : Option Trouble) → nat_lt 0 (faults source) ≡ failed
-      → left source ≡ Some rest → content ≡ bytes ++ rest → file_trouble size failed bytes ≡ trouble
+  one-fault : (file : ℕ) (content bytes rest : List ℕ) (source : S) (failed : Bool) (trouble : Option Trouble) → nat_lt 0 (src.faults source) ≡ failed
+      → src.left source ≡ Some rest → content ≡ bytes ++ rest → file_trouble size failed bytes ≡ trouble
       → fault_of_one file content source ≡ file_fault size file failed trouble
   one-fault file content bytes rest source failed trouble flag is e found =
-      ap (λ b. file_fault size file b (file_trouble size b (given_of content (unwrap_or (left source) [])))) flag
+      ap (λ b. file_fault size file b (file_trouble size b (given_of content (unwrap_or (src.left source) [])))) flag
       ∙ ap (λ o. file_fault size file failed (file_trouble size failed (given_of content (unwrap_or o [])))) is
       ∙ ap (λ given. file_fault size file failed (file_trouble size failed given)) (given-is content bytes rest e)
       ∙ ap (file_fault size file failed) found
 
-  calm : (source : S) → faults source ≡ 0 → nat_lt 0 (faults source) ≡ false
+  calm : (source : S) → src.faults source ≡ 0 → nat_lt 0 (src.faults source) ≡ false
   calm source none = ap (λ n. nat_lt 0 n) none
 
   -- a source that was read to its end has no fault
-  pub one-whole : (file : ℕ) (content : List ℕ) (old new : S) → left old ≡ Some content → faults old ≡ 0 → reading.IsWhole size faults end_count left old new
+  pub one-whole : (file : ℕ) (content : List ℕ) (old new : S) → src.left old ≡ Some content → src.faults old ≡ 0 → reading.IsWhole size src.faults src.ends src.left old new
       → fault_of_one file content new ≡ None
   one-whole file content old new is fresh whole =
       let judged = whole.judged in
-      let split = split-visible content judged.bytes (left new) (sym is ∙ judged.moved) in
+      let split = split-visible content judged.bytes (src.left new) (sym is ∙ judged.moved) in
       let J : Option (List ℕ) → Type 0 = λ o. IfSome o (λ rest. Judges size judged.bytes rest None) in
       one-fault file content judged.bytes split.0 new false None (calm new (whole.kept ∙ fresh)) split.1 split.2 (subst J split.1 judged.judges)
 
   -- what is said of the whole content, where the reading stopped at a fault
-  pub told : (content : List ℕ) (old new : S) (fault : FrameFault) → left old ≡ Some content → (stop : reading.IsStopped size faults left old new fault)
-      → Told size content stop.judged.bytes (left new) fault
+  pub told : (content : List ℕ) (old new : S) (fault : FrameFault) → src.left old ≡ Some content → (stop : reading.IsStopped size src.faults src.left old new fault)
+      → Told size content stop.judged.bytes (src.left new) fault
   told content old new fault is stop =
       let judged = stop.judged in
-      let split = split-visible content judged.bytes (left new) (sym is ∙ judged.moved) in
+      let split = split-visible content judged.bytes (src.left new) (sym is ∙ judged.moved) in
       let J : Option (List ℕ) → Type 0 = λ o. IfSome o (λ rest. Judges size judged.bytes rest (Some fault)) in
       record { rest = split.0; left = split.1; whole = split.2; judges = subst J split.1 judged.judges }
 
   -- a source whose reading stopped at a fault has that fault
-  pub one-stopped : (file : ℕ) (content : List ℕ) (old new : S) (fault : FrameFault) → fault ≢ frame.NoMemory → left old ≡ Some content → faults old ≡ 0
-      → reading.IsStopped size faults left old new fault
+  pub one-stopped : (file : ℕ) (content : List ℕ) (old new : S) (fault : FrameFault) → fault ≢ frame.NoMemory → src.left old ≡ Some content → src.faults old ≡ 0
+      → reading.IsStopped size src.faults src.left old new fault
       → fault_of_one file content new ≡ Some (fault_of_file size file fault)
   one-stopped file content old new frame.ReadFault other is fresh stop =
       let t = told content old new frame.ReadFault is stop in
-      one-fault file content stop.judged.bytes t.rest new true None (lt-ltb 0 (faults new) (rose-above _ _ (stop.rose refl))) t.left t.whole t.judges
+      one-fault file content stop.judged.bytes t.rest new true None (lt-ltb 0 (src.faults new) (rose-above _ _ (stop.rose refl))) t.left t.whole t.judges
   one-stopped file content old new (frame.TooLong line len) other is fresh stop =
       let t = told content old new (frame.TooLong line len) is stop in
       one-fault file content stop.judged.bytes t.rest new false (Some (LongPayload line len)) (calm new (stop.kept (λ h. cc) ∙ fresh)) t.left t.whole t.judges.0
@@ -95,10 +96,10 @@ module _ {S : Type 0} (size : ℕ) (faults end_count : S → ℕ) (left : S → 
       one-fault file content stop.judged.bytes t.rest new false (Some ManyBytes) (calm new (stop.kept (λ h. cc) ∙ fresh)) t.left t.whole t.judges.0
   one-stopped file content old new frame.NoMemory other is fresh stop = absurd (other refl)
 
-  pub long-of : (content : List ℕ) (old new : S) (line len : ℕ) → left old ≡ Some content → reading.IsStopped size faults left old new (frame.TooLong line len)
+  pub long-of : (content : List ℕ) (old new : S) (line len : ℕ) → src.left old ≡ Some content → reading.IsStopped size src.faults src.left old new (frame.TooLong line len)
       → file_trouble size false content ≡ Some (LongPayload line len)
   long-of content old new line len is stop = let t = told content old new (frame.TooLong line len) is stop in ap (file_trouble size false) t.whole ∙ t.judges.1
 
-  pub large-of : (content : List ℕ) (old new : S) (bytes : ℕ) → left old ≡ Some content → reading.IsStopped size faults left old new (frame.TooLarge bytes)
+  pub large-of : (content : List ℕ) (old new : S) (bytes : ℕ) → src.left old ≡ Some content → reading.IsStopped size src.faults src.left old new (frame.TooLarge bytes)
       → file_trouble size false content ≡ Some ManyBytes
   large-of content old new bytes is stop = let t = told content old new (frame.TooLarge bytes) is stop in ap (file_trouble size false) t.whole ∙ t.judges.1

@@ -14,6 +14,7 @@ use Rattle.scq_work.specs.Ends.{HasCause}
 use Rattle.scq_files.specs.Reading as reading
 use Rattle.scq_work.specs.declared.worked.WorkFault.{WorkFault}
 use Rattle.scq_work.specs.declared.worked.WorkFault.TheVariants as work
+use Rattle.scq_service.specs.Members.{SourceOf}
 use Rattle.scq_service.specs.Answers.{HaveAllCome, HaveCome}
 use Rattle.scq_service.specs.Causes.{given_of, first_file_fault, HaveRest}
 use Rattle.scq_service.specs.Contents.{IfVisible, IsMissing, without_names}
@@ -31,75 +32,75 @@ if-some (Some x) P more = more x refl
 some-and : {X : Type 0} (o : Option X) (x : X) (P : X → Type 0) → o ≡ Some x → P x → IsSomeAnd o P
 some-and {X = X} o x P e p = let Q : Option X → Type 0 = λ o. IsSomeAnd o P in subst Q (sym e) p
 
-module _ {S : Type 0} (size : ℕ) (faults end_count : S → ℕ) (left : S → Option (List ℕ)) where
+module _ {S : Type 0} (size : ℕ) (src : SourceOf S) where
   -- each source has left what follows the bytes that it gave
-  have-rest : (olds news : List S) (contents : List (List ℕ)) → length news ≡ length olds → all_left left olds ≡ Some contents
-      → ((k : ℕ) (d : S) → k < length olds → HasMoved faults left (slice_index_or olds k d) (slice_index_or news k d)) → HaveRest left contents news
-  have-rest [] [] contents long all moved = let H : List (List ℕ) → Type 0 = λ cs. HaveRest left cs [] in subst H (no-contents all) tt
+  have-rest : (olds news : List S) (contents : List (List ℕ)) → length news ≡ length olds → all_left src.left olds ≡ Some contents
+      → ((k : ℕ) (d : S) → k < length olds → HasMoved src.faults src.left (slice_index_or olds k d) (slice_index_or news k d)) → HaveRest src.left contents news
+  have-rest [] [] contents long all moved = let H : List (List ℕ) → Type 0 = λ cs. HaveRest src.left cs [] in subst H (no-contents all) tt
   have-rest [] (new ∷ news) contents long all moved = absurd (omega (arith, long))
   have-rest (old ∷ olds) [] contents long all moved = absurd (omega (arith, long))
   have-rest (old ∷ olds) (new ∷ news) contents long all moved =
-      let p = parts (left old) (all_left left olds) contents all in
+      let p = parts (src.left old) (all_left src.left olds) contents all in
       let m = moved 0 new (omega arith) in
-      let split = split-visible p.0 m.bytes (left new) (sym p.2 ∙ m.moved) in
-      let H : List (List ℕ) → Type 0 = λ cs. HaveRest left cs (new ∷ news) in
+      let split = split-visible p.0 m.bytes (src.left new) (sym p.2 ∙ m.moved) in
+      let H : List (List ℕ) → Type 0 = λ cs. HaveRest src.left cs (new ∷ news) in
       subst H (sym p.4) (
-        some-and (left new) split.0 (λ rest. p.0 ≡ given_of p.0 rest ++ rest) split.1
+        some-and (src.left new) split.0 (λ rest. p.0 ≡ given_of p.0 rest ++ rest) split.1
             (split.2 ∙ ap (λ (front : List ℕ). front ++ split.0) (sym (given-is p.0 m.bytes split.0 split.2))),
         have-rest olds news p.1 (omega (arith, long)) p.3 (λ k d less. moved (suc k) d (omega (arith, less))),
       )
 
   -- files that were read to their ends have no fault
-  sound : (file : ℕ) (olds news : List S) (contents : List (List ℕ)) → length news ≡ length olds → all_left left olds ≡ Some contents
-      → All (λ source. faults source ≡ 0) olds
-      → ((k : ℕ) (d : S) → k < length olds → reading.IsWhole size faults end_count left (slice_index_or olds k d) (slice_index_or news k d))
-      → first_file_fault size faults left file contents news ≡ None
-  sound file [] [] contents long all fresh whole = ap (λ (cs : List (List ℕ)). first_file_fault size faults left file cs []) (sym (no-contents all))
+  sound : (file : ℕ) (olds news : List S) (contents : List (List ℕ)) → length news ≡ length olds → all_left src.left olds ≡ Some contents
+      → All (λ source. src.faults source ≡ 0) olds
+      → ((k : ℕ) (d : S) → k < length olds → reading.IsWhole size src.faults src.ends src.left (slice_index_or olds k d) (slice_index_or news k d))
+      → first_file_fault size src file contents news ≡ None
+  sound file [] [] contents long all fresh whole = ap (λ (cs : List (List ℕ)). first_file_fault size src file cs []) (sym (no-contents all))
   sound file [] (new ∷ news) contents long all fresh whole = absurd (omega (arith, long))
   sound file (old ∷ olds) [] contents long all fresh whole = absurd (omega (arith, long))
   sound file (old ∷ olds) (new ∷ news) contents long all fresh whole =
-      let p = parts (left old) (all_left left olds) contents all in
-      let one = one-whole size faults end_count left file p.0 old new p.2 (fresh 0 old (omega arith)) (whole 0 old (omega arith)) in
-      ap (λ (cs : List (List ℕ)). first_file_fault size faults left file cs (new ∷ news)) p.4
-      ∙ ap (λ o. option_or o (first_file_fault size faults left (file + 1) p.1 news)) one
+      let p = parts (src.left old) (all_left src.left olds) contents all in
+      let one = one-whole size src file p.0 old new p.2 (fresh 0 old (omega arith)) (whole 0 old (omega arith)) in
+      ap (λ (cs : List (List ℕ)). first_file_fault size src file cs (new ∷ news)) p.4
+      ∙ ap (λ o. option_or o (first_file_fault size src (file + 1) p.1 news)) one
       ∙ sound (file + 1) olds news p.1 (omega (arith, long)) p.3 (λ k d less. fresh (suc k) d (omega (arith, less)))
       (λ k d less. whole (suc k) d (omega (arith, less)))
 
   -- the file that was stopped behind such files has the first fault
   first : (file k : ℕ) (olds news : List S) (contents : List (List ℕ)) (fault : FrameFault) → fault ≢ frame.NoMemory → length news ≡ length olds
       → k < length olds
-      → all_left left olds ≡ Some contents → All (λ source. faults source ≡ 0) olds
-      → ((j : ℕ) (d : S) → j < k → reading.IsWhole size faults end_count left (slice_index_or olds j d) (slice_index_or news j d))
-      → ((d : S) → reading.IsStopped size faults left (slice_index_or olds k d) (slice_index_or news k d) fault)
-      → first_file_fault size faults left file contents news ≡ Some (fault_of_file size (file + k) fault)
+      → all_left src.left olds ≡ Some contents → All (λ source. src.faults source ≡ 0) olds
+      → ((j : ℕ) (d : S) → j < k → reading.IsWhole size src.faults src.ends src.left (slice_index_or olds j d) (slice_index_or news j d))
+      → ((d : S) → reading.IsStopped size src.faults src.left (slice_index_or olds k d) (slice_index_or news k d) fault)
+      → first_file_fault size src file contents news ≡ Some (fault_of_file size (file + k) fault)
   first file k [] news contents fault other long within all fresh before stop = absurd (omega (arith, within))
   first file k (old ∷ olds) [] contents fault other long within all fresh before stop = absurd (omega (arith, long))
   first file zero (old ∷ olds) (new ∷ news) contents fault other long within all fresh before stop =
-      let p = parts (left old) (all_left left olds) contents all in
-      let one = one-stopped size faults end_count left file p.0 old new fault other p.2 (fresh 0 old (omega arith)) (stop old) in
+      let p = parts (src.left old) (all_left src.left olds) contents all in
+      let one = one-stopped size src file p.0 old new fault other p.2 (fresh 0 old (omega arith)) (stop old) in
       let same : file ≡ file + 0 = omega arith in
-      ap (λ (cs : List (List ℕ)). first_file_fault size faults left file cs (new ∷ news)) p.4
-      ∙ ap (λ o. option_or o (first_file_fault size faults left (file + 1) p.1 news)) one
+      ap (λ (cs : List (List ℕ)). first_file_fault size src file cs (new ∷ news)) p.4
+      ∙ ap (λ o. option_or o (first_file_fault size src (file + 1) p.1 news)) one
       ∙ ap (λ n. Some (fault_of_file size n fault)) same
   first file (suc k) (old ∷ olds) (new ∷ news) contents fault other long within all fresh before stop =
-      let p = parts (left old) (all_left left olds) contents all in
-      let one = one-whole size faults end_count left file p.0 old new p.2 (fresh 0 old (omega arith)) (before 0 old (omega arith)) in
+      let p = parts (src.left old) (all_left src.left olds) contents all in
+      let one = one-whole size src file p.0 old new p.2 (fresh 0 old (omega arith)) (before 0 old (omega arith)) in
       let next : file + 1 + k ≡ file + suc k = omega arith in
-      ap (λ (cs : List (List ℕ)). first_file_fault size faults left file cs (new ∷ news)) p.4
-      ∙ ap (λ o. option_or o (first_file_fault size faults left (file + 1) p.1 news)) one
+      ap (λ (cs : List (List ℕ)). first_file_fault size src file cs (new ∷ news)) p.4
+      ∙ ap (λ o. option_or o (first_file_fault size src (file + 1) p.1 news)) one
       ∙ first (file + 1) k olds news p.1 fault other (omega (arith, long)) (omega (arith, within)) p.3 (λ j d less. fresh (suc j) d (omega (arith, less)))
       (λ j d less. before (suc j) d (omega (arith, less))) stop
       ∙ ap (λ n. Some (fault_of_file size n fault)) next
 
   -- a file's content is what its source had left
-  content-at : (k : ℕ) (olds : List S) (contents : List (List ℕ)) (d : S) → all_left left olds ≡ Some contents → k < length olds
-      → (content : List ℕ) × (slice_get contents k ≡ Some content) × (left (slice_index_or olds k d) ≡ Some content)
+  content-at : (k : ℕ) (olds : List S) (contents : List (List ℕ)) (d : S) → all_left src.left olds ≡ Some contents → k < length olds
+      → (content : List ℕ) × (slice_get contents k ≡ Some content) × (src.left (slice_index_or olds k d) ≡ Some content)
   content-at k [] contents d all within = absurd (omega (arith, within))
   content-at zero (old ∷ olds) contents d all within =
-      let p = parts (left old) (all_left left olds) contents all in
+      let p = parts (src.left old) (all_left src.left olds) contents all in
       (p.0, ap (λ (cs : List (List ℕ)). slice_get cs 0) p.4, p.2)
   content-at (suc k) (old ∷ olds) contents d all within =
-      let p = parts (left old) (all_left left olds) contents all in
+      let p = parts (src.left old) (all_left src.left olds) contents all in
       let c = content-at k olds p.1 d p.3 (omega (arith, within)) in
       (c.0, ap (λ (cs : List (List ℕ)). slice_get cs (suc k)) p.4 ∙ c.1, c.2)
 
@@ -110,10 +111,10 @@ module _ {S : Type 0} (size : ℕ) (faults end_count : S → ℕ) (left : S → 
       subst P (sym (get_or-take k news j d below)) (each j d below)
 
   module _ (names : List (List ℕ)) (table : Change (Option Table)) (opens : Change ℕ) (olds news : List S) (long : length news ≡ length olds)
-      (come : HaveCome faults left names (record { table = table; opens = opens; sources = olds; read = 0 })) where
+      (come : HaveCome src names (record { table = table; opens = opens; sources = olds; read = 0 })) where
     -- what follows from the contents is so where they were told
-    pub if-got : (Q : List (List ℕ) → Type 0) → ((contents : List (List ℕ)) → all_left left olds ≡ Some contents → Q contents) → IfTold left olds Q
-    if-got Q more = if-some (all_left left olds) Q more
+    pub if-got : (Q : List (List ℕ) → Type 0) → ((contents : List (List ℕ)) → all_left src.left olds ≡ Some contents → Q contents) → IfTold src.left olds Q
+    if-got Q more = if-some (all_left src.left olds) Q more
 
     next-missed : HasMissed names (record { table = table; opens = opens; sources = olds; read = 0 }) → (read : ℕ)
         → HasMissed names (record { table = table; opens = opens; sources = news; read = read })
@@ -132,12 +133,12 @@ module _ {S : Type 0} (size : ℕ) (faults end_count : S → ℕ) (left : S → 
     missed-of true came less = absurd (omega (arith, came.0, less))
     missed-of false came less = came.1
 
-    pub has-got : (read : ℕ) → ((k : ℕ) (d : S) → k < length olds → HasMoved faults left (slice_index_or olds k d) (slice_index_or news k d))
-        → (length olds ≡ length names → IsUnchanged opens) → HasGotSources faults left names olds
+    pub has-got : (read : ℕ) → ((k : ℕ) (d : S) → k < length olds → HasMoved src.faults src.left (slice_index_or olds k d) (slice_index_or news k d))
+        → (length olds ≡ length names → IsUnchanged opens) → HasGotSources src names olds
         (record { table = table; opens = opens; sources = news; read = read })
     has-got read moved kept =
         let T : ℕ → Type 0 = λ n. table.new ≡ option_map (without_names (take n names)) table.old in
-        let V : ℕ → Type 0 = λ n. IfVisible table.old (take n names) (λ contents. all_left left olds ≡ Some contents) in
+        let V : ℕ → Type 0 = λ n. IfVisible table.old (take n names) (λ contents. all_left src.left olds ≡ Some contents) in
         record {
           within = omega (arith, long, come.within);
           count = sym long;
@@ -149,9 +150,18 @@ module _ {S : Type 0} (size : ℕ) (faults end_count : S → ℕ) (left : S → 
           rest = if-got _ (λ contents all. have-rest olds news contents long all moved);
         }
 
-    pub ends-all : ((k : ℕ) (d : S) → k < length olds → reading.IsWhole size faults end_count left (slice_index_or olds k d) (slice_index_or news k d))
+    -- so it is of the sources that are told, which are these
+    pub got-so : (all : Bool) → HaveAllCome names (record { table = table; opens = opens; sources = olds; read = 0 }) all
+        → ((k : ℕ) (d : S) → k < length olds → HasMoved src.faults src.left (slice_index_or olds k d) (slice_index_or news k d)) → (got sources : List S) (read : ℕ)
+        → got ≡ olds → sources ≡ news → HasGotSources src names got (record { table = table; opens = opens; sources = sources; read = read })
+    got-so all came moved got sources read same_got same_sources =
+        let G : List S → Type 0 = λ xs. HasGotSources src names xs (record { table = table; opens = opens; sources = sources; read = read }) in
+        let N : List S → Type 0 = λ xs. HasGotSources src names olds (record { table = table; opens = opens; sources = xs; read = read }) in
+        subst G (sym same_got) (subst N (sym same_sources) (has-got read moved (kept-of all came)))
+
+    pub ends-all : ((k : ℕ) (d : S) → k < length olds → reading.IsWhole size src.faults src.ends src.left (slice_index_or olds k d) (slice_index_or news k d))
         → length olds ≡ length names
-        → ReadsOver size faults end_count left names olds (record { table = table; opens = opens; sources = news; read = 0 }) None
+        → ReadsOver size src names olds (record { table = table; opens = opens; sources = news; read = 0 }) None
     ends-all whole all = record {
       all = long ∙ all;
       quiet = λ k d less. let within : k < length olds = omega (arith, less, long) in (whole k d within).kept ∙ come.fresh k d within;
@@ -161,10 +171,10 @@ module _ {S : Type 0} (size : ℕ) (faults end_count : S → ℕ) (left : S → 
       read = refl;
     }
 
-    pub ends-stopped : ((k : ℕ) (d : S) → k < length olds → reading.IsWhole size faults end_count left (slice_index_or olds k d) (slice_index_or news k d))
+    pub ends-stopped : ((k : ℕ) (d : S) → k < length olds → reading.IsWhole size src.faults src.ends src.left (slice_index_or olds k d) (slice_index_or news k d))
         → length olds < length names
         → HasMissed names (record { table = table; opens = opens; sources = olds; read = 0 })
-        → ReadsOver size faults end_count left names olds (record { table = table; opens = opens; sources = news; read = 0 })
+        → ReadsOver size src names olds (record { table = table; opens = opens; sources = news; read = 0 })
         (Some (OpenFault (length olds + 1)))
     ends-stopped whole more m = record {
       next = ap (λ n. n + 1) (sym long);
@@ -178,22 +188,22 @@ module _ {S : Type 0} (size : ℕ) (faults end_count : S → ℕ) (left : S → 
     }
 
     -- the file that has the first fault
-    refused : (read file : ℕ) (fault : FrameFault) → fault ≢ frame.NoMemory → StopsAt size faults end_count left olds news file fault
+    refused : (read file : ℕ) (fault : FrameFault) → fault ≢ frame.NoMemory → StopsAt size src.faults src.ends src.left olds news file fault
         → (length olds < length names → HasMissed names (record { table = table; opens = opens; sources = olds; read = 0 }))
-        → IsRefused size faults end_count left names olds (record { table = table; opens = opens; sources = news; read = read }) file
+        → IsRefused size src names olds (record { table = table; opens = opens; sources = news; read = read }) file
         (fault_of_file size file fault)
     refused read file fault other stops missed =
         let within : file - 1 < length olds = omega (arith, stops.first, stops.last) in
         let number : 1 + (file - 1) ≡ file = omega (arith, stops.first) in
-        let before : (j : ℕ) (d : S) → j < file - 1 → reading.IsWhole size faults end_count left (slice_index_or olds j d) (slice_index_or news j d) =
+        let before : (j : ℕ) (d : S) → j < file - 1 → reading.IsWhole size src.faults src.ends src.left (slice_index_or olds j d) (slice_index_or news j d) =
         λ j d less. stops.before j d (omega (arith, less)) in
         record {
           first = stops.first;
           last = omega (arith, stops.last, long);
           stopped = λ less. next-missed (missed (omega (arith, less, long))) read;
-          quiet = front (λ source. faults source ≡ 0) news (file - 1) (omega (arith, within, long))
+          quiet = front (λ source. src.faults source ≡ 0) news (file - 1) (omega (arith, within, long))
               (λ j d less. (before j d less).kept ∙ come.fresh j d (omega (arith, less, within)));
-          ended = front (λ source. NothingLeft (left source)) news (file - 1) (omega (arith, within, long)) (λ j d less. (before j d less).ended);
+          ended = front (λ source. NothingLeft (src.left source)) news (file - 1) (omega (arith, within, long)) (λ j d less. (before j d less).ended);
           once = λ k d less. (before k d less).once;
           cause = if-got _ (λ contents all. first 1 (file - 1) olds news contents fault other long within all come.fresh before stops.cause
               ∙ ap (λ n. Some (fault_of_file size n fault)) number);
@@ -202,12 +212,12 @@ module _ {S : Type 0} (size : ℕ) (faults end_count : S → ℕ) (left : S → 
     -- the source of a file, and the one that it was
     source-at : (file : ℕ) → 0 < file → file ≤ length olds → (P : S → S → Type 0)
         → ((d : S) → P (slice_index_or olds (file - 1) d) (slice_index_or news (file - 1) d))
-        → (old : S) × (new : S) × (slice_get news (file - 1) ≡ Some new) × ((contents : List (List ℕ)) → all_left left olds ≡ Some contents
-        → (content : List ℕ) × (slice_get contents (file - 1) ≡ Some content) × (left old ≡ Some content)) × P old new
+        → (old : S) × (new : S) × (slice_get news (file - 1) ≡ Some new) × ((contents : List (List ℕ)) → all_left src.left olds ≡ Some contents
+        → (content : List ℕ) × (slice_get contents (file - 1) ≡ Some content) × (src.left old ≡ Some content)) × P old new
     source-at file some within P each = at olds (omega (arith, some, within)) where
       at : (sources : List S) → 0 < length sources
-          → (old : S) × (new : S) × (slice_get news (file - 1) ≡ Some new) × ((contents : List (List ℕ)) → all_left left olds ≡ Some contents
-          → (content : List ℕ) × (slice_get contents (file - 1) ≡ Some content) × (left old ≡ Some content)) × P old new
+          → (old : S) × (new : S) × (slice_get news (file - 1) ≡ Some new) × ((contents : List (List ℕ)) → all_left src.left olds ≡ Some contents
+          → (content : List ℕ) × (slice_get contents (file - 1) ≡ Some content) × (src.left old ≡ Some content)) × P old new
       at [] more = absurd (omega (arith, more))
       at (d ∷ ds) more = (
         slice_index_or olds (file - 1) d,
@@ -217,18 +227,18 @@ module _ {S : Type 0} (size : ℕ) (faults end_count : S → ℕ) (left : S → 
         each d,
       )
 
-    pub ends-met : (fault : WorkFault) → HasCause size faults end_count left olds news fault
+    pub ends-met : (fault : WorkFault) → HasCause size src.faults src.ends src.left olds news fault
         → (length olds < length names → HasMissed names (record { table = table; opens = opens; sources = olds; read = 0 }))
-        → ReadsOver size faults end_count left names olds (record { table = table; opens = opens; sources = news; read = bytes_of_large fault })
+        → ReadsOver size src names olds (record { table = table; opens = opens; sources = news; read = bytes_of_large fault })
         (Some (fault_of_work size fault))
     ends-met (work.Read file) stops missed =
-        let at = source-at file stops.first stops.last (λ old new. reading.IsStopped size faults left old new frame.ReadFault) stops.cause in (
+        let at = source-at file stops.first stops.last (λ old new. reading.IsStopped size src.faults src.left old new frame.ReadFault) stops.cause in (
           refused 0 file frame.ReadFault (λ e. cc) stops missed,
           refl,
-          some-and (slice_get news (file - 1)) at.1 (λ source. 0 < faults source) at.2 (rose-above _ _ (at.4.rose refl)),
+          some-and (slice_get news (file - 1)) at.1 (λ source. 0 < src.faults source) at.2 (rose-above _ _ (at.4.rose refl)),
         )
     ends-met (work.TooLong file line len) stops missed =
-        let at = source-at file stops.first stops.last (λ old new. reading.IsStopped size faults left old new (frame.TooLong line len)) stops.cause in
+        let at = source-at file stops.first stops.last (λ old new. reading.IsStopped size src.faults src.left old new (frame.TooLong line len)) stops.cause in
         let above = at.4.long line len refl in (
           refused 0 file (frame.TooLong line len) (λ e. cc) stops missed,
           refl,
@@ -236,18 +246,18 @@ module _ {S : Type 0} (size : ℕ) (faults end_count : S → ℕ) (left : S → 
           above.0,
           above.1,
           if-got _ (λ contents all. let c = at.3 contents all in
-              some-and (slice_get contents (file - 1)) c.0 _ c.1 (long-of size faults end_count left c.0 at.0 at.1 line len c.2 at.4)),
+              some-and (slice_get contents (file - 1)) c.0 _ c.1 (long-of size src c.0 at.0 at.1 line len c.2 at.4)),
         )
     ends-met (work.TooLarge file bytes) stops missed =
-        let at = source-at file stops.first stops.last (λ old new. reading.IsStopped size faults left old new (frame.TooLarge bytes)) stops.cause in
+        let at = source-at file stops.first stops.last (λ old new. reading.IsStopped size src.faults src.left old new (frame.TooLarge bytes)) stops.cause in
         let above = at.4.large bytes refl in (
           refused bytes file (frame.TooLarge bytes) (λ e. cc) stops missed,
           refl,
           above.0,
           if-got _ (λ contents all. let c = at.3 contents all in (
-            some-and (slice_get contents (file - 1)) c.0 _ c.1 (large-of size faults end_count left c.0 at.0 at.1 bytes c.2 at.4),
+            some-and (slice_get contents (file - 1)) c.0 _ c.1 (large-of size src c.0 at.0 at.1 bytes c.2 at.4),
             some-and (slice_get contents (file - 1)) c.0 _ c.1
-                (some-and (slice_get news (file - 1)) at.1 (λ source. Some (length c.0) ≡ option_map (λ b. bytes + length b) (left source)) at.2
+                (some-and (slice_get news (file - 1)) at.1 (λ source. Some (length c.0) ≡ option_map (λ b. bytes + length b) (src.left source)) at.2
                 (sym (ap (option_map length) c.2) ∙ above.1)),
           )),
         )

@@ -1,6 +1,7 @@
 -- What was got for the workers, what they did with it, and what they left.
 use Rattle.std.specs.Prelude.{◌≡◌, ℕ, ◌+◌, ◌^◌, ◌<◌, ◌≤◌, Bool, true, false, List, [], ◌∷◌, map}
-use Rattle.std.specs.Prelude.{Option, Some, None, IsSome, IfSome, Result, Ok, length, take}
+use Rattle.std.specs.Prelude.{Option, Some, None, IsNone, IsSome, IfSome, IsSomeAnd, OnSome}
+use Rattle.std.specs.Prelude.{Result, Ok, length, take}
 use Rattle.std.specs.Prelude.{slice_index_or}
 use Rattle.std.specs.List.{All}
 use Rattle.std.specs.Option.{option_map}
@@ -15,29 +16,35 @@ use Rattle.scq_collect.specs.Merging.{members_of}
 use Rattle.scq_self.specs.Generated.{generated, self_topics}
 use Rattle.scq_stages.specs.AllStages as staging
 use Rattle.scq_stages.specs.Output as stage_output
+use Rattle.scq_stages.specs.declared.job.StageJob.{StageJob}
 use Rattle.scq_stages.specs.declared.staged.Staged.{Staged}
 use Rattle.scq_topics.specs.declared.kind.Kind.{Kind}
 use Rattle.scq_words.specs.Asked.{Asked}
 use Rattle.scq_words.specs.Asked as asks
 use Rattle.scq_words.specs.declared.fault.WordsFault.{WordsFault}
 use Rattle.scq_work.specs.AllWorkers.{HasWorked, NothingIsStranded}
+use Rattle.scq_worker.specs.declared.job.Job.{Job}
 use Rattle.scq_files.specs.Ends.{AreGiven, all_left, messages_in}
 use Rattle.scq_files.specs.Reading as reading
 use Rattle.scq_rest.specs.Waiting.{HaveWaited}
 use Rattle.scq_work.specs.declared.worked.Worked.{Worked}
+use Rattle.scq_service.specs.Members.{SourceOf}
 use Rattle.scq_service.specs.Contents.{IfVisible, without_names}
-use Rattle.scq_service.specs.Ends.{Inputs, IsUnchanged, IfTold, HasMissed, most_payload}
+use Rattle.scq_service.specs.Ends.{HasGotSources, HasMissed, IfTold, Inputs, IsUnchanged}
+use Rattle.scq_service.specs.Ends.{most_payload}
+use Rattle.scq_service.specs.Faults.{status_of}
 use Rattle.scq_service.specs.declared.fault.Fault.{Fault}
 use Rattle.scq_service.specs.declared.fault.Fault.TheVariants.{WriteFault, NoMemory}
+use Rattle.scq_service.specs.declared.outcome.Outcome.{Outcome}
 
 -- the sources of the first of these names were got, in order, and none was read
-pub record HaveCome {S : Type 0} (faults : S → ℕ) (left : S
-    → Option (List ℕ)) (names : List (List ℕ)) (r : Inputs S) : Type 0 where
+pub record HaveCome {S : Type 0} (src : SourceOf S) (names : List (List ℕ)) (r : Inputs S)
+    : Type 0 where
   pub within : length r.sources ≤ length names
   pub table : r.table.new ≡ option_map (without_names (take (length r.sources) names)) r.table.old
-  pub fresh : All (λ source. faults source ≡ 0) r.sources
+  pub fresh : All (λ source. src.faults source ≡ 0) r.sources
   pub unread : IfVisible r.table.old (take (length r.sources) names) (λ contents.
-      all_left left r.sources ≡ Some contents)
+      all_left src.left r.sources ≡ Some contents)
 
 -- those of all names, or the next was not got
 abbrev pub HaveAllCome : {S : Type 0} → List (List ℕ) → Inputs S → Bool → Type 0
@@ -60,22 +67,21 @@ IsWorkOf topics size workers left got worked =
 
 -- messages that the sources may have given, a list for each: each was read to its end since it was
 -- got, with no fault counted, and where it told its content had just these messages
-pub record HaveGiven {S : Type 0} (topics : List (List ℕ × Kind)) (size : ℕ) (faults end_count : S
-    → ℕ) (left : S → Option (List ℕ)) (got : List S)
-    (r : Inputs S) (given : List (List Message)) : Type 0 where
+pub record HaveGiven {S : Type 0} (topics : List (List ℕ × Kind)) (size : ℕ) (src : SourceOf S)
+    (got : List S) (r : Inputs S) (given : List (List Message)) : Type 0 where
   pub count : length r.sources ≡ length got
   pub whole : (k : ℕ) (d : S) → k < length got
-      → reading.IsWhole size faults end_count left (slice_index_or got k d)
+      → reading.IsWhole size src.faults src.ends src.left (slice_index_or got k d)
       (slice_index_or r.sources k d)
-  pub gave : AreGiven topics size left 1 got given
+  pub gave : AreGiven topics size src.left 1 got given
 
 -- so many workers answered such messages, with payloads of at most `longest` bytes in parts of at
 -- most `size`, which are those of the contents where these were told
-abbrev pub IsWork : {S : Type 0} → List (List ℕ × Kind) → ℕ → ℕ → ℕ → (S → ℕ) → (S → ℕ)
-    → (S → Option (List ℕ)) → List S → Inputs S → Option Worked → Type 0
-IsWork topics size longest workers faults end_count left got r worked =
+abbrev pub IsWork : {S : Type 0} → List (List ℕ × Kind) → ℕ → ℕ → ℕ → SourceOf S → List S → Inputs S
+    → Option Worked → Type 0
+IsWork topics size longest workers src got r worked =
     IfSome worked (λ w.
-    (given : List (List Message)) × HaveGiven topics longest faults end_count left got r given
+    (given : List (List Message)) × HaveGiven topics longest src got r given
     × HasWorked topics size workers given w)
 
 -- the answers in all lists are those to all parts of the messages of the contents, each once, where
@@ -89,18 +95,17 @@ AreOfParts topics size left got worked =
 
 -- what workers answered in a run that is asked for this; another run has no workers. Parts of a
 -- generated file have at most 2^16 bytes.
-abbrev pub WorkedAs : {S : Type 0} → (S → ℕ) → (S → ℕ) → (S → Option (List ℕ))
-    → Result Asked WordsFault → List S → Inputs S → Option Fault → Option Worked
-    → Type 0
-WorkedAs faults end_count left (Ok (asks.run a)) got r end worked =
-    WorkedAt end worked × IsWorkOf a.topics a.size a.workers left got worked
-    × IsWork a.topics a.size most_payload a.workers faults end_count left got r worked
-WorkedAs faults end_count left (Ok (asks.generated a)) got r end worked =
+abbrev pub WorkedAs : {S : Type 0} → SourceOf S → Result Asked WordsFault → List S → Inputs S
+    → Option Fault → Option Worked → Type 0
+WorkedAs src (Ok (asks.run a)) got r end worked =
+    WorkedAt end worked × IsWorkOf a.topics a.size a.workers src.left got worked
+    × IsWork a.topics a.size most_payload a.workers src got r worked
+WorkedAs src (Ok (asks.generated a)) got r end worked =
     WorkedAt end worked
     × IfSome worked (λ w.
     HasWorked self_topics (2 ^ 16) a.workers
     (messages_in self_topics 1 (generated a.seed a.lines ∷ [])) w)
-WorkedAs faults end_count left asked got r end worked = worked ≡ None
+WorkedAs src asked got r end worked = worked ≡ None
 
 -- the workers of stages finished by so many: the contents, where each source told its own when it
 -- was got
@@ -111,11 +116,11 @@ IsStagedOf workers left got staged =
 
 -- so many workers finished such messages, with payloads of at most `size` bytes, which are those of
 -- the contents where these were told
-abbrev pub IsStaging : {S : Type 0} → ℕ → ℕ → (S → ℕ) → (S → ℕ) → (S → Option (List ℕ)) → List S
-    → Inputs S → Option Staged → Type 0
-IsStaging size workers faults end_count left got r staged =
+abbrev pub IsStaging : {S : Type 0} → ℕ → ℕ → SourceOf S → List S → Inputs S → Option Staged
+    → Type 0
+IsStaging size workers src got r staged =
     IfSome staged (λ s.
-    (given : List (List Message)) × HaveGiven [] size faults end_count left got r given
+    (given : List (List Message)) × HaveGiven [] size src got r given
     × staging.HasStaged workers given s)
 
 -- the members of all lists are what becomes of the messages of the contents, each once, where these
@@ -133,15 +138,52 @@ StrandsNothing order workers staged =
     IfSome staged (λ s. (frames : List Frame) × (left : List ℕ)
     × staging.NothingIsStranded order workers s.passes.value.items frames left)
 
+-- what is told of workers at the end of a run of this job over files with these names
+pub record TellsWork {S : Type 0} (j : Job) (src : SourceOf S) (names : List (List ℕ))
+    (r : Inputs S) (o : Outcome S) : Type 0 where
+  pub got : HasGotSources src names o.got.items r
+  pub status : o.status ≡ status_of o.fault
+  -- what they made is there exactly where the text of it was whole, and answers such messages as
+  -- the sources may have given: of contents that were told, and of every source
+  pub worked : WorkedAt o.fault o.worked
+  pub unstaged : o.staged ≡ None
+  pub known : IfSome o.worked (λ w.
+      All (λ a. a.topic ≤ length j.topics) (members_of w.answered.items))
+  pub answers : AreOfParts j.topics j.size src.left o.got.items o.worked
+  pub told : IsWorkOf j.topics j.size j.workers src.left o.got.items o.worked
+  pub work : IsWork j.topics j.size j.longest j.workers src o.got.items r o.worked
+  -- whatever the end is, nothing is stranded in their queue. It is seen unless the run ended for
+  -- want of memory, and where they made anything, by the passes that come with it
+  pub none_stranded : IfSome o.left (λ l. IsSomeAnd o.passes (λ p. IsSomeAnd o.frames (λ f.
+      NothingIsStranded j.order (length j.topics
+      + 1) j.workers p.value.items f.value.items l.items)))
+  pub there : OnSome o.worked (IsSome o.left)
+  pub seen : IsNone o.left → o.fault ≡ Some NoMemory
+  pub same : IfSome o.worked (λ w. IsSomeAnd o.passes (λ p. p.value.items ≡ w.passes.value.items))
+
+-- what is told of workers of stages at the end of a run of this job over files with these names.
+-- Of their queue nothing is seen beside what they finished
+pub record TellsStages {S : Type 0} (j : StageJob) (src : SourceOf S) (names : List (List ℕ))
+    (r : Inputs S) (o : Outcome S) : Type 0 where
+  pub got : HasGotSources src names o.got.items r
+  pub status : o.status ≡ status_of o.fault
+  pub unworked : o.worked ≡ None
+  pub staged : WorkedAt o.fault o.staged
+  pub handled : AreAllHandled src.left o.got.items o.staged
+  pub told : IsStagedOf j.workers src.left o.got.items o.staged
+  pub work : IsStaging j.size j.workers src o.got.items r o.staged
+  pub stranded : StrandsNothing j.order j.workers o.staged
+  pub left : o.left ≡ None
+  pub leaves : o.waited ≡ None
+
 -- what the workers of stages finished in a run that is asked for this; another run has none
-abbrev pub StagedAs : {S : Type 0} → (S → ℕ) → (S → ℕ) → (S → Option (List ℕ))
-    → Result Asked WordsFault → List S → Inputs S → Option Fault → Option Staged
-    → Type 0
-StagedAs faults end_count left (Ok (asks.staged a)) got r end staged =
-    WorkedAt end staged × IsStagedOf a.workers left got staged
-    × IsStaging a.size a.workers faults end_count left got r staged
+abbrev pub StagedAs : {S : Type 0} → SourceOf S → Result Asked WordsFault → List S → Inputs S
+    → Option Fault → Option Staged → Type 0
+StagedAs src (Ok (asks.staged a)) got r end staged =
+    WorkedAt end staged × IsStagedOf a.workers src.left got staged
+    × IsStaging a.size a.workers src got r staged
     × StrandsNothing a.order a.workers staged
-StagedAs faults end_count left asked got r end staged = staged ≡ None
+StagedAs src asked got r end staged = staged ≡ None
 
 -- what is seen of the queue of a run's workers once it was closed: these passes, these buffers that
 -- came back, and this much left in its rings. Nothing is stranded in it. A generated file is

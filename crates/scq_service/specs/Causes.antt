@@ -7,6 +7,7 @@ use Rattle.std.specs.Prelude.{if◌then◌else◌}
 use Rattle.std.specs.Option.{option_or}
 use Rattle.scq_frames.specs.Trouble.{Trouble, LongPayload, ManyBytes}
 use Rattle.scq_frames.specs.Judged.{file_trouble}
+use Rattle.scq_service.specs.Members.{SourceOf}
 use Rattle.scq_service.specs.declared.fault.Fault.{Fault}
 use Rattle.scq_service.specs.declared.fault.Fault.TheVariants.{ReadFault, TooLong, TooLarge}
 
@@ -22,14 +23,14 @@ file_fault size file failed None = if failed then Some (ReadFault file) else Non
 
 -- the first fault of files with these contents, of which the first has this number. Sources have a
 -- count of faults, and what they have left may be visible.
-abbrev pub first_file_fault : {S : Type 0} → ℕ → (S → ℕ) → (S → Option (List ℕ)) → ℕ → List (List ℕ)
-    → List S → Option Fault
-first_file_fault size faults left file (content ∷ contents) (source ∷ sources) =
-    let failed = nat_lt 0 (faults source) in
+abbrev pub first_file_fault : {S : Type 0} → ℕ → SourceOf S → ℕ → List (List ℕ) → List S
+    → Option Fault
+first_file_fault size src file (content ∷ contents) (source ∷ sources) =
+    let failed = nat_lt 0 (src.faults source) in
     option_or (file_fault size file failed
-    (file_trouble size failed (given_of content (unwrap_or (left source) []))))
-    (first_file_fault size faults left (file + 1) contents sources)
-first_file_fault size faults left file _ _ = None
+    (file_trouble size failed (given_of content (unwrap_or (src.left source) []))))
+    (first_file_fault size src (file + 1) contents sources)
+first_file_fault size src file _ _ = None
 
 -- a file's whole content has this trouble
 abbrev pub IsTroubled : ℕ → List (List ℕ) → ℕ → Trouble → Type 0

@@ -22,6 +22,7 @@ use Rattle.scq_words.specs.Asked.{Asked, run, generated, judged, whole, staged}
 use Rattle.scq_words.specs.declared.fault.WordsFault.{WordsFault}
 use Rattle.scq_words.specs.declared.text_request.TextCommand.{TextCommand}
 use Rattle.scq_files.specs.Ends.{HasMoved, all_left}
+use Rattle.scq_service.specs.Members.{FilesOf, SinkOf, SourceOf}
 use Rattle.scq_service.specs.Causes.{first_file_fault, IsTroubled, HaveRest}
 use Rattle.scq_service.specs.Faults.{fault_of_judge}
 use Rattle.scq_service.specs.Contents.{IfVisible, IsMissing, without_names}
@@ -53,22 +54,22 @@ pub record Wrote : Type 0 where
   pub faults : Change ℕ
 
 -- these, by what is seen of files and of a sink before a call and after it
-abbrev pub inputs_of : {F S : Type 0} → (F → Option Table) → (F → ℕ) → F → F → List S → ℕ → Inputs S
-inputs_of table faults old new sources read =
+abbrev pub inputs_of : {F S : Type 0} → FilesOf F S → F → F → List S → ℕ → Inputs S
+inputs_of files old new sources read =
     record {
-      table = record { old = table old; new = table new };
+      table = record { old = files.table old; new = files.table new };
       opens =
-          record { old = faults old; new = faults new };
+          record { old = files.faults old; new = files.faults new };
       sources = sources;
       read = read;
     }
 
-abbrev pub wrote_of : {K : Type 0} → (K → Option (List ℕ)) → (K → ℕ) → K → K → Wrote
-wrote_of written faults old new =
+abbrev pub wrote_of : {K : Type 0} → SinkOf K → K → K → Wrote
+wrote_of sink old new =
     record {
-      written = record { old = written old; new = written new };
+      written = record { old = sink.written old; new = sink.written new };
       faults =
-          record { old = faults old; new = faults new };
+          record { old = sink.faults old; new = sink.faults new };
     }
 
 -- nothing changed
@@ -87,24 +88,23 @@ IfTold left got P = IfSome (all_left left got) P
 -- sources were got, with no fault counted. Where the table is visible each told its name's content,
 -- in order, and each has left what follows the bytes that it gave. Where all were got, the count of
 -- files was kept
-pub record HasGotSources {S : Type 0} (faults : S → ℕ) (left : S
-    → Option (List ℕ)) (names : List (List ℕ)) (got : List S) (r : Inputs S) : Type 0 where
+pub record HasGotSources {S : Type 0} (src : SourceOf S) (names : List (List ℕ)) (got : List S)
+    (r : Inputs S) : Type 0 where
   pub within : length r.sources ≤ length names
   pub count : length got ≡ length r.sources
   pub table : r.table.new ≡ option_map (without_names (take (length r.sources) names)) r.table.old
   pub kept : length r.sources ≡ length names → IsUnchanged r.opens
-  pub fresh : All (λ source. faults source ≡ 0) got
+  pub fresh : All (λ source. src.faults source ≡ 0) got
   pub told : IfVisible r.table.old (take (length r.sources) names) (λ contents.
-      all_left left got ≡ Some contents)
+      all_left src.left got ≡ Some contents)
   pub moved : (k : ℕ) (d : S) → k < length got
-      → HasMoved faults left (slice_index_or got k d) (slice_index_or r.sources k d)
-  pub rest : IfTold left got (λ contents. HaveRest left contents r.sources)
+      → HasMoved src.faults src.left (slice_index_or got k d) (slice_index_or r.sources k d)
+  pub rest : IfTold src.left got (λ contents. HaveRest src.left contents r.sources)
 
 -- of the files that were got this is the first fault
-abbrev pub HasFault : {S : Type 0} → ℕ → (S → ℕ) → (S → Option (List ℕ)) → List S → Inputs S
-    → Option Fault → Type 0
-HasFault size faults left got r fault =
-    IfTold left got (λ contents. first_file_fault size faults left 1 contents r.sources ≡ fault)
+abbrev pub HasFault : {S : Type 0} → ℕ → SourceOf S → List S → Inputs S → Option Fault → Type 0
+HasFault size src got r fault =
+    IfTold src.left got (λ contents. first_file_fault size src 1 contents r.sources ≡ fault)
 
 -- how many bytes a payload may have
 abbrev pub most_payload : ℕ
@@ -118,14 +118,13 @@ AreReadOut {S} end_count count got r =
     → Rose (end_count (slice_index_or got k d)) (end_count (slice_index_or r.sources k d))
 
 -- every source was got and read to its end, and there is no fault
-pub record IsAllRead {S : Type 0} (size : ℕ) (faults end_count : S → ℕ) (left : S
-    → Option (List ℕ)) (names : List (List ℕ)) (got : List S)
-    (r : Inputs S) : Type 0 where
+pub record IsAllRead {S : Type 0} (size : ℕ) (src : SourceOf S) (names : List (List ℕ))
+    (got : List S) (r : Inputs S) : Type 0 where
   pub all : length r.sources ≡ length names
-  pub quiet : All (λ source. faults source ≡ 0) r.sources
-  pub ended : All (λ source. NothingLeft (left source)) r.sources
-  pub once : AreReadOut end_count (length r.sources) got r
-  pub sound : HasFault size faults left got r None
+  pub quiet : All (λ source. src.faults source ≡ 0) r.sources
+  pub ended : All (λ source. NothingLeft (src.left source)) r.sources
+  pub once : AreReadOut src.ends (length r.sources) got r
+  pub sound : HasFault size src got r None
   pub read : r.read ≡ 0
 
 -- the next source was not got: its name is missing, and the count of files rose
@@ -134,30 +133,28 @@ pub record HasMissed {S : Type 0} (names : List (List ℕ)) (r : Inputs S) : Typ
   pub missing : IfSome r.table.old (λ files. IsMissing files names (length r.sources + 1))
 
 -- a source was not got, and those before it were read to their ends and have no fault
-pub record IsNotOpened {S : Type 0} (size : ℕ) (faults end_count : S → ℕ) (left : S
-    → Option (List ℕ)) (names : List (List ℕ)) (got : List S)
-    (r : Inputs S) (file : ℕ) : Type 0 where
+pub record IsNotOpened {S : Type 0} (size : ℕ) (src : SourceOf S) (names : List (List ℕ))
+    (got : List S) (r : Inputs S) (file : ℕ) : Type 0 where
   pub next : file ≡ length r.sources + 1
   pub within : length r.sources < length names
   pub missed : HasMissed names r
-  pub quiet : All (λ source. faults source ≡ 0) r.sources
-  pub ended : All (λ source. NothingLeft (left source)) r.sources
-  pub once : AreReadOut end_count (length r.sources) got r
-  pub sound : HasFault size faults left got r None
+  pub quiet : All (λ source. src.faults source ≡ 0) r.sources
+  pub ended : All (λ source. NothingLeft (src.left source)) r.sources
+  pub once : AreReadOut src.ends (length r.sources) got r
+  pub sound : HasFault size src got r None
   pub read : r.read ≡ 0
 
 -- this file has the first fault, and those before it were read to their ends; where not all sources
 -- were got, the next one was not
-pub record IsRefused {S : Type 0} (size : ℕ) (faults end_count : S → ℕ) (left : S
-    → Option (List ℕ)) (names : List (List ℕ)) (got : List S)
-    (r : Inputs S) (file : ℕ) (fault : Fault) : Type 0 where
+pub record IsRefused {S : Type 0} (size : ℕ) (src : SourceOf S) (names : List (List ℕ))
+    (got : List S) (r : Inputs S) (file : ℕ) (fault : Fault) : Type 0 where
   pub first : 0 < file
   pub last : file ≤ length r.sources
   pub stopped : length r.sources < length names → HasMissed names r
-  pub quiet : All (λ source. faults source ≡ 0) (take (file - 1) r.sources)
-  pub ended : All (λ source. NothingLeft (left source)) (take (file - 1) r.sources)
-  pub once : AreReadOut end_count (file - 1) got r
-  pub cause : HasFault size faults left got r (Some fault)
+  pub quiet : All (λ source. src.faults source ≡ 0) (take (file - 1) r.sources)
+  pub ended : All (λ source. NothingLeft (src.left source)) (take (file - 1) r.sources)
+  pub once : AreReadOut src.ends (file - 1) got r
+  pub cause : HasFault size src got r (Some fault)
 
 -- so many bytes of this file's content were read, and its source has the others left
 abbrev pub IsReadOf : {S : Type 0} → (S → Option (List ℕ)) → ℕ → List (List ℕ) → List S → ℕ → Type 0
@@ -167,49 +164,47 @@ IsReadOf left read contents sources file =
     Some (length content) ≡ option_map (λ bytes. read + length bytes) (left source)))
 
 -- how the reading of files of these names ends
-abbrev pub ReadsOver : {S : Type 0} → ℕ → (S → ℕ) → (S → ℕ) → (S → Option (List ℕ)) → List (List ℕ)
-    → List S → Inputs S → Option Fault → Type 0
-ReadsOver size faults end_count left names got r None =
-    IsAllRead size faults end_count left names got r
-ReadsOver size faults end_count left names got r (Some (OpenFault file)) =
-    IsNotOpened size faults end_count left names got r file
-ReadsOver size faults end_count left names got r (Some (ReadFault file)) =
-    IsRefused size faults end_count left names got r file (ReadFault file) × (r.read ≡ 0)
-    × IsSomeAnd (slice_get r.sources (file - 1)) (λ source. 0 < faults source)
-ReadsOver size faults end_count left names got r (Some (TooLong file line len limit)) =
-    IsRefused size faults end_count left names got r file (TooLong file line len limit)
+abbrev pub ReadsOver : {S : Type 0} → ℕ → SourceOf S → List (List ℕ) → List S → Inputs S
+    → Option Fault → Type 0
+ReadsOver size src names got r None = IsAllRead size src names got r
+ReadsOver size src names got r (Some (OpenFault file)) =
+    IsNotOpened size src names got r file
+ReadsOver size src names got r (Some (ReadFault file)) =
+    IsRefused size src names got r file (ReadFault file) × (r.read ≡ 0)
+    × IsSomeAnd (slice_get r.sources (file - 1)) (λ source. 0 < src.faults source)
+ReadsOver size src names got r (Some (TooLong file line len limit)) =
+    IsRefused size src names got r file (TooLong file line len limit)
     × (r.read ≡ 0) × (limit ≡ size) × (0 < line) × (size < len)
-    × IfTold left got (λ contents. IsTroubled size contents file (LongPayload line len))
-ReadsOver size faults end_count left names got r (Some (TooLarge file limit)) =
-    IsRefused size faults end_count left names got r file (TooLarge file limit) × (limit ≡ 2 ^ 30)
+    × IfTold src.left got (λ contents. IsTroubled size contents file (LongPayload line len))
+ReadsOver size src names got r (Some (TooLarge file limit)) =
+    IsRefused size src names got r file (TooLarge file limit) × (limit ≡ 2 ^ 30)
     × (r.read ≡ 2 ^ 30 + 1)
-    × IfTold left got (λ contents.
-    IsTroubled size contents file ManyBytes × IsReadOf left r.read contents r.sources file)
-ReadsOver size faults end_count left names got r (Some NoMemory) = r.read ≡ 0
-ReadsOver size faults end_count left names got r (Some WriteFault) = ⊥
-ReadsOver size faults end_count left names got r (Some (BadLine line)) = ⊥
-ReadsOver size faults end_count left names got r (Some (NotEnabled line)) = ⊥
-ReadsOver size faults end_count left names got r (Some (Unlawful line)) = ⊥
-ReadsOver size faults end_count left names got r (Some (Unfinished seat)) = ⊥
-ReadsOver size faults end_count left names got r (Some (BadLineOf file line)) = ⊥
-ReadsOver size faults end_count left names got r (Some (SharedOf what file line g m)) = ⊥
-ReadsOver size faults end_count left names got r (Some (TwoRunsOf file n g s)) = ⊥
-ReadsOver size faults end_count left names got r (Some (UnlawfulOf file line)) = ⊥
-ReadsOver size faults end_count left names got r (Some (Words fault)) = ⊥
+    × IfTold src.left got (λ contents.
+    IsTroubled size contents file ManyBytes × IsReadOf src.left r.read contents r.sources file)
+ReadsOver size src names got r (Some NoMemory) = r.read ≡ 0
+ReadsOver size src names got r (Some WriteFault) = ⊥
+ReadsOver size src names got r (Some (BadLine line)) = ⊥
+ReadsOver size src names got r (Some (NotEnabled line)) = ⊥
+ReadsOver size src names got r (Some (Unlawful line)) = ⊥
+ReadsOver size src names got r (Some (Unfinished seat)) = ⊥
+ReadsOver size src names got r (Some (BadLineOf file line)) = ⊥
+ReadsOver size src names got r (Some (SharedOf what file line g m)) = ⊥
+ReadsOver size src names got r (Some (TwoRunsOf file n g s)) = ⊥
+ReadsOver size src names got r (Some (UnlawfulOf file line)) = ⊥
+ReadsOver size src names got r (Some (Words fault)) = ⊥
 
 -- how a run over files of these names ends: with the text written, with a front of it where out
 -- failed, or with nothing written
-abbrev pub EndsOver : {S : Type 0} → ℕ → (List (List ℕ) → List ℕ) → (S → ℕ) → (S → ℕ)
-    → (S → Option (List ℕ)) → List (List ℕ) → List S → Inputs S → Wrote
-    → Option Fault → Type 0
-EndsOver size text faults end_count left names got r w None =
-    IsAllRead size faults end_count left names got r × IsUnchanged w.faults
-    × IfTold left got (λ contents. w.written.new ≡ written_with w.written.old (text contents))
-EndsOver size text faults end_count left names got r w (Some WriteFault) =
-    IsAllRead size faults end_count left names got r × Rose w.faults.old w.faults.new
-    × IfTold left got (λ contents. WrotePart w.written.old w.written.new (text contents))
-EndsOver size text faults end_count left names got r w fault =
-    ReadsOver size faults end_count left names got r fault × IsUnwritten w
+abbrev pub EndsOver : {S : Type 0} → ℕ → (List (List ℕ) → List ℕ) → SourceOf S → List (List ℕ)
+    → List S → Inputs S → Wrote → Option Fault → Type 0
+EndsOver size text src names got r w None =
+    IsAllRead size src names got r × IsUnchanged w.faults
+    × IfTold src.left got (λ contents. w.written.new ≡ written_with w.written.old (text contents))
+EndsOver size text src names got r w (Some WriteFault) =
+    IsAllRead size src names got r × Rose w.faults.old w.faults.new
+    × IfTold src.left got (λ contents. WrotePart w.written.old w.written.new (text contents))
+EndsOver size text src names got r w fault =
+    ReadsOver size src names got r fault × IsUnwritten w
 
 -- how a run over no file of the outside ends that is to write this text
 abbrev pub EndsAlone : List ℕ → Wrote → Option Fault → Type 0
@@ -232,23 +227,23 @@ IfContent left got P = All (λ source. IfSome (left source) P) got
 
 -- the file was got, with no fault counted, and nothing else was asked for. Where the table is
 -- visible its source told the name's content
-pub record IsOneGot {S : Type 0} (faults : S → ℕ) (left : S → Option (List ℕ)) (name : List ℕ)
-    (got : List S) (r : Inputs S) : Type 0 where
+pub record IsOneGot {S : Type 0} (src : SourceOf S) (name : List ℕ) (got : List S) (r : Inputs S)
+    : Type 0 where
   pub one : (length got ≡ 1) × (length r.sources ≡ 1)
   pub opens : IsUnchanged r.opens
   pub table : r.table.new ≡ option_map (without_name name) r.table.old
-  pub fresh : All (λ source. faults source ≡ 0) got
+  pub fresh : All (λ source. src.faults source ≡ 0) got
   pub told : IfSome r.table.old (λ files.
-      IsSome (files name) × All (λ source. left source ≡ files name) got)
+      IsSome (files name) × All (λ source. src.left source ≡ files name) got)
 
 -- the file was read to its end, which it answered just once, and has no more than the most bytes
-pub record IsReadWhole {S : Type 0} (faults end_count : S → ℕ) (left : S → Option (List ℕ))
-    (name : List ℕ) (got : List S) (r : Inputs S) : Type 0 where
-  pub one : IsOneGot faults left name got r
-  pub quiet : All (λ source. faults source ≡ 0) r.sources
-  pub ended : All (λ source. NothingLeft (left source)) r.sources
-  pub once : AreReadOut end_count 1 got r
-  pub fits : IfContent left got (λ content. length content ≤ most_text)
+pub record IsReadWhole {S : Type 0} (src : SourceOf S) (name : List ℕ) (got : List S) (r : Inputs S)
+    : Type 0 where
+  pub one : IsOneGot src name got r
+  pub quiet : All (λ source. src.faults source ≡ 0) r.sources
+  pub ended : All (λ source. NothingLeft (src.left source)) r.sources
+  pub once : AreReadOut src.ends 1 got r
+  pub fits : IfContent src.left got (λ content. length content ≤ most_text)
   pub read : r.read ≡ 0
 
 -- the file was not got, and nothing was read
@@ -260,24 +255,24 @@ pub record IsNotGot {S : Type 0} (name : List ℕ) (r : Inputs S) : Type 0 where
   pub read : r.read ≡ 0
 
 -- a read of the file failed, and no more than the most bytes were read before
-pub record IsReadUntil {S : Type 0} (faults : S → ℕ) (left : S → Option (List ℕ)) (name : List ℕ)
-    (got : List S) (r : Inputs S) : Type 0 where
-  pub one : IsOneGot faults left name got r
-  pub failed : All (λ source. faults source ≡ 1) r.sources
-  pub fits : IfContent left got (λ content.
-      All (λ source. IsSomeAnd (left source) (λ rest. length content ≤ most_text + length rest))
+pub record IsReadUntil {S : Type 0} (src : SourceOf S) (name : List ℕ) (got : List S) (r : Inputs S)
+    : Type 0 where
+  pub one : IsOneGot src name got r
+  pub failed : All (λ source. src.faults source ≡ 1) r.sources
+  pub fits : IfContent src.left got (λ content.
+      All (λ source. IsSomeAnd (src.left source) (λ rest. length content ≤ most_text + length rest))
       r.sources)
   pub read : r.read ≡ 0
 
 -- the file has more than the most bytes: one more was read
-pub record IsLarge {S : Type 0} (faults : S → ℕ) (left : S → Option (List ℕ)) (name : List ℕ)
-    (got : List S) (r : Inputs S) : Type 0 where
-  pub one : IsOneGot faults left name got r
-  pub quiet : All (λ source. faults source ≡ 0) r.sources
+pub record IsLarge {S : Type 0} (src : SourceOf S) (name : List ℕ) (got : List S) (r : Inputs S)
+    : Type 0 where
+  pub one : IsOneGot src name got r
+  pub quiet : All (λ source. src.faults source ≡ 0) r.sources
   pub read : r.read ≡ most_text + 1
-  pub bytes : IfContent left got (λ content.
+  pub bytes : IfContent src.left got (λ content.
       All (λ source. Some (length content)
-      ≡ option_map (λ rest. r.read + length rest) (left source))
+      ≡ option_map (λ rest. r.read + length rest) (src.left source))
       r.sources)
 
 -- what the file's lines tell meets P
@@ -287,25 +282,26 @@ IsTold command left got P = IfContent left got (λ content.
     (text : List ℕ) × Tells command (lines_of content) (Ok text) × P text)
 
 -- how a run over the file of this name ends
-abbrev pub EndsWhole : {S : Type 0} → TextCommand → (S → ℕ) → (S → ℕ) → (S → Option (List ℕ))
-    → List ℕ → List S → Inputs S → Wrote → Option Fault → Type 0
-EndsWhole command faults end_count left name got r w None =
-    IsReadWhole faults end_count left name got r × IsUnchanged w.faults
-    × IsTold command left got (λ text. w.written.new ≡ written_with w.written.old text)
-EndsWhole command faults end_count left name got r w (Some WriteFault) =
-    IsReadWhole faults end_count left name got r × Rose w.faults.old w.faults.new
-    × IsTold command left got (λ text. WrotePart w.written.old w.written.new text)
-EndsWhole command faults end_count left name got r w (Some (OpenFault file)) =
+abbrev pub EndsWhole : {S : Type 0} → TextCommand → SourceOf S → List ℕ → List S → Inputs S → Wrote
+    → Option Fault → Type 0
+EndsWhole command src name got r w None =
+    IsReadWhole src name got r × IsUnchanged w.faults
+    × IsTold command src.left got (λ text. w.written.new ≡ written_with w.written.old text)
+EndsWhole command src name got r w (Some WriteFault) =
+    IsReadWhole src name got r × Rose w.faults.old w.faults.new
+    × IsTold command src.left got (λ text. WrotePart w.written.old w.written.new text)
+EndsWhole command src name got r w (Some (OpenFault file)) =
     (file ≡ 1) × IsNotGot name r × IsUnwritten w
-EndsWhole command faults end_count left name got r w (Some (ReadFault file)) =
-    (file ≡ 1) × IsReadUntil faults left name got r × IsUnwritten w
-EndsWhole command faults end_count left name got r w (Some (TooLarge file limit)) =
-    (file ≡ 1) × (limit ≡ most_text) × IsLarge faults left name got r × IsUnwritten w
-EndsWhole command faults end_count left name got r w (Some NoMemory) =
+EndsWhole command src name got r w (Some (ReadFault file)) =
+    (file ≡ 1) × IsReadUntil src name got r × IsUnwritten w
+EndsWhole command src name got r w (Some (TooLarge file limit)) =
+    (file ≡ 1) × (limit ≡ most_text) × IsLarge src name got r × IsUnwritten w
+EndsWhole command src name got r w (Some NoMemory) =
     (length r.sources ≤ 1) × (r.read ≡ 0) × IsUnwritten w
-EndsWhole command faults end_count left name got r w (Some fault) =
-    IsOfText command fault × IsReadWhole faults end_count left name got r
-    × IfContent left got (λ content. Tells command (lines_of content) (Err fault)) × IsUnwritten w
+EndsWhole command src name got r w (Some fault) =
+    IsOfText command fault × IsReadWhole src name got r
+    × IfContent src.left got (λ content. Tells command (lines_of content) (Err fault))
+    × IsUnwritten w
 
 -- A run over recordings, whose files are got one after the other, each read to its end before the
 -- next is got, and judged together
@@ -333,43 +329,42 @@ AreGotFor names r (judge.TooLarge file) = IsUnchanged r.opens × (r.read ≡ 0)
 AreGotFor names r _ = HaveAll names r
 
 -- recordings were refused: sources were got and read so far, and this is at fault in what they told
-pub record IsRefusedBy {S : Type 0} (faults end_count : S → ℕ) (left : S
-    → Option (List ℕ)) (names : List (List ℕ)) (got : List S)
+pub record IsRefusedBy {S : Type 0} (src : SourceOf S) (names : List (List ℕ)) (got : List S)
     (r : Inputs S) (refused : JudgeFault) : Type 0 where
   pub got_for : AreGotFor names r refused
-  pub until : AreReadUntil faults end_count left got r.sources refused
-  pub cause : IfTold left got (λ contents. IsCause (length names == 1) contents refused)
+  pub until : AreReadUntil src.faults src.ends src.left got r.sources refused
+  pub cause : IfTold src.left got (λ contents. IsCause (length names == 1) contents refused)
 
 -- a source was not got: those before it were read to their ends, and nothing is at fault in them
-pub record IsUnopened {S : Type 0} (faults end_count : S → ℕ) (left : S
-    → Option (List ℕ)) (names : List (List ℕ)) (got : List S)
+pub record IsUnopened {S : Type 0} (src : SourceOf S) (names : List (List ℕ)) (got : List S)
     (r : Inputs S) (file : ℕ) : Type 0 where
   pub next : file ≡ length r.sources + 1
   pub within : length r.sources < length names
   pub missed : HasMissed names r
-  pub whole : AreReadWhole faults end_count left (length r.sources) got r.sources
-  pub sound : IfTold left got (λ contents. AreSoundBefore (length names == 1) contents file)
+  pub whole : AreReadWhole src.faults src.ends src.left (length r.sources) got r.sources
+  pub sound : IfTold src.left got (λ contents. AreSoundBefore (length names == 1) contents file)
   pub read : r.read ≡ 0
 
 -- how a run over recordings of these names ends. With its report every source was read to its end,
 -- and no read failed
-abbrev pub EndsJudged : {S : Type 0} → (S → ℕ) → (S → ℕ) → (S → Option (List ℕ)) → Option ℕ
-    → List (List ℕ) → List S → Inputs S → Wrote → Option Fault → Type 0
-EndsJudged faults end_count left room names got r w None =
-    HaveAll names r × AreReadWhole faults end_count left (length names) got r.sources
+abbrev pub EndsJudged : {S : Type 0} → SourceOf S → Option ℕ → List (List ℕ) → List S → Inputs S
+    → Wrote → Option Fault → Type 0
+EndsJudged src room names got r w None =
+    HaveAll names r × AreReadWhole src.faults src.ends src.left (length names) got r.sources
     × IsUnchanged w.faults
-    × IsReported left names room got (λ text. w.written.new ≡ written_with w.written.old text)
-EndsJudged faults end_count left room names got r w (Some WriteFault) =
-    HaveAll names r × AreReadWhole faults end_count left (length names) got r.sources
+    × IsReported src.left names room got (λ text. w.written.new ≡ written_with w.written.old text)
+EndsJudged src room names got r w (Some WriteFault) =
+    HaveAll names r × AreReadWhole src.faults src.ends src.left (length names) got r.sources
     × Rose w.faults.old w.faults.new
-    × IsReported left names room got (λ text. WrotePart w.written.old w.written.new text)
-EndsJudged faults end_count left room names got r w (Some (OpenFault file)) =
-    IsUnopened faults end_count left names got r file × IsUnwritten w
-EndsJudged faults end_count left room names got r w (Some NoMemory) =
-    (length r.sources ≤ length names) × AreQuiet faults got r.sources × (r.read ≡ 0) × IsUnwritten w
-EndsJudged faults end_count left room names got r w (Some fault) =
+    × IsReported src.left names room got (λ text. WrotePart w.written.old w.written.new text)
+EndsJudged src room names got r w (Some (OpenFault file)) =
+    IsUnopened src names got r file × IsUnwritten w
+EndsJudged src room names got r w (Some NoMemory) =
+    (length r.sources ≤ length names) × AreQuiet src.faults got r.sources × (r.read ≡ 0)
+    × IsUnwritten w
+EndsJudged src room names got r w (Some fault) =
     ((refused : JudgeFault) × (fault ≡ fault_of_judge refused)
-    × IsRefusedBy faults end_count left names got r refused) × IsUnwritten w
+    × IsRefusedBy src names got r refused) × IsUnwritten w
 
 -- no file was asked for
 abbrev pub IsClosed : {S : Type 0} → Inputs S → Type 0
@@ -378,47 +373,46 @@ IsClosed r = IsUnchanged r.table × IsUnchanged r.opens × (r.sources ≡ []) ×
 -- how a run ends that is asked for this: refused words, files, a generated file, recordings, one
 -- whole file, or files that go through stages, whose payloads have at most as many bytes as the
 -- size that is asked for. The sources of files are told as they were when they were got
-abbrev pub EndsAs : {S : Type 0} → (S → ℕ) → (S → ℕ) → (S → Option (List ℕ))
-    → Result Asked WordsFault → List S → Inputs S → Wrote → Option Fault → Type 0
-EndsAs faults end_count left (Err fault) got r w end =
+abbrev pub EndsAs : {S : Type 0} → SourceOf S → Result Asked WordsFault → List S → Inputs S → Wrote
+    → Option Fault → Type 0
+EndsAs src (Err fault) got r w end =
     IsClosed r × IsUnwritten w × ((end ≡ Some (Words fault)) ⊎ (end ≡ Some NoMemory))
-EndsAs faults end_count left (Ok (run a)) got r w end =
-    HasGotSources faults left a.files got r
+EndsAs src (Ok (run a)) got r w end =
+    HasGotSources src a.files got r
     × EndsOver most_payload
-    (one_thread_output a.topics) faults end_count left a.files got r w end
-EndsAs faults end_count left (Ok (generated a)) got r w end =
+    (one_thread_output a.topics) src a.files got r w end
+EndsAs src (Ok (generated a)) got r w end =
     IsClosed r × EndsAlone (self_summary a.seed a.lines) w end
-EndsAs faults end_count left (Ok (judged a)) got r w end =
-    HasGotSources faults left a.files got r
-    × EndsJudged faults end_count left a.room a.files got r w end
-EndsAs faults end_count left (Ok (whole a)) got r w end =
-    EndsWhole a.command faults end_count left a.file got r w end
-EndsAs faults end_count left (Ok (staged a)) got r w end =
-    HasGotSources faults left a.files got r
-    × EndsOver a.size one_thread_stage_output faults end_count left a.files got r w end
+EndsAs src (Ok (judged a)) got r w end =
+    HasGotSources src a.files got r
+    × EndsJudged src a.room a.files got r w end
+EndsAs src (Ok (whole a)) got r w end =
+    EndsWhole a.command src a.file got r w end
+EndsAs src (Ok (staged a)) got r w end =
+    HasGotSources src a.files got r
+    × EndsOver a.size one_thread_stage_output src a.files got r w end
 
 -- nothing stood in the way of a run over these files: each was got, no count rose, each told its
 -- content, and none has trouble
-pub record IsCalm {S : Type 0} (size : ℕ) (faults : S → ℕ) (left : S
-    → Option (List ℕ)) (names : List (List ℕ)) (got : List S) (r : Inputs S)
-    (w : Wrote) : Type 0 where
+pub record IsCalm {S : Type 0} (size : ℕ) (src : SourceOf S) (names : List (List ℕ)) (got : List S)
+    (r : Inputs S) (w : Wrote) : Type 0 where
   pub all : length r.sources ≡ length names
   pub opens : ¬ Rose r.opens.old r.opens.new
   pub writes : ¬ Rose w.faults.old w.faults.new
-  pub quiet : All (λ source. faults source ≡ 0) r.sources
-  pub visible : IsSome (all_left left got)
-  pub sound : IfTold left got (λ contents.
+  pub quiet : All (λ source. src.faults source ≡ 0) r.sources
+  pub visible : IsSome (all_left src.left got)
+  pub sound : IfTold src.left got (λ contents.
       All (λ content. file_trouble size false content ≡ None) contents)
 
 -- nothing stood in the way of a run over one whole file: it was got, no count rose, it told its
 -- content, and that is not too large
-pub record IsCalmText {S : Type 0} (faults : S → ℕ) (left : S → Option (List ℕ)) (got : List S)
-    (r : Inputs S) (w : Wrote) : Type 0 where
+pub record IsCalmText {S : Type 0} (src : SourceOf S) (got : List S) (r : Inputs S) (w : Wrote)
+    : Type 0 where
   pub opens : ¬ Rose r.opens.old r.opens.new
   pub writes : ¬ Rose w.faults.old w.faults.new
-  pub quiet : All (λ source. faults source ≡ 0) r.sources
-  pub visible : All (λ source. IsSome (left source)) got
-  pub fits : IfContent left got (λ content. length content ≤ most_text)
+  pub quiet : All (λ source. src.faults source ≡ 0) r.sources
+  pub visible : All (λ source. IsSome (src.left source)) got
+  pub fits : IfContent src.left got (λ content. length content ≤ most_text)
 
 -- it ended with its output, for want of memory, or with a fault that the text has
 abbrev pub IsOfTextAlone : TextCommand → Option Fault → Type 0

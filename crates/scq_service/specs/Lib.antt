@@ -1,3 +1,4 @@
+pub mod Members
 pub mod Contents
 pub mod Causes
 pub mod Sources

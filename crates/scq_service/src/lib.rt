@@ -23,4 +23,4 @@ pub use outcome::Outcome;
 pub use reporting::report;
 pub use serving::serve;
 pub use serving_waiting::serve_waiting;
-pub use sources::Sources;
+pub use sources::{LetGo, Sources};

@@ -1,10 +1,9 @@
 ghost use Rattle.std.specs.Prelude.{◌≡◌, Some, None};
 ghost use Rattle.scq_service.specs.Faults.{status_of_fault, fault_of_work, fault_of_text};
 ghost use Rattle.scq_service.specs.Faults.{bytes_of_large, bytes_of_large_text};
-ghost use Rattle.scq_service.specs.Answers.{WorkedAt};
 
 use crate::commands::MOST_TEXT;
-use crate::{Fault, Sources};
+use crate::{Fault, LetGo, Sources};
 use scq_block::Frame;
 use scq_outside::ReadAllFault;
 use scq_queue::Pass;
@@ -21,9 +20,8 @@ pub struct Outcome<S> {
     pub status: u8,
     /// There exactly where the status isn't 0.
     pub fault: Option<Fault>,
-    /// For contracts alone, the sources that were got, as they were when the run was done with
-    /// them.
-    pub sources: Sources<S>,
+    /// For contracts alone, the sources that were got, each as it was last.
+    pub sources: LetGo<S>,
     /// How many bytes were read of a file that is too large; 0 where none is, and of `judge`.
     pub read: u64,
     /// What workers answered: there exactly where `run` or `self` ended with status 0 or 4.
@@ -45,6 +43,8 @@ pub struct Outcome<S> {
 }
 
 impl<S: Drop> Outcome<S> {
+    ghost use Rattle.scq_service.specs.Answers.{WorkedAt};
+
     pub(crate) fn whole(sources: Vec<S>) -> Outcome<S>
         ensures status { result.status ≡ 0 }
         ensures fault { result.fault ≡ None }
@@ -55,10 +55,11 @@ impl<S: Drop> Outcome<S> {
         ensures left { (result.left ≡ None) × (result.passes ≡ None) × (result.frames ≡ None) }
         ensures waited { result.waited ≡ None }
     {
+        let got = Snapshot::of(&sources);
         Outcome {
             status: 0,
             fault: None,
-            sources: Sources::these(Snapshot::of(&sources)),
+            sources: LetGo::these(sources),
             read: 0,
             worked: None,
             staged: None,
@@ -66,7 +67,7 @@ impl<S: Drop> Outcome<S> {
             passes: None,
             frames: None,
             waited: None,
-            got: Sources::these(Snapshot::of(&sources)),
+            got: Sources::these(got),
         }
     }
 
@@ -174,7 +175,7 @@ impl<S: Drop> Outcome<S> {
     }
 
     /// The same end of a run over these sources, which were these when they were got.
-    pub(crate) fn over(self, got: Sources<S>, sources: Sources<S>) -> Outcome<S>
+    pub(crate) fn over(self, got: Sources<S>, sources: LetGo<S>) -> Outcome<S>
         ensures status { result.status ≡ self.status }
         ensures fault { result.fault ≡ self.fault }
         ensures sources { result.sources ≡ sources }
@@ -203,10 +204,11 @@ impl<S: Drop> Outcome<S> {
         ensures waited { result.waited ≡ None }
         ensures got { result.got.items ≡ sources.items }
     {
+        let got = Snapshot::of(&sources);
         Outcome {
             status: fault.status(),
             fault: Some(fault),
-            sources: Sources::these(Snapshot::of(&sources)),
+            sources: LetGo::these(sources),
             read: 0,
             worked: None,
             staged: None,
@@ -214,7 +216,7 @@ impl<S: Drop> Outcome<S> {
             passes: None,
             frames: None,
             waited: None,
-            got: Sources::these(Snapshot::of(&sources)),
+            got: Sources::these(got),
         }
     }
 

@@ -1,16 +1,11 @@
 //! The files of a run: their sources, and what the workers' end makes of it.
 ghost use Rattle.std.specs.Prelude.{◌≡◌, ◌+◌, ◌≤◌, [], Some, None, length, map, string_bytes};
-ghost use Rattle.std.specs.Prelude.{vec_len, IfSome, IsErrOf, IsNone, IsSome, IsSomeAnd, OnSome};
-ghost use Rattle.std.specs.Prelude.{vec_capacity};
-ghost use Rattle.std.specs.List.{All};
-ghost use Rattle.scq_collect.specs.Merging.{members_of};
-ghost use Rattle.scq_work.specs.AllWorkers.{NothingIsStranded};
+ghost use Rattle.std.specs.Prelude.{vec_len, vec_capacity, IfSome, IsErrOf, IsNone, IsSome};
+ghost use Rattle.std.specs.Prelude.{IsSomeAnd, OnSome};
 ghost use Rattle.scq_work.specs.Ends.{EndsWork};
 ghost use Rattle.scq_rest.specs.Waiting.{HaveWaited};
-ghost use Rattle.scq_service.specs.Answers.{HaveCome, HaveAllCome, AreOfParts, IsWork, IsWorkOf};
-ghost use Rattle.scq_service.specs.Answers.{WorkedAt};
-ghost use Rattle.scq_service.specs.Ends.{HasGotSources, ReadsOver, inputs_of};
-ghost use Rattle.scq_service.specs.Faults.{status_of};
+ghost use Rattle.scq_service.specs.Answers.{HaveCome, HaveAllCome, TellsWork};
+ghost use Rattle.scq_service.specs.Ends.{ReadsOver, inputs_of};
 
 use crate::{Fault, Outcome};
 use scq_outside::{Failed, Files};
@@ -31,10 +26,10 @@ pub(crate) fn get_sources<F: Files>(
     requires room { length names.now ≤ vec_capacity sources.old }
     ensures count { (vec_len sources.new ≡ length sources.new.items)
         × (vec_len sources.new ≤ length names.now) }
-    ensures come { HaveCome F.Src.faults F.Src.left (map string_bytes names.now)
-        (inputs_of F.table F.faults files.old files.new sources.new.items 0) }
+    ensures come { HaveCome F.Src.Source (map string_bytes names.now)
+        (inputs_of F.Files files.old files.new sources.new.items 0) }
     ensures all { HaveAllCome (map string_bytes names.now)
-        (inputs_of F.table F.faults files.old files.new sources.new.items 0) result }
+        (inputs_of F.Files files.old files.new sources.new.items 0) result }
 {
     'files: for name in names {
         match files.source(name.as_str()) {
@@ -47,7 +42,7 @@ pub(crate) fn get_sources<F: Files>(
 
 /// Gets the sources of the files, up to the first that isn't got, and answers the messages of those
 /// that it got. Each source is asked for once and read at most once.
-pub fn read_files<R: Threads + Sync, F: Files, G: Gate + Sync>(
+pub fn run_work<R: Threads + Sync, F: Files, G: Gate + Sync>(
     rt: &R,
     alloc: Global,
     job: &Job,
@@ -56,34 +51,11 @@ pub fn read_files<R: Threads + Sync, F: Files, G: Gate + Sync>(
     gate: &G,
 ) -> Outcome<F::Src>
     requires few { length names.now ≤ 64 }
-    ensures got { HasGotSources F.Src.faults F.Src.left
-        (map string_bytes names.now) result.got.items
-        (inputs_of F.table F.faults files.old files.new result.sources.items result.read) }
-    ensures ends { ReadsOver job.now.longest F.Src.faults F.Src.ends F.Src.left
-        (map string_bytes names.now) result.got.items
-        (inputs_of F.table F.faults files.old files.new result.sources.items result.read)
-        result.fault }
-    ensures status { result.status ≡ status_of result.fault }
-    ensures worked { WorkedAt result.fault result.worked }
-    ensures unstaged { result.staged ≡ None }
-    ensures known { IfSome result.worked (λ w.
-        All (λ a. a.topic ≤ length job.now.topics) (members_of w.answered.items)) }
-    ensures answers { AreOfParts job.now.topics job.now.size F.Src.left result.got.items
-        result.worked }
-    ensures told { IsWorkOf job.now.topics job.now.size job.now.workers F.Src.left
-        result.got.items result.worked }
-    ensures work { IsWork job.now.topics job.now.size job.now.longest job.now.workers F.Src.faults
-        F.Src.ends F.Src.left result.got.items
-        (inputs_of F.table F.faults files.old files.new result.sources.items result.read)
-        result.worked }
-    ensures left { IfSome result.left (λ left.
-        IsSomeAnd result.passes (λ passes. IsSomeAnd result.frames (λ frames.
-        NothingIsStranded job.now.order (length job.now.topics
-        + 1) job.now.workers passes.value.items frames.value.items left.items))) }
-    ensures there { OnSome result.worked (IsSome result.left) }
-    ensures seen { IsNone result.left → result.fault ≡ Some Fault.NoMemory }
-    ensures same { IfSome result.worked (λ w.
-        IsSomeAnd result.passes (λ passes. passes.value.items ≡ w.passes.value.items)) }
+    ensures tells { TellsWork job.now F.Src.Source (map string_bytes names.now)
+        (inputs_of F.Files files.old files.new result.sources.items result.read) result }
+    ensures ends { ReadsOver job.now.longest F.Src.Source (map string_bytes names.now)
+        result.got.items
+        (inputs_of F.Files files.old files.new result.sources.items result.read) result.fault }
     ensures leaves { IsNone result.waited }
 {
     let Ok(mut sources) = Vec::with_capacity(alloc, names.len()) else {
@@ -98,7 +70,7 @@ pub fn read_files<R: Threads + Sync, F: Files, G: Gate + Sync>(
 }
 
 /// The same by workers that rest in place of leaving early.
-pub fn read_files_waiting<R: Threads + Wait + Sync, F: Files, G: Gate + Sync>(
+pub fn run_work_waiting<R: Threads + Wait + Sync, F: Files, G: Gate + Sync>(
     rt: &R,
     alloc: Global,
     job: &Job,
@@ -107,34 +79,11 @@ pub fn read_files_waiting<R: Threads + Wait + Sync, F: Files, G: Gate + Sync>(
     gate: &G,
 ) -> Outcome<F::Src>
     requires few { length names.now ≤ 64 }
-    ensures got { HasGotSources F.Src.faults F.Src.left
-        (map string_bytes names.now) result.got.items
-        (inputs_of F.table F.faults files.old files.new result.sources.items result.read) }
-    ensures ends { ReadsOver job.now.longest F.Src.faults F.Src.ends F.Src.left
-        (map string_bytes names.now) result.got.items
-        (inputs_of F.table F.faults files.old files.new result.sources.items result.read)
-        result.fault }
-    ensures status { result.status ≡ status_of result.fault }
-    ensures worked { WorkedAt result.fault result.worked }
-    ensures unstaged { result.staged ≡ None }
-    ensures known { IfSome result.worked (λ w.
-        All (λ a. a.topic ≤ length job.now.topics) (members_of w.answered.items)) }
-    ensures answers { AreOfParts job.now.topics job.now.size F.Src.left result.got.items
-        result.worked }
-    ensures told { IsWorkOf job.now.topics job.now.size job.now.workers F.Src.left
-        result.got.items result.worked }
-    ensures work { IsWork job.now.topics job.now.size job.now.longest job.now.workers F.Src.faults
-        F.Src.ends F.Src.left result.got.items
-        (inputs_of F.table F.faults files.old files.new result.sources.items result.read)
-        result.worked }
-    ensures left { IfSome result.left (λ left.
-        IsSomeAnd result.passes (λ passes. IsSomeAnd result.frames (λ frames.
-        NothingIsStranded job.now.order (length job.now.topics
-        + 1) job.now.workers passes.value.items frames.value.items left.items))) }
-    ensures there { OnSome result.worked (IsSome result.left) }
-    ensures seen { IsNone result.left → result.fault ≡ Some Fault.NoMemory }
-    ensures same { IfSome result.worked (λ w.
-        IsSomeAnd result.passes (λ passes. passes.value.items ≡ w.passes.value.items)) }
+    ensures tells { TellsWork job.now F.Src.Source (map string_bytes names.now)
+        (inputs_of F.Files files.old files.new result.sources.items result.read) result }
+    ensures ends { ReadsOver job.now.longest F.Src.Source (map string_bytes names.now)
+        result.got.items
+        (inputs_of F.Files files.old files.new result.sources.items result.read) result.fault }
     ensures waited { IfSome result.waited (λ waited. IsSomeAnd result.passes (λ passes.
         HaveWaited (length job.now.topics
         + 1) job.now.workers passes.value.items waited.saw.items waited.rested.items)) }
@@ -168,39 +117,16 @@ fn conclude<F: Files>(
 ) -> Outcome<F::Src>
     requires few { count ≤ 64 }
     requires number { count ≡ length got.value.items }
-    requires come { HaveCome F.Src.faults F.Src.left (map string_bytes names.now)
-        (inputs_of F.table F.faults was.now.value files.now got.value.items 0) }
+    requires come { HaveCome F.Src.Source (map string_bytes names.now)
+        (inputs_of F.Files was.now.value files.now got.value.items 0) }
     requires all { HaveAllCome (map string_bytes names.now)
-        (inputs_of F.table F.faults was.now.value files.now got.value.items 0) all }
+        (inputs_of F.Files was.now.value files.now got.value.items 0) all }
     requires end { EndsWork job.now F.Src.faults F.Src.ends F.Src.left got.value.items end }
-    ensures got { HasGotSources F.Src.faults F.Src.left
-        (map string_bytes names.now) result.got.items
-        (inputs_of F.table F.faults was.now.value files.now result.sources.items result.read) }
-    ensures ends { ReadsOver job.now.longest F.Src.faults F.Src.ends F.Src.left
-        (map string_bytes names.now) result.got.items
-        (inputs_of F.table F.faults was.now.value files.now result.sources.items result.read)
-        result.fault }
-    ensures status { result.status ≡ status_of result.fault }
-    ensures worked { WorkedAt result.fault result.worked }
-    ensures unstaged { result.staged ≡ None }
-    ensures known { IfSome result.worked (λ w.
-        All (λ a. a.topic ≤ length job.now.topics) (members_of w.answered.items)) }
-    ensures answers { AreOfParts job.now.topics job.now.size F.Src.left result.got.items
-        result.worked }
-    ensures told { IsWorkOf job.now.topics job.now.size job.now.workers F.Src.left
-        result.got.items result.worked }
-    ensures work { IsWork job.now.topics job.now.size job.now.longest job.now.workers F.Src.faults
-        F.Src.ends F.Src.left result.got.items
-        (inputs_of F.table F.faults was.now.value files.now result.sources.items result.read)
-        result.worked }
-    ensures left { IfSome result.left (λ left.
-        IsSomeAnd result.passes (λ passes. IsSomeAnd result.frames (λ frames.
-        NothingIsStranded job.now.order (length job.now.topics
-        + 1) job.now.workers passes.value.items frames.value.items left.items))) }
-    ensures there { OnSome result.worked (IsSome result.left) }
-    ensures seen { IsNone result.left → result.fault ≡ Some Fault.NoMemory }
-    ensures same { IfSome result.worked (λ w.
-        IsSomeAnd result.passes (λ passes. passes.value.items ≡ w.passes.value.items)) }
+    ensures tells { TellsWork job.now F.Src.Source (map string_bytes names.now)
+        (inputs_of F.Files was.now.value files.now result.sources.items result.read) result }
+    ensures ends { ReadsOver job.now.longest F.Src.Source (map string_bytes names.now)
+        result.got.items
+        (inputs_of F.Files was.now.value files.now result.sources.items result.read) result.fault }
     ensures waited { result.waited ≡ waited }
     ensures closed { (result.left ≡ end.left) × (result.passes ≡ end.passes)
         × (result.frames ≡ end.frames) }

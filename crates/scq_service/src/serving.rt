@@ -41,23 +41,20 @@ pub fn serve<R: Threads + Sync, F: Files, K: Sink, G: Gate + Sync>(
 
     // How it ended is one of the cases of `EndsAs`, each with what was got, read and written, and
     // why.
-    ensures end { EndsAs F.Src.faults F.Src.ends F.Src.left
-        (asked (map string_bytes words.now)) result.got.items
-        (inputs_of F.table F.faults files.old files.new result.sources.items result.read)
-        (wrote_of K.written K.faults out.old out.new) result.fault }
+    ensures end { EndsAs F.Src.Source (asked (map string_bytes words.now)) result.got.items
+        (inputs_of F.Files files.old files.new result.sources.items result.read)
+        (wrote_of K.Sink out.old out.new) result.fault }
 
     // What workers answered is there exactly where the text of it was whole. It answers such
     // messages as `IsWork` says, which are those of the contents where these are visible.
-    ensures worked { WorkedAs F.Src.faults F.Src.ends F.Src.left
-        (asked (map string_bytes words.now)) result.got.items
-        (inputs_of F.table F.faults files.old files.new result.sources.items result.read)
+    ensures worked { WorkedAs F.Src.Source (asked (map string_bytes words.now)) result.got.items
+        (inputs_of F.Files files.old files.new result.sources.items result.read)
         result.fault result.worked }
 
     // What the workers of stages finished is there likewise, and is what becomes of such messages.
     // Nothing is stranded in their queue.
-    ensures staged { StagedAs F.Src.faults F.Src.ends F.Src.left
-        (asked (map string_bytes words.now)) result.got.items
-        (inputs_of F.table F.faults files.old files.new result.sources.items result.read)
+    ensures staged { StagedAs F.Src.Source (asked (map string_bytes words.now)) result.got.items
+        (inputs_of F.Files files.old files.new result.sources.items result.read)
         result.fault result.staged }
 
     // Whatever the answer is, where workers were at work nothing is stranded: their queue was
@@ -82,16 +79,16 @@ pub fn serve<R: Threads + Sync, F: Files, K: Sink, G: Gate + Sync>(
     // Where nothing stood in the way of a run over files, it ends with the output, or for want of
     // memory.
     ensures complete { (a : RunAsked) → asked (map string_bytes words.now) ≡ Ok (run a)
-        → IsCalm most_payload F.Src.faults F.Src.left a.files result.got.items
-        (inputs_of F.table F.faults files.old files.new result.sources.items result.read)
-        (wrote_of K.written K.faults out.old out.new)
+        → IsCalm most_payload F.Src.Source a.files result.got.items
+        (inputs_of F.Files files.old files.new result.sources.items result.read)
+        (wrote_of K.Sink out.old out.new)
         → (result.fault ≡ None) ⊎ (result.fault ≡ Some NoMemory) }
 
     // And so does one over files whose messages go through stages.
     ensures complete_stages { (a : StagesAsked) → asked (map string_bytes words.now) ≡ Ok (staged a)
-        → IsCalm a.size F.Src.faults F.Src.left a.files result.got.items
-        (inputs_of F.table F.faults files.old files.new result.sources.items result.read)
-        (wrote_of K.written K.faults out.old out.new)
+        → IsCalm a.size F.Src.Source a.files result.got.items
+        (inputs_of F.Files files.old files.new result.sources.items result.read)
+        (wrote_of K.Sink out.old out.new)
         → (result.fault ≡ None) ⊎ (result.fault ≡ Some NoMemory) }
 
     // Where no write failed a run of `self` ends with the summary, or for want of memory.
@@ -102,9 +99,9 @@ pub fn serve<R: Threads + Sync, F: Files, K: Sink, G: Gate + Sync>(
     // Where nothing stood in the way of a run over one whole file, it ends with what its text
     // tells, or for want of memory.
     ensures complete_text { (a : TextAsked) → asked (map string_bytes words.now) ≡ Ok (whole a)
-        → IsCalmText F.Src.faults F.Src.left result.got.items
-        (inputs_of F.table F.faults files.old files.new result.sources.items result.read)
-        (wrote_of K.written K.faults out.old out.new)
+        → IsCalmText F.Src.Source result.got.items
+        (inputs_of F.Files files.old files.new result.sources.items result.read)
+        (wrote_of K.Sink out.old out.new)
         → IsOfTextAlone a.command result.fault }
 
     // `err` gets the fault's line, or at status 0 the lines of the workers where they are asked
@@ -153,18 +150,17 @@ fn run<R: Threads + Sync, F: Files, K: Sink, G: Gate + Sync>(
     gate: &G,
 ) -> Ran<F::Src>
     ensures status { result.outcome.status ≡ status_of result.outcome.fault }
-    ensures end { EndsAs F.Src.faults F.Src.ends F.Src.left
-        (asked (map string_bytes words.now)) result.outcome.got.items
-        (inputs_of F.table F.faults files.old files.new result.outcome.sources.items
+    ensures end { EndsAs F.Src.Source (asked (map string_bytes words.now)) result.outcome.got.items
+        (inputs_of F.Files files.old files.new result.outcome.sources.items
         result.outcome.read)
-        (wrote_of K.written K.faults out.old out.new) result.outcome.fault }
-    ensures worked { WorkedAs F.Src.faults F.Src.ends F.Src.left
+        (wrote_of K.Sink out.old out.new) result.outcome.fault }
+    ensures worked { WorkedAs F.Src.Source
         (asked (map string_bytes words.now)) result.outcome.got.items
-        (inputs_of F.table F.faults files.old files.new result.outcome.sources.items
+        (inputs_of F.Files files.old files.new result.outcome.sources.items
         result.outcome.read) result.outcome.fault result.outcome.worked }
-    ensures staged { StagedAs F.Src.faults F.Src.ends F.Src.left
+    ensures staged { StagedAs F.Src.Source
         (asked (map string_bytes words.now)) result.outcome.got.items
-        (inputs_of F.table F.faults files.old files.new result.outcome.sources.items
+        (inputs_of F.Files files.old files.new result.outcome.sources.items
         result.outcome.read) result.outcome.fault result.outcome.staged }
     ensures left { IfSome result.outcome.left (λ left.
         IsSomeAnd result.outcome.passes (λ passes. IsSomeAnd result.outcome.frames (λ frames.

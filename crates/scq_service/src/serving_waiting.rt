@@ -39,16 +39,15 @@ pub fn serve_waiting<R: Threads + Wait + Sync, F: Files, K: Sink, G: Gate + Sync
 
     // How it ended is one of the cases of `EndsAs`, each with what was got, read and written, and
     // why.
-    ensures end { EndsAs F.Src.faults F.Src.ends F.Src.left
-        (asked_for_run (map string_bytes words.now)) result.got.items
-        (inputs_of F.table F.faults files.old files.new result.sources.items result.read)
-        (wrote_of K.written K.faults out.old out.new) result.fault }
+    ensures end { EndsAs F.Src.Source (asked_for_run (map string_bytes words.now)) result.got.items
+        (inputs_of F.Files files.old files.new result.sources.items result.read)
+        (wrote_of K.Sink out.old out.new) result.fault }
 
     // What workers answered is there exactly where the text of it was whole. It answers such
     // messages as `IsWork` says, which are those of the contents where these are visible.
-    ensures worked { WorkedAs F.Src.faults F.Src.ends F.Src.left
+    ensures worked { WorkedAs F.Src.Source
         (asked_for_run (map string_bytes words.now)) result.got.items
-        (inputs_of F.table F.faults files.old files.new result.sources.items result.read)
+        (inputs_of F.Files files.old files.new result.sources.items result.read)
         result.fault result.worked }
 
     // Whatever the answer is, where workers were at work nothing is stranded: their queue was
@@ -83,9 +82,9 @@ pub fn serve_waiting<R: Threads + Wait + Sync, F: Files, K: Sink, G: Gate + Sync
     // Where nothing stood in the way of a run over files, it ends with the output, or for want of
     // memory.
     ensures complete { (a : RunAsked) → asked_for_run (map string_bytes words.now) ≡ Ok (run a)
-        → IsCalm most_payload F.Src.faults F.Src.left a.files result.got.items
-        (inputs_of F.table F.faults files.old files.new result.sources.items result.read)
-        (wrote_of K.written K.faults out.old out.new)
+        → IsCalm most_payload F.Src.Source a.files result.got.items
+        (inputs_of F.Files files.old files.new result.sources.items result.read)
+        (wrote_of K.Sink out.old out.new)
         → (result.fault ≡ None) ⊎ (result.fault ≡ Some NoMemory) }
 
     // `err` gets the fault's line, or at status 0 the lines of the workers where they are asked
@@ -114,14 +113,14 @@ fn run_waiting<R: Threads + Wait + Sync, F: Files, K: Sink, G: Gate + Sync>(
     gate: &G,
 ) -> Ran<F::Src>
     ensures status { result.outcome.status ≡ status_of result.outcome.fault }
-    ensures end { EndsAs F.Src.faults F.Src.ends F.Src.left
+    ensures end { EndsAs F.Src.Source
         (asked_for_run (map string_bytes words.now)) result.outcome.got.items
-        (inputs_of F.table F.faults files.old files.new result.outcome.sources.items
+        (inputs_of F.Files files.old files.new result.outcome.sources.items
         result.outcome.read)
-        (wrote_of K.written K.faults out.old out.new) result.outcome.fault }
-    ensures worked { WorkedAs F.Src.faults F.Src.ends F.Src.left
+        (wrote_of K.Sink out.old out.new) result.outcome.fault }
+    ensures worked { WorkedAs F.Src.Source
         (asked_for_run (map string_bytes words.now)) result.outcome.got.items
-        (inputs_of F.table F.faults files.old files.new result.outcome.sources.items
+        (inputs_of F.Files files.old files.new result.outcome.sources.items
         result.outcome.read) result.outcome.fault result.outcome.worked }
     ensures left { IfSome result.outcome.left (λ left.
         IsSomeAnd result.outcome.passes (λ passes. IsSomeAnd result.outcome.frames (λ frames.

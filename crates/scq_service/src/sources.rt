@@ -1,4 +1,4 @@
-//! The sources of files, for contracts alone.
+//! The sources of files, for contracts alone: as they were at some time, and as they were let go.
 ghost use Rattle.std.specs.Prelude.{◌≡◌, ◌∷◌, [], ◌++◌};
 
 use std::marker::Model;
@@ -55,6 +55,50 @@ impl<S> Sources<S> {
         let source = Snapshot::of(source);
         Sources {
             line: Snapshot::of(&Line::After { before, source }),
+        }
+    }
+}
+
+/// Sources of files that were let go, each as it was last, in the order of the files. It takes each
+/// by value, so that nothing can be read of it afterwards. Else it is as `Sources`.
+#[derive(Drop)]
+pub struct LetGo<S> {
+    ends: Sources<S>,
+}
+
+impl<S> Model for LetGo<S> {
+    ghost use Rattle.scq_service.specs.Sources.{SourceList};
+
+    ghost Value = { SourceList S };
+
+    ghost view = { λ l. l.ends };
+}
+
+impl<S: Drop> LetGo<S> {
+    /// Lets these go.
+    pub(crate) fn these(sources: Vec<S>) -> LetGo<S>
+        ensures { result.items ≡ sources.items }
+    {
+        LetGo {
+            ends: Sources::these(Snapshot::of(&sources)),
+        }
+    }
+
+    pub(crate) fn none() -> LetGo<S>
+        ensures { result.items ≡ [] }
+    {
+        LetGo {
+            ends: Sources::none(),
+        }
+    }
+
+    /// Lets one more go.
+    pub(crate) fn and(self, source: S) -> LetGo<S>
+        ensures { result.items ≡ self.items ++ source ∷ [] }
+    {
+        let LetGo { ends } = self;
+        LetGo {
+            ends: ends.with(&source),
         }
     }
 }

@@ -10,7 +10,7 @@ ghost use Rattle.scq_service.specs.Ends.{inputs_of, wrote_of};
 ghost use Rattle.scq_service.specs.Faults.{status_of};
 
 use crate::writing::write_all;
-use crate::{Fault, Outcome, Sources};
+use crate::{Fault, LetGo, Outcome, Sources};
 use scq_judge::Reader;
 use scq_outside::{Failed, Files, Sink};
 use scq_word::Bytes;
@@ -29,13 +29,11 @@ pub fn run_judge<F: Files, K: Sink>(
 ) -> Outcome<F::Src>
     requires { length names.now ≤ 4096 }
     ensures status { result.status ≡ status_of result.fault }
-    ensures got { HasGotSources F.Src.faults F.Src.left
-        (map string_bytes names.now) result.got.items
-        (inputs_of F.table F.faults files.old files.new result.sources.items result.read) }
-    ensures ends { EndsJudged F.Src.faults F.Src.ends F.Src.left room
-        (map string_bytes names.now) result.got.items
-        (inputs_of F.table F.faults files.old files.new result.sources.items result.read)
-        (wrote_of K.written K.faults out.old out.new) result.fault }
+    ensures got { HasGotSources F.Src.Source (map string_bytes names.now) result.got.items
+        (inputs_of F.Files files.old files.new result.sources.items result.read) }
+    ensures ends { EndsJudged F.Src.Source room (map string_bytes names.now) result.got.items
+        (inputs_of F.Files files.old files.new result.sources.items result.read)
+        (wrote_of K.Sink out.old out.new) result.fault }
     ensures worked { result.worked ≡ None }
     ensures unstaged { result.staged ≡ None }
     ensures left { result.left ≡ None }
@@ -56,12 +54,12 @@ pub fn run_judge<F: Files, K: Sink>(
 }
 
 /// The report of recordings as text, or why they were not judged, and, for contracts alone, the
-/// sources that were got, as they were then and once they were read.
+/// sources that were got, as they were then and as they were let go.
 #[derive(Drop)]
 struct Reported<S> {
     report: Result<Bytes, Fault>,
     got: Sources<S>,
-    sources: Sources<S>,
+    sources: LetGo<S>,
 }
 
 /// Gets each file, reads it and lets it go, and judges what all of them say.
@@ -72,24 +70,22 @@ fn report_on<F: Files>(
     files: &mut F,
 ) -> Reported<F::Src>
     requires { length names.now ≤ 4096 }
-    ensures got { HasGotSources F.Src.faults F.Src.left
-        (map string_bytes names.now) result.got.items
-        (inputs_of F.table F.faults files.old files.new result.sources.items 0) }
+    ensures got { HasGotSources F.Src.Source (map string_bytes names.now) result.got.items
+        (inputs_of F.Files files.old files.new result.sources.items 0) }
     ensures all { IfOk result.report (λ _. HaveAll (map string_bytes names.now)
-        (inputs_of F.table F.faults files.old files.new result.sources.items 0)) }
+        (inputs_of F.Files files.old files.new result.sources.items 0)) }
     ensures whole { IfOk result.report (λ _. AreReadWhole F.Src.faults F.Src.ends F.Src.left
         (length (map string_bytes names.now)) result.got.items result.sources.items) }
     ensures judged { IfOk result.report (λ text. (contents : List (List ℕ))
         → HaveContents F.Src.left result.got.items contents
         → IsJudged (map string_bytes names.now) room contents text) }
     ensures refused { IfErr result.report (λ fault. (w : Wrote) → IsUnwritten w
-        → EndsJudged F.Src.faults F.Src.ends F.Src.left room
-        (map string_bytes names.now) result.got.items
-        (inputs_of F.table F.faults files.old files.new result.sources.items 0) w (Some fault)) }
+        → EndsJudged F.Src.Source room (map string_bytes names.now) result.got.items
+        (inputs_of F.Files files.old files.new result.sources.items 0) w (Some fault)) }
 {
     let mut reader = Reader::new(alloc, names.len() == 1);
     let mut got = Sources::none();
-    let mut sources = Sources::none();
+    let mut sources = LetGo::none();
     let mut file = 0;
     'files: for name in names {
         file += 1;
@@ -97,7 +93,7 @@ fn report_on<F: Files>(
             Ok(mut source) => {
                 got = got.with(&source);
                 let read = reader.read(alloc, &mut source);
-                sources = sources.with(&source);
+                sources = sources.and(source);
                 match read {
                     Ok(()) => {}
                     Err(fault) => {

@@ -6,13 +6,11 @@ ghost use Rattle.scq_collect.specs.Collected.{messages_to};
 ghost use Rattle.scq_collect.specs.Joined.{part_answers, without_way};
 ghost use Rattle.scq_collect.specs.Merging.{members_of};
 ghost use Rattle.scq_collect.specs.Output.{one_thread_output};
-ghost use Rattle.scq_work.specs.AllWorkers.{NothingIsStranded};
 ghost use Rattle.scq_rest.specs.Waiting.{HaveWaited};
-ghost use Rattle.scq_service.specs.Answers.{IsWork, IsWorkOf, WorkedAt};
-ghost use Rattle.scq_service.specs.Ends.{EndsOver, HasGotSources, inputs_of, wrote_of};
-ghost use Rattle.scq_service.specs.Faults.{status_of};
+ghost use Rattle.scq_service.specs.Answers.{TellsWork};
+ghost use Rattle.scq_service.specs.Ends.{EndsOver, inputs_of, wrote_of};
 
-use crate::reading::{read_files, read_files_waiting};
+use crate::reading::{run_work, run_work_waiting};
 use crate::writing::write_text;
 use crate::{Fault, Outcome};
 use scq_collect::{Text, output_in_pieces};
@@ -34,35 +32,15 @@ pub fn run_files<R: Threads + Sync, F: Files, K: Sink, G: Gate + Sync>(
     gate: &G,
 ) -> Outcome<F::Src>
     requires { length names.now ≤ 64 }
-    ensures got { HasGotSources F.Src.faults F.Src.left
+    ensures tells { TellsWork job.now F.Src.Source (map string_bytes names.now)
+        (inputs_of F.Files files.old files.new result.sources.items result.read) result }
+    ensures ends { EndsOver job.now.longest (one_thread_output job.now.topics) F.Src.Source
         (map string_bytes names.now) result.got.items
-        (inputs_of F.table F.faults files.old files.new result.sources.items result.read) }
-    ensures ends { EndsOver job.now.longest
-        (one_thread_output job.now.topics) F.Src.faults F.Src.ends F.Src.left
-        (map string_bytes names.now)
-        result.got.items
-        (inputs_of F.table F.faults files.old files.new result.sources.items result.read)
-        (wrote_of K.written K.faults out.old out.new) result.fault }
-    ensures status { result.status ≡ status_of result.fault }
-    ensures worked { WorkedAt result.fault result.worked }
-    ensures unstaged { result.staged ≡ None }
-    ensures told { IsWorkOf job.now.topics job.now.size job.now.workers F.Src.left
-        result.got.items result.worked }
-    ensures work { IsWork job.now.topics job.now.size job.now.longest job.now.workers F.Src.faults
-        F.Src.ends F.Src.left result.got.items
-        (inputs_of F.table F.faults files.old files.new result.sources.items result.read)
-        result.worked }
-    ensures left { IfSome result.left (λ left.
-        IsSomeAnd result.passes (λ passes. IsSomeAnd result.frames (λ frames.
-        NothingIsStranded job.now.order (length job.now.topics
-        + 1) job.now.workers passes.value.items frames.value.items left.items))) }
-    ensures there { OnSome result.worked (IsSome result.left) }
-    ensures seen { IsNone result.left → result.fault ≡ Some Fault.NoMemory }
-    ensures same { IfSome result.worked (λ w.
-        IsSomeAnd result.passes (λ passes. passes.value.items ≡ w.passes.value.items)) }
+        (inputs_of F.Files files.old files.new result.sources.items result.read)
+        (wrote_of K.Sink out.old out.new) result.fault }
     ensures leaves { IsNone result.waited }
 {
-    let outcome = read_files(rt, alloc, job, names, files, gate);
+    let outcome = run_work(rt, alloc, job, names, files, gate);
     let text = match &outcome.worked {
         Some(worked) => text_of(rt, alloc, job, worked),
         None => return outcome,
@@ -87,39 +65,19 @@ pub fn run_files_waiting<R: Threads + Wait + Sync, F: Files, K: Sink, G: Gate + 
     gate: &G,
 ) -> Outcome<F::Src>
     requires { length names.now ≤ 64 }
-    ensures got { HasGotSources F.Src.faults F.Src.left
+    ensures tells { TellsWork job.now F.Src.Source (map string_bytes names.now)
+        (inputs_of F.Files files.old files.new result.sources.items result.read) result }
+    ensures ends { EndsOver job.now.longest (one_thread_output job.now.topics) F.Src.Source
         (map string_bytes names.now) result.got.items
-        (inputs_of F.table F.faults files.old files.new result.sources.items result.read) }
-    ensures ends { EndsOver job.now.longest
-        (one_thread_output job.now.topics) F.Src.faults F.Src.ends F.Src.left
-        (map string_bytes names.now)
-        result.got.items
-        (inputs_of F.table F.faults files.old files.new result.sources.items result.read)
-        (wrote_of K.written K.faults out.old out.new) result.fault }
-    ensures status { result.status ≡ status_of result.fault }
-    ensures worked { WorkedAt result.fault result.worked }
-    ensures unstaged { result.staged ≡ None }
-    ensures told { IsWorkOf job.now.topics job.now.size job.now.workers F.Src.left
-        result.got.items result.worked }
-    ensures work { IsWork job.now.topics job.now.size job.now.longest job.now.workers F.Src.faults
-        F.Src.ends F.Src.left result.got.items
-        (inputs_of F.table F.faults files.old files.new result.sources.items result.read)
-        result.worked }
-    ensures left { IfSome result.left (λ left.
-        IsSomeAnd result.passes (λ passes. IsSomeAnd result.frames (λ frames.
-        NothingIsStranded job.now.order (length job.now.topics
-        + 1) job.now.workers passes.value.items frames.value.items left.items))) }
-    ensures there { OnSome result.worked (IsSome result.left) }
-    ensures seen { IsNone result.left → result.fault ≡ Some Fault.NoMemory }
-    ensures same { IfSome result.worked (λ w.
-        IsSomeAnd result.passes (λ passes. passes.value.items ≡ w.passes.value.items)) }
+        (inputs_of F.Files files.old files.new result.sources.items result.read)
+        (wrote_of K.Sink out.old out.new) result.fault }
     ensures waited { IfSome result.waited (λ waited. IsSomeAnd result.passes (λ passes.
         HaveWaited (length job.now.topics
         + 1) job.now.workers passes.value.items waited.saw.items waited.rested.items)) }
     ensures waits { IsNone result.waited → result.fault ≡ Some Fault.NoMemory }
     ensures both { OnSome result.waited (IsSome result.left) }
 {
-    let outcome = read_files_waiting(rt, alloc, job, names, files, gate);
+    let outcome = run_work_waiting(rt, alloc, job, names, files, gate);
     let text = match &outcome.worked {
         Some(worked) => text_of(rt, alloc, job, worked),
         None => return outcome,

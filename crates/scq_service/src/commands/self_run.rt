@@ -48,7 +48,7 @@ pub fn run_self<R: Threads + Sync, S: Drop, K: Sink, G: Gate + Sync>(
     requires seed { seed < 2 ^ 31 }
     requires workers { (0 < workers) × (workers ≤ 4096) }
     ensures ends { EndsAlone (self_summary seed lines)
-        (wrote_of K.written K.faults out.old out.new) result.fault }
+        (wrote_of K.Sink out.old out.new) result.fault }
     ensures sources { result.sources.items ≡ [] }
     ensures read { result.read ≡ 0 }
     ensures status { result.status ≡ status_of result.fault }

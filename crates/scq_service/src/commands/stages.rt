@@ -10,10 +10,9 @@ ghost use Rattle.scq_stages.specs.AllStages.{HasStaged, NothingIsStranded};
 ghost use Rattle.scq_stages.specs.Ends.{HasCause};
 ghost use Rattle.scq_stages.specs.Output.{finished_in, one_thread_stage_output, all_handled};
 ghost use Rattle.scq_stages.specs.Output.{without_way};
-ghost use Rattle.scq_service.specs.Answers.{AreAllHandled, HaveAllCome, HaveCome, IsStagedOf};
-ghost use Rattle.scq_service.specs.Answers.{IsStaging, StrandsNothing, WorkedAt};
-ghost use Rattle.scq_service.specs.Ends.{EndsOver, HasGotSources, ReadsOver, inputs_of, wrote_of};
-ghost use Rattle.scq_service.specs.Faults.{fault_of_stages, status_of};
+ghost use Rattle.scq_service.specs.Answers.{HaveAllCome, HaveCome, TellsStages};
+ghost use Rattle.scq_service.specs.Ends.{EndsOver, ReadsOver, inputs_of, wrote_of};
+ghost use Rattle.scq_service.specs.Faults.{fault_of_stages};
 
 use crate::reading::get_sources;
 use crate::writing::write_all;
@@ -37,24 +36,12 @@ pub fn run_stages<R: Threads + Sync, F: Files, K: Sink>(
     out: &mut K,
 ) -> Outcome<F::Src>
     requires { length names.now ≤ 64 }
-    ensures got { HasGotSources F.Src.faults F.Src.left
+    ensures tells { TellsStages job.now F.Src.Source (map string_bytes names.now)
+        (inputs_of F.Files files.old files.new result.sources.items result.read) result }
+    ensures ends { EndsOver job.now.size one_thread_stage_output F.Src.Source
         (map string_bytes names.now) result.got.items
-        (inputs_of F.table F.faults files.old files.new result.sources.items result.read) }
-    ensures ends { EndsOver job.now.size one_thread_stage_output F.Src.faults F.Src.ends F.Src.left
-        (map string_bytes names.now) result.got.items
-        (inputs_of F.table F.faults files.old files.new result.sources.items result.read)
-        (wrote_of K.written K.faults out.old out.new) result.fault }
-    ensures status { result.status ≡ status_of result.fault }
-    ensures worked { result.worked ≡ None }
-    ensures staged { WorkedAt result.fault result.staged }
-    ensures told { IsStagedOf job.now.workers F.Src.left result.got.items result.staged }
-    ensures work { IsStaging job.now.size job.now.workers F.Src.faults F.Src.ends F.Src.left
-        result.got.items
-        (inputs_of F.table F.faults files.old files.new result.sources.items result.read)
-        result.staged }
-    ensures stranded { StrandsNothing job.now.order job.now.workers result.staged }
-    ensures left { result.left ≡ None }
-    ensures leaves { result.waited ≡ None }
+        (inputs_of F.Files files.old files.new result.sources.items result.read)
+        (wrote_of K.Sink out.old out.new) result.fault }
 {
     let outcome = stage_files(rt, alloc, job, names, files);
     let text = match &outcome.staged {
@@ -91,25 +78,11 @@ fn stage_files<R: Threads + Sync, F: Files>(
     files: &mut F,
 ) -> Outcome<F::Src>
     requires few { length names.now ≤ 64 }
-    ensures got { HasGotSources F.Src.faults F.Src.left
-        (map string_bytes names.now) result.got.items
-        (inputs_of F.table F.faults files.old files.new result.sources.items result.read) }
-    ensures ends { ReadsOver job.now.size F.Src.faults F.Src.ends F.Src.left
-        (map string_bytes names.now) result.got.items
-        (inputs_of F.table F.faults files.old files.new result.sources.items result.read)
-        result.fault }
-    ensures status { result.status ≡ status_of result.fault }
-    ensures worked { result.worked ≡ None }
-    ensures staged { WorkedAt result.fault result.staged }
-    ensures handled { AreAllHandled F.Src.left result.got.items result.staged }
-    ensures told { IsStagedOf job.now.workers F.Src.left result.got.items result.staged }
-    ensures work { IsStaging job.now.size job.now.workers F.Src.faults F.Src.ends F.Src.left
+    ensures tells { TellsStages job.now F.Src.Source (map string_bytes names.now)
+        (inputs_of F.Files files.old files.new result.sources.items result.read) result }
+    ensures ends { ReadsOver job.now.size F.Src.Source (map string_bytes names.now)
         result.got.items
-        (inputs_of F.table F.faults files.old files.new result.sources.items result.read)
-        result.staged }
-    ensures stranded { StrandsNothing job.now.order job.now.workers result.staged }
-    ensures left { result.left ≡ None }
-    ensures leaves { result.waited ≡ None }
+        (inputs_of F.Files files.old files.new result.sources.items result.read) result.fault }
 {
     let Ok(mut sources) = Vec::with_capacity(alloc, names.len()) else {
         return Outcome::at(Vec::new(alloc), Fault::NoMemory);
@@ -136,10 +109,10 @@ fn conclude<F: Files>(
 ) -> Outcome<F::Src>
     requires few { count ≤ 64 }
     requires number { count ≡ length got.value.items }
-    requires come { HaveCome F.Src.faults F.Src.left (map string_bytes names.now)
-        (inputs_of F.table F.faults was.now.value files.now got.value.items 0) }
+    requires come { HaveCome F.Src.Source (map string_bytes names.now)
+        (inputs_of F.Files was.now.value files.now got.value.items 0) }
     requires all { HaveAllCome (map string_bytes names.now)
-        (inputs_of F.table F.faults was.now.value files.now got.value.items 0) all }
+        (inputs_of F.Files was.now.value files.now got.value.items 0) all }
     requires count { length end.sources.items ≡ length got.value.items }
     requires moved { (k : ℕ) (d : F.Src) → k < length got.value.items
         → HasMoved F.Src.faults F.Src.left (slice_index_or got.value.items k d)
@@ -166,25 +139,11 @@ fn conclude<F: Files>(
     requires cause { IfErr end.result (λ fault.
         HasCause job.now.size F.Src.faults F.Src.ends F.Src.left got.value.items end.sources.items
         fault) }
-    ensures got { HasGotSources F.Src.faults F.Src.left
-        (map string_bytes names.now) result.got.items
-        (inputs_of F.table F.faults was.now.value files.now result.sources.items result.read) }
-    ensures ends { ReadsOver job.now.size F.Src.faults F.Src.ends F.Src.left
-        (map string_bytes names.now) result.got.items
-        (inputs_of F.table F.faults was.now.value files.now result.sources.items result.read)
-        result.fault }
-    ensures status { result.status ≡ status_of result.fault }
-    ensures worked { result.worked ≡ None }
-    ensures staged { WorkedAt result.fault result.staged }
-    ensures handled { AreAllHandled F.Src.left result.got.items result.staged }
-    ensures told { IsStagedOf job.now.workers F.Src.left result.got.items result.staged }
-    ensures work { IsStaging job.now.size job.now.workers F.Src.faults F.Src.ends F.Src.left
+    ensures tells { TellsStages job.now F.Src.Source (map string_bytes names.now)
+        (inputs_of F.Files was.now.value files.now result.sources.items result.read) result }
+    ensures ends { ReadsOver job.now.size F.Src.Source (map string_bytes names.now)
         result.got.items
-        (inputs_of F.table F.faults was.now.value files.now result.sources.items result.read)
-        result.staged }
-    ensures stranded { StrandsNothing job.now.order job.now.workers result.staged }
-    ensures left { result.left ≡ None }
-    ensures leaves { result.waited ≡ None }
+        (inputs_of F.Files was.now.value files.now result.sources.items result.read) result.fault }
 {
     let StageEnd {
         sources,

@@ -1,5 +1,5 @@
 //! The commands that read one whole file, `check` and `replay`.
-ghost use Rattle.std.specs.Prelude.{◌≡◌, ◌⊎◌, ◌≤◌, None, Ok, Err, IfOk, IfErr, length};
+ghost use Rattle.std.specs.Prelude.{◌≡◌, ◌⊎◌, None, Ok, Err, IfOk, IfErr};
 ghost use Rattle.scq_lines.specs.Lines.{lines_of};
 ghost use Rattle.scq_words.specs.declared.text_request.TextCommand.{TextCommand as TheCommand};
 ghost use Rattle.scq_service.specs.Ends.{Wrote, IsUnwritten, EndsWhole, IfContent, IsReadWhole};
@@ -29,10 +29,9 @@ pub fn run_text<F: Files, K: Sink>(
     out: &mut K,
 ) -> Outcome<F::Src>
     ensures status { result.status ≡ status_of result.fault }
-    ensures ends { EndsWhole command F.Src.faults F.Src.ends F.Src.left name.now
-        result.got.items
-        (inputs_of F.table F.faults files.old files.new result.sources.items result.read)
-        (wrote_of K.written K.faults out.old out.new) result.fault }
+    ensures ends { EndsWhole command F.Src.Source name.now result.got.items
+        (inputs_of F.Files files.old files.new result.sources.items result.read)
+        (wrote_of K.Sink out.old out.new) result.fault }
     ensures worked { result.worked ≡ None }
     ensures unstaged { result.staged ≡ None }
     ensures left { result.left ≡ None }
@@ -69,8 +68,8 @@ fn read_one<F: Files>(
     files: &mut F,
 ) -> Result<Whole<F::Src>, Outcome<F::Src>>
     ensures whole { IfOk result (λ whole.
-        IsReadWhole F.Src.faults F.Src.ends F.Src.left name.now whole.got.value.items
-        (inputs_of F.table F.faults files.old files.new whole.sources.items 0)) }
+        IsReadWhole F.Src.Source name.now whole.got.value.items
+        (inputs_of F.Files files.old files.new whole.sources.items 0)) }
     ensures text { IfOk result (λ whole.
         IfContent F.Src.left whole.got.value.items (λ content. content ≡ whole.text)) }
     ensures status { IfErr result (λ outcome. outcome.status ≡ status_of outcome.fault) }
@@ -79,8 +78,8 @@ fn read_one<F: Files>(
     ensures left { IfErr result (λ outcome. outcome.left ≡ None) }
     ensures leaves { IfErr result (λ outcome. outcome.waited ≡ None) }
     ensures ends { IfErr result (λ outcome. (command : TheCommand) (w : Wrote) → IsUnwritten w
-        → EndsWhole command F.Src.faults F.Src.ends F.Src.left name.now outcome.got.items
-        (inputs_of F.table F.faults files.old files.new outcome.sources.items outcome.read) w
+        → EndsWhole command F.Src.Source name.now outcome.got.items
+        (inputs_of F.Files files.old files.new outcome.sources.items outcome.read) w
         outcome.fault) }
 {
     let Ok(mut sources) = Vec::with_capacity(alloc, 1) else {

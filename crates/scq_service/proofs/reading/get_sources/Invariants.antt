@@ -11,5 +11,5 @@ invariant-files g l = record {
   len : vec_len l.sources ≡ l.name-index;
   room : length l.names ≤ vec_capacity l.sources;
   kept : g.F.Files.faults l.files ≡ g.F.Files.faults l.fn.files;
-  come : HaveCome g.F.Src.Source.faults g.F.Src.Source.left (map string_bytes l.names) (inputs_of g.F.Files.table g.F.Files.faults l.fn.files l.files l.sources.items 0);
+  come : HaveCome g.F.Src.Source (map string_bytes l.names) (inputs_of g.F.Files l.fn.files l.files l.sources.items 0);
 }

@@ -4,7 +4,7 @@ use Rattle.scq_service.proofs.Seen.{unseen, none-seen}
 use Rattle.scq_service.proofs.serving.run.Goals as goal
 
 pub returns-in-Ok-Run-clause-seen : goal.returns-in-Ok-Run-clause-seen
-returns-in-Ok-Run-clause-seen g c = rw (c.in-Ok-Run.ensures.request, c.in-Ok-Run.field-0-is) c.run_files.ensures.seen
+returns-in-Ok-Run-clause-seen g c = rw (c.in-Ok-Run.ensures.request, c.in-Ok-Run.field-0-is) c.run_files.ensures.tells.seen
 
 pub returns-in-Ok-SelfRun-clause-seen : goal.returns-in-Ok-SelfRun-clause-seen
 returns-in-Ok-SelfRun-clause-seen g c =
@@ -42,11 +42,11 @@ returns-in-Ok-Text-clause-leaves g c = rw c.quiet-in-Ok-Text.ensures.outcome c.r
 
 -- of the queue of stages nothing is seen beside what was finished
 pub returns-in-Ok-Stages-clause-left : goal.returns-in-Ok-Stages-clause-left
-returns-in-Ok-Stages-clause-left g c = rw (c.quiet-in-Ok-Stages.ensures.outcome, c.run_stages.ensures.left) tt
+returns-in-Ok-Stages-clause-left g c = rw (c.quiet-in-Ok-Stages.ensures.outcome, c.run_stages.ensures.tells.left) tt
 
 pub returns-in-Ok-Stages-clause-seen : goal.returns-in-Ok-Stages-clause-seen
 returns-in-Ok-Stages-clause-seen g c =
-    rw (c.in-Ok-Stages.ensures.request, c.in-Ok-Stages.field-0-is, c.quiet-in-Ok-Stages.ensures.outcome, c.run_stages.ensures.left) refl
+    rw (c.in-Ok-Stages.ensures.request, c.in-Ok-Stages.field-0-is, c.quiet-in-Ok-Stages.ensures.outcome, c.run_stages.ensures.tells.left) refl
 
 pub returns-in-Ok-Stages-clause-leaves : goal.returns-in-Ok-Stages-clause-leaves
-returns-in-Ok-Stages-clause-leaves g c = rw c.quiet-in-Ok-Stages.ensures.outcome c.run_stages.ensures.leaves
+returns-in-Ok-Stages-clause-leaves g c = rw c.quiet-in-Ok-Stages.ensures.outcome c.run_stages.ensures.tells.leaves

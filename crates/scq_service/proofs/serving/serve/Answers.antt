@@ -10,46 +10,38 @@ use Rattle.scq_service.proofs.serving.serve.Goals as goal
 
 pub returns-clause-complete : goal.returns-clause-complete
 returns-clause-complete g c = λ a is calm.
-    let faults = g.F.Src.Source.faults in
-    let end_count = g.F.Src.Source.ends in
-    let left = g.F.Src.Source.left in
+    let src = g.F.Src.Source in
     let outcome = c.run-outcome.result.outcome in
-    let r = inputs_of g.F.Files.table g.F.Files.faults c.args.files.now c.run-outcome.new.files outcome.sources.items outcome.read in
-    let w = wrote_of g.K.Sink.written g.K.Sink.faults c.args.out.now c.run-outcome.new.out in
-    let E : Result Asked WordsFault → Type 0 = λ asked. EndsAs faults end_count left asked outcome.got.items r w outcome.fault in
-    complete most_payload (one_thread_output a.topics) faults end_count left a.files outcome.got.items r w outcome.fault
+    let r = inputs_of g.F.Files c.args.files.now c.run-outcome.new.files outcome.sources.items outcome.read in
+    let w = wrote_of g.K.Sink c.args.out.now c.run-outcome.new.out in
+    let E : Result Asked WordsFault → Type 0 = λ asked. EndsAs src asked outcome.got.items r w outcome.fault in
+    complete most_payload (one_thread_output a.topics) src a.files outcome.got.items r w outcome.fault
     (subst E is c.run-outcome.ensures.end).1 calm
 
 pub returns-clause-complete_stages : goal.returns-clause-complete_stages
 returns-clause-complete_stages g c = λ a is calm.
-    let faults = g.F.Src.Source.faults in
-    let end_count = g.F.Src.Source.ends in
-    let left = g.F.Src.Source.left in
+    let src = g.F.Src.Source in
     let outcome = c.run-outcome.result.outcome in
-    let r = inputs_of g.F.Files.table g.F.Files.faults c.args.files.now c.run-outcome.new.files outcome.sources.items outcome.read in
-    let w = wrote_of g.K.Sink.written g.K.Sink.faults c.args.out.now c.run-outcome.new.out in
-    let E : Result Asked WordsFault → Type 0 = λ asked. EndsAs faults end_count left asked outcome.got.items r w outcome.fault in
-    complete a.size one_thread_stage_output faults end_count left a.files outcome.got.items r w outcome.fault
+    let r = inputs_of g.F.Files c.args.files.now c.run-outcome.new.files outcome.sources.items outcome.read in
+    let w = wrote_of g.K.Sink c.args.out.now c.run-outcome.new.out in
+    let E : Result Asked WordsFault → Type 0 = λ asked. EndsAs src asked outcome.got.items r w outcome.fault in
+    complete a.size one_thread_stage_output src a.files outcome.got.items r w outcome.fault
     (subst E is c.run-outcome.ensures.end).1 calm
 
 pub returns-clause-complete_self : goal.returns-clause-complete_self
 returns-clause-complete_self g c = λ a is calm.
-    let faults = g.F.Src.Source.faults in
-    let end_count = g.F.Src.Source.ends in
-    let left = g.F.Src.Source.left in
+    let src = g.F.Src.Source in
     let outcome = c.run-outcome.result.outcome in
-    let r = inputs_of g.F.Files.table g.F.Files.faults c.args.files.now c.run-outcome.new.files outcome.sources.items outcome.read in
-    let w = wrote_of g.K.Sink.written g.K.Sink.faults c.args.out.now c.run-outcome.new.out in
-    let E : Result Asked WordsFault → Type 0 = λ asked. EndsAs faults end_count left asked outcome.got.items r w outcome.fault in
+    let r = inputs_of g.F.Files c.args.files.now c.run-outcome.new.files outcome.sources.items outcome.read in
+    let w = wrote_of g.K.Sink c.args.out.now c.run-outcome.new.out in
+    let E : Result Asked WordsFault → Type 0 = λ asked. EndsAs src asked outcome.got.items r w outcome.fault in
     complete-alone (self_summary a.seed a.lines) w outcome.fault (subst E is c.run-outcome.ensures.end).1 calm
 
 pub returns-clause-complete_text : goal.returns-clause-complete_text
 returns-clause-complete_text g c = λ a is calm.
-    let faults = g.F.Src.Source.faults in
-    let end_count = g.F.Src.Source.ends in
-    let left = g.F.Src.Source.left in
+    let src = g.F.Src.Source in
     let outcome = c.run-outcome.result.outcome in
-    let r = inputs_of g.F.Files.table g.F.Files.faults c.args.files.now c.run-outcome.new.files outcome.sources.items outcome.read in
-    let w = wrote_of g.K.Sink.written g.K.Sink.faults c.args.out.now c.run-outcome.new.out in
-    let E : Result Asked WordsFault → Type 0 = λ asked. EndsAs faults end_count left asked outcome.got.items r w outcome.fault in
-    complete-text a.command faults end_count left a.file outcome.got.items r w outcome.fault (subst E is c.run-outcome.ensures.end) calm
+    let r = inputs_of g.F.Files c.args.files.now c.run-outcome.new.files outcome.sources.items outcome.read in
+    let w = wrote_of g.K.Sink c.args.out.now c.run-outcome.new.out in
+    let E : Result Asked WordsFault → Type 0 = λ asked. EndsAs src asked outcome.got.items r w outcome.fault in
+    complete-text a.command src a.file outcome.got.items r w outcome.fault (subst E is c.run-outcome.ensures.end) calm

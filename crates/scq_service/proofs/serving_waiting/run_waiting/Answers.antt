@@ -4,7 +4,7 @@ use Rattle.scq_service.proofs.Seen.{unseen}
 use Rattle.scq_service.proofs.serving_waiting.run_waiting.Goals as goal
 
 pub returns-in-Ok-clause-seen : goal.returns-in-Ok-clause-seen
-returns-in-Ok-clause-seen g c = rw c.in-Ok.ensures.request c.run_files_waiting.ensures.seen
+returns-in-Ok-clause-seen g c = rw c.in-Ok.ensures.request c.run_files_waiting.ensures.tells.seen
 
 pub returns-in-Ok-clause-attended : goal.returns-in-Ok-clause-attended
 returns-in-Ok-clause-attended g c = rw c.in-Ok.ensures.request c.run_files_waiting.ensures.waits

@@ -8,12 +8,10 @@ use Rattle.scq_service.proofs.serving_waiting.serve_waiting.Goals as goal
 
 pub returns-clause-complete : goal.returns-clause-complete
 returns-clause-complete g c = λ a is calm.
-    let faults = g.F.Src.Source.faults in
-    let end_count = g.F.Src.Source.ends in
-    let left = g.F.Src.Source.left in
+    let src = g.F.Src.Source in
     let outcome = c.run_waiting-outcome.result.outcome in
-    let r = inputs_of g.F.Files.table g.F.Files.faults c.args.files.now c.run_waiting-outcome.new.files outcome.sources.items outcome.read in
-    let w = wrote_of g.K.Sink.written g.K.Sink.faults c.args.out.now c.run_waiting-outcome.new.out in
-    let E : Result Asked WordsFault → Type 0 = λ asked. EndsAs faults end_count left asked outcome.got.items r w outcome.fault in
-    complete most_payload (one_thread_output a.topics) faults end_count left a.files outcome.got.items r w outcome.fault
+    let r = inputs_of g.F.Files c.args.files.now c.run_waiting-outcome.new.files outcome.sources.items outcome.read in
+    let w = wrote_of g.K.Sink c.args.out.now c.run_waiting-outcome.new.out in
+    let E : Result Asked WordsFault → Type 0 = λ asked. EndsAs src asked outcome.got.items r w outcome.fault in
+    complete most_payload (one_thread_output a.topics) src a.files outcome.got.items r w outcome.fault
     (subst E is c.run_waiting-outcome.ensures.end).1 calm
