@@ -240,7 +240,7 @@ fn all_in<'s, E, R: Threads + Wait + Sync + 's, S: Source + 's, G: Gate + Sync +
     mut places: Vec<Runner<S>>,
     mut ends: Vec<Work<S>>,
 ) -> (Work<S>, Vec<Work<S>>)
-    requires { CanAllBegin (task queue.now job.now crew.now S.faults S.ends S.left)
+    requires begins { CanAllBegin (task queue.now job.now crew.now S.faults S.ends S.left)
         (length flags.now) first given places ends }
     ensures { HaveDone (task queue.now job.now crew.now S.faults S.ends S.left) first given
         result.0 result.1 }
@@ -279,7 +279,7 @@ pub fn run_all<R: Threads + Wait + Sync, S: Source, G: Gate + Sync>(
     places: Vec<Runner<S>>,
     ends: Vec<Work<S>>,
 ) -> (Work<S>, Vec<Work<S>>)
-    requires { CanAllBegin (task queue.now job.now crew.now S.faults S.ends S.left)
+    requires begins { CanAllBegin (task queue.now job.now crew.now S.faults S.ends S.left)
         (length flags.now) first given places ends }
     ensures { HaveDone (task queue.now job.now crew.now S.faults S.ends S.left) first given
         result.0 result.1 }

@@ -35,8 +35,8 @@ pair-first-requires-clause-many g c κs within =
     let all = all-of c.args.crew.now c.args.job.now.workers c.args.stands.items c.requires.stands c.requires.workers.1 in
     omega (arith, all.many, c.requires.workers.0, c.requires.workers.1, c.args.desks.ok.0, c.args.stands.ok.0)
 
-pub run_all-first-requires : goal.run_all-first-requires
-run_all-first-requires g c =
+pub run_all-first-requires-clause-begins : goal.run_all-first-requires-clause-begins
+run_all-first-requires-clause-begins g c κs within =
     let t = task c.args.queue.now c.args.job.now c.args.crew.now g.S.Source.faults g.S.Source.ends g.S.Source.left in
     let first = c.pair-first.result in
     let given = c.pair-first.new.given in
@@ -110,7 +110,7 @@ returns-clause-run g c =
     let xs = c.pair-first.result ∷ c.pair-first.new.given.items in
     let ys = c.run_all-first.result.0 ∷ c.run_all-first.result.1.items in
     let P : Desk (Seated Frame) S → Type 0 = λ d. HasRun c.args.queue.now job.topics job.size job.longest g.S.Source.faults g.S.Source.ends g.S.Source.left
-    d.files.items d.worker.worker.pass d.worker.worker.members d.worker.worker.starved d.worker.kept in
+    d.files.items d.worker.worker.pass d.worker.worker.members.items d.worker.worker.starved d.worker.kept in
     subst (All P) (sym c.take_apart.ensures.desks)
     (All-map P desk_of ys (each-done t (λ (w : Work S). P w.desk) xs ys c.run_all-first.ensures (λ x y done. done.run)))
 
