@@ -110,7 +110,7 @@ returns-clause-run g c =
     let xs = c.pair-first.result ∷ c.pair-first.new.given.items in
     let ys = c.run_all-first.result.0 ∷ c.run_all-first.result.1.items in
     let P : Desk (Seated Frame) S → Type 0 = λ d. HasRun c.args.queue.now job.topics job.size job.longest g.S.Source.faults g.S.Source.ends g.S.Source.left
-    d.files.items d.worker.worker.pass d.worker.worker.members.items d.worker.worker.starved d.worker.kept in
+    d.files.items d.worker.worker.pass d.worker.worker.members d.worker.worker.starved d.worker.kept in
     subst (All P) (sym c.take_apart.ensures.desks)
     (All-map P desk_of ys (each-done t (λ (w : Work S). P w.desk) xs ys c.run_all-first.ensures (λ x y done. done.run)))
 
