@@ -42,7 +42,7 @@ use Rattle.scq_files.specs.Desks.{AllWhole}
 use Rattle.scq_files.proofs.AllGave.{given_of, worker_messages}
 use Rattle.scq_desk.proofs.Settled.{held_at}
 use Rattle.scq_work.proofs.AllGave.{AllRan, given, is-given, own-given, all-parts-passed, few-in-all}
-use Rattle.scq_work.proofs.Conclusion.{Work, IsWork, passes_in, messages_in, members_of, all-taken, all-answered}
+use Rattle.scq_work.proofs.Conclusion.{Work, IsWork, passes_in, messages_in, members_among, all-taken, all-answered}
 use Rattle.scq_files.proofs.Lists.{map-map}
 use Rattle.scq_worker.proofs.MessageParts.{known-parts, flat-parts}
 use Rattle.scq_passes.proofs.NoneSpent.{passes_of, messages_of, none-spent, all-bounded}
@@ -227,7 +227,7 @@ module _ {B S : Type 0} where
             let all = all-answered topics (map (work_of size) desks) all-works
             (subst (λ (ps : List (PassStanding B)). EachTakeIsASend ps) (sym work-passes) closed.takes)
             (subst (λ (ps : List (PassStanding B)). SendsAreTakes ps) (sym work-passes) same) in
-            let members : members_of (map (work_of size) desks) ≡ members_of (lists_at desks) =
+            let members : members_among (map (work_of size) desks) ≡ members_of (lists_at desks) =
             flat_map-map (λ (w : Work B). w.members) (work_of size) desks ∙ sym
             (flat_map-map (λ (l : List Answered). l) (λ (d : Desk (Seated B) S). d.worker.worker.members) desks) in
             let parts : messages_in (map (work_of size) desks) ≡ parts_in size (flat_map worker_messages desks) =

@@ -56,8 +56,8 @@ module _ {B : Type 0} where
   abbrev pub messages_in : List (Work B) → List Part
   messages_in works = flat_map (λ (w : Work B). w.messages) works
 
-  abbrev pub members_of : List (Work B) → List Answered
-  members_of works = flat_map (λ (w : Work B). w.members) works
+  abbrev pub members_among : List (Work B) → List Answered
+  members_among works = flat_map (λ (w : Work B). w.members) works
 
   -- each take is that of a part on a known topic
   take-message : (topics : List (List ℕ × Kind)) (works : List (Work B)) → All (IsWork topics) works → EachTakeIsASend (passes_in works)
@@ -97,7 +97,7 @@ module _ {B : Type 0} where
   -- the answers of all workers are those to the parts of all, each once
   pub all-answered : (topics : List (List ℕ × Kind)) (works : List (Work B)) → All (IsWork topics) works → EachTakeIsASend (passes_in works)
       → SendsAreTakes (passes_in works)
-      → IsPermutation (map without_way (members_of works)) (map (part_answer topics) (messages_in works))
+      → IsPermutation (map without_way (members_among works)) (map (part_answer topics) (messages_in works))
   all-answered topics works each sent same =
       let reads : Work B → List PartAnswer = λ w. map (answer_at topics) (takes_of w.pass.calls) in
       let sent_reads : Work B → List PartAnswer = λ w. map (answer_at topics) (sends_of w.pass.calls) in
