@@ -37,7 +37,7 @@ impl Buffer for Heap {
 impl BufferMut for Heap {
     ghost written = { λ heap bytes. record { bytes = with_items heap.bytes bytes } };
 
-    ghost written_bytes = { λ a new same. rewritten a.bytes.items new a.bytes.len a.bytes.ok.0 same };
+    ghost written_bytes = { λ a b same. rewritten a.bytes.items b a.bytes.len a.bytes.ok.0 same };
 
     ghost written_same = { λ a bytes. sym a.bytes.ok.0 ∙ (with_items a.bytes bytes).ok.0 };
 

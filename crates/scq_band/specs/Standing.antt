@@ -161,8 +161,9 @@ module _ {B : Type 0} where
     -- it was not in the hand before
     pub came : in_hand old.hand index ≡ None
 
-  -- a seat that has found a ring empty: the head number answered is the larger of the known head,
-  -- past the tickets that it drew, and of one more than the known finished place
+  -- a seat that has found a ring empty: the head number answered is the larger of the known head
+  -- (one past the last ticket, where the seat drew any) and of one more than the known finished
+  -- place. Which tickets it drew, if any, isn't said but for their bounds
   pub record FoundEmpty (ring head : ℕ) (old new : Standing B) : Type 0 where
     pub drawn : Option ℕ
     pub seat : new ≡ having_seen new.seen (after_nothing ring drawn old)

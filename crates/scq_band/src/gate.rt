@@ -20,7 +20,8 @@ pub fn read_gate<B: Buffer>(words: &Words<B>, token: &mut Token<B>) -> u64
     ensures own { (token.new.table_id ≡ token.old.table_id) × (token.new.id ≡ token.old.id) }
     ensures looked { token.new.me.0.known ≡ looked result token.old.me.0.known }
     ensures in_run { Looked words.now.key.setup
-        (opening_of B.contents words.now.key.given.value.items) token.old.me.0 token.new.me.0 result }
+        (opening_of B.contents words.now.key.given.value.items)
+        token.old.me.0 token.new.me.0 result }
     ensures slots { token.new.me.1 ≡ token.old.me.1 }
     ensures reading { IsReading words.now.key.setup.seats token.old.me.0.known.gate
         (my token.old.me.0.known).retired result }

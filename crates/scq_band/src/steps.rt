@@ -24,7 +24,8 @@ pub fn load<B: Buffer>(words: &Words<B>, token: &mut Token<B>, word: usize) -> u
     requires kind { IsLoad (load_turn words.now.key.setup word token.old.me.0.known) }
     requires word { word
         ≡ at words.now.key.setup
-        (location_of words.now.key.setup (load_turn words.now.key.setup word token.old.me.0.known)) }
+        (location_of words.now.key.setup
+        (load_turn words.now.key.setup word token.old.me.0.known)) }
     ensures own { (token.new.table_id ≡ token.old.table_id) × (token.new.id ≡ token.old.id) }
     ensures turned { Turned
         (LiesIn B.contents B.IsSameBuffer words.now.key.given.value.items) words.now.key.setup

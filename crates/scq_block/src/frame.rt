@@ -78,7 +78,7 @@ impl Buffer for Frame {
 impl BufferMut for Frame {
     ghost written = { λ frame bytes. record frame { bytes = with_items frame.bytes bytes } };
 
-    ghost written_bytes = { λ a bytes same. rewritten a.bytes.items bytes a.bytes.len a.bytes.ok.0 same };
+    ghost written_bytes = { λ a b same. rewritten a.bytes.items b a.bytes.len a.bytes.ok.0 same };
 
     ghost written_same = { written_same };
 

@@ -42,7 +42,9 @@ pub enum HistoryFault {
 }
 
 impl From<NoMemory> for HistoryFault {
-    ghost use Rattle.scq_check.specs.declared.history.HistoryFault.TheVariants.{NoMemory as OutOfMemory};
+    ghost use Rattle.scq_check.specs.declared.history.HistoryFault.TheVariants.{
+      NoMemory as OutOfMemory,
+    };
 
     ghost from_gives = { λ _ fault. fault ≡ OutOfMemory };
 
@@ -52,7 +54,9 @@ impl From<NoMemory> for HistoryFault {
 }
 
 impl<T: Drop> From<AllocFailed<T>> for HistoryFault {
-    ghost use Rattle.scq_check.specs.declared.history.HistoryFault.TheVariants.{NoMemory as OutOfMemory};
+    ghost use Rattle.scq_check.specs.declared.history.HistoryFault.TheVariants.{
+      NoMemory as OutOfMemory,
+    };
 
     ghost from_gives = { λ _ fault. fault ≡ OutOfMemory };
 

@@ -149,7 +149,8 @@ fn pieces_of<R: Threads + Sync>(
     cuts: &[&[Spot<'_>]],
 ) -> Result<Vec<Result<Piece, NoMemory>>, NoMemory>
     requires topics { length topics.now ≤ 16 }
-    requires known { All (λ cut. All (λ s. (spot_answer s).topic ≤ length topics.now) cut.now) cuts.now }
+    requires known { All
+        (λ cut. All (λ s. (spot_answer s).topic ≤ length topics.now) cut.now) cuts.now }
     requires few { length
         (all_answers (map (λ cut. answers_of topics.now (plain cut.now)) cuts.now)) < 2 ^ 64 }
     ensures { IfOk result (λ pieces.

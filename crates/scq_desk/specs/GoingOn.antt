@@ -25,8 +25,8 @@ module _ {W B : Type 0} where
     pub work : (before : List Message) → IsAt before old → IsAt (before ++ messages) new
     pub still : IsStill pass_of starved_of old new
 
-  -- where it had passed on those before, it met a ticket past the limit with at most those and these
-  -- passed on
+  -- where it had passed on those before, it met a ticket past the limit with at most those and
+  -- these passed on
   pub record HasStoppedAt (pass_of : W → PassStanding B) (starved_of : W → Bool)
       (IsAt : List Message → W → Type 0)
       (IsOver : List Message → W → Option (HeldStanding B) → Type 0)

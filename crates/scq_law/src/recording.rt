@@ -87,7 +87,8 @@ impl Recording {
         requires fails { IsOnRing (vec_len self.old.fails) act }
         requires room { HasRoom self.old }
         ensures { OnOk result
-            (AddsTurn setup.now seat act ((machine_of self.old.state).part seat) self.old self.new) }
+            (AddsTurn setup.now seat act
+            ((machine_of self.old.state).part seat) self.old self.new) }
     {
         let next = self.state.phase(seat);
         count_put(&mut self.puts, seat, &act);

@@ -29,7 +29,9 @@ impl From<Failed> for ReadAllFault {
 
 impl From<NoMemory> for ReadAllFault {
     ghost use Rattle.std.specs.Prelude.{◌≡◌};
-    ghost use Rattle.scq_outside.specs.declared.read_all_fault.ReadAllFault.TheVariants.{NoMemory as Wanted};
+    ghost use Rattle.scq_outside.specs.declared.read_all_fault.ReadAllFault.TheVariants.{
+      NoMemory as Wanted,
+    };
 
     ghost from_gives = { λ _ fault. fault ≡ Wanted };
 

@@ -37,9 +37,9 @@ module _ {B : Type 0} where
     pub gates : new.gates ≡ old.gates
     pub gate : new.gate ≡ old.gate
 
-  -- a sweep: the pass asked whether all had retired, and found this number, as a reading in the run;
-  -- behind that reading it made takes alone, and asked no more. Of so many topics it found each empty
-  -- once, the last one at its end. Such puts follow the takes
+  -- a sweep: the pass asked whether all had retired, and found this number, as a reading in the
+  -- run; behind that reading it made takes alone, and asked no more. Of so many topics it found
+  -- each empty once, the last one at its end. Such puts follow the takes
   pub record IsSweep (contents : B → List ℕ) (queue : Identity B) (By : Puts) (topics found : ℕ)
       (old new : PassStanding B) : Type 0 where
     pub asked : PassStanding B

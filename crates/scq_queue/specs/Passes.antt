@@ -169,8 +169,9 @@ module _ {B : Type 0} where
     pub low : place < old.queue.setup.limit
     pub known : (known_free old).seen < place
 
-  -- a pass that found a ring empty: the head that was answered is the larger of the head known,
-  -- past the tickets drawn, and of one more than the finished place known
+  -- a pass that found a ring empty: the head that was answered is the larger of the head known
+  -- (one past the last ticket, where the pass drew any) and of one more than the finished place
+  -- known. Which tickets it drew, if any, isn't said but for their bounds
   pub record FoundNothing (ring head : ℕ) (old new : PassStanding B) : Type 0 where
     pub drawn : Option ℕ
     pub pass : new ≡ having_seen new.seen (after_nothing ring drawn old)

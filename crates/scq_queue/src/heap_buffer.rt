@@ -45,7 +45,7 @@ impl Buffer for HeapBuffer {
 impl BufferMut for HeapBuffer {
     ghost written = { λ buffer bytes. record { bytes = with_items buffer.bytes bytes } };
 
-    ghost written_bytes = { λ a bytes same. rewritten a.bytes.items bytes a.bytes.len a.bytes.ok.0 same };
+    ghost written_bytes = { λ a b same. rewritten a.bytes.items b a.bytes.len a.bytes.ok.0 same };
 
     ghost written_same = { λ a bytes. sym a.bytes.ok.0 ∙ (with_items a.bytes bytes).ok.0 };
 

@@ -12,8 +12,12 @@ ghost use Rattle.scq_replay.specs.OrderText.{member_words, member_line, ring_lin
 ghost use Rattle.scq_replay.specs.OrderText.{HasNoOrders};
 ghost use Rattle.scq_replay.specs.Replay.{schedule_start, HasSetup, Gives};
 ghost use Rattle.scq_replay.specs.Steps.{IsRefused};
-ghost use Rattle.scq_replay.specs.declared.replaying.ScheduleFault.TheVariants.{Unfinished as IsUnended};
-ghost use Rattle.scq_replay.specs.declared.replaying.ScheduleFault.TheVariants.{NoMemory as OutOfMemory};
+ghost use Rattle.scq_replay.specs.declared.replaying.ScheduleFault.TheVariants.{
+  Unfinished as IsUnended,
+};
+ghost use Rattle.scq_replay.specs.declared.replaying.ScheduleFault.TheVariants.{
+  NoMemory as OutOfMemory,
+};
 
 use crate::ScheduleFault;
 use crate::printing::{add_number, add_reply};

@@ -6,7 +6,9 @@ ghost use Rattle.scq_core.specs.StateLists.{machine_of};
 ghost use Rattle.scq_lines.specs.Lines.{lines_of};
 ghost use Rattle.scq_replay.specs.Replay.{steps_from, Gives};
 ghost use Rattle.scq_replay.specs.Steps.{IsMade, IsRefused};
-ghost use Rattle.scq_replay.specs.declared.replaying.ScheduleFault.TheVariants.{NoMemory as OutOfMemory};
+ghost use Rattle.scq_replay.specs.declared.replaying.ScheduleFault.TheVariants.{
+  NoMemory as OutOfMemory,
+};
 
 use crate::printing::{add_step, call_ring};
 use crate::stepping::{first_line, make_step, no_contents, turn_of_line};
@@ -34,7 +36,9 @@ pub enum ScheduleFault {
 }
 
 impl From<NoMemory> for ScheduleFault {
-    ghost use Rattle.scq_replay.specs.declared.replaying.ScheduleFault.TheVariants.{NoMemory as OutOfMemory};
+    ghost use Rattle.scq_replay.specs.declared.replaying.ScheduleFault.TheVariants.{
+      NoMemory as OutOfMemory,
+    };
 
     ghost from_gives = { λ _ fault. fault ≡ OutOfMemory };
 

@@ -10,8 +10,12 @@ ghost use Rattle.scq_lines.specs.Lines.{lines_of};
 ghost use Rattle.scq_replay.specs.Printed.{begun_on};
 ghost use Rattle.scq_replay.specs.Replay.{turn_of_line, HasSetup, Gives};
 ghost use Rattle.scq_replay.specs.declared.replaying.ScheduleFault.TheVariants.{BadLine};
-ghost use Rattle.scq_replay.specs.declared.replaying.ScheduleFault.TheVariants.{NotEnabled as IsNotEnabled};
-ghost use Rattle.scq_replay.specs.declared.replaying.ScheduleFault.TheVariants.{NoMemory as OutOfMemory};
+ghost use Rattle.scq_replay.specs.declared.replaying.ScheduleFault.TheVariants.{
+  NotEnabled as IsNotEnabled,
+};
+ghost use Rattle.scq_replay.specs.declared.replaying.ScheduleFault.TheVariants.{
+  NoMemory as OutOfMemory,
+};
 
 use crate::ScheduleFault;
 use crate::schedule::{read_setup, read_turn};

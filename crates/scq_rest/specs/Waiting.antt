@@ -11,10 +11,10 @@ use Rattle.scq_passes.specs.Records.{IsReturn}
 use Rattle.scq_passes.specs.Waiting.{SweepsInVain}
 use Rattle.scq_rest.specs.Sweeping.{HasLeftTold}
 
--- of a worker that waited, unless it met a ticket past the limit: it was told that all had retired,
--- took in vain no more often than one does that rests after each sweep that took nothing, rested as
--- often as sweeps before its last took nothing, and left after a sweep before which it was told that
--- all had retired
+-- of a worker that waited, unless it met a ticket past the limit: it was told that all had
+-- retired, took in vain no more often than one does that rests after each sweep that took nothing,
+-- rested as often as sweeps before its last took nothing, and left after a sweep before which it
+-- was told that all had retired
 pub record HasWaited {B : Type 0} (contents : B
     → List ℕ) (topics rests : ℕ) (p : PassStanding B) : Type 0 where
   pub told : p.spent ≡ None → p.gate ≡ Some 0

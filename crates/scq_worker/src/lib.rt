@@ -1,6 +1,7 @@
-//! What one worker does, in one thread: it reads the files on its desk and passes their messages on
-//! part by part (`produce`), retires, and sweeps until it leaves (`run`). It is told whom to wake by
-//! a `Bell`; how workers rest stands in `scq_rest`, and how they work side by side in `scq_work`.
+//! What one worker does, in one thread: it reads the files on its desk and passes their messages
+//! on part by part (`produce`), retires, and sweeps until it leaves (`run`). It is told whom to
+//! wake by a `Bell`; how workers rest stands in `scq_rest`, and how they work side by side in
+//! `scq_work`.
 #![tactic(auto)]
 
 mod bell;
