@@ -98,11 +98,7 @@ fn push_spots_of<'a>(
 }
 
 /// Adds the spot of an answer where its message stands in this span.
-fn push_spot<'a>(
-    spot: Spot<'a>,
-    span: &Span,
-    spots: &mut Vec<Spot<'a>>,
-) -> Result<(), NoMemory>
+fn push_spot<'a>(spot: Spot<'a>, span: &Span, spots: &mut Vec<Spot<'a>>) -> Result<(), NoMemory>
     ensures { OnOk result (plain spots.new.items
         ≡ plain spots.old.items ++ filter (is_in span.now) (spot_answer spot.entry ∷ [])) }
 {

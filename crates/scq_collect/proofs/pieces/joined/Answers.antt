@@ -73,7 +73,7 @@ stretches-preserved c =
     let text : Vec ℕ Global = c.in_ok-stretch.stretch.piece.text in
     let long : length (at.yielded ++ x ∷ []) ≡ n + 1 = length-append at.yielded (x ∷ []) in
     let up : (lists : List (List Answer)) (are : AreStretchesOf topics lists c.args.made.items)
-        → all_answers (take n lists) ++ (next lists are).answers ≡ all_answers (take (length (at.yielded ++ x ∷ [])) lists) = λ lists are.
+    → all_answers (take n lists) ++ (next lists are).answers ≡ all_answers (take (length (at.yielded ++ x ∷ [])) lists) = λ lists are.
     sym (next lists are).more ∙ ap (λ k. all_answers (take k lists)) (sym long) in
     record {
       all = append_assoc at.yielded (x ∷ []) _ ∙ rw (← steps) at.invariant.all;
