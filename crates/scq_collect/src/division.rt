@@ -11,9 +11,12 @@ const PARTS: usize = 1 << 14;
 
 const BYTES: usize = 1 << 20;
 
-/// How many spans a piece has at most. Each takes a walk over the blocks that it meets, and memory
-/// for where its own parts lie.
-const SPANS: usize = 4;
+/// How many spans are enough for all pieces, and how many for one: where its own parts lie is kept
+/// for one span at a time. Where the messages of several files stand mixed in the blocks, each span
+/// takes a walk over all of them.
+const SPANS: usize = 8;
+
+const SPANS_EACH: usize = 2;
 
 /// How many pieces are made of so many parts: at most as many as threads, each with parts enough,
 /// or about bytes enough.
@@ -25,12 +28,13 @@ pub fn count_of_pieces(parts: usize, bytes: usize, threads: u32) -> usize
     parts.div_ceil(enough).min(threads as usize).max(1)
 }
 
-/// How many spans are made of so many parts, for so many pieces.
+/// How many spans are made of so many parts, for so many pieces: none has fewer parts than are
+/// enough for a piece, unless it is the one of its piece.
 pub fn count_of_spans(parts: usize, pieces: usize) -> usize
     requires { 0 < pieces }
 {
-    let each = (parts / pieces / PARTS).clamp(1, SPANS);
-    pieces.saturating_mul(each)
+    let each = (SPANS / pieces).max(SPANS_EACH);
+    pieces.saturating_mul((parts / pieces / PARTS).clamp(1, each))
 }
 
 /// At most about so many spans that divide all places. Each has about as many of the samples, which
