@@ -2,6 +2,7 @@
 use Rattle.std.proofs.Common.{◌≡◌, ◌≢◌, ◌∙◌, refl, sym, ap, subst, arith, true, false, suc, ℕ, ◌+◌, ◌-◌, ◌<◌, ◌≤◌, Bool, List, [], ◌∷◌, ◌++◌, length, take, drop, cond}
 use Rattle.std.specs.Prelude.{◌==◌, slice_index_or}
 use Rattle.std.specs.List.{All}
+use Rattle.std.proofs.Math.ListN.{drop_of_length-le}
 use Rattle.std.proofs.lemmas.Bool.Decides.{nat_tests}
 use Rattle.std.proofs.lemmas.List.{drop-drop, get_or-drop, get_or-take, length-drop, length-take-le, map-append, take-append-drop}
 use Rattle.std.proofs.lemmas.List.Elements.{All-head, All-map, All-tail}
@@ -85,7 +86,7 @@ own-first (m ∷ ms) rest some others begins =
     (All-map (λ (a : PartAnswer). a.part ≢ 1) answer ms (λ k d less. others (suc k) d (omega arith) (omega (arith, less)))) begins
 
 -- what stands behind an end
-pub behind-end : (xs : List Spot) (at end : ℕ) → at < end → drop (end - at) (drop at xs) ≡ drop end xs
+pub behind-end : {A : Type 0} (xs : List A) (at end : ℕ) → at < end → drop (end - at) (drop at xs) ≡ drop end xs
 behind-end xs at end less =
     let same : at + (end - at) ≡ end = omega (arith, less) in
     drop-drop (end - at) at xs ∙ ap (λ (k : ℕ). drop k xs) same
@@ -105,13 +106,6 @@ message-cut xs at end less within between begins =
     ∙ own-first own (drop (end - at) (drop at xs)) (omega (arith, long, less)) others (subst (λ (ys : List Spot). BeginsMessage (plain ys)) (sym rest) begins)
     ∙ ap (λ (ys : List Spot). plain own ∷ messages_in_order (plain ys)) rest
 
-pub piece-cut : (xs : List Spot) (at end : ℕ) → at < end → BeginsMessage (plain (drop end xs))
-    → messages_in_order (plain (drop at xs)) ≡ messages_in_order (plain (take (end - at) (drop at xs))) ++ messages_in_order (plain (drop end xs))
-piece-cut xs at end less begins =
-    let answer : Spot → PartAnswer = spot_answer in
-    let own = take (end - at) (drop at xs) in
-    let rest = behind-end xs at end less in
-    ap (λ (ys : List Spot). messages_in_order (plain ys)) (sym (take-append-drop (end - at) (drop at xs)))
-    ∙ ap messages_in_order (map-append answer own (drop (end - at) (drop at xs)))
-    ∙ ap (λ (ys : List Spot). messages_in_order (plain own ++ plain ys)) rest
-    ∙ cut-between (plain own) (plain (drop end xs)) begins
+-- nothing stands behind the end
+pub none-left : (xs : List Spot) (n : ℕ) → length xs ≤ n → drop n xs ≡ []
+none-left xs n all = drop_of_length-le xs all

@@ -6,12 +6,15 @@ pub mod Cuts
 pub mod Cutting
 pub mod Distinct
 pub mod InChunks
+pub mod LaidLaws
 pub mod Lines
 pub mod Merged
 pub mod OneEach
 pub mod Parted
 pub mod Orders
 pub mod Positions
+pub mod SpanLaws
 pub mod SpotLaws
+pub mod Stretched
 pub mod Sums
 pub mod Threads

@@ -19,6 +19,7 @@ use Rattle.scq_collect.specs.Collected.{answer_of}
 use Rattle.scq_collect.specs.Joined.{BeginsMessage, PartAnswer, answers_of, joined, messages_in_order, part_answer, part_answers, text_of_parts}
 use Rattle.scq_collect.specs.Merging.{IsBefore, position_of}
 use Rattle.scq_collect.specs.Output.{Answer}
+pub use Rattle.scq_collect.specs.Taken.{position_of_part_answer}
 use Rattle.scq_collect.proofs.Cutting.{cut-first}
 use Rattle.scq_collect.proofs.InChunks.{chunk-more}
 use Rattle.scq_collect.proofs.Orders.{Ascends, ascends-append}
@@ -133,10 +134,6 @@ joined-answers topics size (m ∷ ms) some =
     ∙ ap (map (joined topics)) (cut-at topics size n m (part_answers topics size ms) (omega arith) (begins topics size ms))
     ∙ ap (λ (a : Answer). a ∷ answers_of topics (part_answers topics size ms)) (joined-at topics size n m (omega arith) (parts-joined size m.payload some))
     ∙ ap (λ (more : List Answer). answer_of topics m ∷ more) (joined-answers topics size ms some)
-
--- where the part of an answer stands
-abbrev pub position_of_part_answer : PartAnswer → ℕ × ℕ × ℕ
-position_of_part_answer a = (a.file, a.line, a.part)
 
 -- it is of this message, and its number is at least this one
 abbrev IsOf : Message → ℕ → PartAnswer → Type 0

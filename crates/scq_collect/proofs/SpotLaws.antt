@@ -1,24 +1,21 @@
 -- What spots are of: an answer where it lies, those of a block, those of all blocks, and members merged.
-use Rattle.std.proofs.Common.{◌≡◌, ◌∙◌, refl, sym, ap, subst, arith, ℕ, ◌+◌, ◌<◌, ◌≤◌, ◌^◌, Option, Some, None, List, [], ◌∷◌, ◌++◌, length, map, set, take, get_or, append_assoc}
-use Rattle.std.specs.Prelude.{Vec, flat_map, slice_index_or}
-use Rattle.std.specs.Global.{Global}
+use Rattle.std.proofs.Common.{◌≡◌, ◌∙◌, refl, sym, ap, subst, arith, ℕ, ◌+◌, ◌<◌, ◌≤◌, ◌^◌, Option, Some, None, List, [], ◌∷◌, ◌++◌, length, map, set, get_or, append_assoc}
+use Rattle.std.specs.Prelude.{flat_map, slice_index_or}
 use Rattle.std.specs.List.{All, swap}
-use Rattle.std.specs.Option.{option_map}
 use Rattle.std.specs.List.Sorted.{IsPermutation}
-use Rattle.std.proofs.lemmas.List.{append-nil, get_or-map, length-map, map-set, take_all, take_more}
+use Rattle.std.proofs.lemmas.List.{append-nil, get_or-map, length-map, map-set}
 use Rattle.std.proofs.lemmas.List.Edits.{swap_is}
 use Rattle.std.proofs.lemmas.List.Elements.{All-cons, All-head, All-map, All-nil, All-tail}
 use Rattle.std.proofs.lemmas.List.Sorted.{All-permutation, IsPermutation-keeps, IsPermutation-map, IsPermutation-refl, IsPermutation-swap, IsPermutation-trans}
 use Rattle.scq_collect.specs.declared.answered.Answered.{Answered}
 use Rattle.scq_collect.specs.declared.spots.Spot.{Spot}
 use Rattle.scq_collect.specs.Coding.{IsCodable, answer_bytes, answers_bytes, body_bytes, body_from, place_from}
-use Rattle.scq_collect.specs.InBlocks.{AreInBlocks, contents}
+use Rattle.scq_collect.specs.InBlocks.{AreInBlocks}
 use Rattle.scq_collect.specs.Joined.{PartAnswer, without_way}
-use Rattle.scq_collect.specs.Merging.{IsBefore, IsSorted, position_of_part}
+use Rattle.scq_collect.specs.Merging.{IsBefore, IsMerged, IsSorted, position_of_part}
 use Rattle.scq_collect.specs.Spots.{AreMerged, answer_in, body_or_nothing, plain, position_of_spot, spot_answer}
 use Rattle.scq_collect.proofs.CodingLaws.{body-again, place-again}
 use Rattle.scq_collect.proofs.Cuts.{all-left, all-right}
-use Rattle.scq_collect.proofs.InChunks.{flat-push}
 use Rattle.scq_collect.proofs.Merged.{sorted-map}
 use Rattle.scq_collect.proofs.Parted.{position_of_part_answer}
 
@@ -65,26 +62,26 @@ some-body before a bytes rest place body low1 low2 fits its first =
     let at = same-value (place, body) ((a.file, a.line), body_bytes a ++ rest) (first ∙ some-place before a bytes rest low1 low2 fits its) in
     ap (λ (q : (ℕ × ℕ) × List ℕ). body_from q.0 q.1) at ∙ body-again a rest fits
 
--- the answers of a block up to a place in it were added, and these bytes are those of the rest
-pub record Walked (answers : List PartAnswer) (before : ℕ × ℕ) (rest : List ℕ) (had now : List PartAnswer) : Type 0 where
+-- a block's answers up to a place in it, of which this holds; the bytes from there on are those of the rest
+pub record Walked (answers : List PartAnswer) (before : ℕ × ℕ) (rest : List ℕ) (P : List PartAnswer → Type 0) : Type 0 where
   pub done : List PartAnswer
   pub todo : List PartAnswer
   pub all : answers ≡ done ++ todo
   pub left : rest ≡ answers_bytes before todo
   pub codable : All IsCodable todo
-  pub added : now ≡ had ++ done
+  pub so_far : P done
 
-pub walked-none : (answers : List PartAnswer) (block : List ℕ) (had : List PartAnswer) → All IsCodable answers → block ≡ answers_bytes (0, 0) answers
-    → Walked answers (0, 0) block had had
-walked-none answers block had fits its =
-    record { done = []; todo = answers; all = refl; left = its; codable = fits; added = sym (append-nil had) }
+pub walked-none : (answers : List PartAnswer) (block : List ℕ) (P : List PartAnswer → Type 0) → All IsCodable answers → block ≡ answers_bytes (0, 0) answers
+    → P [] → Walked answers (0, 0) block P
+walked-none answers block P fits its none =
+    record { done = []; todo = answers; all = refl; left = its; codable = fits; so_far = none }
 
-step-by : (answers done todo : List PartAnswer) (before : ℕ × ℕ) (rest : List ℕ) (had now new : List PartAnswer) (x : PartAnswer) (behind : List ℕ)
+step-by : (answers done todo : List PartAnswer) (before : ℕ × ℕ) (rest : List ℕ) (P Q : List PartAnswer → Type 0) (x : PartAnswer) (behind : List ℕ)
     → ((a : PartAnswer) (r : List ℕ) → IsCodable a → rest ≡ answer_bytes before a ++ r → ◌≡◌ {A = Option (PartAnswer × List ℕ)} (Some (x, behind)) (Some (a, r)))
-    → length behind < length rest → new ≡ now ++ x ∷ []
-    → answers ≡ done ++ todo → rest ≡ answers_bytes before todo → All IsCodable todo → now ≡ had ++ done → Walked answers (x.file, x.line) behind had new
-step-by answers done [] before rest had now new x behind again short more all left fits added = absurd (omega (arith, ap length left, short))
-step-by answers done (a ∷ todo) before rest had now new x behind again short more all left fits added =
+    → length behind < length rest → ((so : List PartAnswer) → P so → Q (so ++ x ∷ []))
+    → answers ≡ done ++ todo → rest ≡ answers_bytes before todo → All IsCodable todo → P done → Walked answers (x.file, x.line) behind Q
+step-by answers done [] before rest P Q x behind again short next all left fits held = absurd (omega (arith, ap length left, short))
+step-by answers done (a ∷ todo) before rest P Q x behind again short next all left fits held =
     let is = same-value (x, behind) (a, answers_bytes (a.file, a.line) todo) (again a (answers_bytes (a.file, a.line) todo) (All-head IsCodable a todo fits) left) in
     let same : x ≡ a = ap (λ (q : PartAnswer × List ℕ). q.0) is in
     record {
@@ -93,61 +90,27 @@ step-by answers done (a ∷ todo) before rest had now new x behind again short m
       all = all ∙ sym (append_assoc done (a ∷ []) todo);
       left = ap (λ (q : PartAnswer × List ℕ). q.1) is ∙ ap (λ (y : PartAnswer). answers_bytes (y.file, y.line) todo) (sym same);
       codable = All-tail IsCodable a todo fits;
-      added = more ∙ ap (λ (y : PartAnswer). now ++ y ∷ []) same ∙ ap (λ (l : List PartAnswer). l ++ a ∷ []) added ∙ append_assoc had done (a ∷ []);
+      so_far = subst (λ (y : PartAnswer). Q (done ++ y ∷ [])) same (next done held);
     }
 
-pub walked-step : (answers : List PartAnswer) (before : ℕ × ℕ) (rest : List ℕ) (had now new : List PartAnswer) (x : PartAnswer) (behind : List ℕ)
+pub walked-step : (answers : List PartAnswer) (before : ℕ × ℕ) (rest : List ℕ) (P Q : List PartAnswer → Type 0) (x : PartAnswer) (behind : List ℕ)
     → ((a : PartAnswer) (r : List ℕ) → IsCodable a → rest ≡ answer_bytes before a ++ r → ◌≡◌ {A = Option (PartAnswer × List ℕ)} (Some (x, behind)) (Some (a, r)))
-    → length behind < length rest → new ≡ now ++ x ∷ [] → Walked answers before rest had now → Walked answers (x.file, x.line) behind had new
-walked-step answers before rest had now new x behind again short more w =
-    step-by answers w.done w.todo before rest had now new x behind again short more w.all w.left w.codable w.added
+    → length behind < length rest → ((so : List PartAnswer) → P so → Q (so ++ x ∷ [])) → Walked answers before rest P → Walked answers (x.file, x.line) behind Q
+walked-step answers before rest P Q x behind again short next w =
+    step-by answers w.done w.todo before rest P Q x behind again short next w.all w.left w.codable w.so_far
 
-end-by : (answers done todo : List PartAnswer) (before : ℕ × ℕ) (rest : List ℕ) (had now : List PartAnswer)
+end-by : (answers done todo : List PartAnswer) (before : ℕ × ℕ) (rest : List ℕ) (P : List PartAnswer → Type 0)
     → ((a : PartAnswer) (r : List ℕ) → IsCodable a → rest ≡ answer_bytes before a ++ r → ◌≡◌ {A = Option (PartAnswer × List ℕ)} None (Some (a, r)))
-    → answers ≡ done ++ todo → rest ≡ answers_bytes before todo → All IsCodable todo → now ≡ had ++ done → now ≡ had ++ answers
-end-by answers done [] before rest had now again all left fits added = added ∙ ap (λ (l : List PartAnswer). had ++ l) (sym (all ∙ append-nil done))
-end-by answers done (a ∷ todo) before rest had now again all left fits added =
+    → answers ≡ done ++ todo → rest ≡ answers_bytes before todo → All IsCodable todo → P done → P answers
+end-by answers done [] before rest P again all left fits held = subst P (sym (all ∙ append-nil done)) held
+end-by answers done (a ∷ todo) before rest P again all left fits held =
     let none = again a (answers_bytes (a.file, a.line) todo) (All-head IsCodable a todo fits) left in
     absurd (cc)
 
-pub walked-end : (answers : List PartAnswer) (before : ℕ × ℕ) (rest : List ℕ) (had now : List PartAnswer)
+pub walked-end : (answers : List PartAnswer) (before : ℕ × ℕ) (rest : List ℕ) (P : List PartAnswer → Type 0)
     → ((a : PartAnswer) (r : List ℕ) → IsCodable a → rest ≡ answer_bytes before a ++ r → ◌≡◌ {A = Option (PartAnswer × List ℕ)} None (Some (a, r)))
-    → Walked answers before rest had now → now ≡ had ++ answers
-walked-end answers before rest had now again w = end-by answers w.done w.todo before rest had now again w.all w.left w.codable w.added
-
--- nothing was read
-pub no-some : {A B : Type 0} (f : A → B) (o : Option A) (y : B) → ((x : A) → o ≡ Some x → ⊥) → option_map f o ≡ Some y → ⊥
-no-some f None y none e = absurd (cc)
-no-some f (Some x) y none e = none x refl
-
--- the groups up to one and it
-pub group-more : (blocks : List (Vec ℕ Global)) (groups : List (List PartAnswer)) (n : ℕ) (block : Vec ℕ Global) (had before now : List PartAnswer)
-    → n < length blocks → slice_index_or blocks n block ≡ block → contents blocks ≡ map (answers_bytes (0, 0)) groups → All (All IsCodable) groups
-    → before ≡ had ++ flat_map (λ group. group) (take n groups)
-    → ((answers : List PartAnswer) → All IsCodable answers → block.items ≡ answers_bytes (0, 0) answers → now ≡ before ++ answers)
-    → now ≡ had ++ flat_map (λ group. group) (take (n + 1) groups)
-group-more blocks groups n block had before now less here coded fits first next =
-    let bytes : Vec ℕ Global → List ℕ = λ b. b.items in
-    let group : List PartAnswer = slice_index_or groups n [] in
-    let long = length-map blocks bytes in
-    let count = ap length coded in
-    let longs = length-map groups (answers_bytes (0, 0)) in
-    let within : n < length groups = omega (arith, less, long, count, longs) in
-    let is : block.items ≡ answers_bytes (0, 0) group =
-    ap bytes (sym here) ∙ sym (get_or-map bytes blocks n block (block.items) less) ∙ ap (λ (l : List (List ℕ)). slice_index_or l n block.items) coded
-    ∙ get_or-map (answers_bytes (0, 0)) groups n [] block.items within in
-    next group (fits n [] within) is ∙ ap (λ (l : List PartAnswer). l ++ group) first ∙ append_assoc had (flat_map (λ group. group) (take n groups)) group
-    ∙ ap (λ (l : List PartAnswer). had ++ l)
-    (sym (ap (flat_map (λ group. group)) (take_more groups n [] within) ∙ flat-push (λ (group : List PartAnswer). group) (take n groups) group))
-
--- all of them
-pub group-all : (blocks : List (Vec ℕ Global)) (groups : List (List PartAnswer)) (n : ℕ) (had now : List PartAnswer) → length blocks ≤ n
-    → contents blocks ≡ map (answers_bytes (0, 0)) groups → now ≡ had ++ flat_map (λ group. group) (take n groups) → now ≡ had ++ flat_map (λ group. group) groups
-group-all blocks groups n had now all coded is =
-    let long = length-map blocks (λ (b : Vec ℕ Global). b.items) in
-    let count = ap length coded in
-    let longs = length-map groups (answers_bytes (0, 0)) in
-    is ∙ ap (λ (gs : List (List PartAnswer)). had ++ flat_map (λ group. group) gs) (take_all n groups (omega (arith, all, long, count, longs)))
+    → Walked answers before rest P → P answers
+walked-end answers before rest P again w = end-by answers w.done w.todo before rest P again w.all w.left w.codable w.so_far
 
 -- what holds of all answers holds of those of each group
 in-groups : {A : Type 0} (P : A → Type 0) (groups : List (List A)) → All P (flat_map (λ group. group) groups) → All (All P) groups
@@ -165,13 +128,6 @@ pub codable-last : (full : List (List ℕ)) (block : List ℕ) (before : ℕ × 
     → All IsCodable held.last
 codable-last full block before answers held =
     all-right IsCodable (flat_map (λ group. group) held.groups) held.last (subst (All IsCodable) held.all held.codable)
-
--- those of all blocks
-pub all-blocks : (full : List (List ℕ)) (block : List ℕ) (before : ℕ × ℕ) (answers : List PartAnswer) (held : AreInBlocks full block before answers)
-    (had between now : List PartAnswer) → between ≡ had ++ flat_map (λ group. group) held.groups → now ≡ between ++ held.last → now ≡ had ++ answers
-all-blocks full block before answers held had between now first second =
-    second ∙ ap (λ (l : List PartAnswer). l ++ held.last) first ∙ append_assoc had (flat_map (λ group. group) held.groups) held.last
-    ∙ ap (λ (l : List PartAnswer). had ++ l) (sym held.all)
 
 -- what is made of a list in which two elements changed places
 swap-map : {A B : Type 0} (f : A → B) (xs : List A) (i j : ℕ) → i < length xs → j < length xs → swap (map f xs) i j ≡ map f (swap xs i j)
@@ -208,21 +164,26 @@ sorted-back f position other xs same sorted k d within before =
     sorted k (f d) (omega (arith, within, length-map xs f)) (subst (λ p. IsBefore p (other (slice_index_or (map f xs) k (f d)))) (read (k + 1) within)
     (subst (λ p. IsBefore (position (slice_index_or xs (k + 1) d)) p) (read k (omega (arith, within))) before))
 
--- members are merged by a sort of their spots
-pub merged-spots : (members : List Answered) (spots sorted : List Spot) → plain spots ≡ map without_way members → IsPermutation spots sorted
-    → IsSorted position_of_spot sorted → AreMerged members sorted
-merged-spots members spots sorted are same order =
-    let up = lifted without_way members (plain sorted)
-    (subst (λ (l : List PartAnswer). IsPermutation l (plain sorted)) are (IsPermutation-map spot_answer spots sorted same)) in
-    record {
-      all = up.0;
-      merged = record {
+-- the answers of members in order are those of the members in some order
+pub merged-answers : (members : List Answered) (parts : List PartAnswer) → IsPermutation (map without_way members) parts → IsSorted position_of_part_answer parts
+    → (all : List Answered) × IsMerged position_of_part members all × (parts ≡ map without_way all)
+merged-answers members parts same order =
+    let up = lifted without_way members parts same in (
+      up.0,
+      record {
         same = up.1;
-        sorted = sorted-back without_way position_of_part position_of_part_answer up.0 (λ k d less. refl) (subst (IsSorted position_of_part_answer) up.2
-            (sorted-map spot_answer position_of_spot position_of_part_answer sorted (λ k d less. refl) order));
-      };
-      are = up.2;
-    }
+        sorted = sorted-back without_way position_of_part position_of_part_answer up.0 (λ k d less. refl) (subst (IsSorted position_of_part_answer) up.2 order);
+      },
+      up.2,
+    )
+
+-- spots in order after a sort
+pub sorted-spots : (answers : List PartAnswer) (spots sorted : List Spot) → plain spots ≡ answers → IsPermutation spots sorted → IsSorted position_of_spot sorted
+    → IsPermutation answers (plain sorted) × IsSorted position_of_part_answer (plain sorted)
+sorted-spots answers spots sorted are same order = (
+  subst (λ (l : List PartAnswer). IsPermutation l (plain sorted)) are (IsPermutation-map spot_answer spots sorted same),
+  sorted-map spot_answer position_of_spot position_of_part_answer sorted (λ k d less. refl) order,
+)
 
 -- what holds of the topics of all members holds of those of their spots
 pub known-spots : (most : ℕ) (members : List Answered) (spots : List Spot) → AreMerged members spots → All (λ a. a.topic ≤ most) members

@@ -9,3 +9,6 @@ pub mod PartViews
 pub mod GivenAnswers
 pub mod InBlocks
 pub mod Spots
+pub mod Spans
+pub mod Laid
+pub mod Taken

@@ -3,8 +3,8 @@ ghost use Rattle.std.specs.Prelude.{◌≡◌, ◌++◌, ◌∷◌, [], OnOk, On
 
 use crate::blocks::make_room;
 use crate::coding::{MOST_HEAD, push_answer};
+use crate::laid::{Block, push_block, push_blocks};
 use crate::log::{Given, Log};
-use crate::spots::{Spot, push_block, push_blocks};
 use scq_word::NoMemory;
 use std::alloc::Global;
 use std::marker::Model;
@@ -38,10 +38,10 @@ impl Model for Answers {
 }
 
 impl Answers {
-    ghost use Rattle.std.specs.Prelude.{length, map};
+    ghost use Rattle.std.specs.Prelude.{List, length, map};
     ghost use Rattle.scq_collect.specs.GivenAnswers.{answered};
-    ghost use Rattle.scq_collect.specs.Joined.{without_way};
-    ghost use Rattle.scq_collect.specs.Spots.{plain};
+    ghost use Rattle.scq_collect.specs.Joined.{PartAnswer, without_way};
+    ghost use Rattle.scq_collect.specs.Laid.{AreLaid};
 
     /// No answers yet. It takes no memory.
     pub fn new(alloc: Global) -> Answers
@@ -86,22 +86,17 @@ impl Answers {
         self.count
     }
 
-    /// How many bytes they take.
-    pub fn bytes(&self) -> usize {
-        let mut bytes = self.block.len();
-        for block in &self.full {
-            bytes = bytes.saturating_add(block.len());
-        }
-        bytes
-    }
-
-    /// Adds where each answer lies, in their order.
-    pub fn push_spots<'a>(&'a self, spots: &mut Vec<Spot<'a>>) -> Result<(), NoMemory>
-        ensures { OnOk result (plain spots.new.items
-            ≡ plain spots.old.items ++ map without_way self.entry.now) }
+    /// Adds the blocks in which they lie, and samples of the places of their messages.
+    pub(crate) fn push_blocks<'a>(
+        &'a self,
+        blocks: &mut Vec<Block<'a>>,
+        samples: &mut Vec<u64>,
+    ) -> Result<(), NoMemory>
+        ensures { (answers : List PartAnswer) → AreLaid answers blocks.old.items
+            → OnOk result (AreLaid (answers ++ map without_way self.entry.now) blocks.new.items) }
     {
-        push_blocks(self.full.as_slice(), spots)?;
-        push_block(self.block.as_slice(), spots)?;
+        push_blocks(self.full.as_slice(), blocks, samples)?;
+        push_block(self.block.as_slice(), blocks, samples)?;
         Ok(())
     }
 }

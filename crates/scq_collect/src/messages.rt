@@ -1,6 +1,6 @@
-//! Where messages and pieces of whole messages end, among spots in order.
-ghost use Rattle.std.specs.Prelude.{◌≡◌, ◌≢◌, ℕ, ◌-◌, ◌<◌, ◌≤◌, ◌++◌, ◌∷◌, length, take, drop};
-ghost use Rattle.std.specs.Prelude.{slice_index_or};
+//! Where messages begin and end, among spots in order.
+ghost use Rattle.std.specs.Prelude.{◌≡◌, ◌≢◌, ℕ, ◌-◌, ◌<◌, ◌≤◌, ◌∷◌, length, take, drop};
+ghost use Rattle.std.specs.Prelude.{slice_index_or, IsTrue};
 ghost use Rattle.scq_collect.specs.Joined.{BeginsMessage, messages_in_order};
 ghost use Rattle.scq_collect.specs.Spots.{plain};
 
@@ -17,17 +17,11 @@ pub fn message_end(spots: &[Spot<'_>], at: usize) -> usize
     next_start(spots, at + 1)
 }
 
-/// Where a piece of this size ends that begins at this position: behind as many spots, where
-/// there are so many, and the rest of their last message.
-pub fn piece_end(spots: &[Spot<'_>], at: usize, size: usize) -> usize
-    requires at { at < length spots.now }
-    requires size { 0 < size }
-    ensures within { (at < result) × (result ≤ length spots.now) }
-    ensures messages { messages_in_order (plain (drop at spots.now))
-        ≡ messages_in_order (plain (take (result - at) (drop at spots.now)))
-        ++ messages_in_order (plain (drop result spots.now)) }
+/// Whether a message begins with the first of them, or there are none.
+pub fn begins_message(spots: &[Spot<'_>]) -> bool
+    ensures { IsTrue result → BeginsMessage (plain spots.now) }
 {
-    next_start(spots, at.saturating_add(size).min(spots.len()))
+    spots.is_empty() || spots[0].part == 1
 }
 
 /// Where a message begins, from this position on: at a part 1, or at the end.

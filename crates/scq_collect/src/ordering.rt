@@ -1,11 +1,15 @@
-//! The spots of all answers of lists in order of file, line and part.
-ghost use Rattle.std.specs.Prelude.{◌≡◌, map, IfOk};
-ghost use Rattle.scq_collect.specs.Joined.{without_way};
+//! Spots of answers in order of file, line and part.
+ghost use Rattle.std.specs.Prelude.{List, IfOk, OnOk};
+ghost use Rattle.scq_collect.specs.Joined.{PartAnswer};
+ghost use Rattle.scq_collect.specs.Laid.{AreLaid};
 ghost use Rattle.scq_collect.specs.Merging.{members_of};
 ghost use Rattle.scq_collect.specs.Spots.{AreMerged, plain};
+ghost use Rattle.scq_collect.specs.Taken.{IsTaken};
 
 use crate::Answers;
-use crate::spots::{Spot, are_in_order};
+use crate::laid::{Block, blocks_of};
+use crate::spans::{ALL, Span};
+use crate::spots::{Spot, are_in_order, push_spots};
 use scq_word::NoMemory;
 use std::alloc::Global;
 
@@ -14,32 +18,27 @@ use std::alloc::Global;
 pub fn spots_in_order<'a>(alloc: Global, lists: &'a [Answers]) -> Result<Vec<Spot<'a>>, NoMemory>
     ensures { IfOk result (λ spots. AreMerged (members_of lists.entry.now) spots.items) }
 {
-    let mut spots = spots_of(alloc, lists)?;
+    let blocks = blocks_of(alloc, lists, &mut Vec::new(alloc))?;
+    let mut spots = Vec::new(alloc);
+    take_spots(blocks.as_slice(), &ALL, &mut spots)?;
+    Ok(spots)
+}
+
+/// Puts the spots of the answers in these blocks whose messages stand in this span in the place of
+/// those that were there, in order of file, line and part.
+pub fn take_spots<'a>(
+    blocks: &[Block<'a>],
+    span: &Span,
+    spots: &mut Vec<Spot<'a>>,
+) -> Result<(), NoMemory>
+    ensures { (answers : List PartAnswer) → AreLaid answers blocks.now
+        → OnOk result (IsTaken answers span.now (plain spots.new.items)) }
+{
+    spots.clear();
+    push_spots(blocks, span, spots)?;
     if are_in_order(spots.as_slice()) {
-        return Ok(spots);
+        return Ok(());
     }
     spots.sort_unstable_by_key(|spot| (spot.file, spot.line, spot.part));
-    Ok(spots)
-}
-
-/// The spots of the answers of all lists, one list behind the other.
-fn spots_of<'a>(alloc: Global, lists: &'a [Answers]) -> Result<Vec<Spot<'a>>, NoMemory>
-    ensures { IfOk result (λ spots.
-        plain spots.items ≡ map without_way (members_of lists.entry.now)) }
-{
-    let count = count_of(lists).ok_or(NoMemory)?;
-    let mut spots = Vec::with_capacity(alloc, count)?;
-    'lists: for list in lists {
-        list.push_spots(&mut spots)?;
-    }
-    Ok(spots)
-}
-
-/// How many answers all lists have.
-fn count_of(lists: &[Answers]) -> Option<usize> {
-    let mut count: usize = 0;
-    for list in lists {
-        count = count.checked_add(list.len())?;
-    }
-    Some(count)
+    Ok(())
 }

@@ -1,16 +1,19 @@
 //! Where answers lie in blocks, and the answer that lies there.
-ghost use Rattle.std.specs.Prelude.{◌≡◌, ◌<◌, ◌++◌, ℕ, List, Some, length, map, flat_map, OnOk};
+ghost use Rattle.std.specs.Prelude.{◌≡◌, ◌<◌, ◌++◌, ◌∷◌, [], ℕ, List, Some, length, OnOk};
 ghost use Rattle.std.specs.Prelude.{IfSome, IsFalse, IsTrue};
-ghost use Rattle.std.specs.List.{All};
+ghost use Rattle.std.specs.List.{filter};
 ghost use Rattle.std.specs.Option.{option_map};
-ghost use Rattle.scq_collect.specs.Coding.{IsCodable, answer_bytes, answers_bytes};
-ghost use Rattle.scq_collect.specs.InBlocks.{contents};
+ghost use Rattle.scq_collect.specs.Coding.{IsCodable, answer_bytes};
 ghost use Rattle.scq_collect.specs.Joined.{PartAnswer};
+ghost use Rattle.scq_collect.specs.Laid.{AreLaid, IsBlockOf};
 ghost use Rattle.scq_collect.specs.Merging.{IsBefore, IsSorted};
 ghost use Rattle.scq_collect.specs.PartViews.{part_of_view};
+ghost use Rattle.scq_collect.specs.Spans.{is_in};
 ghost use Rattle.scq_collect.specs.Spots.{plain, position_of_spot, spot_answer};
 
 use crate::coding::{PartView, read_body, read_place};
+use crate::laid::Block;
+use crate::spans::{Span, place_at};
 use scq_word::NoMemory;
 
 /// Where an answer lies: its message's file and line and its part's number, for which nothing has
@@ -55,38 +58,59 @@ pub fn read_spot<'a>(spot: &Spot<'a>) -> PartView<'a>
     }
 }
 
-/// Adds the spots of the answers in these blocks.
-pub fn push_blocks<'a>(blocks: &'a [Vec<u8>], spots: &mut Vec<Spot<'a>>) -> Result<(), NoMemory>
-    ensures { (groups : List (List PartAnswer)) → All (All IsCodable) groups
-        → contents blocks.entry.now ≡ map (answers_bytes (0, 0)) groups
+/// Adds the spots of the answers in these blocks whose messages stand in this span.
+pub fn push_spots<'a>(
+    blocks: &[Block<'a>],
+    span: &Span,
+    spots: &mut Vec<Spot<'a>>,
+) -> Result<(), NoMemory>
+    ensures { (answers : List PartAnswer) → AreLaid answers blocks.now
         → OnOk result (plain spots.new.items
-        ≡ plain spots.old.items ++ flat_map (λ group. group) groups) }
+        ≡ plain spots.old.items ++ filter (is_in span.now) answers) }
 {
     'each: for block in blocks {
-        push_block(block.as_slice(), spots)?;
+        push_spots_of(block, span, spots)?;
     }
     Ok(())
 }
 
-/// Adds the spots of the answers in a block.
-pub fn push_block<'a>(block: &'a [u8], spots: &mut Vec<Spot<'a>>) -> Result<(), NoMemory>
-    ensures { (answers : List PartAnswer) → All IsCodable answers
-        → block.entry.now ≡ answers_bytes (0, 0) answers
-        → OnOk result (plain spots.new.items ≡ plain spots.old.items ++ answers) }
+/// Adds the spots of the answers in a block whose messages stand in this span.
+fn push_spots_of<'a>(
+    block: &Block<'a>,
+    span: &Span,
+    spots: &mut Vec<Spot<'a>>,
+) -> Result<(), NoMemory>
+    ensures { (answers : List PartAnswer) → IsBlockOf block.now answers
+        → OnOk result (plain spots.new.items
+        ≡ plain spots.old.items ++ filter (is_in span.now) answers) }
 {
+    if !block.span.meets(span) {
+        return Ok(());
+    }
     let mut before = (0, 0);
-    let mut rest = block;
+    let mut rest = block.bytes;
     'answers: while let Some((spot, behind)) = next_spot(before, rest) {
-        spots.push(spot)?;
+        push_spot(spot, span, spots)?;
         before = (spot.file, spot.line);
         rest = behind;
     }
     Ok(())
 }
 
+/// Adds the spot of an answer where its message stands in this span.
+fn push_spot<'a>(spot: Spot<'a>, span: &Span, spots: &mut Vec<Spot<'a>>) -> Result<(), NoMemory>
+    ensures { OnOk result (plain spots.new.items
+        ≡ plain spots.old.items ++ filter (is_in span.now) (spot_answer spot.entry ∷ [])) }
+{
+    if span.has(place_at(spot.file, spot.line)) {
+        spots.push(spot)?;
+    }
+    Ok(())
+}
+
 /// The spot of the answer whose bytes come first, behind one to this file and line, and the bytes
 /// behind it. What `push_answer` wrote is what lies there.
-fn next_spot(before: (u32, u32), bytes: &[u8]) -> Option<(Spot<'_>, &[u8])>
+pub fn next_spot(before: (u32, u32), bytes: &[u8]) -> Option<(Spot<'_>, &[u8])>
     ensures again { (answer : PartAnswer) (rest : List ℕ) → IsCodable answer
         → bytes.now ≡ answer_bytes before answer ++ rest
         → option_map {U = PartAnswer × List ℕ} (λ found. (spot_answer found.0, found.1.now)) result

@@ -1,20 +1,20 @@
--- In order already, or sorted.
-use Rattle.std.proofs.Common.{rules, subst}
-use Rattle.std.proofs.lemmas.List.Sorted.{IsPermutation-refl, answers_always}
-use Rattle.scq_collect.specs.Merging.{IsSorted, members_of}
-use Rattle.scq_collect.specs.Spots.{position_of_spot}
-use Rattle.scq_collect.proofs.Merged.{sorted-from}
-use Rattle.scq_collect.proofs.SpotLaws.{merged-spots}
+-- Those of all places.
+use Rattle.std.proofs.Common.{◌∙◌, arith, refl, sym, subst, [], ◌∷◌, map}
+use Rattle.std.proofs.lemmas.List.{append-nil}
+use Rattle.scq_collect.specs.Joined.{without_way}
+use Rattle.scq_collect.specs.Laid.{AreLaid}
+use Rattle.scq_collect.specs.Merging.{members_of}
+use Rattle.scq_collect.specs.Spots.{plain}
+use Rattle.scq_collect.proofs.LaidLaws.{laid-codable}
+use Rattle.scq_collect.proofs.SpanLaws.{all-taken}
 use Rattle.scq_collect.proofs.ordering.spots_in_order.Goals as goal
-
-pub returns-then-are_in_order : goal.returns-then-are_in_order
-returns-then-are_in_order c =
-    let spots = c.in_ok-spots.spots.items in
-    merged-spots (members_of c.args.lists.now) spots spots c.in_ok-spots.ensures (IsPermutation-refl spots)
-    (subst (IsSorted position_of_spot) c.as_slice.ensures.value (c.are_in_order.ensures (search rules)))
 
 pub returns : goal.returns
 returns c =
-    let sorted = c.sort_unstable_by_key.new.self.items in
-    merged-spots (members_of c.args.lists.now) c.in_ok-spots.spots.items sorted c.in_ok-spots.ensures c.sort_unstable_by_key.ensures.permutation
-    (sorted-from position_of_spot sorted (c.sort_unstable_by_key.ensures.sorted position_of_spot (answers_always _ _ _ (λ f a r f' k. search rules))))
+    let members = members_of c.args.lists.now in
+    let answers = map without_way members in
+    let laid = subst (AreLaid answers) (sym c.as_slice.ensures.value) c.in_ok-blocks.ensures in
+    let spots = c.take_spots.new.spots.items in
+    let t = all-taken members (_ ∷ []) (plain spots ∷ []) (laid-codable answers c.in_ok-blocks.blocks.items c.in_ok-blocks.ensures)
+    (refl, omega arith, refl) (c.in_ok-take_spots.ensures answers laid, tt) in
+    record { all = t.0; merged = t.1; are = sym (append-nil (plain spots)) ∙ t.2 }
