@@ -1,16 +1,19 @@
 -- Parts one behind the other are read back as they were written, whatever bound their count has.
-use Rattle.std.proofs.Common.{◌≡◌, ◌≢◌, ◌⊎◌, inl, inr, ◌^◌, ℕ, zero, suc, ◌+◌, ◌-◌, ◌<◌, ◌≤◌, Some, None, List, [], ◌∷◌, ◌++◌, length, take, drop, refl, sym, ◌∙◌, ap, subst, ⊎_elim, arith, length-append, length-drop}
-use Rattle.std.specs.Prelude.{nat_lt, option_and_then, Option, ◌||◌, replicate}
+use Rattle.std.proofs.Common.{◌≡◌, ◌⊎◌, inl, inr, ◌↔◌, IsTrue, Bool, true, false, ◌^◌, ◌*◌, ℕ, zero, suc, ◌+◌, ◌-◌, ◌<◌, ◌≤◌, Some, None, List, [], ◌∷◌, ◌++◌, length, take, drop, refl, sym, ◌∙◌, ap, subst, ⊎_elim, arith, length-append, length-drop}
+use Rattle.std.specs.Prelude.{nat_lt, nat_eq, min, MatchOption, option_and_then, Option, ◌||◌, replicate}
 use Rattle.std.specs.List.{All, AllByRecursion, flat_map}
 use Rattle.std.specs.Option.{option_map_or}
-use Rattle.std.proofs.lemmas.Bool.{ltb-false, cases_lt}
+use Rattle.std.proofs.lemmas.Bool.{ltb-false, cases_lt, eqb-true, eq-eqb}
 use Rattle.std.proofs.lemmas.Grind.{flat_map-append}
-use Rattle.std.proofs.lemmas.List.{drop_at, append_assoc, append-nil, length-take-le}
+use Rattle.std.proofs.lemmas.List.{take_at, drop_at, take_all, take-append-drop, append_assoc, append-nil, length-take, length-take-le, length-replicate}
 use Rattle.std.proofs.lemmas.List.Elements.{All-append, All-cons, All-nil, recursion_from_All, All-from_recursion}
 use Rattle.std.proofs.lemmas.Option.{option_and_then_some}
 use Rattle.byteorder.specs.Endian.{big_bytes, big_number}
-use Rattle.scq_frames.specs.Parts.{Part}
+use Rattle.scq_frames.specs.declared.message.Message.{Message}
+use Rattle.scq_frames.specs.declared.encoded.View.{View}
+use Rattle.scq_frames.specs.Parts.{Part, IsNumbered, parts_of as the_parts_of, part_of}
 use Rattle.scq_frames.specs.Encoded.{message_bytes, IsEncodable, number_at, part_at}
+use Rattle.scq_frames.specs.Views.{part_of_view}
 use Rattle.scq_frames.specs.Batches.{batch_bytes, bytes_behind, parts_within, parts_at, AreParts}
 use Rattle.scq_frames.proofs.EncodedLemmas.{chosen, passed, number_at-again, part_at-again}
 
@@ -81,6 +84,9 @@ within-none (suc n) bytes e = ap (λ (o : Option Part). option_map_or (λ p. p �
 within-some : (n : ℕ) (bytes : List ℕ) (p : Part) → part_at bytes ≡ Some p → parts_within (suc n) bytes ≡ p ∷ parts_within n (bytes_behind p bytes)
 unfolding parts_within
 within-some n bytes p e = ap (λ (o : Option Part). option_map_or (λ p. p ∷ parts_within n (bytes_behind p bytes)) o []) e
+
+pub in-none : {A : Type 0} (o : Option A) (P : Type 0) (Q : A → Type 0) → o ≡ None → P → MatchOption o P Q
+in-none {A = A} o P Q e p = subst (λ (r : Option A). MatchOption r P Q) (sym e) p
 
 -- with as many as there are bytes, or more, all parts are found
 within-enough : (n m : ℕ) (bytes : List ℕ) → length bytes ≤ n → length bytes ≤ m → parts_within n bytes ≡ parts_within m bytes
@@ -158,36 +164,114 @@ are-parts file ps fits alike =
       alike = subst (λ (l : List Part). All (λ p. p.file ≡ file) l) same alike;
     }
 
-pub no-parts : parts_at [] ≡ []
-no-parts = parts-at-none [] part_at-nil
+-- no bytes are those of no parts
+pub none-in : (bytes : List ℕ) → bytes ≡ [] → parts_at bytes ≡ []
+none-in bytes e = ap parts_at e ∙ parts-at-none [] part_at-nil
+
+pub are-none : (file : ℕ) (bytes : List ℕ) → bytes ≡ [] → AreParts file bytes
+are-none file bytes e = subst (λ (l : List ℕ). AreParts file l) (sym e) (are-parts file [] (All-nil IsEncodable) (All-nil (λ (q : Part). q.file ≡ file)))
+
+bytes-of-none : (file : ℕ) (bytes : List ℕ) → AreParts file bytes → parts_at bytes ≡ [] → bytes ≡ []
+bytes-of-none file bytes its e = its.whole ∙ ap batch_bytes e
 
 -- a part that is added behind others
-module _ (old file : ℕ) (bytes : List ℕ) (p : Part) (its : AreParts old bytes) (fits : IsEncodable p) where
-  more : List Part
-  more = parts_at bytes ++ p ∷ []
+all-fit : (file : ℕ) (bytes : List ℕ) (p : Part) → AreParts file bytes → IsEncodable p → All IsEncodable (parts_at bytes ++ p ∷ [])
+all-fit file bytes p its fits = All-append IsEncodable (parts_at bytes) (p ∷ []) its.encodable (All-cons IsEncodable p [] fits (All-nil IsEncodable))
 
-  fit : All IsEncodable (parts_at bytes ++ p ∷ [])
-  fit = All-append IsEncodable (parts_at bytes) (p ∷ []) its.encodable (All-cons IsEncodable p [] fits (All-nil IsEncodable))
+text-more : (file : ℕ) (bytes : List ℕ) (p : Part) → AreParts file bytes → bytes ++ message_bytes p ≡ batch_bytes (parts_at bytes ++ p ∷ [])
+text-more file bytes p its =
+    ap (λ (l : List ℕ). l ++ message_bytes p) its.whole
+    ∙ ap (λ (l : List ℕ). batch_bytes (parts_at bytes) ++ l) (sym (append-nil (message_bytes p)))
+    ∙ sym (flat_map-append message_bytes (parts_at bytes) (p ∷ []))
 
-  text : bytes ++ message_bytes p ≡ batch_bytes (parts_at bytes ++ p ∷ [])
-  text =
-      ap (λ (l : List ℕ). l ++ message_bytes p) its.whole
-      ∙ ap (λ (l : List ℕ). batch_bytes (parts_at bytes) ++ l) (sym (append-nil (message_bytes p)))
-      ∙ sym (flat_map-append message_bytes (parts_at bytes) (p ∷ []))
+pub parts-more : (file : ℕ) (bytes : List ℕ) (p : Part) → AreParts file bytes → IsEncodable p → parts_at (bytes ++ message_bytes p) ≡ parts_at bytes ++ p ∷ []
+parts-more file bytes p its fits = ap parts_at (text-more file bytes p its) ∙ parts-of-all (parts_at bytes ++ p ∷ []) (all-fit file bytes p its fits)
 
-  pub parts-more : parts_at (bytes ++ message_bytes p) ≡ parts_at bytes ++ p ∷ []
-  parts-more = ap parts_at text ∙ parts-of-all (parts_at bytes ++ p ∷ []) fit
+pub are-more : (old file : ℕ) (bytes : List ℕ) (p : Part) → AreParts old bytes → IsEncodable p → All (λ q. q.file ≡ file) (parts_at bytes) → p.file ≡ file
+    → AreParts file (bytes ++ message_bytes p)
+are-more old file bytes p its fits alike is =
+    let Of : Part → Type 0 = λ (q : Part). q.file ≡ file in
+    let each : All Of (parts_at bytes ++ p ∷ []) = All-append Of (parts_at bytes) (p ∷ []) alike (All-cons Of p [] is (All-nil Of)) in
+    subst (λ (l : List ℕ). AreParts file l) (sym (text-more old bytes p its)) (are-parts file (parts_at bytes ++ p ∷ []) (all-fit old bytes p its fits) each)
 
-  pub are-more : All (λ q. q.file ≡ file) (parts_at bytes) → p.file ≡ file → AreParts file (bytes ++ message_bytes p)
-  are-more alike is =
-      let each : All (λ (q : Part). q.file ≡ file) (parts_at bytes ++ p ∷ []) =
-      All-append (λ (q : Part). q.file ≡ file) (parts_at bytes) (p ∷ []) alike (All-cons (λ (q : Part). q.file ≡ file) p [] is (All-nil (λ (q : Part). q.file ≡ file))) in
-      subst (AreParts file) (sym text) (are-parts file (parts_at bytes ++ p ∷ []) fit each)
+no-length : (bytes : List ℕ) → length bytes ≡ 0 → bytes ≡ []
+no-length bytes e = sym (take_all 0 bytes (omega (arith, e)))
 
--- bytes are those of no parts just where there are none
-module _ (file : ℕ) (bytes : List ℕ) (its : AreParts file bytes) where
-  pub no-bytes : bytes ≡ [] → parts_at bytes ≡ []
-  no-bytes e = ap parts_at e ∙ no-parts
+-- whether there are bytes tells whether there are parts
+pub is-none : (file n : ℕ) (bytes : List ℕ) (b : Bool) → AreParts file bytes → b ≡ nat_eq n 0 → n ≡ length bytes → IsTrue b ↔ (parts_at bytes ≡ [])
+is-none file n bytes b its test count =
+    (λ t. none-in bytes (no-length bytes (sym count ∙ eqb-true n 0 (sym test ∙ t))), λ e. test ∙ eq-eqb n 0 (count ∙ ap length (bytes-of-none file bytes its e)))
 
-  pub bytes-of-none : parts_at bytes ≡ [] → bytes ≡ []
-  bytes-of-none e = its.whole ∙ ap batch_bytes e
+-- parts of one file are all of it, and no parts are of any
+pub of-any : (own file n : ℕ) (bytes : List ℕ) (b : Bool) → AreParts own bytes → IsTrue b → b ≡ nat_eq n 0 → n ≡ length bytes
+    → IsTrue b ↔ All (λ p. p.file ≡ file) (parts_at bytes)
+of-any own file n bytes b its set test count =
+    let none : parts_at bytes ≡ [] = (is-none own n bytes b its test count).0 set in
+    let each : All (λ (p : Part). p.file ≡ file) (parts_at bytes) = subst (λ (l : List Part). All (λ (p : Part). p.file ≡ file) l) (sym none) (All-nil (λ (p : Part). p.file ≡ file)) in
+    (λ _. each, λ _. set)
+
+one-file : (own file : ℕ) (ps : List Part) → (ps ≡ [] → ⊥) → AllByRecursion (λ (p : Part). p.file ≡ own) ps → AllByRecursion (λ (p : Part). p.file ≡ file) ps
+    → own ≡ file
+one-file own file [] some a b = absurd (some refl)
+one-file own file (p ∷ ps) some a b = sym a.0 ∙ b.0
+
+differ : false ≡ true → ⊥
+differ e = cc
+
+pub of-one : (own file n : ℕ) (bytes : List ℕ) (b : Bool) → AreParts own bytes → b ≡ false → b ≡ nat_eq n 0 → n ≡ length bytes
+    → IsTrue (nat_eq own file) ↔ All (λ p. p.file ≡ file) (parts_at bytes)
+of-one own file n bytes b its unset test count =
+    let Own : Part → Type 0 = λ (p : Part). p.file ≡ own in
+    let Of : Part → Type 0 = λ (p : Part). p.file ≡ file in (
+      λ t. subst (λ (f : ℕ). All (λ (p : Part). p.file ≡ f) (parts_at bytes)) (eqb-true own file t) its.alike,
+      λ all. eq-eqb own file (one-file own file (parts_at bytes) (λ e. differ (sym unset ∙ (is-none own n bytes b its test count).1 e))
+          (recursion_from_All Own (parts_at bytes) its.alike) (recursion_from_All Of (parts_at bytes) all)),
+    )
+
+-- the numbers of a part of a message fit
+pub encodable-view : (size : ℕ) (m : Message) (part : ℕ) (v : View) → part_of_view v ≡ part_of size m part
+    → v.file < 2 ^ 32 → v.line < 2 ^ 32 → v.topic < 2 ^ 32 → v.parts < 2 ^ 32 → length m.payload < 2 ^ 32 → IsNumbered part (the_parts_of size m.payload)
+    → IsEncodable (part_of_view v)
+encodable-view size m part v same file line topic parts short numbered =
+    let start : ℕ = (part - 1) * size in
+    let few : length (part_of size m part).payload < 2 ^ 32 = omega (arith, short, length-take size (drop start m.payload), length-drop start m.payload) in
+    record {
+      file = file;
+      line = line;
+      topic = topic;
+      payload = subst (λ (p : Part). length p.payload < 2 ^ 32) (sym same) few;
+      parts = parts;
+      numbered = subst (λ (p : Part). IsNumbered p.part p.parts) (sym same) numbered;
+    }
+
+-- zeros up to the end, or 24 of them, end the parts
+pub zeros-end : (old new : List ℕ) (at n : ℕ) → at ≤ length old → n ≡ min 24 (length old - at) → new ≡ take at old ++ replicate n 0 ++ drop (at + n) old
+    → part_at (drop at new) ≡ None
+zeros-end old new at n within count e =
+    let front : length (take at old) ≡ at = length-take-le at old within in
+    let behind : drop at new ≡ replicate n 0 ++ drop (at + n) old =
+    ap (drop at) (e ∙ append_assoc (take at old) (replicate n 0) (drop (at + n) old)) ∙ drop_at (take at old) (replicate n 0 ++ drop (at + n) old) at front in
+    let long : length (drop at new) ≡ n + (length old - (at + n)) =
+    ap length behind ∙ length-append (replicate n 0) (drop (at + n) old)
+    ∙ ap (λ (k : ℕ). k + length (drop (at + n) old)) (length-replicate n 0) ∙ ap (λ (k : ℕ). n + k) (length-drop (at + n) old) in
+    ⊎_elim
+    (λ (h : length old - at < 24). part_at-short (drop at new) (omega (arith, h, long, count, within)))
+    (λ (h : 24 ≤ length old - at).
+    let all : n ≡ 24 = omega (arith, h, count) in
+    ap part_at (behind ∙ ap (λ (k : ℕ). replicate k 0 ++ drop (at + k) old) all) ∙ part_at-zeros (drop (at + 24) old))
+    (cases_lt (length old - at) 24)
+
+-- bytes that were written, and what was written behind them
+pub ended : (front rest now new : List ℕ) (at : ℕ) → now ≡ front ++ rest → at ≡ length front → take at new ≡ take at now → new ≡ front ++ drop at new
+ended front rest now new at is count before =
+    sym (take-append-drop at new) ∙ ap (λ (l : List ℕ). l ++ drop at new) (before ∙ ap (take at) is ∙ take_at front rest at (sym count))
+
+-- a part's six numbers and its payload, added one behind the other
+pub part-pushed : (old room one two head : List ℕ) (p : Part) → room ≡ old → head ≡ take 24 (message_bytes p) ++ [] → one ≡ room ++ head → two ≡ one ++ p.payload
+    → two ≡ old ++ message_bytes p
+unfolding message_bytes
+part-pushed old room one two head p same is first second =
+    let front : List ℕ =
+    big_bytes 4 p.file ++ big_bytes 4 p.line ++ big_bytes 4 p.topic ++ big_bytes 4 (length p.payload) ++ big_bytes 4 p.part ++ big_bytes 4 p.parts in
+    let numbers : head ≡ front = is in
+    second ∙ ap (λ (l : List ℕ). l ++ p.payload) (first ∙ ap (λ (l : List ℕ). l ++ head) same ∙ ap (λ (l : List ℕ). old ++ l) numbers) ∙ append_assoc old front p.payload
