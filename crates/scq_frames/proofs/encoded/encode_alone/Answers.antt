@@ -1,5 +1,5 @@
 -- The bytes are those of the one part, and no part begins behind them.
-use Rattle.std.proofs.Common.{rules, ◌≡◌, ◌∙◌, sym, ap, List, ℕ, ◌+◌, ◌++◌, ◌∷◌, [], length, drop, arith}
+use Rattle.std.proofs.Common.{◌∙◌, sym, ap, ℕ, ◌+◌, ◌++◌, ◌∷◌, [], length, drop, arith}
 use Rattle.scq_frames.specs.Parts.{Part}
 use Rattle.scq_frames.specs.Encoded.{message_bytes}
 use Rattle.scq_frames.specs.Views.{part_of_view}

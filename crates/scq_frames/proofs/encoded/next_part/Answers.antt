@@ -1,6 +1,5 @@
 -- The part that comes first is the first of the parts, and its bytes are there.
-use Rattle.std.proofs.Common.{rules, ◌≡◌, ◌∙◌, sym, ap, subst, List, ℕ, ◌+◌, ◌-◌, ◌∷◌, [], None, Option, length, take, drop, arith, length-drop}
-use Rattle.std.specs.Prelude.{MatchOption}
+use Rattle.std.proofs.Common.{rules, ◌≡◌, ◌∙◌, sym, ap, List, ℕ, ◌+◌, ◌-◌, ◌∷◌, None, length, drop, arith, length-drop}
 use Rattle.std.proofs.lemmas.List.{take_all, length-take}
 use Rattle.scq_frames.specs.Views.{part_of_view}
 use Rattle.scq_frames.specs.Batches.{parts_at}
