@@ -15,13 +15,13 @@ use Rattle.scq_frames.specs.Encoded.{message_bytes, IsEncodable, BeginsWith, num
 abbrev pub AreBytes : List ℕ → Type 0
 AreBytes bytes = (i : ℕ) → get_or bytes i 0 < 256
 
-number_at-again : (n : ℕ) (rest : List ℕ) → n < 2 ^ 32 → number_at (big_bytes 4 n ++ rest) ≡ Some (n, rest)
+pub number_at-again : (n : ℕ) (rest : List ℕ) → n < 2 ^ 32 → number_at (big_bytes 4 n ++ rest) ≡ Some (n, rest)
 unfolding number_at
 number_at-again n rest fits =
     cond-false _ None (Some (big_number 4 (big_bytes 4 n ++ rest), drop 4 (big_bytes 4 n ++ rest))) (le-ltb (length (big_bytes 4 n ++ rest)) 4 (omega arith))
     ∙ ap (λ (k : ℕ). Some (k, rest)) (big_number-reads_back 4 n rest fits)
 
-chosen : {A : Type 0} (b : Bool) (x y : A) → cond b None (Some x) ≡ Some y → (b ≡ false) × (x ≡ y)
+pub chosen : {A : Type 0} (b : Bool) (x y : A) → cond b None (Some x) ≡ Some y → (b ≡ false) × (x ≡ y)
 chosen true x y e = cc
 chosen false x y e = (refl, cc)
 
@@ -48,7 +48,7 @@ number_at-found bytes found small e =
     subst (λ (f : ℕ × List ℕ). (bytes ≡ big_bytes 4 f.0 ++ f.1) × AreBytes f.1) parts.1 (whole, behind)
 
 -- the same where a further choice follows
-passed : {A : Type 0} (b : Bool) (o : Option A) (y : A) → cond b None o ≡ Some y → (b ≡ false) × (o ≡ Some y)
+pub passed : {A : Type 0} (b : Bool) (o : Option A) (y : A) → cond b None o ≡ Some y → (b ≡ false) × (o ≡ Some y)
 passed true o y e = cc
 passed false o y e = (refl, e)
 

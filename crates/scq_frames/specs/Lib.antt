@@ -10,5 +10,6 @@ pub mod Coming
 pub mod FramerState
 pub mod Parts
 pub mod Encoded
+pub mod Batches
 pub mod Views
 pub mod Judged

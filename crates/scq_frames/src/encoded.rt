@@ -1,15 +1,19 @@
 ghost use Rattle.std.specs.Prelude.{◌≡◌, ◌^◌, ◌+◌, ◌<◌, ◌≤◌, ◌++◌, length, take, drop, IfSome};
-ghost use Rattle.std.specs.Prelude.{Some};
+ghost use Rattle.std.specs.Prelude.{[], ◌∷◌, Some, None, MatchOption, replicate};
 ghost use Rattle.std.specs.Option.{option_map};
 ghost use Rattle.byteorder.specs.Endian.{big_bytes};
 ghost use Rattle.scq_frames.specs.Parts.{Part as ThePart, IsNumbered, parts_of as the_parts_of};
 ghost use Rattle.scq_frames.specs.Parts.{part_bytes, part_of};
 ghost use Rattle.scq_frames.specs.Encoded.{message_bytes, IsEncodable, BeginsWith, number_at};
 ghost use Rattle.scq_frames.specs.Encoded.{part_at};
+ghost use Rattle.scq_frames.specs.Batches.{bytes_behind, parts_at};
 ghost use Rattle.scq_frames.specs.Views.{part_of_view};
 
 use crate::Message;
 use byteorder::{BigEndian, ByteOrder};
+
+/// How many bytes a part has beside its payload: its six numbers.
+pub const HEAD: usize = 24;
 
 /// A part of a message, whose bytes stay where they are: parts are numbered from 1.
 #[derive(Clone, Copy, Debug)]
@@ -73,6 +77,39 @@ pub fn encode(message: &Message, size: u32, part: u32, into: &mut [u8])
     write_part(view_of(message, size, part), into);
 }
 
+/// As `encode` writes a part, and the end mark behind it: no part begins there.
+pub fn encode_alone(message: &Message, size: u32, part: u32, into: &mut [u8])
+    requires size { 0 < size }
+    requires short { length message.now.payload < 2 ^ 32 }
+    requires numbered { IsNumbered part (the_parts_of size message.now.payload) }
+    requires room { 24 + length (part_bytes size part message.now.payload) ≤ length into.old }
+    ensures begins { BeginsWith into.new (part_of size message.now part) }
+    ensures parts { parts_at into.new ≡ part_of size message.now part ∷ [] }
+    ensures len { length into.new ≡ length into.old }
+{
+    let view = view_of(message, size, part);
+    write_part(view, into);
+    mark_end(into, HEAD + view.payload.len());
+}
+
+/// Writes the end mark at a position: so many zero bytes that no part's bytes begin there.
+pub fn mark_end(into: &mut [u8], at: usize)
+    requires { at ≤ length into.old }
+    ensures before { take at into.new ≡ take at into.old }
+    ensures ended { part_at (drop at into.new) ≡ None }
+    ensures len { length into.new ≡ length into.old }
+{
+    write_zeros(into, at, HEAD.min(into.len() - at));
+}
+
+/// Writes so many zero bytes at a position.
+fn write_zeros(into: &mut [u8], at: usize, len: usize)
+    requires { at + len ≤ length into.old }
+    ensures { into.new ≡ take at into.old ++ replicate len 0 ++ drop (at + len) into.old }
+{
+    into[at..at + len].fill(0);
+}
+
 /// Writes the bytes of a part to the front.
 fn write_part(view: View<'_>, into: &mut [u8])
     requires short { length view.payload.now < 2 ^ 32 }
@@ -80,13 +117,23 @@ fn write_part(view: View<'_>, into: &mut [u8])
     ensures { into.new ≡ message_bytes (part_of_view view.entry)
         ++ drop (24 + length view.entry.payload.now) into.old }
 {
+    write_head(view, into);
+    write_bytes(into, HEAD, view.payload);
+}
+
+/// Writes the six numbers of a part to the front.
+pub fn write_head(view: View<'_>, into: &mut [u8])
+    requires short { length view.payload.now < 2 ^ 32 }
+    requires room { 24 ≤ length into.old }
+    ensures { into.new
+        ≡ take 24 (message_bytes (part_of_view view.entry)) ++ drop 24 into.old }
+{
     write_number(into, 0, view.file);
     write_number(into, 4, view.line);
     write_number(into, 8, view.topic);
     write_number(into, 12, view.payload.len() as u32);
     write_number(into, 16, view.part);
     write_number(into, 20, view.parts);
-    write_bytes(into, 24, view.payload);
 }
 
 /// Writes a number in four bytes at a position.
@@ -99,7 +146,7 @@ fn write_number(into: &mut [u8], at: usize, number: u32)
 }
 
 /// Writes bytes at a position.
-fn write_bytes(into: &mut [u8], at: usize, bytes: &[u8])
+pub fn write_bytes(into: &mut [u8], at: usize, bytes: &[u8])
     requires { at + length bytes.now ≤ length into.old }
     ensures { into.new ≡ take at into.old ++ bytes.now ++ drop (at + length bytes.now) into.old }
 {
@@ -115,6 +162,21 @@ pub fn decode(bytes: &[u8]) -> Option<View<'_>>
     ensures part { option_map part_of_view result ≡ part_at bytes.now }
 {
     read_part(bytes)
+}
+
+/// The part whose bytes come first, and the bytes behind it, where the next part may stand. `None`
+/// exactly where `decode` answers it.
+pub fn next_part(bytes: &[u8]) -> Option<(View<'_>, &[u8])>
+    ensures part { option_map (λ found. part_of_view found.0) result ≡ part_at bytes.now }
+    ensures behind { IfSome result (λ found.
+        found.1.now ≡ bytes_behind (part_of_view found.0) bytes.now) }
+    ensures parts { MatchOption result (parts_at bytes.now ≡ [])
+        (λ found. parts_at bytes.now ≡ part_of_view found.0 ∷ parts_at found.1.now) }
+    ensures numbered { IfSome result (λ found. IsNumbered found.0.part found.0.parts) }
+    ensures shorter { IfSome result (λ found. length found.1.now + 24 ≤ length bytes.now) }
+{
+    let view = decode(bytes)?;
+    Some((view, &bytes[HEAD + view.payload.len()..]))
 }
 
 /// How many bytes the part has that comes first: they stand behind its six numbers. `None` exactly

@@ -1,30 +1,13 @@
--- Each write goes behind what was written before it.
-use Rattle.std.proofs.Common.{refl, [], ◌++◌, length}
-use Rattle.byteorder.specs.Endian.{big_bytes}
+-- The payload goes behind the six numbers.
+use Rattle.std.proofs.Common.{refl, length, take}
 use Rattle.scq_frames.specs.Encoded.{message_bytes}
+use Rattle.scq_frames.specs.Views.{part_of_view}
 use Rattle.scq_frames.proofs.EncodedLemmas.{written}
 use Rattle.scq_frames.proofs.encoded.write_part.Goals as goal
 
 pub returns : goal.returns
 unfolding message_bytes
 returns c =
-    let v = c.args.view in
-    let old = c.args.into.now in
-    let payload = v.payload.now in
-    let len = big_bytes 4 (length payload) in
-    let front1 = big_bytes 4 v.file in
-    let front2 = front1 ++ big_bytes 4 v.line in
-    let front3 = front2 ++ big_bytes 4 v.topic in
-    let front4 = front3 ++ len in
-    let front5 = front4 ++ big_bytes 4 v.part in
-    let front6 = front5 ++ big_bytes 4 v.parts in
-    let one = written [] old old c.write_number.new.into (big_bytes 4 v.file) 0 4 refl refl refl c.write_number.ensures.written in
-    let two = written front1 old c.write_number.new.into c.write_number-2.new.into (big_bytes 4 v.line) 4 4 one refl refl c.write_number-2.ensures.written in
-    let three = written front2 old c.write_number-2.new.into c.write_number-3.new.into (big_bytes 4 v.topic) 8 4 two refl refl
-    c.write_number-3.ensures.written in
-    let four = written front3 old c.write_number-3.new.into c.write_number-4.new.into len 12 4 three refl refl c.write_number-4.ensures.written in
-    let five = written front4 old c.write_number-4.new.into c.write_number-5.new.into (big_bytes 4 v.part) 16 4 four refl refl
-    c.write_number-5.ensures.written in
-    let six = written front5 old c.write_number-5.new.into c.write_number-6.new.into (big_bytes 4 v.parts) 20 4 five refl refl
-    c.write_number-6.ensures.written in
-    written front6 old c.write_number-6.new.into c.write_bytes.new.into payload 24 (length payload) six refl refl c.write_bytes.ensures
+    let payload = c.args.view.payload.now in
+    written (take 24 (message_bytes (part_of_view c.args.view))) c.args.into.now c.write_head.new.into c.write_bytes.new.into payload 24 (length payload)
+    c.write_head.ensures refl refl c.write_bytes.ensures
