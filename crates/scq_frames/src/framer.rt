@@ -35,6 +35,7 @@ pub struct Framer {
     ended: bool,
     failed: bool,
     weight: u64,
+    short: bool,
 }
 
 impl Model for Framer {
@@ -66,6 +67,7 @@ impl Framer {
             ended: false,
             failed: false,
             weight: 0,
+            short: false,
         })
     }
 
@@ -166,6 +168,15 @@ impl Framer {
         };
         self.failed = false;
         Ok(given)
+    }
+
+    /// Whether the next call of `next` may have to wait: no line that is held has its end, and the
+    /// last read gave fewer bytes than were asked for, as of a pipe that has no more yet.
+    pub fn may_wait(&mut self) -> bool
+        ensures same { self.new ≡ self.old }
+        ensures none { IsTrue result → HasNoLineFeed self.old.held 0 (length self.old.held) }
+    {
+        self.short && self.line_len().is_none()
     }
 
     /// The length of the first line that is held, where an LF ends it.
@@ -384,6 +395,7 @@ impl Framer {
         let got = self.window.read(source, ask)?;
         self.read += got as u64;
         self.ended = got == 0;
+        self.short = got < ask;
         if self.read > self.most {
             return Err(FrameFault::TooLarge { bytes: self.read });
         }
