@@ -121,7 +121,7 @@ fn conclude<F: Files>(
         (inputs_of F.Files was.now.value files.now got.value.items 0) }
     requires all { HaveAllCome (map string_bytes names.now)
         (inputs_of F.Files was.now.value files.now got.value.items 0) all }
-    requires end { EndsWork job.now F.Src.faults F.Src.ends F.Src.left got.value.items end }
+    requires end { EndsWork job.now F.Src.Source got.value.items end }
     ensures tells { TellsWork job.now F.Src.Source (map string_bytes names.now)
         (inputs_of F.Files was.now.value files.now result.sources.items result.read) result }
     ensures ends { ReadsOver job.now.longest F.Src.Source (map string_bytes names.now)

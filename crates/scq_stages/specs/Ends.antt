@@ -7,6 +7,7 @@ use Rattle.scq_desk.specs.declared.fault.EndFault.TheVariants as ends
 use Rattle.scq_stages.specs.declared.staged.StageFault.{StageFault}
 use Rattle.scq_stages.specs.declared.staged.StageFault.TheVariants.{Read, TooLong, TooLarge}
 use Rattle.scq_stages.specs.declared.staged.StageFault.TheVariants.{NoMemory}
+use Rattle.scq_files.specs.Reading.{SourceOf}
 
 -- a fault as one of the workers at desks
 abbrev pub as_end : StageFault → EndFault
@@ -16,7 +17,5 @@ as_end (TooLarge file bytes) = ends.TooLarge file bytes
 as_end NoMemory = ends.NoMemory
 
 -- the cause of each fault
-abbrev pub HasCause : {S : Type 0} → ℕ → (S → ℕ) → (S → ℕ) → (S → Option (List ℕ)) → List S → List S
-    → StageFault → Type 0
-HasCause size faults end_count left olds news fault =
-    workers.HasCause size faults end_count left olds news (as_end fault)
+abbrev pub HasCause : {S : Type 0} → ℕ → SourceOf S → List S → List S → StageFault → Type 0
+HasCause size src olds news fault = workers.HasCause size src olds news (as_end fault)

@@ -56,17 +56,17 @@ pub fn stage_work<R: Threads + Sync, S: Source>(
     requires { vec_len sources ≤ 64 }
     ensures count { length result.sources.items ≡ length sources.items }
     ensures moved { (k : ℕ) (d : S) → k < length sources.items
-        → HasMoved S.faults S.left (slice_index_or sources.items k d)
+        → HasMoved S.Source (slice_index_or sources.items k d)
         (slice_index_or result.sources.items k d) }
 
     // No worker read a file behind one of its own at which it stopped.
-    ensures stops { StopsAtFaults job.now.workers job.now.size S.faults S.ends S.left
+    ensures stops { StopsAtFaults job.now.workers job.now.size S.Source
         sources.items result.sources.items }
 
     // Each source was read to its end, and where the bytes of all are visible the members are what
     // becomes of their messages, each once.
     ensures whole { OnOk result.result ((k : ℕ) (d : S) → k < length sources.items
-        → IsWhole job.now.size S.faults S.ends S.left (slice_index_or sources.items k d)
+        → IsWhole job.now.size S.Source (slice_index_or sources.items k d)
         (slice_index_or result.sources.items k d)) }
     ensures handled { IfOk result.result (λ s. IfSome (all_left S.left sources.items) (λ contents.
         IsPermutation (map without_way (finished_in s.done.items)) (all_handled 1 contents))) }
@@ -93,10 +93,9 @@ pub fn stage_work<R: Threads + Sync, S: Source>(
     // A fault is that of its file, and those in front of it were read to their ends. Where there is
     // one of a file, each source is as one whose reading didn't stop for want of memory.
     ensures cause { IfErr result.result (λ fault.
-        HasCause job.now.size S.faults S.ends S.left sources.items result.sources.items fault) }
+        HasCause job.now.size S.Source sources.items result.sources.items fault) }
     ensures memory_first { IfErr result.result (λ fault.
-        MemoryIsFirst job.now.size S.faults S.ends S.left sources.items result.sources.items
-        (as_end fault)) }
+        MemoryIsFirst job.now.size S.Source sources.items result.sources.items (as_end fault)) }
 
     // Each worker asked before each of its sweeps whether all had retired, and left after one
     // before which they had, or after 64 in a row that took nothing.

@@ -70,17 +70,17 @@ pub(crate) fn wind_up<S: Source>(
     requires numbers { (w : ℕ) (d : _) → w < length desks.items
         → (slice_index_or desks.items w d).worker.worker.pass.number ≡ w }
     requires run { All (λ d.
-        HasRun queue job.now.size S.faults S.ends S.left d.files.items d.worker.worker.pass
+        HasRun queue job.now.size S.Source d.files.items d.worker.worker.pass
         d.worker.worker.members.items d.worker.worker.starved d.worker.kept)
         desks.items }
     ensures count { length result.sources.items ≡ length laid.was.value.items }
     ensures moved { (k : ℕ) (d : S) → k < length laid.was.value.items
-        → HasMoved S.faults S.left (slice_index_or laid.was.value.items k d)
+        → HasMoved S.Source (slice_index_or laid.was.value.items k d)
         (slice_index_or result.sources.items k d) }
-    ensures stops { StopsAtFaults job.now.workers job.now.size S.faults S.ends S.left
+    ensures stops { StopsAtFaults job.now.workers job.now.size S.Source
         laid.was.value.items result.sources.items }
     ensures whole { OnOk result.result ((k : ℕ) (d : S) → k < length laid.was.value.items
-        → IsWhole job.now.size S.faults S.ends S.left (slice_index_or laid.was.value.items k d)
+        → IsWhole job.now.size S.Source (slice_index_or laid.was.value.items k d)
         (slice_index_or result.sources.items k d)) }
     ensures handled { IfOk result.result (λ s.
         IfSome (all_left S.left laid.was.value.items) (λ contents.
@@ -104,10 +104,9 @@ pub(crate) fn wind_up<S: Source>(
     ensures same { IfOk result.result (λ s.
         IsSomeAnd result.passes (λ passes. passes.value.items ≡ s.passes.value.items)) }
     ensures cause { IfErr result.result (λ fault.
-        HasCause job.now.size S.faults S.ends S.left laid.was.value.items result.sources.items
-        fault) }
+        HasCause job.now.size S.Source laid.was.value.items result.sources.items fault) }
     ensures memory_first { IfErr result.result (λ fault.
-        MemoryIsFirst job.now.size S.faults S.ends S.left laid.was.value.items result.sources.items
+        MemoryIsFirst job.now.size S.Source laid.was.value.items result.sources.items
         (as_end fault)) }
 {
     let WoundUp {

@@ -39,7 +39,7 @@ pub fn run_apart<R: Threads + Sync, S: Source, G: Gate + Sync>(
         → (slice_index_or result.items w d).worker.worker.pass.number
         ≡ (slice_index_or desks.items w d).worker.worker.pass.number }
     ensures run { All (λ d.
-        HasRun queue.now job.now.topics job.now.size job.now.longest S.faults S.ends S.left
+        HasRun queue.now job.now.topics job.now.size job.now.longest S.Source
         d.files.items d.worker.worker.pass
         d.worker.worker.members d.worker.worker.starved d.worker.kept)
         result.items }
@@ -54,7 +54,7 @@ pub fn run_apart<R: Threads + Sync, S: Source, G: Gate + Sync>(
         ensures { (ids_of desk.exit.now.files.items ≡ ids_of desk.entry.now.files.items)
             × (desk.exit.now.worker.worker.pass.number ≡ desk.entry.now.worker.worker.pass.number)
             × HasRun queue.entry.now job.entry.now.topics job.entry.now.size job.entry.now.longest
-            S.faults S.ends S.left
+            S.Source
             desk.exit.now.files.items desk.exit.now.worker.worker.pass
             desk.exit.now.worker.worker.members desk.exit.now.worker.worker.starved
             desk.exit.now.worker.kept

@@ -110,7 +110,7 @@ pub fn work_waiting<R: Threads + Wait + Sync, S: Source, G: Gate + Sync>(
     gate: &G,
 ) -> WaitEnd<S>
     requires { vec_len sources ≤ 64 }
-    ensures end { EndsWork job.now S.faults S.ends S.left sources.items result.end }
+    ensures end { EndsWork job.now S.Source sources.items result.end }
 
     // Each worker was told that all had retired, rested no more often than it was woken, and took
     // in vain no more often than one does that rests after each sweep that took nothing.
@@ -154,7 +154,7 @@ fn wait_in<R: Threads + Wait + Sync, S: Source, G: Gate + Sync>(
     requires resting_room { HasRoom job.now.workers made.resting_room }
     requires crew { length crew ≡ job.now.workers }
     requires stands { stands.items ≡ first_posts crew job.now.workers }
-    ensures end { EndsWork job.now S.faults S.ends S.left sources.items result.end }
+    ensures end { EndsWork job.now S.Source sources.items result.end }
     ensures waited { IfSome result.waited (λ waited. IsSomeAnd result.end.passes (λ passes.
         HaveWaited (length job.now.topics
         + 1) job.now.workers passes.value.items waited.saw.items waited.rested.items)) }

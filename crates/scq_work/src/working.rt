@@ -44,7 +44,7 @@ pub fn work<R: Threads + Sync, S: Source, G: Gate + Sync>(
     gate: &G,
 ) -> WorkEnd<S>
     requires { vec_len sources ≤ 64 }
-    ensures end { EndsWork job.now S.faults S.ends S.left sources.items result }
+    ensures end { EndsWork job.now S.Source sources.items result }
 
     // Each worker asked before each of its sweeps whether all had retired, and left after one
     // before which they had, or after 64 in a row that took nothing.

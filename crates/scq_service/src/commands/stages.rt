@@ -115,10 +115,10 @@ fn conclude<F: Files>(
         (inputs_of F.Files was.now.value files.now got.value.items 0) all }
     requires count { length end.sources.items ≡ length got.value.items }
     requires moved { (k : ℕ) (d : F.Src) → k < length got.value.items
-        → HasMoved F.Src.faults F.Src.left (slice_index_or got.value.items k d)
+        → HasMoved F.Src.Source (slice_index_or got.value.items k d)
         (slice_index_or end.sources.items k d) }
     requires whole { OnOk end.result ((k : ℕ) (d : F.Src) → k < length got.value.items
-        → IsWhole job.now.size F.Src.faults F.Src.ends F.Src.left
+        → IsWhole job.now.size F.Src.Source
         (slice_index_or got.value.items k d) (slice_index_or end.sources.items k d)) }
     requires handled { IfOk end.result (λ s.
         IfSome (all_left F.Src.left got.value.items) (λ contents.
@@ -137,8 +137,7 @@ fn conclude<F: Files>(
     requires same { IfOk end.result (λ s.
         IsSomeAnd end.passes (λ passes. passes.value.items ≡ s.passes.value.items)) }
     requires cause { IfErr end.result (λ fault.
-        HasCause job.now.size F.Src.faults F.Src.ends F.Src.left got.value.items end.sources.items
-        fault) }
+        HasCause job.now.size F.Src.Source got.value.items end.sources.items fault) }
     ensures tells { TellsStages job.now F.Src.Source (map string_bytes names.now)
         (inputs_of F.Files was.now.value files.now result.sources.items result.read) result }
     ensures ends { ReadsOver job.now.size F.Src.Source (map string_bytes names.now)

@@ -32,7 +32,7 @@ returns-then-all-clause-tells g c =
     let news = c.args.end.sources.items in
     let src = g.F.Src.Source in
     let W : Result Worked WorkFault → Type 0 =
-    λ r. OnOk r ((k : ℕ) (d : _) → k < length olds → IsWhole size src.faults src.ends src.left (slice_index_or olds k d) (slice_index_or news k d)) in
+    λ r. OnOk r ((k : ℕ) (d : _) → k < length olds → IsWhole size src (slice_index_or olds k d) (slice_index_or news k d)) in
     let whole = subst W c.in-Ok.is did.end.whole in
     let G : Result Worked WorkFault → Type 0 =
     λ r. IfOk r (λ w. (given : List (List Message)) × AreGiven job.topics job.longest src.left 1 olds given
@@ -72,7 +72,7 @@ returns-then-all-clause-ends g c =
     let news = c.args.end.sources.items in
     let src = g.F.Src.Source in
     let W : Result Worked WorkFault → Type 0 =
-    λ r. OnOk r ((k : ℕ) (d : _) → k < length olds → IsWhole size src.faults src.ends src.left (slice_index_or olds k d) (slice_index_or news k d)) in
+    λ r. OnOk r ((k : ℕ) (d : _) → k < length olds → IsWhole size src (slice_index_or olds k d) (slice_index_or news k d)) in
     let whole = subst W c.in-Ok.is did.end.whole in
     let A : Bool → Type 0 = λ all. HaveAllCome names (record { table = table; opens = opens; sources = olds; read = 0 }) all in
     let all = subst A c.if-all.true did.all in
@@ -123,7 +123,7 @@ returns-else-all-clause-ends g c =
     let news = c.args.end.sources.items in
     let src = g.F.Src.Source in
     let W : Result Worked WorkFault → Type 0 =
-    λ r. OnOk r ((k : ℕ) (d : _) → k < length olds → IsWhole size src.faults src.ends src.left (slice_index_or olds k d) (slice_index_or news k d)) in
+    λ r. OnOk r ((k : ℕ) (d : _) → k < length olds → IsWhole size src (slice_index_or olds k d) (slice_index_or news k d)) in
     let whole = subst W c.in-Ok.is did.end.whole in
     let A : Bool → Type 0 = λ all. HaveAllCome names (record { table = table; opens = opens; sources = olds; read = 0 }) all in
     let next = subst A c.if-all.false did.all in
@@ -175,7 +175,7 @@ returns-in-Err-clause-ends g c =
     let olds = c.args.got.value.items in
     let news = c.args.end.sources.items in
     let src = g.F.Src.Source in
-    let W : Result Worked WorkFault → Type 0 = λ r. IfErr r (λ fault. HasCause size src.faults src.ends src.left olds news fault) in
+    let W : Result Worked WorkFault → Type 0 = λ r. IfErr r (λ fault. HasCause size src olds news fault) in
     let cause = subst W c.in-Err.is did.end.cause in
     rw (after.read ∙ end.read, come, ap (λ v. v.items) after.sources ∙ end.sources, after.fault ∙ end.fault)
     (ends-met size src names table opens olds news did.end.count did.come c.in-Err.fault cause

@@ -23,7 +23,7 @@ use Rattle.scq_service.proofs.commands.stages.conclude.Goals as goal
 
 -- a cause of a fault of stages is one of that fault of workers
 caused : {S : Type 0} (size : ℕ) (src : SourceOf S) (olds news : List S) (fault : StageFault)
-    → HasCause size src.faults src.ends src.left olds news fault → work.HasCause size src.faults src.ends src.left olds news (fault_of_stages fault)
+    → HasCause size src olds news fault → work.HasCause size src olds news (fault_of_stages fault)
 caused size src olds news (Read file) stops = stops
 caused size src olds news (TooLong file line len) stops = stops
 caused size src olds news (TooLarge file bytes) stops = stops
@@ -56,7 +56,7 @@ returns-then-all-clause-tells g c =
     let news = c.args.end.sources.items in
     let src = g.F.Src.Source in
     let W : Result Staged StageFault → Type 0 =
-    λ r. OnOk r ((k : ℕ) (d : _) → k < length olds → IsWhole size src.faults src.ends src.left (slice_index_or olds k d) (slice_index_or news k d)) in
+    λ r. OnOk r ((k : ℕ) (d : _) → k < length olds → IsWhole size src (slice_index_or olds k d) (slice_index_or news k d)) in
     let whole = subst W c.in-Ok.is did.whole in
     let G : Result Staged StageFault → Type 0 =
     λ r. IfOk r (λ s. (given : List (List Message)) × AreGiven [] job.size src.left 1 olds given × HasStaged job.workers given s) in
@@ -96,7 +96,7 @@ returns-then-all-clause-ends g c =
     let news = c.args.end.sources.items in
     let src = g.F.Src.Source in
     let W : Result Staged StageFault → Type 0 =
-    λ r. OnOk r ((k : ℕ) (d : _) → k < length olds → IsWhole size src.faults src.ends src.left (slice_index_or olds k d) (slice_index_or news k d)) in
+    λ r. OnOk r ((k : ℕ) (d : _) → k < length olds → IsWhole size src (slice_index_or olds k d) (slice_index_or news k d)) in
     let whole = subst W c.in-Ok.is did.whole in
     let A : Bool → Type 0 = λ all. HaveAllCome names (record { table = table; opens = opens; sources = olds; read = 0 }) all in
     let all = subst A c.if-all.true did.all in
@@ -145,7 +145,7 @@ returns-in-Ok-clause-ends g c =
     let news = c.args.end.sources.items in
     let src = g.F.Src.Source in
     let W : Result Staged StageFault → Type 0 =
-    λ r. OnOk r ((k : ℕ) (d : _) → k < length olds → IsWhole size src.faults src.ends src.left (slice_index_or olds k d) (slice_index_or news k d)) in
+    λ r. OnOk r ((k : ℕ) (d : _) → k < length olds → IsWhole size src (slice_index_or olds k d) (slice_index_or news k d)) in
     let whole = subst W c.in-Ok.is did.whole in
     let A : Bool → Type 0 = λ all. HaveAllCome names (record { table = table; opens = opens; sources = olds; read = 0 }) all in
     let next = subst A c.if-all.false did.all in
@@ -193,9 +193,9 @@ returns-clause-ends g c =
     let olds = c.args.got.value.items in
     let news = c.args.end.sources.items in
     let src = g.F.Src.Source in
-    let W : Result Staged StageFault → Type 0 = λ r. IfErr r (λ fault. HasCause size src.faults src.ends src.left olds news fault) in
+    let W : Result Staged StageFault → Type 0 = λ r. IfErr r (λ fault. HasCause size src olds news fault) in
     let cause = caused size src olds news c.in-Err.fault (subst W c.in-Err.is did.cause) in
-    let C : WorkFault → Type 0 = λ fault. work.HasCause size src.faults src.ends src.left olds news fault in
+    let C : WorkFault → Type 0 = λ fault. work.HasCause size src olds news fault in
     rw (after.read ∙ end.read, come, ap (λ v. v.items) after.sources ∙ end.sources, after.fault ∙ end.fault)
     (ends-met size src names table opens olds news did.count did.come c.work_fault.result (subst C (sym c.work_fault.ensures) cause)
     (missed-of size src names table opens olds news did.count did.come c.args.all did.all))
