@@ -10,10 +10,10 @@ use Rattle.scq_frames.specs.declared.fault.FrameFault.{FrameFault}
 use Rattle.scq_frames.specs.declared.fault.FrameFault.TheVariants as frame
 use Rattle.scq_outside.specs.Table.{Table}
 use Rattle.scq_files.specs.Ends.{HasMoved, StopsAt, all_left}
-use Rattle.scq_work.specs.Ends.{HasCause}
+use Rattle.scq_desk.specs.Faults.{HasCause}
 use Rattle.scq_files.specs.Reading as reading
-use Rattle.scq_work.specs.declared.worked.WorkFault.{WorkFault}
-use Rattle.scq_work.specs.declared.worked.WorkFault.TheVariants as work
+use Rattle.scq_desk.specs.declared.fault.EndFault.{EndFault}
+use Rattle.scq_desk.specs.declared.fault.EndFault.TheVariants as work
 use Rattle.scq_service.specs.Members.{SourceOf}
 use Rattle.scq_service.specs.Answers.{HaveAllCome, HaveCome}
 use Rattle.scq_service.specs.Causes.{given_of, first_file_fault, HaveRest}
@@ -227,7 +227,7 @@ module _ {S : Type 0} (size : ℕ) (src : SourceOf S) where
         each d,
       )
 
-    pub ends-met : (fault : WorkFault) → HasCause size src olds news fault
+    pub ends-met : (fault : EndFault) → HasCause size src olds news fault
         → (length olds < length names → HasMissed names (record { table = table; opens = opens; sources = olds; read = 0 }))
         → ReadsOver size src names olds (record { table = table; opens = opens; sources = news; read = bytes_of_large fault })
         (Some (fault_of_work size fault))

@@ -8,8 +8,9 @@ ghost use Rattle.scq_service.specs.Answers.{HaveCome, HaveAllCome, TellsWork};
 ghost use Rattle.scq_service.specs.Ends.{ReadsOver, inputs_of};
 
 use crate::{Fault, Outcome};
+use scq_desk::EndFault;
 use scq_outside::{Failed, Files};
-use scq_work::{Gate, Job, WaitEnd, Waited, WorkEnd, WorkFault, work, work_waiting};
+use scq_work::{Gate, Job, WaitEnd, Waited, WorkEnd, work, work_waiting};
 use std::alloc::Global;
 use std::snapshot::Snapshot;
 use std::sync::Wait;
@@ -130,7 +131,7 @@ fn conclude<F: Files>(
     ensures waited { result.waited ≡ waited }
     ensures closed { (result.left ≡ end.left) × (result.passes ≡ end.passes)
         × (result.frames ≡ end.frames) }
-    ensures wanting { IsErrOf end.result WorkFault.NoMemory
+    ensures wanting { IsErrOf end.result EndFault.NoMemory
         → (result.fault ≡ Some Fault.NoMemory) × (result.worked ≡ None) }
 {
     let WorkEnd {

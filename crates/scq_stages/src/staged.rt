@@ -1,6 +1,7 @@
 //! How the stages over all files end.
 use crate::Finished;
 use scq_block::Frame;
+use scq_desk::EndFault;
 use scq_queue::{Counts, Pass};
 use std::snapshot::Snapshot;
 
@@ -16,24 +17,12 @@ pub struct Staged {
     pub passes: Snapshot<Vec<Pass<Frame>>>,
 }
 
-/// Why workers finish nothing. Files and lines are numbered from 1.
-#[derive(Clone, Copy, Debug, PartialEq, Eq)]
-pub enum StageFault {
-    /// A read of this file failed.
-    Read { file: u32 },
-    /// This line of this file has a payload of so many bytes, more than the job's size.
-    TooLong { file: u32, line: u32, len: u64 },
-    /// So many bytes of this file were read, one more than a file may have.
-    TooLarge { file: u32, bytes: u64 },
-    NoMemory,
-}
-
 /// How the stages ended: the sources in their order, in every case, and what was finished or why
 /// nothing was.
 #[derive(Drop)]
 pub struct StageEnd<S> {
     pub sources: Vec<S>,
-    pub result: Result<Staged, StageFault>,
+    pub result: Result<Staged, EndFault>,
     /// How many indices were left in each ring of the queue when it was closed, whatever the answer
     /// is. None only at want of memory, where there was no queue.
     pub left: Option<Vec<u64>>,
@@ -50,12 +39,12 @@ impl<S> StageEnd<S> {
     /// The end where no memory was found for a queue.
     pub(crate) fn starved(sources: Vec<S>) -> StageEnd<S>
         ensures sources { result.sources ≡ sources }
-        ensures fault { result.result ≡ Err StageFault.NoMemory }
+        ensures fault { result.result ≡ Err EndFault.NoMemory }
         ensures left { (result.left ≡ None) × (result.passes ≡ None) × (result.frames ≡ None) }
     {
         StageEnd {
             sources,
-            result: Err(StageFault::NoMemory),
+            result: Err(EndFault::NoMemory),
             left: None,
             passes: None,
             frames: None,

@@ -11,42 +11,29 @@ ghost use Rattle.scq_files.specs.Ends.{AreGiven, HasMoved, StopsAtFaults, all_le
 ghost use Rattle.scq_files.specs.Reading.{IsWhole};
 ghost use Rattle.scq_desk.specs.Rooms.{IsLaid};
 ghost use Rattle.scq_stages.specs.AllStages.{HasStaged, NothingIsStranded};
-ghost use Rattle.scq_desk.specs.Faults.{MemoryIsFirst, fault_of_workers};
-ghost use Rattle.scq_stages.specs.Ends.{HasCause, as_end};
+ghost use Rattle.scq_desk.specs.Faults.{HasCause, MemoryIsFirst, fault_of_workers};
 ghost use Rattle.scq_stages.specs.Output.{finished_in, all_handled, without_way};
 ghost use Rattle.scq_stages.specs.Working.{HasRun};
 
 use crate::worker::StageDesk;
-use crate::{Finished, StageEnd, StageFault, StageJob, Staged};
+use crate::{Finished, StageEnd, StageJob, Staged};
 use scq_block::{Block, Frame};
 use scq_desk::{EndFault, LaidOut, WoundUp, fault_of_all, wind_up_desks};
 use scq_frames::FrameFault;
 use scq_outside::Source;
 use scq_queue::Queue;
 
-/// The fault of all workers, told as one of this crate.
-fn stage_fault(fault: EndFault) -> StageFault
-    ensures { as_end result ≡ fault }
-{
-    match fault {
-        EndFault::Read { file } => StageFault::Read { file },
-        EndFault::TooLong { file, line, len } => StageFault::TooLong { file, line, len },
-        EndFault::TooLarge { file, bytes } => StageFault::TooLarge { file, bytes },
-        EndFault::NoMemory => StageFault::NoMemory,
-    }
-}
-
 /// What was finished, where no worker wanted memory and no file has a fault.
 fn conclude(
     staged: Staged,
     starved: bool,
     first: Option<(u32, FrameFault)>,
-) -> Result<Staged, StageFault>
+) -> Result<Staged, EndFault>
     ensures ok { IfOk result (λ s. (s ≡ staged) × (starved ≡ false) × (first ≡ None)) }
-    ensures err { IfErr result (λ f. fault_of_workers starved first ≡ Some (as_end f)) }
+    ensures err { IfErr result (λ f. fault_of_workers starved first ≡ Some f) }
 {
     match fault_of_all(starved, first) {
-        Some(fault) => Err(stage_fault(fault)),
+        Some(fault) => Err(fault),
         None => Ok(staged),
     }
 }
@@ -100,14 +87,13 @@ pub(crate) fn wind_up<S: Source>(
         passes.value.items ≡ map (λ d. d.worker.worker.pass) desks.items) }
     ensures there { IsSome result.passes }
     ensures closed { IsSome result.left }
-    ensures none { result.left ≡ None → IsErrOf result.result StageFault.NoMemory }
+    ensures none { result.left ≡ None → IsErrOf result.result EndFault.NoMemory }
     ensures same { IfOk result.result (λ s.
         IsSomeAnd result.passes (λ passes. passes.value.items ≡ s.passes.value.items)) }
-    ensures cause { IfErr result.result (λ fault.
-        HasCause job.now.size S.Source laid.was.value.items result.sources.items fault) }
-    ensures memory_first { IfErr result.result (λ fault.
-        MemoryIsFirst job.now.size S.Source laid.was.value.items result.sources.items
-        (as_end fault)) }
+    ensures cause { IfErr result.result
+        (HasCause job.now.size S.Source laid.was.value.items result.sources.items) }
+    ensures memory_first { IfErr result.result
+        (MemoryIsFirst job.now.size S.Source laid.was.value.items result.sources.items) }
 {
     let WoundUp {
         sources,

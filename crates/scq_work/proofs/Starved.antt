@@ -7,7 +7,7 @@ use Rattle.scq_files.specs.Reading.{SourceOf}
 use Rattle.scq_files.proofs.ReadLemmas.{stops-unread}
 use Rattle.scq_work.specs.Ends.{EndsWork}
 use Rattle.scq_work.specs.declared.worked.WorkEnd.{WorkEnd}
-use Rattle.scq_work.specs.declared.worked.WorkFault.TheVariants.{NoMemory}
+use Rattle.scq_desk.specs.declared.fault.EndFault.TheVariants.{NoMemory}
 use Rattle.scq_worker.specs.declared.job.Job.{Job}
 
 -- a source that nobody read is as it was

@@ -12,22 +12,8 @@ use Rattle.scq_files.specs.Reading.{IsWhole, SourceOf}
 use Rattle.scq_work.specs.AllWorkers.{HasWorked, NothingIsStranded}
 use Rattle.scq_worker.specs.declared.job.Job.{Job}
 use Rattle.scq_work.specs.declared.worked.WorkEnd.{WorkEnd}
-use Rattle.scq_desk.specs.Faults as workers
-use Rattle.scq_desk.specs.declared.fault.EndFault.{EndFault}
-use Rattle.scq_desk.specs.declared.fault.EndFault.TheVariants as ends
-use Rattle.scq_work.specs.declared.worked.WorkFault.{WorkFault}
-use Rattle.scq_work.specs.declared.worked.WorkFault.TheVariants.{Read, TooLong, TooLarge, NoMemory}
-
--- a fault as one of the workers at desks
-abbrev pub as_end : WorkFault → EndFault
-as_end (Read file) = ends.Read file
-as_end (TooLong file line len) = ends.TooLong file line len
-as_end (TooLarge file bytes) = ends.TooLarge file bytes
-as_end NoMemory = ends.NoMemory
-
--- the cause of each fault
-abbrev pub HasCause : {S : Type 0} → ℕ → SourceOf S → List S → List S → WorkFault → Type 0
-HasCause size src olds news fault = workers.HasCause size src olds news (as_end fault)
+use Rattle.scq_desk.specs.Faults.{HasCause, MemoryIsFirst}
+use Rattle.scq_desk.specs.declared.fault.EndFault.TheVariants.{NoMemory}
 
 -- what is known of the end of a job's work on these sources, which come back in their order in
 -- every case
@@ -63,6 +49,4 @@ pub record EndsWork {S : Type 0} (j : Job) (src : SourceOf S) (sources : List S)
   -- a fault is that of its file, and those in front of it were read to their ends. Where there is
   -- one of a file, each source is as one whose reading didn't stop for want of memory
   pub cause : IfErr end.result (HasCause j.longest src sources end.sources.items)
-  pub memory_first : IfErr end.result (λ fault.
-      workers.MemoryIsFirst j.longest src sources end.sources.items
-      (as_end fault))
+  pub memory_first : IfErr end.result (MemoryIsFirst j.longest src sources end.sources.items)

@@ -8,9 +8,9 @@ ghost use Rattle.scq_files.specs.Desks.{AreDealt};
 ghost use Rattle.scq_desk.specs.Rooms.{IsLaid};
 ghost use Rattle.scq_worker.specs.Desks.{HasRun};
 ghost use Rattle.scq_desk.specs.Faults.{fault_of_workers};
-ghost use Rattle.scq_work.specs.Ends.{EndsWork, as_end};
+ghost use Rattle.scq_work.specs.Ends.{EndsWork};
 
-use crate::{WorkEnd, WorkFault, Worked};
+use crate::{WorkEnd, Worked};
 use scq_block::{Block, Frame};
 use scq_collect::Answers;
 use scq_desk::{EndFault, LaidOut, WoundUp, fault_of_all, wind_up_desks};
@@ -18,18 +18,6 @@ use scq_frames::FrameFault;
 use scq_outside::Source;
 use scq_queue::Queue;
 use scq_worker::{Job, WorkDesk};
-
-/// The fault of all workers, told as one of this crate.
-fn work_fault(fault: EndFault) -> WorkFault
-    ensures { as_end result ≡ fault }
-{
-    match fault {
-        EndFault::Read { file } => WorkFault::Read { file },
-        EndFault::TooLong { file, line, len } => WorkFault::TooLong { file, line, len },
-        EndFault::TooLarge { file, bytes } => WorkFault::TooLarge { file, bytes },
-        EndFault::NoMemory => WorkFault::NoMemory,
-    }
-}
 
 /// Ends the work of all workers once each has done its own: the files are gathered, the queue is
 /// closed and its block merged, in every answer. With the end comes, of each worker, whether it saw
@@ -95,12 +83,12 @@ fn conclude(
     worked: Worked,
     starved: bool,
     first: Option<(u32, FrameFault)>,
-) -> Result<Worked, WorkFault>
+) -> Result<Worked, EndFault>
     ensures ok { IfOk result (λ w. (w ≡ worked) × (starved ≡ false) × (first ≡ None)) }
-    ensures err { IfErr result (λ f. fault_of_workers starved first ≡ Some (as_end f)) }
+    ensures err { IfErr result (λ f. fault_of_workers starved first ≡ Some f) }
 {
     match fault_of_all(starved, first) {
-        Some(fault) => Err(work_fault(fault)),
+        Some(fault) => Err(fault),
         None => Ok(worked),
     }
 }

@@ -14,12 +14,11 @@ use Rattle.scq_passes.proofs.Counted.{counts-exact}
 use Rattle.scq_passes.proofs.Results.{err-then, ok-more, ok-on}
 use Rattle.scq_desk.specs.Rooms.{IsLaid}
 use Rattle.scq_stages.specs.declared.finished.Finished.{Finished}
-use Rattle.scq_stages.specs.declared.staged.StageFault.{StageFault}
+use Rattle.scq_desk.specs.declared.fault.EndFault.{EndFault}
 use Rattle.scq_stages.specs.declared.staged.Staged.{Staged}
 use Rattle.scq_stages.specs.AllStages.{HasStaged, HaveFinished}
 use Rattle.scq_stages.specs.Output.{finished_in}
 use Rattle.scq_stages.proofs.DeskWorks.{AllRan, all-ended, desks-gave, desks-shared, desks-staged, lists_at, messages_given, passes_at}
-use Rattle.scq_stages.specs.Ends.{as_end}
 use Rattle.scq_desk.proofs.Faults.{caused, memory-first}
 use Rattle.scq_stages.proofs.Told.{told-staged}
 use Rattle.scq_stages.proofs.Ordered.{members-told}
@@ -150,16 +149,16 @@ returns-clause-cause g c =
     let at = (goal.at.returns-clause-cause g c).After-conclude in
     let wound = c.wind_up_desks-sources.result in
     err-then c.conclude.result _ _
-    (λ (f : StageFault) why. caused c.args.job.now.size g.S.Source c.args.laid.was.value.items
-    wound.sources.items wound.starved wound.fault (as_end f) why (as-gathered g at).cause) c.conclude.ensures.err
+    (λ (f : EndFault) why. caused c.args.job.now.size g.S.Source c.args.laid.was.value.items
+    wound.sources.items wound.starved wound.fault f why (as-gathered g at).cause) c.conclude.ensures.err
 
 pub returns-clause-memory_first : goal.returns-clause-memory_first
 returns-clause-memory_first g c =
     let at = (goal.at.returns-clause-memory_first g c).After-conclude in
     let wound = c.wind_up_desks-sources.result in
     err-then c.conclude.result _ _
-    (λ (f : StageFault) why. memory-first c.args.job.now.size g.S.Source c.args.laid.was.value.items
-    wound.sources.items wound.starved wound.fault (as_end f) why (as-gathered g at).fed) c.conclude.ensures.err
+    (λ (f : EndFault) why. memory-first c.args.job.now.size g.S.Source c.args.laid.was.value.items
+    wound.sources.items wound.starved wound.fault f why (as-gathered g at).fed) c.conclude.ensures.err
 
 pub returns-clause-passes : goal.returns-clause-passes
 returns-clause-passes g c = c.wind_up_desks-sources.ensures.passes.1

@@ -16,11 +16,10 @@ use Rattle.scq_files.specs.Ends.{AreGiven, StopsAtFaults, all_left}
 use Rattle.scq_files.proofs.GivenLemmas.{given-told}
 use Rattle.scq_desk.specs.Rooms.{IsLaid}
 use Rattle.scq_work.specs.AllWorkers.{HaveAnswered, HasWorked}
-use Rattle.scq_work.specs.declared.worked.WorkFault.{WorkFault}
+use Rattle.scq_desk.specs.declared.fault.EndFault.{EndFault}
 use Rattle.scq_work.specs.declared.worked.Worked.{Worked}
 use Rattle.scq_work.proofs.AllGave.{AllRan, given, is-given}
 use Rattle.scq_work.proofs.AllRun.{have-answered, all-shared, passes_at, lists_at}
-use Rattle.scq_work.specs.Ends.{as_end}
 use Rattle.scq_desk.proofs.Faults.{caused, memory-first}
 use Rattle.scq_work.proofs.Told.{told-worked}
 use Rattle.scq_work.proofs.Orders.{members-told}
@@ -114,10 +113,10 @@ returns-clause-end g c =
       };
       none = λ e. absurd (cc);
       same = ok-more result _ _ ok (λ w is. said.passes.1 ∙ sym said.passes.0 ∙ ap (λ (x : Worked). x.passes.value.items) (sym is.0));
-      cause = err-then result _ _ (λ (fault : WorkFault) why. caused longest src sources wound.sources.items wound.starved wound.fault
-          (as_end fault) why gathered.cause) c.conclude.ensures.err;
-      memory_first = err-then result _ _ (λ (fault : WorkFault) why. memory-first longest src sources wound.sources.items wound.starved
-          wound.fault (as_end fault) why gathered.fed) c.conclude.ensures.err;
+      cause = err-then result _ _ (λ (fault : EndFault) why. caused longest src sources wound.sources.items wound.starved wound.fault
+          fault why gathered.cause) c.conclude.ensures.err;
+      memory_first = err-then result _ _ (λ (fault : EndFault) why. memory-first longest src sources wound.sources.items wound.starved
+          wound.fault fault why gathered.fed) c.conclude.ensures.err;
     }
 
 -- each pass says whether it was told that all had retired
