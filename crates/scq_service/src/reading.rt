@@ -8,7 +8,7 @@ ghost use Rattle.scq_service.specs.Answers.{HaveCome, HaveAllCome, TellsWork};
 ghost use Rattle.scq_service.specs.Ends.{ReadsOver, inputs_of};
 
 use crate::{Fault, Outcome};
-use scq_desk::EndFault;
+use scq_desk::{End, EndFault};
 use scq_outside::{Failed, Files};
 use scq_work::{Gate, Job, WaitEnd, Waited, WorkEnd, work, work_waiting};
 use std::alloc::Global;
@@ -134,7 +134,7 @@ fn conclude<F: Files>(
     ensures wanting { IsErrOf end.result EndFault.NoMemory
         → (result.fault ≡ Some Fault.NoMemory) × (result.worked ≡ None) }
 {
-    let WorkEnd {
+    let End {
         sources,
         result,
         left,

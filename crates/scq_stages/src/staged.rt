@@ -1,7 +1,7 @@
 //! How the stages over all files end.
 use crate::Finished;
 use scq_block::Frame;
-use scq_desk::EndFault;
+use scq_desk::End;
 use scq_queue::{Counts, Pass};
 use std::snapshot::Snapshot;
 
@@ -17,37 +17,5 @@ pub struct Staged {
     pub passes: Snapshot<Vec<Pass<Frame>>>,
 }
 
-/// How the stages ended: the sources in their order, in every case, and what was finished or why
-/// nothing was.
-#[derive(Drop)]
-pub struct StageEnd<S> {
-    pub sources: Vec<S>,
-    pub result: Result<Staged, EndFault>,
-    /// How many indices were left in each ring of the queue when it was closed, whatever the answer
-    /// is. None only at want of memory, where there was no queue.
-    pub left: Option<Vec<u64>>,
-    /// For contracts alone, and where `left` is there, the workers' passes as they were then.
-    pub passes: Option<Snapshot<Vec<Pass<Frame>>>>,
-    /// Likewise the queue's buffers as they came back, in the order of their indices, before their
-    /// block was merged.
-    pub frames: Option<Snapshot<Vec<Frame>>>,
-}
-
-impl<S> StageEnd<S> {
-    ghost use Rattle.std.specs.Prelude.{◌≡◌, None, Err};
-
-    /// The end where no memory was found for a queue.
-    pub(crate) fn starved(sources: Vec<S>) -> StageEnd<S>
-        ensures sources { result.sources ≡ sources }
-        ensures fault { result.result ≡ Err EndFault.NoMemory }
-        ensures left { (result.left ≡ None) × (result.passes ≡ None) × (result.frames ≡ None) }
-    {
-        StageEnd {
-            sources,
-            result: Err(EndFault::NoMemory),
-            left: None,
-            passes: None,
-            frames: None,
-        }
-    }
-}
+/// How the stages ended.
+pub type StageEnd<S> = End<Staged, S>;

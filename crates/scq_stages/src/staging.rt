@@ -17,7 +17,7 @@ ghost use Rattle.scq_stages.specs.Output.{finished_in, all_handled, without_way}
 use crate::apart::run_all;
 use crate::winding::wind_up;
 use crate::{StageEnd, StageJob};
-use scq_desk::{EndFault, lay_out, make_room};
+use scq_desk::{End, EndFault, lay_out, make_room};
 use scq_outside::Source;
 use scq_passes::make_queue;
 use scq_word::{NoMemory, Setup};
@@ -102,7 +102,7 @@ pub fn stage_work<R: Threads + Sync, S: Source>(
         All (HasLeftSwept bytes_of IsGivenBack 2 64) passes.value.items) }
 {
     let Ok(room) = make_room(alloc, job.workers, sources.len()) else {
-        return StageEnd::starved(sources);
+        return End::starved(sources);
     };
     match make_queue(alloc, setup_of(job), job.size) {
         Ok((block, queue, passes)) => {
@@ -112,7 +112,7 @@ pub fn stage_work<R: Threads + Sync, S: Source>(
         }
         Err(NoMemory) => {
             room.destroy_empty();
-            StageEnd::starved(sources)
+            End::starved(sources)
         }
     }
 }

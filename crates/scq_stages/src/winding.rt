@@ -11,32 +11,16 @@ ghost use Rattle.scq_files.specs.Ends.{AreGiven, HasMoved, StopsAtFaults, all_le
 ghost use Rattle.scq_files.specs.Reading.{IsWhole};
 ghost use Rattle.scq_desk.specs.Rooms.{IsLaid};
 ghost use Rattle.scq_stages.specs.AllStages.{HasStaged, NothingIsStranded};
-ghost use Rattle.scq_desk.specs.Faults.{HasCause, MemoryIsFirst, fault_of_workers};
+ghost use Rattle.scq_desk.specs.Faults.{HasCause, MemoryIsFirst};
 ghost use Rattle.scq_stages.specs.Output.{finished_in, all_handled, without_way};
 ghost use Rattle.scq_stages.specs.Working.{HasRun};
 
 use crate::worker::StageDesk;
 use crate::{Finished, StageEnd, StageJob, Staged};
 use scq_block::{Block, Frame};
-use scq_desk::{EndFault, LaidOut, WoundUp, fault_of_all, wind_up_desks};
-use scq_frames::FrameFault;
+use scq_desk::{End, EndFault, LaidOut, WoundUp, conclude, wind_up_desks};
 use scq_outside::Source;
 use scq_queue::Queue;
-
-/// What was finished, where no worker wanted memory and no file has a fault.
-fn conclude(
-    staged: Staged,
-    starved: bool,
-    first: Option<(u32, FrameFault)>,
-) -> Result<Staged, EndFault>
-    ensures ok { IfOk result (λ s. (s ≡ staged) × (starved ≡ false) × (first ≡ None)) }
-    ensures err { IfErr result (λ f. fault_of_workers starved first ≡ Some f) }
-{
-    match fault_of_all(starved, first) {
-        Some(fault) => Err(fault),
-        None => Ok(staged),
-    }
-}
 
 /// Ends the stages once each worker has done its own work: the files are gathered, the queue is
 /// closed and its block merged, in every answer.
@@ -112,7 +96,7 @@ pub(crate) fn wind_up<S: Source>(
         done: lists,
         passes,
     };
-    StageEnd {
+    End {
         sources,
         result: conclude(staged, starved, fault),
         left: Some(left),

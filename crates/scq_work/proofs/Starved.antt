@@ -6,7 +6,8 @@ use Rattle.scq_files.specs.Ends.{HasMoved}
 use Rattle.scq_files.specs.Reading.{SourceOf}
 use Rattle.scq_files.proofs.ReadLemmas.{stops-unread}
 use Rattle.scq_work.specs.Ends.{EndsWork}
-use Rattle.scq_work.specs.declared.worked.WorkEnd.{WorkEnd}
+use Rattle.scq_work.specs.declared.worked.Worked.{Worked}
+use Rattle.scq_desk.specs.declared.end.End.{End}
 use Rattle.scq_desk.specs.declared.fault.EndFault.TheVariants.{NoMemory}
 use Rattle.scq_worker.specs.declared.job.Job.{Job}
 
@@ -17,7 +18,7 @@ unmoved src source = record { bytes = []; moved = at (src.left source); counted 
   at None = refl
   at (Some rest) = refl
 
-pub ends-starved : {S : Type 0} (j : Job) (src : SourceOf S) (sources : List S) (end : WorkEnd S)
+pub ends-starved : {S : Type 0} (j : Job) (src : SourceOf S) (sources : List S) (end : End Worked S)
     → end.sources.items ≡ sources → end.result ≡ Err NoMemory → end.left ≡ None → EndsWork j src sources end
 ends-starved {S} j src sources end same fault none = record {
   count = ap length same;

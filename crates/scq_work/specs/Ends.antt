@@ -11,13 +11,14 @@ use Rattle.scq_files.specs.Ends.{AreGiven, HasMoved, StopsAtFaults, all_left, me
 use Rattle.scq_files.specs.Reading.{IsWhole, SourceOf}
 use Rattle.scq_work.specs.AllWorkers.{HasWorked, NothingIsStranded}
 use Rattle.scq_worker.specs.declared.job.Job.{Job}
-use Rattle.scq_work.specs.declared.worked.WorkEnd.{WorkEnd}
+use Rattle.scq_work.specs.declared.worked.Worked.{Worked}
+use Rattle.scq_desk.specs.declared.end.End.{End}
 use Rattle.scq_desk.specs.Faults.{HasCause, MemoryIsFirst}
 use Rattle.scq_desk.specs.declared.fault.EndFault.TheVariants.{NoMemory}
 
 -- what is known of the end of a job's work on these sources, which come back in their order in
 -- every case
-pub record EndsWork {S : Type 0} (j : Job) (src : SourceOf S) (sources : List S) (end : WorkEnd S)
+pub record EndsWork {S : Type 0} (j : Job) (src : SourceOf S) (sources : List S) (end : End Worked S)
     : Type 0 where
   pub count : length end.sources.items ≡ length sources
   pub moved : (k : ℕ) (d : S) → k < length sources

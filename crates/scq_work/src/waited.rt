@@ -15,7 +15,7 @@ use crate::working::setup_of;
 use crate::WorkEnd;
 use scq_block::{Block, Frame};
 use scq_collect::Answers;
-use scq_desk::{EndFault, Room, lay_out, make_room};
+use scq_desk::{End, EndFault, Room, lay_out, make_room};
 use scq_outside::Source;
 use scq_park::{Crew, Rested, Stand};
 use scq_passes::make_queue;
@@ -53,7 +53,7 @@ impl<S> WaitEnd<S> {
         ensures waited { result.waited ≡ None }
     {
         WaitEnd {
-            end: WorkEnd::starved(sources),
+            end: End::starved(sources),
             waited: None,
         }
     }

@@ -7,14 +7,12 @@ ghost use Rattle.scq_queue.specs.Passes.{was_told};
 ghost use Rattle.scq_files.specs.Desks.{AreDealt};
 ghost use Rattle.scq_desk.specs.Rooms.{IsLaid};
 ghost use Rattle.scq_worker.specs.Desks.{HasRun};
-ghost use Rattle.scq_desk.specs.Faults.{fault_of_workers};
 ghost use Rattle.scq_work.specs.Ends.{EndsWork};
 
 use crate::{WorkEnd, Worked};
 use scq_block::{Block, Frame};
 use scq_collect::Answers;
-use scq_desk::{EndFault, LaidOut, WoundUp, fault_of_all, wind_up_desks};
-use scq_frames::FrameFault;
+use scq_desk::{End, LaidOut, WoundUp, conclude, wind_up_desks};
 use scq_outside::Source;
 use scq_queue::Queue;
 use scq_worker::{Job, WorkDesk};
@@ -68,7 +66,7 @@ pub(crate) fn wind_up<S: Source>(
         answered: lists,
         passes,
     };
-    let end = WorkEnd {
+    let end = End {
         sources,
         result: conclude(worked, starved, fault),
         left: Some(left),
@@ -76,19 +74,4 @@ pub(crate) fn wind_up<S: Source>(
         frames: Some(frames),
     };
     (end, saw)
-}
-
-/// What was answered, where no worker wanted memory and no file has a fault.
-fn conclude(
-    worked: Worked,
-    starved: bool,
-    first: Option<(u32, FrameFault)>,
-) -> Result<Worked, EndFault>
-    ensures ok { IfOk result (λ w. (w ≡ worked) × (starved ≡ false) × (first ≡ None)) }
-    ensures err { IfErr result (λ f. fault_of_workers starved first ≡ Some f) }
-{
-    match fault_of_all(starved, first) {
-        Some(fault) => Err(fault),
-        None => Ok(worked),
-    }
 }

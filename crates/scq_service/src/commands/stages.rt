@@ -16,7 +16,7 @@ ghost use Rattle.scq_service.specs.Ends.{EndsOver, ReadsOver, inputs_of, wrote_o
 use crate::reading::get_sources;
 use crate::writing::write_all;
 use crate::{Fault, Outcome};
-use scq_desk::EndFault;
+use scq_desk::{End, EndFault};
 use scq_outside::{Failed, Files, Sink};
 use scq_stages::{StageEnd, StageJob, Staged, stage_output, stage_work};
 use scq_word::{Bytes, NoMemory};
@@ -143,7 +143,7 @@ fn conclude<F: Files>(
         result.got.items
         (inputs_of F.Files was.now.value files.now result.sources.items result.read) result.fault }
 {
-    let StageEnd {
+    let End {
         sources,
         result,
         left: _,
