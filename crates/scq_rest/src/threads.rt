@@ -182,8 +182,7 @@ pub fn start<'s, E, R: Threads + Wait + Sync + 's, S: Source + 's, G: Gate + Syn
     let job_there = move || -> HandedBack<S>
         requires { CanBegin (task queue.now job.now crew.now S.Source) given }
         ensures { HandsBack
-            (task queue.entry.now job.entry.now crew.entry.now S.Source)
-            given result }
+            (task queue.entry.now job.entry.now crew.entry.now S.Source) given result }
     { work_there(rt, alloc, job, queue, gate, crew, held_back, given) };
     match scope.spawn_with(promise, job_there) {
         Ok(handle) => Ok(handle),

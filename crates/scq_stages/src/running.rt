@@ -42,8 +42,7 @@ fn work<S: Source>(
     ensures same { ids_of files.new ≡ ids_of files.old }
     ensures read { All (λ f.
         IsRead topics.now job.now.size S.Source f.number f.was.value f.source
-        (given_in f.given.value) f.end)
-        files.new }
+        (given_in f.given.value) f.end) files.new }
     ensures stops { StopsAtAFault files.new }
     ensures suits { OnOk result (Suits queue.now 1 worker.new.pass) }
     ensures stays { OnOk result (worker.new.pass.retired ≡ None) }

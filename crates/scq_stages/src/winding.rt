@@ -1,5 +1,5 @@
 //! The end of the stages, once each worker has done its own work.
-ghost use Rattle.std.specs.Prelude.{◌≡◌, ℕ, ◌^◌, ◌<◌, List, [], None, Some, false, length};
+ghost use Rattle.std.specs.Prelude.{◌≡◌, ℕ, ◌^◌, ◌<◌, List, [], None, length};
 ghost use Rattle.std.specs.Prelude.{map, slice_index_or, IfOk, IfErr, IfSome, IsSome, IsErrOf};
 ghost use Rattle.std.specs.Prelude.{IsSomeAnd, OnOk};
 ghost use Rattle.std.specs.List.{All};
@@ -42,8 +42,7 @@ pub(crate) fn wind_up<S: Source>(
         → (slice_index_or desks.items w d).worker.worker.pass.number ≡ w }
     requires run { All (λ d.
         HasRun queue job.now.size S.Source d.files.items d.worker.worker.pass
-        d.worker.worker.members.items d.worker.worker.starved d.worker.kept)
-        desks.items }
+        d.worker.worker.members.items d.worker.worker.starved d.worker.kept) desks.items }
     ensures count { length result.sources.items ≡ length laid.was.value.items }
     ensures moved { (k : ℕ) (d : S) → k < length laid.was.value.items
         → HasMoved S.Source (slice_index_or laid.was.value.items k d)

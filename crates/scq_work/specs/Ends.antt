@@ -1,6 +1,6 @@
 -- How the work on all files ended: the fault of the workers and its cause, and what is known of
 -- each end. Files are numbered from 1.
-use Rattle.std.specs.Prelude.{◌≡◌, ℕ, ◌+◌, ◌<◌, List, length, map, slice_index_or, Option}
+use Rattle.std.specs.Prelude.{◌≡◌, ℕ, ◌+◌, ◌<◌, List, length, map, slice_index_or}
 use Rattle.std.specs.Prelude.{None, IfOk, IfErr, IfSome, IsErrOf, IsSomeAnd, OnOk}
 use Rattle.std.specs.List.Sorted.{IsPermutation}
 use Rattle.scq_frames.specs.declared.message.Message.{Message}
@@ -18,8 +18,8 @@ use Rattle.scq_desk.specs.declared.fault.EndFault.TheVariants.{NoMemory}
 
 -- what is known of the end of a job's work on these sources, which come back in their order in
 -- every case
-pub record EndsWork {S : Type 0} (j : Job) (src : SourceOf S) (sources : List S) (end : End Worked S)
-    : Type 0 where
+pub record EndsWork {S : Type 0} (j : Job) (src : SourceOf S) (sources : List S)
+    (end : End Worked S) : Type 0 where
   pub count : length end.sources.items ≡ length sources
   pub moved : (k : ℕ) (d : S) → k < length sources
       → HasMoved src (slice_index_or sources k d) (slice_index_or end.sources.items k d)

@@ -1,6 +1,6 @@
 //! How the work of all workers ends.
-ghost use Rattle.std.specs.Prelude.{◌≡◌, ℕ, ◌+◌, ◌^◌, ◌<◌, ◌≤◌, None, Some, false, length, map};
-ghost use Rattle.std.specs.Prelude.{slice_index_or, IfOk, IfErr, IfSome, IsSome};
+ghost use Rattle.std.specs.Prelude.{◌≡◌, ℕ, ◌+◌, ◌^◌, ◌<◌, ◌≤◌, length, map};
+ghost use Rattle.std.specs.Prelude.{slice_index_or, IfSome, IsSome};
 ghost use Rattle.std.specs.List.{All};
 ghost use Rattle.scq_block.specs.Blocks.{AreAllOf};
 ghost use Rattle.scq_queue.specs.Passes.{was_told};
@@ -37,9 +37,8 @@ pub(crate) fn wind_up<S: Source>(
     requires numbers { (w : ℕ) (d : _) → w < length desks.items
         → (slice_index_or desks.items w d).worker.worker.pass.number ≡ w }
     requires run { All (λ d.
-        HasRun queue job.now.topics job.now.size job.now.longest S.Source
-        d.files.items d.worker.worker.pass
-        d.worker.worker.members d.worker.worker.starved d.worker.kept)
+        HasRun queue job.now.topics job.now.size job.now.longest S.Source d.files.items
+        d.worker.worker.pass d.worker.worker.members d.worker.worker.starved d.worker.kept)
         desks.items }
     ensures end { EndsWork job.now S.Source laid.was.value.items result.0 }
     ensures passes { IfSome result.0.passes (λ passes.

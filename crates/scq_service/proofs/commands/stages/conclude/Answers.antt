@@ -1,4 +1,4 @@
-use Rattle.std.proofs.Common.{◌≡◌, ◌∙◌, refl, ap, subst, map, length, ◌+◌, ◌<◌, ℕ, Bool, List, Option, Some, None, Result, Err, sym, [], rules}
+use Rattle.std.proofs.Common.{◌≡◌, ◌∙◌, refl, ap, subst, map, length, ◌+◌, ◌<◌, ℕ, Bool, List, Option, Some, None, Result, Err, [], rules}
 use Rattle.std.specs.Prelude.{string_bytes, slice_index_or, OnOk, IfOk, IfErr, IfSome, IsSomeAnd}
 use Rattle.scq_block.specs.declared.frame.Frame.{Frame}
 use Rattle.scq_queue.specs.Passes.{PassStanding}
