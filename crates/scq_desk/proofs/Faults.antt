@@ -3,44 +3,40 @@ use Rattle.std.proofs.Common.{◌≡◌, ◌≢◌, refl, subst, true, false, �
 use Rattle.scq_frames.specs.declared.fault.FrameFault.{FrameFault}
 use Rattle.scq_frames.specs.declared.fault.FrameFault.TheVariants as frame
 use Rattle.scq_files.specs.Ends.{AllEndFed, StopsAt}
+use Rattle.scq_files.specs.Reading.{SourceOf}
 use Rattle.scq_desk.specs.Faults.{fault_of_workers, HasCause, MemoryIsFirst}
 use Rattle.scq_desk.specs.declared.fault.EndFault.{EndFault}
 use Rattle.scq_desk.specs.declared.fault.EndFault.TheVariants.{Read, TooLong, TooLarge, NoMemory}
 
 -- a fault has the cause of the first file's
-pub caused : {S : Type 0} (size : ℕ) (faults end_count : S → ℕ) (left : S → Option (List ℕ)) (olds news : List S) (starved : Bool)
-    (first : Option (ℕ × FrameFault))
-    (fault : EndFault)
+pub caused : {S : Type 0} (size : ℕ) (src : SourceOf S) (olds news : List S) (starved : Bool) (first : Option (ℕ × FrameFault)) (fault : EndFault)
     → fault_of_workers starved first ≡ Some fault
-    → ((file : ℕ) (f : FrameFault) → first ≡ Some (file, f) → f ≢ frame.NoMemory → StopsAt size faults end_count left olds news file f)
-    → HasCause size faults end_count left olds news fault
-caused size faults end_count left olds news true first fault e cause =
+    → ((file : ℕ) (f : FrameFault) → first ≡ Some (file, f) → f ≢ frame.NoMemory → StopsAt size src olds news file f) → HasCause size src olds news fault
+caused size src olds news true first fault e cause =
     let is : NoMemory ≡ fault = cc in
-    subst (HasCause size faults end_count left olds news) is tt
-caused size faults end_count left olds news false None fault e cause = absurd (cc)
-caused size faults end_count left olds news false (Some (file, frame.ReadFault)) fault e cause =
+    subst (HasCause size src olds news) is tt
+caused size src olds news false None fault e cause = absurd (cc)
+caused size src olds news false (Some (file, frame.ReadFault)) fault e cause =
     let is : Read file ≡ fault = cc in
-    subst (HasCause size faults end_count left olds news) is (cause file frame.ReadFault refl (λ h. absurd (cc)))
-caused size faults end_count left olds news false (Some (file, frame.TooLong line len)) fault e cause =
+    subst (HasCause size src olds news) is (cause file frame.ReadFault refl (λ h. absurd (cc)))
+caused size src olds news false (Some (file, frame.TooLong line len)) fault e cause =
     let is : TooLong file line len ≡ fault = cc in
-    subst (HasCause size faults end_count left olds news) is (cause file (frame.TooLong line len) refl (λ h. absurd (cc)))
-caused size faults end_count left olds news false (Some (file, frame.TooLarge bytes)) fault e cause =
+    subst (HasCause size src olds news) is (cause file (frame.TooLong line len) refl (λ h. absurd (cc)))
+caused size src olds news false (Some (file, frame.TooLarge bytes)) fault e cause =
     let is : TooLarge file bytes ≡ fault = cc in
-    subst (HasCause size faults end_count left olds news) is (cause file (frame.TooLarge bytes) refl (λ h. absurd (cc)))
-caused size faults end_count left olds news false (Some (file, frame.NoMemory)) fault e cause =
+    subst (HasCause size src olds news) is (cause file (frame.TooLarge bytes) refl (λ h. absurd (cc)))
+caused size src olds news false (Some (file, frame.NoMemory)) fault e cause =
     let is : NoMemory ≡ fault = cc in
-    subst (HasCause size faults end_count left olds news) is tt
+    subst (HasCause size src olds news) is tt
 
 -- want of memory comes first
-pub memory-first : {S : Type 0} (size : ℕ) (faults end_count : S → ℕ) (left : S → Option (List ℕ)) (olds news : List S) (starved : Bool)
-    (first : Option (ℕ × FrameFault)) (fault : EndFault)
-    → fault_of_workers starved first ≡ Some fault → (starved ≡ false → AllEndFed size faults end_count left olds news)
-    → MemoryIsFirst size faults end_count left olds news fault
-memory-first {S} size faults end_count left olds news true first fault e fed =
+pub memory-first : {S : Type 0} (size : ℕ) (src : SourceOf S) (olds news : List S) (starved : Bool) (first : Option (ℕ × FrameFault)) (fault : EndFault)
+    → fault_of_workers starved first ≡ Some fault → (starved ≡ false → AllEndFed size src olds news) → MemoryIsFirst size src olds news fault
+memory-first {S} size src olds news true first fault e fed =
     let is : NoMemory ≡ fault = cc in
-    subst (λ f. MemoryIsFirst size faults end_count left olds news f) is tt
-memory-first {S} size faults end_count left olds news false first fault e fed = by fault where
-  by : (f : EndFault) → MemoryIsFirst size faults end_count left olds news f
+    subst (λ f. MemoryIsFirst size src olds news f) is tt
+memory-first {S} size src olds news false first fault e fed = by fault where
+  by : (f : EndFault) → MemoryIsFirst size src olds news f
   by (Read file) = fed refl
   by (TooLong file line len) = fed refl
   by (TooLarge file bytes) = fed refl

@@ -3,6 +3,7 @@ use Rattle.std.specs.Prelude.{ℕ, Bool, true, false, List, Option, Some, None}
 use Rattle.scq_frames.specs.declared.fault.FrameFault.{FrameFault}
 use Rattle.scq_frames.specs.declared.fault.FrameFault.TheVariants as frame
 use Rattle.scq_files.specs.Ends.{AllEndFed, StopsAt}
+use Rattle.scq_files.specs.Reading.{SourceOf}
 use Rattle.scq_desk.specs.declared.fault.EndFault.{EndFault}
 use Rattle.scq_desk.specs.declared.fault.EndFault.TheVariants.{Read, TooLong, TooLarge, NoMemory}
 
@@ -19,23 +20,17 @@ fault_of_workers false (Some (file, frame.NoMemory)) = Some NoMemory
 -- want of memory comes before any other fault: where there is another, each source is as one whose
 -- reading didn't stop for want of memory. Of a source whose bytes aren't visible this says no more
 -- than `HasMoved`.
-abbrev pub MemoryIsFirst : {S : Type 0} → ℕ → (S → ℕ) → (S → ℕ) → (S → Option (List ℕ)) → List S
-    → List S → EndFault → Type 0
-MemoryIsFirst size faults end_count left olds news (Read file) =
-    AllEndFed size faults end_count left olds news
-MemoryIsFirst size faults end_count left olds news (TooLong file line len) =
-    AllEndFed size faults end_count left olds news
-MemoryIsFirst size faults end_count left olds news (TooLarge file bytes) =
-    AllEndFed size faults end_count left olds news
-MemoryIsFirst size faults end_count left olds news NoMemory = Unit {0}
+abbrev pub MemoryIsFirst : {S : Type 0} → ℕ → SourceOf S → List S → List S → EndFault → Type 0
+MemoryIsFirst size src olds news (Read file) = AllEndFed size src olds news
+MemoryIsFirst size src olds news (TooLong file line len) = AllEndFed size src olds news
+MemoryIsFirst size src olds news (TooLarge file bytes) = AllEndFed size src olds news
+MemoryIsFirst size src olds news NoMemory = Unit {0}
 
 -- the cause of each fault
-abbrev pub HasCause : {S : Type 0} → ℕ → (S → ℕ) → (S → ℕ) → (S → Option (List ℕ)) → List S → List S
-    → EndFault → Type 0
-HasCause size faults end_count left olds news (Read file) =
-    StopsAt size faults end_count left olds news file frame.ReadFault
-HasCause size faults end_count left olds news (TooLong file line len) =
-    StopsAt size faults end_count left olds news file (frame.TooLong line len)
-HasCause size faults end_count left olds news (TooLarge file bytes) =
-    StopsAt size faults end_count left olds news file (frame.TooLarge bytes)
-HasCause size faults end_count left olds news NoMemory = Unit {0}
+abbrev pub HasCause : {S : Type 0} → ℕ → SourceOf S → List S → List S → EndFault → Type 0
+HasCause size src olds news (Read file) = StopsAt size src olds news file frame.ReadFault
+HasCause size src olds news (TooLong file line len) =
+    StopsAt size src olds news file (frame.TooLong line len)
+HasCause size src olds news (TooLarge file bytes) =
+    StopsAt size src olds news file (frame.TooLarge bytes)
+HasCause size src olds news NoMemory = Unit {0}

@@ -17,7 +17,7 @@ pub enum EndFault {
 }
 
 /// The fault of the workers: want of memory where any met it, else the first one.
-pub fn fault_of_all(starved: bool, first: Option<(u32, FrameFault)>) -> Option<EndFault>
+pub(crate) fn fault_of_all(starved: bool, first: Option<(u32, FrameFault)>) -> Option<EndFault>
     ensures { result ≡ fault_of_workers starved first }
 {
     if starved {

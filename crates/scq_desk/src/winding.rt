@@ -64,12 +64,11 @@ pub fn wind_up_desks<L: Drop, W: Sits<Pass<Frame>, L>, S: Source>(
     requires own { All (λ d. ((W.pass_of d.worker.worker).queue ≡ queue)
         × ((W.pass_of d.worker.worker).held ≡ index_of d.worker.kept)
         × IfSome d.worker.kept (λ h. h.queue ≡ queue)) desks.items }
-    ensures gathered { (size : ℕ) → AllEnded size S.faults S.ends S.left desks.items
-        → AreGathered size S.faults S.ends S.left laid.was.value.items result.sources.items
+    ensures gathered { (size : ℕ) → AllEnded size S.Source desks.items
+        → AreGathered size S.Source laid.was.value.items result.sources.items
         result.fault result.starved }
-    ensures stops { (size : ℕ) → AllEnded size S.faults S.ends S.left desks.items
-        → AllStop desks.items
-        → StopsAtFaults (length desks.items) size S.faults S.ends S.left laid.was.value.items
+    ensures stops { (size : ℕ) → AllEnded size S.Source desks.items → AllStop desks.items
+        → StopsAtFaults (length desks.items) size S.Source laid.was.value.items
         result.sources.items }
     ensures whole { result.fault ≡ None → AllWhole desks.items }
     ensures fed { result.starved ≡ false

@@ -16,7 +16,7 @@ use Rattle.scq_files.specs.OwnFiles.{all_given, ids_of}
 use Rattle.scq_files.specs.Ends.{AreGiven, FileGave}
 use Rattle.scq_files.specs.Files.{files_of, own_of, OfEachFile}
 use Rattle.scq_files.specs.Given.{given_in}
-use Rattle.scq_files.specs.Reading.{IsRead, GaveAll, most_parts}
+use Rattle.scq_files.specs.Reading.{IsRead, GaveAll, most_parts, SourceOf}
 use Rattle.scq_files.specs.declared.desk.Desk.{Desk}
 use Rattle.scq_files.specs.declared.own_file.OwnFile.{OwnFile}
 use Rattle.scq_files.proofs.Cleared.{IsWholeFile}
@@ -34,22 +34,21 @@ abbrev pub given_of : {S : Type 0} → OwnFile S → List Message
 given_of f = given_in f.given.value
 
 -- files that were read, with what they gave
-files-gave : {S : Type 0} (topics : List (List ℕ × Kind)) (size : ℕ) (faults end_count : S → ℕ) (left : S → Option (List ℕ)) (W : Type 0)
-    (files : List (OwnFile S))
-    → All (λ f. IsRead topics size faults end_count left f.number f.was.value f.source (given_of f) f.end) files → (W → All IsWholeFile files)
-    → AllZip (Gave topics size left W) (ids_of files) (map given_of files)
-files-gave topics size faults end_count left W [] read whole = tt
-files-gave {S} topics size faults end_count left W (f ∷ files) read whole =
+files-gave : {S : Type 0} (topics : List (List ℕ × Kind)) (size : ℕ) (src : SourceOf S) (W : Type 0) (files : List (OwnFile S))
+    → All (λ f. IsRead topics size src f.number f.was.value f.source (given_of f) f.end) files → (W → All IsWholeFile files)
+    → AllZip (Gave topics size src.left W) (ids_of files) (map given_of files)
+files-gave topics size src W [] read whole = tt
+files-gave {S} topics size src W (f ∷ files) read whole =
     let its = read zero f (omega arith) in (
       record {
         whole = λ w. record {
           of = its.all;
           short = its.short;
-          all = subst (λ e. GaveAll topics f.number (left f.was.value) e (given_of f)) (whole w zero f (omega arith)) its.gave;
+          all = subst (λ e. GaveAll topics f.number (src.left f.was.value) e (given_of f)) (whole w zero f (omega arith)) its.gave;
         };
         few = its.few;
       },
-      files-gave topics size faults end_count left W files (λ k d less. read (suc k) d (omega arith)) (λ w k d less. whole w (suc k) d (omega arith)),
+      files-gave topics size src W files (λ k d less. read (suc k) d (omega arith)) (λ w k d less. whole w (suc k) d (omega arith)),
     )
 
 -- the lists of files, one behind the other
@@ -101,15 +100,14 @@ module _ {W S : Type 0} where
   worker_messages d = all_given d.files.items
 
   -- the workers have left: each had its own of the files, and read them, however the reading of these ended
-  pub record AllRead (topics : List (List ℕ × Kind)) (size : ℕ) (faults end_count : S → ℕ) (left : S → Option (List ℕ)) (sources : List S)
-      (desks : List (Desk W S)) : Type 0 where
+  pub record AllRead (topics : List (List ℕ × Kind)) (size : ℕ) (src : SourceOf S) (sources : List S) (desks : List (Desk W S)) : Type 0 where
     pub some : 0 < length desks
     pub few : length sources ≤ 64
     pub dealt : AreDealt 1 sources desks
-    pub read : All (λ d. All (λ f. IsRead topics size faults end_count left f.number f.was.value f.source (given_of f) f.end) d.files.items) desks
+    pub read : All (λ d. All (λ f. IsRead topics size src f.number f.was.value f.source (given_of f) f.end) d.files.items) desks
 
-  module _ (topics : List (List ℕ × Kind)) (size : ℕ) (faults end_count : S → ℕ) (left : S → Option (List ℕ)) (sources : List S)
-      (desks : List (Desk W S)) (ran : AllRead topics size faults end_count left sources desks) where
+  module _ (topics : List (List ℕ × Kind)) (size : ℕ) (src : SourceOf S) (sources : List S)
+      (desks : List (Desk W S)) (ran : AllRead topics size src sources desks) where
     -- of a desk: its files in their order, and what they gave
     abbrev files_in : Option (Desk W S) → List (OwnFile S)
     files_in None = []
@@ -121,10 +119,10 @@ module _ {W S : Type 0} where
     abbrev given_at : ℕ → List (List Message)
     given_at w = map given_of (files_at w)
 
-    desk-gave : (w : ℕ) → w < length desks → AllZip (Gave topics size left (AllWhole desks)) (files_of (length desks) w 1 sources) (given_at w)
+    desk-gave : (w : ℕ) → w < length desks → AllZip (Gave topics size src.left (AllWhole desks)) (files_of (length desks) w 1 sources) (given_at w)
     desk-gave w less = elim (slice_get_cases desks w).1 [
       | inl (d, within, is, here) ↦
-          let its = subst (λ (e : Desk W S). All (λ f. IsRead topics size faults end_count left f.number f.was.value f.source (given_of f) f.end) e.files.items)
+          let its = subst (λ (e : Desk W S). All (λ f. IsRead topics size src f.number f.was.value f.source (given_of f) f.end) e.files.items)
           here (ran.read w d less) in
           let whole : (all : AllWhole desks) → All IsWholeFile d.files.items = λ all.
           subst (λ (e : Desk W S). All IsWholeFile e.files.items) here (all w d less) in
@@ -133,26 +131,26 @@ module _ {W S : Type 0} where
           let turned = IsPermutation-reverse files in
           let ids : ids_of (reverse files) ≡ files_of (length desks) w 1 sources =
           map-reverse (λ (f : OwnFile S). (f.number, f.was.value)) files ∙ ap reverse dealt ∙ reverse-reverse (files_of (length desks) w 1 sources) in
-          let gave = files-gave topics size faults end_count left (AllWhole desks) (reverse files)
-          (All-permutation (λ (f : OwnFile S). IsRead topics size faults end_count left f.number f.was.value f.source (given_of f) f.end)
+          let gave = files-gave topics size src (AllWhole desks) (reverse files)
+          (All-permutation (λ (f : OwnFile S). IsRead topics size src f.number f.was.value f.source (given_of f) f.end)
           files (reverse files) turned its)
           (λ all. All-permutation IsWholeFile files (reverse files) turned (whole all)) in
           let mine : given_at w ≡ map given_of (reverse files) = ap (λ o. map given_of (files_in o)) is in
-          subst (λ l. AllZip (Gave topics size left (AllWhole desks)) (files_of (length desks) w 1 sources) l) (sym mine)
-          (subst (λ l. AllZip (Gave topics size left (AllWhole desks)) l (map given_of (reverse files))) ids gave)
+          subst (λ l. AllZip (Gave topics size src.left (AllWhole desks)) (files_of (length desks) w 1 sources) l) (sym mine)
+          (subst (λ l. AllZip (Gave topics size src.left (AllWhole desks)) l (map given_of (reverse files))) ids gave)
       | inr (past, none) ↦ absurd (omega arith)
     ]
 
     -- what the files gave, file by file
-    pub gathered : (given : List (List Message)) × OfEachFile (Gave topics size left (AllWhole desks)) 1 sources given
+    pub gathered : (given : List (List Message)) × OfEachFile (Gave topics size src.left (AllWhole desks)) 1 sources given
         × ((w : ℕ) → w < length desks → seconds (files_of (length desks) w 1 given) ≡ given_at w)
-    gathered = collected (Gave topics size left (AllWhole desks)) (length desks) 1 sources given_at ran.some desk-gave
+    gathered = collected (Gave topics size src.left (AllWhole desks)) (length desks) 1 sources given_at ran.some desk-gave
 
     abbrev pub given : List (List Message)
     given = gathered.0
 
-    pub is-given : AllWhole desks → AreGiven topics size left 1 sources given
-    is-given whole = all-gave topics size left (AllWhole desks) 1 sources given gathered.1 whole
+    pub is-given : AllWhole desks → AreGiven topics size src.left 1 sources given
+    is-given whole = all-gave topics size src.left (AllWhole desks) 1 sources given gathered.1 whole
 
     -- a worker passed on what its files gave
     pub own-given : (w : ℕ) (d : Desk W S) → slice_get desks w ≡ Some d → worker_messages d ≡ own_of (length desks) w 1 given
@@ -176,7 +174,7 @@ module _ {W S : Type 0} where
     -- and they are few: so few parts could be made of them
     pub few-parts-in-all : sum_by most_parts (flat_map worker_messages desks) ≤ 2 ^ 36
     few-parts-in-all =
-        let few = few-given topics size left (AllWhole desks) 1 sources given gathered.1 in
+        let few = few-given topics size src.left (AllWhole desks) 1 sources given gathered.1 in
         let same = sum_by-IsPermutation most_parts (flat_map (λ own. own) given) (flat_map worker_messages desks) all-messages in
         let files = ran.few in
         omega (arith, few, same, files)

@@ -1,11 +1,11 @@
 -- What each worker read of its files in turn, as they are gathered one after the other: none behind one at which it stopped.
-use Rattle.std.proofs.Common.{◌≡◌, ◌∙◌, refl, sym, ap, subst, inl, inr, arith, ℕ, ◌+◌, ◌<◌, List, [], ◌∷◌, ◌++◌, length, map, set, get_or-set_same, get_or-set_other, Option}
+use Rattle.std.proofs.Common.{◌≡◌, ◌∙◌, refl, sym, ap, subst, inl, inr, arith, ℕ, ◌+◌, ◌<◌, List, [], ◌∷◌, ◌++◌, length, map, set, get_or-set_same, get_or-set_other}
 use Rattle.std.specs.Prelude.{slice_index_or, ◌%◌}
 use Rattle.std.specs.List.{All}
 use Rattle.std.proofs.lemmas.Bool.{cases_eq}
 use Rattle.std.proofs.lemmas.List.{length-append, length-map, length-set, get_or_append_left, get_or_default, get_or-map, get_or_push}
 use Rattle.scq_frames.specs.declared.fault.FrameFault.{FrameFault}
-use Rattle.scq_files.specs.Reading.{EndsSo}
+use Rattle.scq_files.specs.Reading.{EndsSo, SourceOf}
 use Rattle.scq_files.specs.Ends.{StopsAtFaults}
 use Rattle.scq_files.specs.OwnFiles.{IsNew, StopsAtAFault}
 use Rattle.scq_files.specs.declared.own_file.FileEnd.{FileEnd}
@@ -32,13 +32,13 @@ none-behind front file fault stops is k d less =
     let new = stops (length front) k d fault (omega (arith, length-append front (file ∷ []))) (ap (λ (f : OwnFile _). f.end) last ∙ is) less in
     subst IsUnread (get_or_append_left front (file ∷ []) d k less) new.end
 
-module _ {S : Type 0} (workers size : ℕ) (faults end_count : S → ℕ) (left : S → Option (List ℕ)) (was : List S) where
+module _ {S : Type 0} (workers size : ℕ) (src : SourceOf S) (was : List S) where
   -- what is gathered of the first files, so many, and the files that desks still have
   pub record InTurn (at : ℕ) (sources : List S) (files : List (List (OwnFile S))) : Type 0 where
     pub end_of : List FileEnd
     pub count : length end_of ≡ at
     pub ends : (k : ℕ) (d : S) (e : FileEnd) → k < at
-        → EndsSo size faults end_count left (slice_index_or was k d) (slice_index_or sources k d) (slice_index_or end_of k e)
+        → EndsSo size src (slice_index_or was k d) (slice_index_or sources k d) (slice_index_or end_of k e)
     pub stops : (i j : ℕ) (e : FileEnd) (fault : FrameFault) → i < j → j < at → i % workers ≡ j % workers → slice_index_or end_of i e ≡ Stopped fault
         → slice_index_or end_of j e ≡ Unread
     pub ahead : (i : ℕ) (e : FileEnd) (fault : FrameFault) (d : List (OwnFile S)) → i < at → slice_index_or end_of i e ≡ Stopped fault
@@ -61,7 +61,7 @@ module _ {S : Type 0} (workers size : ℕ) (faults end_count : S → ℕ) (left 
   module _ (at slot : ℕ) (sources : List S) (files : List (List (OwnFile S))) (front : List (OwnFile S)) (file : OwnFile S) (default : List (OwnFile S))
       (count : length sources ≡ at) (within : slot < length files) (mine : slot ≡ at % workers)
       (is : slice_index_or files slot default ≡ front ++ file ∷ []) (is_old : (d : S) → slice_index_or was at d ≡ file.was.value)
-      (ended : EndsSo size faults end_count left file.was.value file.source file.end) (t : InTurn at sources files) where
+      (ended : EndsSo size src file.was.value file.source file.end) (t : InTurn at sources files) where
     abbrev more : List FileEnd
     more = t.end_of ++ file.end ∷ []
 
@@ -119,11 +119,10 @@ module _ {S : Type 0} (workers size : ℕ) (faults end_count : S → ℕ) (left 
           end_of = more;
           count = length-append t.end_of (file.end ∷ []) ∙ ap (λ n. n + 1) t.count;
           ends = λ k d e less.
-              index-push (λ j y. EndsSo size faults end_count left (slice_index_or was j d) y (slice_index_or more j e)) sources file.source d at count
-              (λ j below. subst (EndsSo size faults end_count left (slice_index_or was j d) (slice_index_or sources j d)) (sym (kept j e below))
-              (t.ends j d e below))
-              (subst (EndsSo size faults end_count left (slice_index_or was at d) file.source) (sym (last e))
-              (subst (λ x. EndsSo size faults end_count left x file.source file.end) (sym (is_old d)) ended)) k less;
+              index-push (λ j y. EndsSo size src (slice_index_or was j d) y (slice_index_or more j e)) sources file.source d at count
+              (λ j below. subst (EndsSo size src (slice_index_or was j d) (slice_index_or sources j d)) (sym (kept j e below)) (t.ends j d e below))
+              (subst (EndsSo size src (slice_index_or was at d) file.source) (sym (last e))
+              (subst (λ x. EndsSo size src x file.source file.end) (sym (is_old d)) ended)) k less;
           stops = stops-more;
           ahead = ahead-more;
           rest = λ k d less.
@@ -133,7 +132,7 @@ module _ {S : Type 0} (workers size : ℕ) (faults end_count : S → ℕ) (left 
         }
 
   -- where none was read
-  pub in-turn-none : StopsAtFaults workers size faults end_count left was was
+  pub in-turn-none : StopsAtFaults workers size src was was
   in-turn-none =
       let unread : S → FileEnd = λ _. Unread in
       let each : (k : ℕ) (e : FileEnd) (d : S) → k < length was → slice_index_or (map unread was) k e ≡ Unread =
@@ -141,7 +140,7 @@ module _ {S : Type 0} (workers size : ℕ) (faults end_count : S → ℕ) (left 
       record {
         end_of = map unread was;
         count = length-map was unread;
-        ends = λ k d e less. subst (EndsSo size faults end_count left (slice_index_or was k d) (slice_index_or was k d)) (sym (each k e d less)) refl;
+        ends = λ k d e less. subst (EndsSo size src (slice_index_or was k d) (slice_index_or was k d)) (sym (each k e d less)) refl;
         stops = λ i j e fault before less same is. each j e (first was (omega (arith, less))) less;
       }
     where
@@ -151,7 +150,7 @@ module _ {S : Type 0} (workers size : ℕ) (faults end_count : S → ℕ) (left 
 
   -- once all are gathered
   pub in-turn-last : (at : ℕ) (sources : List S) (files : List (List (OwnFile S))) → at ≡ length was → InTurn at sources files
-      → StopsAtFaults workers size faults end_count left was sources
+      → StopsAtFaults workers size src was sources
   in-turn-last at sources files all t =
       record {
         end_of = t.end_of;

@@ -19,7 +19,7 @@ use Rattle.scq_frames.specs.Coming.{Found}
 use Rattle.scq_frames.proofs.FindingLemmas.{Gave, Gave-found, Found-gave}
 use Rattle.scq_frames.proofs.Judging.{if-visible, judged-end, judged-fault, judged-long, sized}
 use Rattle.scq_files.specs.Ends.{StopsAtFaults}
-use Rattle.scq_files.specs.Reading.{AreOf, EndsSo, IsRead, most_parts}
+use Rattle.scq_files.specs.Reading.{AreOf, EndsSo, IsRead, most_parts, SourceOf}
 use Rattle.scq_files.specs.OwnFiles.{IsNew}
 use Rattle.scq_files.specs.Given.{given_in}
 use Rattle.scq_files.specs.declared.own_file.OwnFile.{OwnFile}
@@ -93,45 +93,43 @@ once-along true is start between after stays one two =
     }
 
 -- a file is being read: so far its source gave what the framer has, and that had no trouble
-pub record IsReading {S : Type 0} (topics : List (List ℕ × Kind)) (size : ℕ) (faults end_count : S → ℕ) (left : S → Option (List ℕ)) (file : ℕ) (start now : S)
+pub record IsReading {S : Type 0} (topics : List (List ℕ × Kind)) (size : ℕ) (src : SourceOf S) (file : ℕ) (start now : S)
     (framer : Framing) (given : List Message) : Type 0 where
-  pub ahead : HasGiven (visible_ahead (topic_of topics) (fresh file size (2 ^ 30)) (left start)) (visible_ahead (topic_of topics) framer (left now)) given
+  pub ahead : HasGiven (visible_ahead (topic_of topics) (fresh file size (2 ^ 30)) (src.left start)) (visible_ahead (topic_of topics) framer (src.left now)) given
   pub all : AreOfUpTo (length topics) file 0 framer.line given
   pub short : All (λ m. length m.payload ≤ size) given
   pub number : framer.file ≡ file
-  pub gave : Gave (fresh file size (2 ^ 30)) framer (left start) (left now)
+  pub gave : Gave (fresh file size (2 ^ 30)) framer (src.left start) (src.left now)
   pub going : framer.failed ≡ false
   pub payload : framer.size ≡ size
   pub most : framer.most ≡ 2 ^ 30
   pub bounded : framer.weight ≤ 2 ^ 30 + 1
   pub few : sum_by most_parts given + length given ≤ framer.weight
-  pub end : IsTrue framer.ended → NothingLeft (left now)
-  pub size_same : visible_size framer (left now) ≡ visible_size (fresh file size (2 ^ 30)) (left start)
-  pub once : EndsOnce false framer.ended (end_count start) (end_count now)
-  pub kept : faults now ≡ faults start
+  pub end : IsTrue framer.ended → NothingLeft (src.left now)
+  pub size_same : visible_size framer (src.left now) ≡ visible_size (fresh file size (2 ^ 30)) (src.left start)
+  pub once : EndsOnce false framer.ended (src.ends start) (src.ends now)
+  pub kept : src.faults now ≡ src.faults start
 
 -- what each answer of a framer says of it and of its source
-pub record Answers {S : Type 0} (faults end_count : S → ℕ) (left : S → Option (List ℕ)) (before now : S) (old new : Framing) : Type 0 where
+pub record Answers {S : Type 0} (src : SourceOf S) (before now : S) (old new : Framing) : Type 0 where
   pub file : new.file ≡ old.file
   pub payload : new.size ≡ old.size
   pub most : new.most ≡ old.most
   pub bounded : new.weight ≤ new.most + 1
-  pub end : (IsTrue old.ended → NothingLeft (left before)) → IsTrue new.ended → NothingLeft (left now)
+  pub end : (IsTrue old.ended → NothingLeft (src.left before)) → IsTrue new.ended → NothingLeft (src.left now)
   pub stays : IsTrue old.ended → IsTrue new.ended
-  pub size_same : visible_size new (left now) ≡ visible_size old (left before)
-  pub once : EndsOnce old.ended new.ended (end_count before) (end_count now)
+  pub size_same : visible_size new (src.left now) ≡ visible_size old (src.left before)
+  pub once : EndsOnce old.ended new.ended (src.ends before) (src.ends now)
 
 -- it gave a message more
-pub reading-next : {S : Type 0} (topics : List (List ℕ × Kind)) (size : ℕ) (faults end_count : S → ℕ) (left : S → Option (List ℕ)) (file : ℕ)
-    (start before now : S)
-    (old new : Framing) (given given' : List Message) (m : Message) → IsReading topics size faults end_count left file start before old given
-    → Answers faults end_count left before now old new
-    → visible_ahead (topic_of topics) old (left before) ≡ option_map (λ rest. (m ∷ []) ++ rest) (visible_ahead (topic_of topics) new (left now))
-    → IsNext old new m → m.topic ≤ length topics → length m.payload ≤ old.size → Found old new (left before) (left now) (Ok (Some m)) → new.failed ≡ false
-    → faults now ≡ faults before → given' ≡ given ++ m ∷ [] → IsReading topics size faults end_count left file start now new given'
-reading-next topics size faults end_count left file start before now old new given given' m r said gives next known fits found going kept grown =
+pub reading-next : {S : Type 0} (topics : List (List ℕ × Kind)) (size : ℕ) (src : SourceOf S) (file : ℕ) (start before now : S)
+    (old new : Framing) (given given' : List Message) (m : Message) → IsReading topics size src file start before old given → Answers src before now old new
+    → visible_ahead (topic_of topics) old (src.left before) ≡ option_map (λ rest. (m ∷ []) ++ rest) (visible_ahead (topic_of topics) new (src.left now))
+    → IsNext old new m → m.topic ≤ length topics → length m.payload ≤ old.size → Found old new (src.left before) (src.left now) (Ok (Some m)) → new.failed ≡ false
+    → src.faults now ≡ src.faults before → given' ≡ given ++ m ∷ [] → IsReading topics size src file start now new given'
+reading-next topics size src file start before now old new given given' m r said gives next known fits found going kept grown =
     let first = fresh file size (2 ^ 30) in
-    let all = Gave-found first old new (left start) (left before) (left now) (Ok (Some m)) r.gave found (λ h. absurd (cc)) said.stays (λ e. absurd (cc)) in
+    let all = Gave-found first old new (src.left start) (src.left before) (src.left now) (Ok (Some m)) r.gave found (λ h. absurd (cc)) said.stays (λ e. absurd (cc)) in
     let O : List Message → Type 0 = λ ms. AreOfUpTo (length topics) file 0 new.line ms in
     let of = of-more (length topics) file 0 old.line given m r.all (next.file ∙ r.number) next.above known in
     let long : length given' ≡ length given + 1 = ap length grown ∙ length-append given (m ∷ []) in
@@ -139,12 +137,12 @@ reading-next topics size faults end_count left file start before now old new giv
     let spread : sum_by most_parts given' ≡ sum_by most_parts given + most_parts m =
     ap (sum_by most_parts) grown ∙ sum_by-append most_parts given (m ∷ []) ∙ ap (λ (n : ℕ). sum_by most_parts given + n) alone in
     record {
-      ahead = given-next _ _ (visible_ahead (topic_of topics) new (left now)) _ _ m r.ahead gives grown;
+      ahead = given-next _ _ (visible_ahead (topic_of topics) new (src.left now)) _ _ m r.ahead gives grown;
       all = subst O (sym grown) (subst (λ n. AreOfUpTo (length topics) file 0 n (given ++ m ∷ [])) (sym next.line) of);
       short = subst (All (λ (x : Message). length x.payload ≤ size)) (sym grown)
           (All-push (λ (x : Message). length x.payload ≤ size) given m r.short (omega (arith, fits, r.payload)));
       number = said.file ∙ r.number;
-      gave = Found-gave first new (left start) (left now) m all;
+      gave = Found-gave first new (src.left start) (src.left now) m all;
       going = going;
       payload = said.payload ∙ r.payload;
       most = said.most ∙ r.most;
@@ -163,50 +161,46 @@ few-given [] weight few bounded = omega arith
 few-given (m ∷ ms) weight few bounded = omega arith
 
 -- it was read to its end
-pub reading-whole : {S : Type 0} (topics : List (List ℕ × Kind)) (size : ℕ) (faults end_count : S → ℕ) (left : S → Option (List ℕ)) (file : ℕ)
-    (start before now : S)
-    (old new : Framing) (given : List Message) → IsReading topics size faults end_count left file start before old given → Answers faults end_count left
+pub reading-whole : {S : Type 0} (topics : List (List ℕ × Kind)) (size : ℕ) (src : SourceOf S) (file : ℕ) (start before now : S)
+    (old new : Framing) (given : List Message) → IsReading topics size src file start before old given → Answers src
     before now old new
-    → visible_ahead (topic_of topics) old (left before) ≡ option_map (λ _. []) (left before) → Found old new (left before) (left now) (Ok None)
-    → IsTrue new.ended → faults now ≡ faults before → IsRead topics size faults end_count left file start now given Whole
-reading-whole topics size faults end_count left file start before now old new given r said none found over kept = record {
+    → visible_ahead (topic_of topics) old (src.left before) ≡ option_map (λ _. []) (src.left before) → Found old new (src.left before) (src.left now) (Ok None)
+    → IsTrue new.ended → src.faults now ≡ src.faults before → IsRead topics size src file start now given Whole
+reading-whole topics size src file start before now old new given r said none found over kept = record {
   ends = record {
-    judged = judged-end size file new (left start) (left now)
-        (Gave-found (fresh file size (2 ^ 30)) old new (left start) (left before) (left now) (Ok None) r.gave found (λ h. absurd (cc)) said.stays
+    judged = judged-end size file new (src.left start) (src.left now)
+        (Gave-found (fresh file size (2 ^ 30)) old new (src.left start) (src.left before) (src.left now) (Ok None) r.gave found (λ h. absurd (cc)) said.stays
         (λ e. absurd (cc)));
     ended = said.end r.end over;
     once = (once-along old.ended new.ended _ _ _ said.stays r.once said.once).rose refl over;
     kept = kept ∙ r.kept;
   };
-  gave = given-all topics size file (left start) (left before) _ given r.ahead none;
+  gave = given-all topics size file (src.left start) (src.left before) _ given r.ahead none;
   all = of-up_to (length topics) file 0 old.line given r.all;
   short = r.short;
   few = few-given given old.weight r.few r.bounded;
 }
 
 -- it was read up to a fault
-pub reading-fault : {S : Type 0} (topics : List (List ℕ × Kind)) (size : ℕ) (faults end_count : S → ℕ) (left : S → Option (List ℕ)) (file : ℕ)
-    (start before now : S)
-    (old new : Framing) (given : List Message) (fault : FrameFault) → IsReading topics size faults end_count left file start before old given
-    → Answers faults end_count left before now old new
-    → Found old new (left before) (left now) (Err fault) → (fault ≡ ReadFault → Rose (faults before) (faults now)) → (fault ≡ ReadFault → old.ended ≡ false)
-    → (fault ≢ ReadFault → faults now ≡ faults before) → ((line len : ℕ) → fault ≡ TooLong line len → (old.line < line) × (old.size < len))
-    → ((n : ℕ) → fault ≡ TooLarge n → (n ≡ new.most + 1) × (new.read ≡ n)) → IsRead topics size faults end_count left file start now given (Stopped fault)
-reading-fault {S} topics size faults end_count left file start before now old new given fault r said found rose going kept long large =
-    let all = Gave-found (fresh file size (2 ^ 30)) old new (left start) (left before) (left now) (Err fault) r.gave found (λ h. absurd (cc)) said.stays
+pub reading-fault : {S : Type 0} (topics : List (List ℕ × Kind)) (size : ℕ) (src : SourceOf S) (file : ℕ) (start before now : S)
+    (old new : Framing) (given : List Message) (fault : FrameFault) → IsReading topics size src file start before old given → Answers src before now old new
+    → Found old new (src.left before) (src.left now) (Err fault) → (fault ≡ ReadFault → Rose (src.faults before) (src.faults now)) → (fault ≡ ReadFault → old.ended ≡ false)
+    → (fault ≢ ReadFault → src.faults now ≡ src.faults before) → ((line len : ℕ) → fault ≡ TooLong line len → (old.line < line) × (old.size < len))
+    → ((n : ℕ) → fault ≡ TooLarge n → (n ≡ new.most + 1) × (new.read ≡ n)) → IsRead topics size src file start now given (Stopped fault)
+reading-fault {S} topics size src file start before now old new given fault r said found rose going kept long large =
+    let all = Gave-found (fresh file size (2 ^ 30)) old new (src.left start) (src.left before) (src.left now) (Err fault) r.gave found (λ h. absurd (cc)) said.stays
     (λ e. going (fault-is fault (Err fault) refl e)) in
-    let many : (n : ℕ) → fault ≡ TooLarge n → (n ≡ 2 ^ 30 + 1) × (option_map length (left start) ≡ option_map (λ rest. n + length rest) (left now)) = λ n e.
+    let many : (n : ℕ) → fault ≡ TooLarge n → (n ≡ 2 ^ 30 + 1) × (option_map length (src.left start) ≡ option_map (λ rest. n + length rest) (src.left now)) = λ n e.
     let its = large n e in
-    (omega (arith, its.0, said.most, r.most), sized n new.read (left start) (left now) its.1 (said.size_same ∙ r.size_same)) in
+    (omega (arith, its.0, said.most, r.most), sized n new.read (src.left start) (src.left now) its.1 (said.size_same ∙ r.size_same)) in
     record {
       ends = record {
-        judged = judged-fault size file new (left start) (left now) fault all
-            (λ n e. let its = many n e in (omega (arith, its.0), its.1))
+        judged = judged-fault size file new (src.left start) (src.left now) fault all (λ n e. let its = many n e in (omega (arith, its.0), its.1))
             (λ line len e.
             let its = long line len e in
-            let F : FrameFault → Type 0 = λ x. Found old new (left before) (left now) (Err x) in
-            judged-long size file old new (left start) (left before) (left now) line len r.gave (subst F e found) its.1 said.stays (said.end r.end));
-        rose = λ e. subst (λ n. Rose n (faults now)) r.kept (rose e);
+            let F : FrameFault → Type 0 = λ x. Found old new (src.left before) (src.left now) (Err x) in
+            judged-long size file old new (src.left start) (src.left before) (src.left now) line len r.gave (subst F e found) its.1 said.stays (said.end r.end));
+        rose = λ e. subst (λ n. Rose n (src.faults now)) r.kept (rose e);
         kept = λ other. kept other ∙ r.kept;
         long = λ line len e. let its = long line len e in (omega (arith, its.0), omega (arith, its.1, r.payload));
         large = many;
@@ -220,12 +214,12 @@ reading-fault {S} topics size faults end_count left file start before now old ne
       fault-is x r is e = cc
 
 -- its worker leaves it
-pub reading-left : {S : Type 0} (topics : List (List ℕ × Kind)) (size : ℕ) (faults end_count : S → ℕ) (left : S → Option (List ℕ)) (file : ℕ) (start now : S)
-    (framer : Framing) (given : List Message) → IsReading topics size faults end_count left file start now framer given
-    → IsRead topics size faults end_count left file start now given (Stopped NoMemory)
-reading-left topics size faults end_count left file start now framer given r = record {
+pub reading-left : {S : Type 0} (topics : List (List ℕ × Kind)) (size : ℕ) (src : SourceOf S) (file : ℕ) (start now : S)
+    (framer : Framing) (given : List Message) → IsReading topics size src file start now framer given
+    → IsRead topics size src file start now given (Stopped NoMemory)
+reading-left topics size src file start now framer given r = record {
   ends = record {
-    judged = record { bytes = r.gave.bytes; moved = r.gave.moved; judges = if-visible (left now) _ (λ rest e. tt) };
+    judged = record { bytes = r.gave.bytes; moved = r.gave.moved; judges = if-visible (src.left now) _ (λ rest e. tt) };
     rose = λ e. absurd (cc);
     kept = λ other. r.kept;
     long = λ line len e. absurd (cc);
@@ -238,11 +232,11 @@ reading-left topics size faults end_count left file start now framer given r = r
 }
 
 -- a file that isn't read yet
-pub reading-unread : {S : Type 0} (topics : List (List ℕ × Kind)) (size : ℕ) (faults end_count : S → ℕ) (left : S → Option (List ℕ)) (f : OwnFile S) → IsNew f
-    → IsRead topics size faults end_count left f.number f.was.value f.source (given_in f.given.value) f.end
-reading-unread topics size faults end_count left f new =
-    subst (λ (end : FileEnd). IsRead topics size faults end_count left f.number f.was.value f.source (given_in f.given.value) end) (sym new.end)
-    (subst (λ (ms : List Message). IsRead topics size faults end_count left f.number f.was.value f.source ms Unread) (sym new.given)
+pub reading-unread : {S : Type 0} (topics : List (List ℕ × Kind)) (size : ℕ) (src : SourceOf S) (f : OwnFile S) → IsNew f
+    → IsRead topics size src f.number f.was.value f.source (given_in f.given.value) f.end
+reading-unread topics size src f new =
+    subst (λ (end : FileEnd). IsRead topics size src f.number f.was.value f.source (given_in f.given.value) end) (sym new.end)
+    (subst (λ (ms : List Message). IsRead topics size src f.number f.was.value f.source ms Unread) (sym new.given)
     (record { ends = new.source; gave = refl; all = tt; short = All-nil (λ (m : Message). length m.payload ≤ size); few = omega arith }))
 
 -- where no source was read, none was read behind another
@@ -252,13 +246,12 @@ unread-each [] k e less = absurd (omega arith)
 unread-each (x ∷ xs) zero e less = refl
 unread-each (x ∷ xs) (suc k) e less = unread-each xs k e (omega arith)
 
-pub stops-unread : {S : Type 0} (workers size : ℕ) (faults end_count : S → ℕ) (left : S → Option (List ℕ)) (olds news : List S) → news ≡ olds
-    → StopsAtFaults workers size faults end_count left olds news
-stops-unread {S} workers size faults end_count left olds news same = record {
+pub stops-unread : {S : Type 0} (workers size : ℕ) (src : SourceOf S) (olds news : List S) → news ≡ olds → StopsAtFaults workers size src olds news
+stops-unread {S} workers size src olds news same = record {
   end_of = map (λ (source : S). Unread) olds;
   count = length-map olds (λ (source : S). Unread);
   ends = λ k d e less.
-      subst (EndsSo size faults end_count left (slice_index_or olds k d) (slice_index_or news k d)) (sym (unread-each olds k e less))
+      subst (EndsSo size src (slice_index_or olds k d) (slice_index_or news k d)) (sym (unread-each olds k e less))
       (ap (λ (xs : List S). slice_index_or xs k d) same);
   stops = λ i j e fault before less same_worker is. unread-each olds j e less;
 }

@@ -8,7 +8,7 @@ use Rattle.scq_outside.specs.Counts.{Rose}
 use Rattle.scq_frames.specs.declared.fault.FrameFault.{FrameFault}
 use Rattle.scq_frames.specs.declared.fault.FrameFault.TheVariants.{ReadFault, TooLong, TooLarge, NoMemory}
 use Rattle.scq_frames.proofs.FindingLemmas.{nothing_moved}
-use Rattle.scq_files.specs.Reading.{EndsSo, IsWhole, IsStopped}
+use Rattle.scq_files.specs.Reading.{EndsSo, IsWhole, IsStopped, SourceOf}
 use Rattle.scq_files.specs.Ends.{EndsFed, HasMoved, StopsAt, end_fault, wanted_memory}
 use Rattle.scq_files.specs.declared.own_file.FileEnd.{FileEnd}
 use Rattle.scq_files.specs.declared.own_file.FileEnd.TheVariants.{Unread, Whole, Stopped}
@@ -25,28 +25,26 @@ snoc-parts (x ∷ xs) (y ∷ ys) a b e =
     (ap (λ (z : _). z ∷ xs) head ∙ ap (λ zs. y ∷ zs) parts.0, parts.1)
 
 -- a source gave what was said of it
-moved-by : {S : Type 0} (size : ℕ) (faults end_count : S → ℕ) (left : S → Option (List ℕ)) (old new : S) (end : FileEnd) → EndsSo size faults end_count left
-    old new end
-    → HasMoved faults left old new
-moved-by size faults end_count left old new Unread same = record
-    { bytes = []; moved = ap left (sym same) ∙ nothing_moved (left new); counted = inl (ap faults same) }
-moved-by size faults end_count left old new Whole whole = record { bytes = whole.judged.bytes; moved = whole.judged.moved; counted = inl whole.kept }
-moved-by size faults end_count left old new (Stopped fault) stopped =
+moved-by : {S : Type 0} (size : ℕ) (src : SourceOf S) (old new : S) (end : FileEnd) → EndsSo size src old new end → HasMoved src old new
+moved-by size src old new Unread same = record
+    { bytes = []; moved = ap src.left (sym same) ∙ nothing_moved (src.left new); counted = inl (ap src.faults same) }
+moved-by size src old new Whole whole = record { bytes = whole.judged.bytes; moved = whole.judged.moved; counted = inl whole.kept }
+moved-by size src old new (Stopped fault) stopped =
     record { bytes = stopped.judged.bytes; moved = stopped.judged.moved; counted = counted fault stopped } where
-      counted : (f : FrameFault) → IsStopped size faults left old new f → (faults new ≡ faults old) ⊎ Rose (faults old) (faults new)
+      counted : (f : FrameFault) → IsStopped size src old new f → (src.faults new ≡ src.faults old) ⊎ Rose (src.faults old) (src.faults new)
       counted ReadFault s = inr (s.rose refl)
       counted (TooLong line len) s = inl (s.kept (λ e. absurd (cc)))
       counted (TooLarge bytes) s = inl (s.kept (λ e. absurd (cc)))
       counted NoMemory s = inl (s.kept (λ e. absurd (cc)))
 
 -- what is gathered of the first files, so many of those with these sources
-pub record SoFar {S : Type 0} (size : ℕ) (faults end_count : S → ℕ) (left : S → Option (List ℕ)) (was : List S) (at : ℕ) (sources : List S)
+pub record SoFar {S : Type 0} (size : ℕ) (src : SourceOf S) (was : List S) (at : ℕ) (sources : List S)
     (fault : Option (ℕ × FrameFault)) (starved : Bool) : Type 0 where
   pub count : length sources ≡ at
-  pub moved : (k : ℕ) (d : S) → k < at → HasMoved faults left (slice_index_or was k d) (slice_index_or sources k d)
-  pub sound : fault ≡ None → (k : ℕ) (d : S) → k < at → IsWhole size faults end_count left (slice_index_or was k d) (slice_index_or sources k d)
-  pub cause : (file : ℕ) (f : FrameFault) → fault ≡ Some (file, f) → f ≢ NoMemory → (file ≤ at) × StopsAt size faults end_count left was sources file f
-  pub fed : starved ≡ false → (k : ℕ) (d : S) → k < at → EndsFed size faults end_count left (slice_index_or was k d) (slice_index_or sources k d)
+  pub moved : (k : ℕ) (d : S) → k < at → HasMoved src (slice_index_or was k d) (slice_index_or sources k d)
+  pub sound : fault ≡ None → (k : ℕ) (d : S) → k < at → IsWhole size src (slice_index_or was k d) (slice_index_or sources k d)
+  pub cause : (file : ℕ) (f : FrameFault) → fault ≡ Some (file, f) → f ≢ NoMemory → (file ≤ at) × StopsAt size src was sources file f
+  pub fed : starved ≡ false → (k : ℕ) (d : S) → k < at → EndsFed size src (slice_index_or was k d) (slice_index_or sources k d)
 
 -- what holds of the elements so far and of one more
 pub index-push : {S : Type 0} (P : ℕ → S → Type 0) (xs : List S) (x d : S) (at : ℕ) → length xs ≡ at → ((k : ℕ) → k < at → P k (slice_index_or xs k d)) → P at x
@@ -59,39 +57,37 @@ index-push P xs x d at long each here k less = elim (cases_eq k at) [
 ]
 
 -- one file more
-pub so-far-more : {S : Type 0} (size : ℕ) (faults end_count : S → ℕ) (left : S → Option (List ℕ)) (was : List S) (at : ℕ) (sources : List S)
+pub so-far-more : {S : Type 0} (size : ℕ) (src : SourceOf S) (was : List S) (at : ℕ) (sources : List S)
     (fault : Option (ℕ × FrameFault)) (starved : Bool) (old new : S) (number : ℕ) (end : FileEnd)
-    → SoFar size faults end_count left was at sources fault starved → at < length was → number ≡ at + 1 → ((d : S) → slice_index_or was at d ≡ old)
-    → EndsSo size faults end_count left old new end → SoFar size faults end_count left was (at + 1) (sources ++ new ∷ [])
-    (option_or fault (end_fault number end))
-    (starved || wanted_memory end)
-so-far-more {S} size faults end_count left was at sources fault starved old new number end s within is_next is_old ends = record {
+    → SoFar size src was at sources fault starved → at < length was → number ≡ at + 1 → ((d : S) → slice_index_or was at d ≡ old)
+    → EndsSo size src old new end → SoFar size src was (at + 1) (sources ++ new ∷ []) (option_or fault (end_fault number end)) (starved || wanted_memory end)
+so-far-more {S} size src was at sources fault starved old new number end s within is_next is_old ends = record {
   count = length-append sources (new ∷ []) ∙ ap (λ n. n + 1) s.count;
-  moved = λ k d less. index-push (λ j y. HasMoved faults left (slice_index_or was j d) y) sources new d at s.count (λ j below. s.moved j d below)
-      (subst (λ x. HasMoved faults left x new) (sym (is_old d)) (moved-by size faults end_count left old new end ends)) k less;
+  moved = λ k d less. index-push (λ j y. HasMoved src (slice_index_or was j d) y) sources new d at s.count (λ j below. s.moved j d below)
+      (subst (λ x. HasMoved src x new) (sym (is_old d)) (moved-by size src old new end ends)) k less;
   sound = sound fault end ends s.sound;
   cause = cause fault end ends s.sound s.cause;
   fed = λ none. let parts = or_parts starved (wanted_memory end) none in λ k d less.
-      index-push (λ j y. EndsFed size faults end_count left (slice_index_or was j d) y) sources new d at s.count (λ j below. s.fed parts.0 j d below)
-      (subst (λ x. EndsFed size faults end_count left x new) (sym (is_old d)) (record { end = end; ends = ends; fed = parts.1 })) k less;
+      index-push (λ j y. EndsFed size src (slice_index_or was j d) y) sources new d at s.count (λ j below. s.fed parts.0 j d below)
+      (subst (λ x. EndsFed size src x new) (sym (is_old d)) (record { end = end; ends = ends; fed = parts.1 })) k less;
 } where
   Sound : Type 0
-  Sound = (k : ℕ) (d : S) → k < at → IsWhole size faults end_count left (slice_index_or was k d) (slice_index_or sources k d)
+  Sound = (k : ℕ) (d : S) → k < at → IsWhole size src (slice_index_or was k d) (slice_index_or sources k d)
 
-  sound : (fault : Option (ℕ × FrameFault)) (end : FileEnd) → EndsSo size faults end_count left old new end → (fault ≡ None → Sound)
+  sound : (fault : Option (ℕ × FrameFault)) (end : FileEnd) → EndsSo size src old new end → (fault ≡ None → Sound)
       → option_or fault (end_fault number end) ≡ None → (k : ℕ) (d : S) → k < at + 1
-      → IsWhole size faults end_count left (slice_index_or was k d) (slice_index_or (sources ++ new ∷ []) k d)
+      → IsWhole size src (slice_index_or was k d) (slice_index_or (sources ++ new ∷ []) k d)
   sound (Some f) end ends so none k d less = absurd (cc)
   sound None Unread ends so none k d less = absurd (cc)
   sound None (Stopped f) ends so none k d less = absurd (cc)
   sound None Whole ends so none k d less =
-      index-push (λ j y. IsWhole size faults end_count left (slice_index_or was j d) y) sources new d at s.count (λ j below. so refl j d below)
-      (subst (λ x. IsWhole size faults end_count left x new) (sym (is_old d)) ends) k less
+      index-push (λ j y. IsWhole size src (slice_index_or was j d) y) sources new d at s.count (λ j below. so refl j d below)
+      (subst (λ x. IsWhole size src x new) (sym (is_old d)) ends) k less
 
-  cause : (fault : Option (ℕ × FrameFault)) (end : FileEnd) → EndsSo size faults end_count left old new end → (fault ≡ None → Sound)
-      → ((file : ℕ) (f : FrameFault) → fault ≡ Some (file, f) → f ≢ NoMemory → (file ≤ at) × StopsAt size faults end_count left was sources file f)
+  cause : (fault : Option (ℕ × FrameFault)) (end : FileEnd) → EndsSo size src old new end → (fault ≡ None → Sound)
+      → ((file : ℕ) (f : FrameFault) → fault ≡ Some (file, f) → f ≢ NoMemory → (file ≤ at) × StopsAt size src was sources file f)
       → (file : ℕ) (f : FrameFault) → option_or fault (end_fault number end) ≡ Some (file, f) → f ≢ NoMemory
-      → (file ≤ at + 1) × StopsAt size faults end_count left was (sources ++ new ∷ []) file f
+      → (file ≤ at + 1) × StopsAt size src was (sources ++ new ∷ []) file f
   cause (Some x) end ends so was_cause file f is other =
       let c = was_cause file f is other in
       let stops = c.1 in (
@@ -99,9 +95,9 @@ so-far-more {S} size faults end_count left was at sources fault starved old new 
         record {
           first = stops.first;
           last = stops.last;
-          before = λ k d less. subst (IsWhole size faults end_count left (slice_index_or was k d))
+          before = λ k d less. subst (IsWhole size src (slice_index_or was k d))
               (sym (get_or_append_left sources (new ∷ []) d k (omega (arith, less, c.0, s.count)))) (stops.before k d less);
-          cause = λ d. subst (λ y. IsStopped size faults left (slice_index_or was (file - 1) d) y f)
+          cause = λ d. subst (λ y. IsStopped size src (slice_index_or was (file - 1) d) y f)
               (sym (get_or_append_left sources (new ∷ []) d (file - 1) (omega (arith, stops.first, c.0, s.count)))) (stops.cause d);
         },
       )
@@ -117,11 +113,11 @@ so-far-more {S} size faults end_count left was at sources fault starved old new 
         record {
           first = omega (arith, number_is, is_next);
           last = omega (arith, number_is, is_next, within);
-          before = λ k d less. subst (IsWhole size faults end_count left (slice_index_or was k d))
+          before = λ k d less. subst (IsWhole size src (slice_index_or was k d))
               (sym (get_or_append_left sources (new ∷ []) d k (omega (arith, less, number_is, is_next, s.count))))
               (so refl k d (omega (arith, less, number_is, is_next)));
-          cause = λ d. subst (λ j. IsStopped size faults left (slice_index_or was j d) (slice_index_or (sources ++ new ∷ []) j d) f) (sym here)
-              (subst (λ y. IsStopped size faults left (slice_index_or was at d) y f) (sym (get_or_push sources new d at s.count))
-              (subst (λ x. IsStopped size faults left x new f) (sym (is_old d)) (subst (IsStopped size faults left old new) fault_is ends)));
+          cause = λ d. subst (λ j. IsStopped size src (slice_index_or was j d) (slice_index_or (sources ++ new ∷ []) j d) f) (sym here)
+              (subst (λ y. IsStopped size src (slice_index_or was at d) y f) (sym (get_or_push sources new d at s.count))
+              (subst (λ x. IsStopped size src x new f) (sym (is_old d)) (subst (IsStopped size src old new) fault_is ends)));
         },
       )

@@ -6,23 +6,22 @@ use Rattle.scq_frames.specs.declared.fault.FrameFault.TheVariants as frame
 use Rattle.scq_files.specs.Ends.{AllEndFed, HasMoved, StopsAt}
 use Rattle.scq_files.specs.Files.{files_of}
 use Rattle.scq_files.specs.OwnFiles.{StopsAtAFault, ids_of}
-use Rattle.scq_files.specs.Reading.{EndsSo, IsWhole}
+use Rattle.scq_files.specs.Reading.{EndsSo, IsWhole, SourceOf}
 use Rattle.scq_files.specs.declared.desk.Desk.{Desk}
 use Rattle.scq_files.specs.declared.own_file.FileEnd.TheVariants.{Whole}
 
 -- how the reading of all files ended, by what is gathered of them: their sources, the first fault,
 -- and whether memory was wanted
-pub record AreGathered {S : Type 0} (size : ℕ) (faults end_count : S → ℕ) (left : S
-    → Option (List ℕ)) (was news : List S)
+pub record AreGathered {S : Type 0} (size : ℕ) (src : SourceOf S) (was news : List S)
     (fault : Option (ℕ × FrameFault)) (starved : Bool) : Type 0 where
   pub count : length news ≡ length was
   pub moved : (k : ℕ) (d : S) → k < length was
-      → HasMoved faults left (slice_index_or was k d) (slice_index_or news k d)
+      → HasMoved src (slice_index_or was k d) (slice_index_or news k d)
   pub sound : fault ≡ None → (k : ℕ) (d : S) → k < length was
-      → IsWhole size faults end_count left (slice_index_or was k d) (slice_index_or news k d)
+      → IsWhole size src (slice_index_or was k d) (slice_index_or news k d)
   pub cause : (file : ℕ) (f : FrameFault) → fault ≡ Some (file, f) → f ≢ frame.NoMemory
-      → StopsAt size faults end_count left was news file f
-  pub fed : starved ≡ false → AllEndFed size faults end_count left was news
+      → StopsAt size src was news file f
+  pub fed : starved ≡ false → AllEndFed size src was news
 
 module _ {W S : Type 0} where
   -- the workers at desks
@@ -46,7 +45,7 @@ module _ {W S : Type 0} where
   AllStop desks = All (λ d. StopsAtAFault d.files.items) desks
 
   -- the reading of each file ended as its desk has it
-  abbrev pub AllEnded : ℕ → (S → ℕ) → (S → ℕ) → (S → Option (List ℕ)) → List (Desk W S) → Type 0
-  AllEnded size faults end_count left desks =
+  abbrev pub AllEnded : ℕ → SourceOf S → List (Desk W S) → Type 0
+  AllEnded size src desks =
       All (λ d. All (λ f.
-      EndsSo size faults end_count left f.was.value f.source f.end) d.files.items) desks
+      EndsSo size src f.was.value f.source f.end) d.files.items) desks

@@ -13,7 +13,7 @@ use Rattle.scq_frames.specs.declared.message.Message.{Message}
 use Rattle.scq_frames.specs.Numbered.{numbered}
 use Rattle.scq_frames.specs.Text.{messages_of}
 use Rattle.scq_files.specs.Files.{OfEachFile}
-use Rattle.scq_files.specs.Reading.{AreOf, EndsSo, IsWhole, IsStopped}
+use Rattle.scq_files.specs.Reading.{AreOf, EndsSo, IsWhole, IsStopped, SourceOf}
 use Rattle.scq_files.specs.declared.own_file.FileEnd.{FileEnd}
 use Rattle.scq_files.specs.declared.own_file.FileEnd.TheVariants.{Unread, Whole, Stopped}
 
@@ -36,48 +36,44 @@ wanted_memory (Stopped frame.NoMemory) = true
 
 -- a source gave some bytes, and has the others left. At most one of its reads failed, and its count
 -- of faults says so
-pub record HasMoved {S : Type 0} (faults : S → ℕ) (left : S
-    → Option (List ℕ)) (old new : S) : Type 0 where
+pub record HasMoved {S : Type 0} (src : SourceOf S) (old new : S) : Type 0 where
   pub bytes : List ℕ
-  pub moved : left old ≡ option_map (λ rest. bytes ++ rest) (left new)
-  pub counted : (faults new ≡ faults old) ⊎ Rose (faults old) (faults new)
+  pub moved : src.left old ≡ option_map (λ rest. bytes ++ rest) (src.left new)
+  pub counted : (src.faults new ≡ src.faults old) ⊎ Rose (src.faults old) (src.faults new)
 
 -- the files before this one were read to their ends, and the reading of this one stopped at the
 -- fault
-pub record StopsAt {S : Type 0} (size : ℕ) (faults end_count : S → ℕ) (left : S
-    → Option (List ℕ)) (olds news : List S) (file : ℕ) (fault : FrameFault)
-    : Type 0 where
+pub record StopsAt {S : Type 0} (size : ℕ) (src : SourceOf S) (olds news : List S) (file : ℕ)
+    (fault : FrameFault) : Type 0 where
   pub first : 0 < file
   pub last : file ≤ length olds
   pub before : (k : ℕ) (d : S) → k + 1 < file
-      → IsWhole size faults end_count left (slice_index_or olds k d) (slice_index_or news k d)
+      → IsWhole size src (slice_index_or olds k d) (slice_index_or news k d)
   pub cause : (d : S)
-      → IsStopped size faults left (slice_index_or olds (file - 1) d)
+      → IsStopped size src (slice_index_or olds (file - 1) d)
       (slice_index_or news (file - 1) d) fault
 
 -- the source is as an unread one, or as one whose reading ended otherwise than for want of memory
-pub record EndsFed {S : Type 0} (size : ℕ) (faults end_count : S → ℕ) (left : S
-    → Option (List ℕ)) (old new : S) : Type 0 where
+pub record EndsFed {S : Type 0} (size : ℕ) (src : SourceOf S) (old new : S) : Type 0 where
   pub end : FileEnd
-  pub ends : EndsSo size faults end_count left old new end
+  pub ends : EndsSo size src old new end
   pub fed : wanted_memory end ≡ false
 
 -- so it is of each source
-abbrev pub AllEndFed : {S : Type 0} → ℕ → (S → ℕ) → (S → ℕ) → (S → Option (List ℕ)) → List S
-    → List S → Type 0
-AllEndFed {S} size faults end_count left olds news =
+abbrev pub AllEndFed : {S : Type 0} → ℕ → SourceOf S → List S → List S → Type 0
+AllEndFed {S} size src olds news =
     (k : ℕ) (d : S) → k < length olds
-    → EndsFed size faults end_count left (slice_index_or olds k d) (slice_index_or news k d)
+    → EndsFed size src (slice_index_or olds k d) (slice_index_or news k d)
 
 -- each worker read its files in turn, and none behind one at which it stopped. How the reading of
 -- each file ended stands in the order of the files. File k, from 0, is that of worker k mod their
 -- number
-pub record StopsAtFaults {S : Type 0} (workers size : ℕ) (faults end_count : S → ℕ)
-    (left : S → Option (List ℕ)) (olds news : List S) : Type 0 where
+pub record StopsAtFaults {S : Type 0} (workers size : ℕ) (src : SourceOf S) (olds news : List S)
+    : Type 0 where
   pub end_of : List FileEnd
   pub count : length end_of ≡ length olds
   pub ends : (k : ℕ) (d : S) (e : FileEnd) → k < length olds
-      → EndsSo size faults end_count left (slice_index_or olds k d) (slice_index_or news k d)
+      → EndsSo size src (slice_index_or olds k d) (slice_index_or news k d)
       (slice_index_or end_of k e)
   pub stops : (i j : ℕ) (e : FileEnd) (fault : FrameFault) → i < j → j < length olds
       → i % workers ≡ j % workers → slice_index_or end_of i e ≡ Stopped fault

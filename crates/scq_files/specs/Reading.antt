@@ -5,6 +5,7 @@ use Rattle.std.specs.Prelude.{◌≡◌, ◌≢◌, ℕ, ◌+◌, ◌^◌, ◌<�
 use Rattle.std.specs.Prelude.{IfSome, length, map, max, sum_by, All}
 use Rattle.std.specs.Option.{option_map}
 use Rattle.scq_outside.specs.Counts.{Rose}
+pub use Rattle.scq_outside.specs.declared.source.Source.{Ghosts as SourceOf}
 use Rattle.scq_topics.specs.declared.kind.Kind.{Kind}
 use Rattle.scq_topics.specs.Topics.{topic_of}
 use Rattle.scq_frames.specs.declared.fault.FrameFault.{FrameFault}
@@ -18,30 +19,28 @@ use Rattle.scq_files.specs.declared.own_file.FileEnd.{FileEnd}
 use Rattle.scq_files.specs.declared.own_file.FileEnd.TheVariants.{Unread, Whole, Stopped}
 
 -- it was read to its end, which it answered just once, and nothing is wrong with it
-pub record IsWhole {S : Type 0} (size : ℕ) (faults end_count : S → ℕ) (left : S
-    → Option (List ℕ)) (old new : S) : Type 0 where
-  pub judged : Judged size (left old) (left new) None
-  pub ended : NothingLeft (left new)
-  pub once : Rose (end_count old) (end_count new)
-  pub kept : faults new ≡ faults old
+pub record IsWhole {S : Type 0} (size : ℕ) (src : SourceOf S) (old new : S) : Type 0 where
+  pub judged : Judged size (src.left old) (src.left new) None
+  pub ended : NothingLeft (src.left new)
+  pub once : Rose (src.ends old) (src.ends new)
+  pub kept : src.faults new ≡ src.faults old
 
 -- the reading stopped at this fault
-pub record IsStopped {S : Type 0} (size : ℕ) (faults : S → ℕ) (left : S
-    → Option (List ℕ)) (old new : S) (fault : FrameFault) : Type 0 where
-  pub judged : Judged size (left old) (left new) (Some fault)
-  pub rose : fault ≡ ReadFault → Rose (faults old) (faults new)
-  pub kept : fault ≢ ReadFault → faults new ≡ faults old
+pub record IsStopped {S : Type 0} (size : ℕ) (src : SourceOf S) (old new : S) (fault : FrameFault)
+    : Type 0 where
+  pub judged : Judged size (src.left old) (src.left new) (Some fault)
+  pub rose : fault ≡ ReadFault → Rose (src.faults old) (src.faults new)
+  pub kept : fault ≢ ReadFault → src.faults new ≡ src.faults old
   pub long : (line len : ℕ) → fault ≡ TooLong line len → (0 < line) × (size < len)
   pub large : (bytes : ℕ) → fault ≡ TooLarge bytes
       → (bytes ≡ 2 ^ 30 + 1)
-      × (option_map length (left old) ≡ option_map (λ rest. bytes + length rest) (left new))
+      × (option_map length (src.left old) ≡ option_map (λ rest. bytes + length rest) (src.left new))
 
 -- it ended so
-abbrev pub EndsSo : {S : Type 0} → ℕ → (S → ℕ) → (S → ℕ) → (S → Option (List ℕ)) → S → S → FileEnd
-    → Type 0
-EndsSo size faults end_count left old new Unread = new ≡ old
-EndsSo size faults end_count left old new Whole = IsWhole size faults end_count left old new
-EndsSo size faults end_count left old new (Stopped fault) = IsStopped size faults left old new fault
+abbrev pub EndsSo : {S : Type 0} → ℕ → SourceOf S → S → S → FileEnd → Type 0
+EndsSo size src old new Unread = new ≡ old
+EndsSo size src old new Whole = IsWhole size src old new
+EndsSo size src old new (Stopped fault) = IsStopped size src old new fault
 
 -- the messages that were given of a file with this number: none of an unread one, and where its
 -- bytes are visible and all were read, all of them
@@ -64,11 +63,10 @@ most_parts m = max 1 (length m.payload)
 -- what is known of a file by how it ended: its source before and after, and the messages that it
 -- gave. Together they have at most 2 ^ 30 parts: each message adds one more than the parts that it
 -- may have to its framer's sum, which is at most 2 ^ 30 + 1.
-pub record IsRead {S : Type 0} (topics : List (List ℕ × Kind)) (size : ℕ) (faults end_count : S
-    → ℕ) (left : S → Option (List ℕ)) (file : ℕ) (old new : S)
-    (given : List Message) (end : FileEnd) : Type 0 where
-  pub ends : EndsSo size faults end_count left old new end
-  pub gave : GaveAll topics file (left old) end given
+pub record IsRead {S : Type 0} (topics : List (List ℕ × Kind)) (size : ℕ) (src : SourceOf S)
+    (file : ℕ) (old new : S) (given : List Message) (end : FileEnd) : Type 0 where
+  pub ends : EndsSo size src old new end
+  pub gave : GaveAll topics file (src.left old) end given
   pub all : AreOf (length topics) file 0 given
   pub short : All (λ m. length m.payload ≤ size) given
   pub few : sum_by most_parts given ≤ 2 ^ 30

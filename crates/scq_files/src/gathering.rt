@@ -73,11 +73,11 @@ pub fn gather<W, S: Source>(
     requires empty { (gathered.old.sources.items ≡ []) × (vec_len gathered.old.sources ≡ 0)
         × (count ≤ vec_capacity gathered.old.sources)
         × (gathered.old.fault ≡ None) }
-    ensures gathered { (size : ℕ) → AllEnded size S.faults S.ends S.left desks.old
-        → AreGathered size S.faults S.ends S.left was.now.value.items gathered.new.sources.items
+    ensures gathered { (size : ℕ) → AllEnded size S.Source desks.old
+        → AreGathered size S.Source was.now.value.items gathered.new.sources.items
         gathered.new.fault gathered.new.starved }
-    ensures stops { (size : ℕ) → AllEnded size S.faults S.ends S.left desks.old → AllStop desks.old
-        → StopsAtFaults (length desks.old) size S.faults S.ends S.left
+    ensures stops { (size : ℕ) → AllEnded size S.Source desks.old → AllStop desks.old
+        → StopsAtFaults (length desks.old) size S.Source
         was.now.value.items gathered.new.sources.items }
     ensures whole { gathered.new.fault ≡ None → AllWhole desks.old }
     ensures same { workers_at desks.new ≡ workers_at desks.old }

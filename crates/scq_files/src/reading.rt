@@ -34,9 +34,9 @@ fn read_messages<C, T, H: Handler<C, T>, S: Source>(
     requires takes { (m : TheMessage) → m.topic ≤ length topics.now → length m.payload ≤ longest
         → H.takes with.now m }
     requires none { given_in given.old.value ≡ [] }
-    ensures read { IfOk result (λ end. IsRead topics.now longest S.faults S.ends S.left file
+    ensures read { IfOk result (λ end. IsRead topics.now longest S.Source file
         source.old source.new (given_in given.new.value) end) }
-    ensures unended { IfErr result (λ _. IsRead topics.now longest S.faults S.ends S.left file
+    ensures unended { IfErr result (λ _. IsRead topics.now longest S.Source file
         source.old source.new (given_in given.new.value) (FileEnd.Stopped FrameFault.NoMemory)) }
     ensures handled { OnOk result (H.handled with.now (given_in given.new.value)
         beside.old handler.old beside.new handler.new) }
@@ -83,7 +83,7 @@ fn read_file<C, T, H: Handler<C, T>, S: Source>(
     requires unread { IsNew file.old }
     ensures same { (file.new.number ≡ file.old.number)
         × (file.new.was.value ≡ file.old.was.value) }
-    ensures read { IsRead topics.now longest S.faults S.ends S.left file.new.number
+    ensures read { IsRead topics.now longest S.Source file.new.number
         file.new.was.value file.new.source (given_in file.new.given.value) file.new.end }
     ensures handled { OnOk result (H.handled with.now (given_in file.new.given.value)
         beside.old handler.old beside.new handler.new) }
@@ -133,7 +133,7 @@ pub fn read_files<C, T, H: Handler<C, T>, S: Source>(
         → H.takes with.now m }
     requires unread { All IsNew files.old }
     ensures same { ids_of files.new ≡ ids_of files.old }
-    ensures read { All (λ f. IsRead topics.now longest S.faults S.ends S.left f.number f.was.value
+    ensures read { All (λ f. IsRead topics.now longest S.Source f.number f.was.value
         f.source (given_in f.given.value) f.end) files.new }
     ensures stops { StopsAtAFault files.new }
     ensures handled { OnOk result (H.handled with.now (all_given files.new)

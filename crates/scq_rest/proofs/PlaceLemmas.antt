@@ -1,5 +1,5 @@
 -- How the ends of workers are known by what each was given; and lists in which one element after the other is replaced.
-use Rattle.std.proofs.Common.{◌≡◌, ◌≢◌, ◌∙◌, sym, subst, arith, ℕ, ◌+◌, ◌<◌, List, [], ◌∷◌, ◌++◌, Option, length, map, reverse, set, get_or, length-set, get_or-set_other, append_assoc}
+use Rattle.std.proofs.Common.{◌≡◌, ◌≢◌, ◌∙◌, sym, subst, arith, ℕ, ◌+◌, ◌<◌, List, [], ◌∷◌, ◌++◌, length, map, reverse, set, get_or, length-set, get_or-set_other, append_assoc}
 use Rattle.std.specs.List.{AllWithin, AllZip}
 use Rattle.std.proofs.lemmas.List.Elements.{AllWithin-more_set}
 use Rattle.std.proofs.Math.Seq.{map-set_same}
@@ -12,15 +12,15 @@ use Rattle.scq_worker.specs.declared.job.Job.{Job}
 use Rattle.scq_rest.specs.declared.threads.HandedBack.{HandedBack}
 use Rattle.scq_rest.specs.declared.threads.WorksOn.{WorksOn}
 use Rattle.scq_passes.proofs.Parting.{turned}
+use Rattle.scq_files.specs.Reading.{SourceOf}
 
 -- a started worker's end, as its place tells it
-pub ends-here : {S : Type 0} (q : Identity Frame) (j : Job) (crew : List TableId) (faults end_count : S → ℕ) (left : S → Option (List ℕ)) (w : WorksOn S)
-    (end : HandedBack S) → Begins q j crew faults end_count left w
-    → HandsBack (task w.queue.value w.job.value w.crew.value faults end_count left) w.work.value end
-    → HandsBack (task q j crew faults end_count left) w.work.value end
-ends-here q j crew faults end_count left w end was so =
-    let same : task w.queue.value w.job.value w.crew.value faults end_count left ≡ task q j crew faults end_count left =
-    λ i. task (was.queue i) (was.job i) (was.of i) faults end_count left in
+pub ends-here : {S : Type 0} (q : Identity Frame) (j : Job) (crew : List TableId) (src : SourceOf S) (w : WorksOn S)
+    (end : HandedBack S) → Begins q j crew src w → HandsBack (task w.queue.value w.job.value w.crew.value src) w.work.value end
+    → HandsBack (task q j crew src) w.work.value end
+ends-here q j crew src w end was so =
+    let same : task w.queue.value w.job.value w.crew.value src ≡ task q j crew src =
+    λ i. task (was.queue i) (was.job i) (was.of i) src in
     subst (λ (t : Task _). HandsBack t w.work.value end) same so
 
 -- lists in which one element after the other is replaced by one that f can't tell from what it was

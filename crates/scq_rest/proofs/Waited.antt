@@ -7,6 +7,7 @@ use Rattle.scq_passes.specs.Calls.{HasTaken, after_retire}
 use Rattle.scq_passes.specs.Records.{IsReturn}
 use Rattle.scq_passes.specs.Waiting.{SweepsInVain}
 use Rattle.scq_passes.proofs.Vain.{sweeps-begin}
+use Rattle.scq_files.specs.Reading.{SourceOf}
 use Rattle.scq_worker.specs.Desks.{IsToSweep}
 use Rattle.scq_worker.specs.declared.job.Job.{Job}
 use Rattle.scq_worker.specs.declared.worker.Worker.{Worker}
@@ -24,16 +25,15 @@ module _ {B : Type 0} where
     left = λ none. absurd (none-or p.spent ticket is none);
   }
 
-module _ {B S : Type 0} (shared : Identity B) (job : Job) (faults end_count : S → ℕ) (left : S → Option (List ℕ)) (files : List (OwnFile S)) (was now : Worker B)
-    (kept : Option (HeldStanding B))
-    (t : IsToSweep shared job.topics job.size job.longest faults end_count left files was.pass was.members was.starved kept) where
+module _ {B S : Type 0} (shared : Identity B) (job : Job) (src : SourceOf S) (files : List (OwnFile S)) (was now : Worker B) (kept : Option (HeldStanding B))
+    (t : IsToSweep shared job.topics job.size job.longest src files was.pass was.members was.starved kept) where
   left-told : (contents : B → List ℕ) (topics rests : ℕ) → HasTaken was.pass now.pass → HasSweptTold contents shared IsReturn topics rests was.pass now.pass
       → HasLeftTold contents IsReturn topics rests now.pass
   left-told contents topics rests taken end = record {
     before = t.before;
     unasked = t.work.producing.unasked;
     swept = subst (λ (k : Identity B). HasSweptTold contents k IsReturn topics rests (after_retire t.before) now.pass)
-        (sym (queue-swept shared job faults end_count left files was now kept t taken))
+        (sym (queue-swept shared job src files was now kept t taken))
         (subst (λ (x : PassStanding B). HasSweptTold contents shared IsReturn topics rests x now.pass) t.retired end);
   }
 

@@ -1,10 +1,11 @@
 -- What becomes of the workers that are to be started.
-use Rattle.std.specs.Prelude.{◌≡◌, ℕ, ◌≤◌, List, [], Option, Vec, vec_len, vec_capacity, All}
+use Rattle.std.specs.Prelude.{◌≡◌, ℕ, ◌≤◌, List, [], Vec, vec_len, vec_capacity, All}
 use Rattle.std.specs.Global.{Global}
 use Rattle.std.specs.List.{AllZip}
 use Rattle.atomic_table.specs.Seated.{TableId}
 use Rattle.scq_block.specs.declared.frame.Frame.{Frame}
 use Rattle.scq_band.specs.Standing.{Identity}
+use Rattle.scq_files.specs.Reading.{SourceOf}
 use Rattle.scq_rest.specs.Threads.{Task, task, IsReady, IsGiven, HasDone}
 use Rattle.scq_worker.specs.declared.job.Job.{Job}
 use Rattle.scq_rest.specs.declared.places.Runner.{Runner}
@@ -20,24 +21,22 @@ module _ {S : Type 0} where
   given_to (Done was work) = was.work.value
 
   -- a worker of this queue, job and crew was given what one begins with
-  pub record Begins (q : Identity Frame) (j : Job) (crew : List TableId) (faults end_count : S
-      → ℕ) (left : S → Option (List ℕ)) (w : WorksOn S) : Type 0 where
+  pub record Begins (q : Identity Frame) (j : Job) (crew : List TableId) (src : SourceOf S)
+      (w : WorksOn S) : Type 0 where
     pub queue : w.queue.value ≡ q
     pub job : w.job.value ≡ j
     pub of : w.crew.value ≡ crew
-    pub given : IsGiven (task q j crew faults end_count left) w.work.value
+    pub given : IsGiven (task q j crew src) w.work.value
 
   -- so stands the worker of a place: where it has a thread of its own, that will tell; where the
   -- caller runs it, R holds of what it was given and what it has
   abbrev pub HasWork : (Task S → Work S → Work S → Type 0) → Identity Frame → Job → List TableId
-      → (S → ℕ) → (S → ℕ) → (S → Option (List ℕ)) → Runner S → Type 0
-  HasWork R q j crew faults end_count left (Started h) =
-      Begins q j crew faults end_count left h.promise
-  HasWork R q j crew faults end_count left (Here was work) =
-      Begins q j crew faults end_count left was
-      × R (task q j crew faults end_count left) was.work.value work
-  HasWork R q j crew faults end_count left (Done was work) =
-      HasDone (task q j crew faults end_count left) was.work.value work
+      → SourceOf S → Runner S → Type 0
+  HasWork R q j crew src (Started h) = Begins q j crew src h.promise
+  HasWork R q j crew src (Here was work) =
+      Begins q j crew src was
+      × R (task q j crew src) was.work.value work
+  HasWork R q j crew src (Done was work) = HasDone (task q j crew src) was.work.value work
 
   abbrev pub IsUntouched : Task S → Work S → Work S → Type 0
   IsUntouched t given work = work ≡ given

@@ -1,5 +1,5 @@
 -- What the worker of a thread is given, what it makes of that, and how its thread ends.
-use Rattle.std.specs.Prelude.{◌≡◌, ℕ, ◌+◌, ◌<◌, ◌≤◌, List, Option, length, All}
+use Rattle.std.specs.Prelude.{◌≡◌, ℕ, ◌+◌, ◌<◌, ◌≤◌, List, length, All}
 use Rattle.atomic_table.specs.Seated.{TableId}
 use Rattle.scq_block.specs.Frames.{bytes_of}
 use Rattle.scq_block.specs.declared.frame.Frame.{Frame}
@@ -8,6 +8,7 @@ use Rattle.scq_band.specs.Standing.{Identity}
 use Rattle.scq_park.specs.Crews.{first_post}
 use Rattle.scq_worker.specs.Seats.{IsFresh}
 use Rattle.scq_files.specs.OwnFiles.{IsNew, ids_of}
+use Rattle.scq_files.specs.Reading.{SourceOf}
 use Rattle.scq_worker.specs.Desks.{HasProduced, HasRun}
 use Rattle.scq_rest.specs.Waiting.{HasWaited}
 use Rattle.scq_worker.specs.Bells.{but_wakes}
@@ -17,21 +18,18 @@ use Rattle.scq_rest.specs.declared.threads.HandedBack.{HandedBack}
 use Rattle.scq_rest.specs.declared.threads.HandedBack.TheVariants.{Worked, Unbegun}
 
 -- what all workers share: their queue, what they are to do, their crew, and what sources tell
-pub record Task (S : Type 0) : Type 0 where
+pub record Task (S : Type 0) : Type 1 where
   pub queue : Identity Frame
   pub topics : List (List ℕ × Kind)
   pub size : ℕ
   pub longest : ℕ
   pub workers : ℕ
   pub crew : List TableId
-  pub faults : S → ℕ
-  pub end_count : S → ℕ
-  pub left : S → Option (List ℕ)
+  pub src : SourceOf S
 
 module _ {S : Type 0} where
-  abbrev pub task : Identity Frame → Job → List TableId → (S → ℕ) → (S → ℕ) → (S → Option (List ℕ))
-      → Task S
-  task q j crew faults end_count left =
+  abbrev pub task : Identity Frame → Job → List TableId → SourceOf S → Task S
+  task q j crew src =
       record {
         queue = q;
         topics = j.topics;
@@ -39,9 +37,7 @@ module _ {S : Type 0} where
         longest = j.longest;
         workers = j.workers;
         crew = crew;
-        faults = faults;
-        end_count = end_count;
-        left = left;
+        src = src;
       }
 
   -- they can begin: the queue has a ring for each topic and frames with room for a part, and the
@@ -65,7 +61,7 @@ module _ {S : Type 0} where
 
   -- one that has read its files and retired
   pub record IsBegun (t : Task S) (w : Work S) : Type 0 where
-    pub produced : HasProduced t.queue t.topics t.size t.longest t.faults t.end_count t.left
+    pub produced : HasProduced t.queue t.topics t.size t.longest t.src
         w.desk.files.items w.desk.worker.worker.pass
         w.desk.worker.worker.members w.desk.worker.worker.starved w.desk.worker.kept
     pub stand : w.stand.crew ≡ t.crew
@@ -80,7 +76,7 @@ module _ {S : Type 0} where
 
   -- its whole work is done
   pub record HasDone (t : Task S) (old new : Work S) : Type 0 where
-    pub run : HasRun t.queue t.topics t.size t.longest t.faults t.end_count t.left
+    pub run : HasRun t.queue t.topics t.size t.longest t.src
         new.desk.files.items new.desk.worker.worker.pass
         new.desk.worker.worker.members new.desk.worker.worker.starved new.desk.worker.kept
     pub waited : HasWaited bytes_of (length t.topics

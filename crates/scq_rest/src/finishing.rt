@@ -25,14 +25,14 @@ pub fn finish<S: Source, G: Gate, R: Wait>(
     crew: &Crew,
     stand: &mut Stand,
 )
-    requires produced { HasProduced queue.now job.now.topics job.now.size job.now.longest S.faults
-        S.ends S.left desk.old.files.items desk.old.worker.worker.pass
-        desk.old.worker.worker.members desk.old.worker.worker.starved desk.old.worker.kept }
+    requires produced { HasProduced queue.now job.now.topics job.now.size job.now.longest S.Source
+        desk.old.files.items desk.old.worker.worker.pass desk.old.worker.worker.members
+        desk.old.worker.worker.starved desk.old.worker.kept }
     requires stand { (stand.old.crew ≡ crew.now) × (stand.old.rests ≡ 0) }
     ensures same { desk.new.files.items ≡ desk.old.files.items }
-    ensures run { HasRun queue.now job.now.topics job.now.size job.now.longest S.faults S.ends
-        S.left desk.new.files.items desk.new.worker.worker.pass
-        desk.new.worker.worker.members desk.new.worker.worker.starved desk.new.worker.kept }
+    ensures run { HasRun queue.now job.now.topics job.now.size job.now.longest S.Source
+        desk.new.files.items desk.new.worker.worker.pass desk.new.worker.worker.members
+        desk.new.worker.worker.starved desk.new.worker.kept }
     ensures waited { HasWaited bytes_of (length job.now.topics
         + 1) stand.new.rests desk.new.worker.worker.pass }
     ensures number { desk.new.worker.worker.pass.number ≡ desk.old.worker.worker.pass.number }
@@ -56,14 +56,14 @@ fn rest_out<S: Source, G: Gate, R: Wait>(
     crew: &Crew,
     stand: &mut Stand,
 )
-    requires sweep { IsToSweep queue.now job.now.topics job.now.size job.now.longest S.faults S.ends
-        S.left desk.old.files.items desk.old.worker.worker.pass
-        desk.old.worker.worker.members desk.old.worker.worker.starved desk.old.worker.kept }
+    requires sweep { IsToSweep queue.now job.now.topics job.now.size job.now.longest S.Source
+        desk.old.files.items desk.old.worker.worker.pass desk.old.worker.worker.members
+        desk.old.worker.worker.starved desk.old.worker.kept }
     requires stand { (stand.old.crew ≡ crew.now) × (stand.old.rests ≡ 0) }
     ensures same { desk.new.files.items ≡ desk.old.files.items }
-    ensures run { HasRun queue.now job.now.topics job.now.size job.now.longest S.faults S.ends
-        S.left desk.new.files.items desk.new.worker.worker.pass
-        desk.new.worker.worker.members desk.new.worker.worker.starved desk.new.worker.kept }
+    ensures run { HasRun queue.now job.now.topics job.now.size job.now.longest S.Source
+        desk.new.files.items desk.new.worker.worker.pass desk.new.worker.worker.members
+        desk.new.worker.worker.starved desk.new.worker.kept }
     ensures waited { HasWaited bytes_of (length job.now.topics
         + 1) stand.new.rests desk.new.worker.worker.pass }
     ensures number { desk.new.worker.worker.pass.number ≡ desk.old.worker.worker.pass.number }

@@ -38,10 +38,10 @@ fn begin<'s, E, R: Threads + Wait + Sync + 's, S: Source + 's, G: Gate + Sync + 
     held_back: &'s AtomicBool,
     given: Work<S>,
 ) -> Runner<S>
-    requires ready { IsReady (task queue.now job.now crew.now S.faults S.ends S.left) }
-    requires given { IsGiven (task queue.now job.now crew.now S.faults S.ends S.left) given }
+    requires ready { IsReady (task queue.now job.now crew.now S.Source) }
+    requires given { IsGiven (task queue.now job.now crew.now S.Source) given }
     ensures given { given_to result ≡ given }
-    ensures stands { HasWork IsUntouched queue.now job.now crew.now S.faults S.ends S.left result }
+    ensures stands { HasWork IsUntouched queue.now job.now crew.now S.Source result }
 {
     let was = WorksOn::of(job, queue, crew, &given);
     match start(rt, scope, alloc, job, queue, gate, crew, held_back, given) {
@@ -61,12 +61,10 @@ impl<S: Source> Runner<S> {
         gate: &G,
         crew: &Crew,
     )
-        requires ready { IsReady (task queue.now job.now crew.now S.faults S.ends S.left) }
-        requires stands { HasWork IsUntouched queue.now job.now crew.now S.faults S.ends S.left
-            self.old }
+        requires ready { IsReady (task queue.now job.now crew.now S.Source) }
+        requires stands { HasWork IsUntouched queue.now job.now crew.now S.Source self.old }
         ensures given { given_to self.new ≡ given_to self.old }
-        ensures stands { HasWork HasBegun queue.now job.now crew.now S.faults S.ends S.left
-            self.new }
+        ensures stands { HasWork HasBegun queue.now job.now crew.now S.Source self.new }
     {
         match self {
             Runner::Started(_) => {}
@@ -85,11 +83,9 @@ impl<S: Source> Runner<S> {
         gate: &G,
         crew: &Crew,
     )
-        requires stands { HasWork HasBegun queue.now job.now crew.now S.faults S.ends S.left
-            self.old }
+        requires stands { HasWork HasBegun queue.now job.now crew.now S.Source self.old }
         ensures given { given_to self.new ≡ given_to self.old }
-        ensures stands { HasWork HasDone queue.now job.now crew.now S.faults S.ends S.left
-            self.new }
+        ensures stands { HasWork HasDone queue.now job.now crew.now S.Source self.new }
     {
         match self {
             Runner::Started(_) => {}
@@ -108,10 +104,9 @@ impl<S: Source> Runner<S> {
         gate: &G,
         crew: &Crew,
     ) -> Work<S>
-        requires ready { IsReady (task queue.now job.now crew.now S.faults S.ends S.left) }
-        requires stands { HasWork HasDone queue.now job.now crew.now S.faults S.ends S.left self }
-        ensures { HasDone (task queue.now job.now crew.now S.faults S.ends S.left)
-            (given_to self) result }
+        requires ready { IsReady (task queue.now job.now crew.now S.Source) }
+        requires stands { HasWork HasDone queue.now job.now crew.now S.Source self }
+        ensures { HasDone (task queue.now job.now crew.now S.Source) (given_to self) result }
     {
         match self {
             Runner::Started(handle) => match handle.join(rt) {
@@ -137,12 +132,12 @@ fn produce_all<S: Source, G: Gate>(
     gate: &G,
     crew: &Crew,
 )
-    requires ready { IsReady (task queue.now job.now crew.now S.faults S.ends S.left) }
+    requires ready { IsReady (task queue.now job.now crew.now S.Source) }
     requires stands { All
-        (HasWork IsUntouched queue.now job.now crew.now S.faults S.ends S.left) places.old }
+        (HasWork IsUntouched queue.now job.now crew.now S.Source) places.old }
     ensures given { map given_to places.new ≡ map given_to places.old }
     ensures stands { All
-        (HasWork HasBegun queue.now job.now crew.now S.faults S.ends S.left) places.new }
+        (HasWork HasBegun queue.now job.now crew.now S.Source) places.new }
 {
     'places: for place in places.iter_mut() {
         place.produce(alloc, job, queue, gate, crew);
@@ -159,10 +154,10 @@ fn finish_all<S: Source, G: Gate, R: Wait>(
     crew: &Crew,
 )
     requires stands { All
-        (HasWork HasBegun queue.now job.now crew.now S.faults S.ends S.left) places.old }
+        (HasWork HasBegun queue.now job.now crew.now S.Source) places.old }
     ensures given { map given_to places.new ≡ map given_to places.old }
     ensures stands { All
-        (HasWork HasDone queue.now job.now crew.now S.faults S.ends S.left) places.new }
+        (HasWork HasDone queue.now job.now crew.now S.Source) places.new }
 {
     'places: for place in places.iter_mut() {
         place.finish(rt, alloc, job, queue, gate, crew);
@@ -182,15 +177,15 @@ fn begin_all<'s, E, R: Threads + Wait + Sync + 's, S: Source + 's, G: Gate + Syn
     mut given: Vec<Work<S>>,
     places: &mut Vec<Runner<S>>,
 )
-    requires ready { IsReady (task queue.now job.now crew.now S.faults S.ends S.left) }
+    requires ready { IsReady (task queue.now job.now crew.now S.Source) }
     requires given { All
-        (IsGiven (task queue.now job.now crew.now S.faults S.ends S.left)) given.items }
+        (IsGiven (task queue.now job.now crew.now S.Source)) given.items }
     requires flags { vec_len given ≤ length flags.now }
     requires empty { places.old.items ≡ [] }
     requires room { vec_len given ≤ vec_capacity places.old }
     ensures given { map given_to places.new.items ≡ given.items }
     ensures stands { All
-        (HasWork IsUntouched queue.now job.now crew.now S.faults S.ends S.left) places.new.items }
+        (HasWork IsUntouched queue.now job.now crew.now S.Source) places.new.items }
 {
     given.reverse();
     'starts: while let Some(work) = given.pop() {
@@ -210,12 +205,12 @@ fn end_all<S: Source, G: Gate, R: Threads + Wait>(
     crew: &Crew,
     ends: &mut Vec<Work<S>>,
 )
-    requires ready { IsReady (task queue.now job.now crew.now S.faults S.ends S.left) }
+    requires ready { IsReady (task queue.now job.now crew.now S.Source) }
     requires stands { All
-        (HasWork HasDone queue.now job.now crew.now S.faults S.ends S.left) places.items }
+        (HasWork HasDone queue.now job.now crew.now S.Source) places.items }
     requires empty { ends.old.items ≡ [] }
     requires room { vec_len places ≤ vec_capacity ends.old }
-    ensures { AllZip (HasDone (task queue.now job.now crew.now S.faults S.ends S.left))
+    ensures { AllZip (HasDone (task queue.now job.now crew.now S.Source))
         (map given_to places.items) ends.new.items }
 {
     places.reverse();
@@ -240,10 +235,9 @@ fn all_in<'s, E, R: Threads + Wait + Sync + 's, S: Source + 's, G: Gate + Sync +
     mut places: Vec<Runner<S>>,
     mut ends: Vec<Work<S>>,
 ) -> (Work<S>, Vec<Work<S>>)
-    requires begins { CanAllBegin (task queue.now job.now crew.now S.faults S.ends S.left)
+    requires begins { CanAllBegin (task queue.now job.now crew.now S.Source)
         (length flags.now) first given places ends }
-    ensures { HaveDone (task queue.now job.now crew.now S.faults S.ends S.left) first given
-        result.0 result.1 }
+    ensures { HaveDone (task queue.now job.now crew.now S.Source) first given result.0 result.1 }
 {
     begin_all(
         rt,
@@ -279,19 +273,18 @@ pub fn run_all<R: Threads + Wait + Sync, S: Source, G: Gate + Sync>(
     places: Vec<Runner<S>>,
     ends: Vec<Work<S>>,
 ) -> (Work<S>, Vec<Work<S>>)
-    requires begins { CanAllBegin (task queue.now job.now crew.now S.faults S.ends S.left)
+    requires begins { CanAllBegin (task queue.now job.now crew.now S.Source)
         (length flags.now) first given places ends }
-    ensures { HaveDone (task queue.now job.now crew.now S.faults S.ends S.left) first given
-        result.0 result.1 }
+    ensures { HaveDone (task queue.now job.now crew.now S.Source) first given result.0 result.1 }
 {
     thread::scope(
         thread::scope_env(),
         rt,
         move |scope| -> (Work<S>, Vec<Work<S>>)
-            requires { CanAllBegin (task queue.now job.now crew.now S.faults S.ends S.left)
+            requires { CanAllBegin (task queue.now job.now crew.now S.Source)
                 (length flags.now) first given places ends }
             ensures { HaveDone
-                (task queue.entry.now job.entry.now crew.entry.now S.faults S.ends S.left) first
+                (task queue.entry.now job.entry.now crew.entry.now S.Source) first
                 given result.0 result.1 }
         {
             all_in(

@@ -66,10 +66,10 @@ impl<S: Source> Work<S> {
         gate: &G,
         crew: &Crew,
     )
-        requires ready { IsReady (task queue.now job.now crew.now S.faults S.ends S.left) }
-        requires given { IsGiven (task queue.now job.now crew.now S.faults S.ends S.left) self.old }
+        requires ready { IsReady (task queue.now job.now crew.now S.Source) }
+        requires given { IsGiven (task queue.now job.now crew.now S.Source) self.old }
         ensures { HasBegun
-            (task queue.now job.now crew.now S.faults S.ends S.left) self.old self.new }
+            (task queue.now job.now crew.now S.Source) self.old self.new }
     {
         let desk = &mut self.desk;
         produce(desk, alloc, job, queue, gate, crew, &mut self.stand);
@@ -85,10 +85,10 @@ impl<S: Source> Work<S> {
         gate: &G,
         crew: &Crew,
     )
-        requires begun { IsBegun (task queue.now job.now crew.now S.faults S.ends S.left) self.old }
+        requires begun { IsBegun (task queue.now job.now crew.now S.Source) self.old }
         ensures { (given : _)
-            → HasBegun (task queue.now job.now crew.now S.faults S.ends S.left) given self.old
-            → HasDone (task queue.now job.now crew.now S.faults S.ends S.left) given self.new }
+            → HasBegun (task queue.now job.now crew.now S.Source) given self.old
+            → HasDone (task queue.now job.now crew.now S.Source) given self.new }
     {
         let desk = &mut self.desk;
         finish(desk, rt, alloc, job, queue, gate, crew, &mut self.stand);
@@ -113,8 +113,7 @@ pub struct WorksOn<S: Source> {
 
 impl<S: Source> Promise<HandedBack<S>> for WorksOn<S> {
     ghost kept_by = { λ p end.
-        HandsBack (task p.queue.value p.job.value p.crew.value S.faults S.ends S.left) p.work.value
-        end };
+        HandsBack (task p.queue.value p.job.value p.crew.value S.Source) p.work.value end };
 }
 
 impl<S: Source> WorksOn<S> {
@@ -146,8 +145,8 @@ fn work_there<R: Wait, S: Source, G: Gate>(
     held_back: &AtomicBool,
     given: Work<S>,
 ) -> HandedBack<S>
-    requires begins { CanBegin (task queue.now job.now crew.now S.faults S.ends S.left) given }
-    ensures { HandsBack (task queue.now job.now crew.now S.faults S.ends S.left) given result }
+    requires begins { CanBegin (task queue.now job.now crew.now S.Source) given }
+    ensures { HandsBack (task queue.now job.now crew.now S.Source) given result }
 {
     if held_back.load(Ordering::SeqCst) {
         return HandedBack::Unbegun(given);
@@ -171,20 +170,19 @@ pub fn start<'s, E, R: Threads + Wait + Sync + 's, S: Source + 's, G: Gate + Syn
     held_back: &'s AtomicBool,
     given: Work<S>,
 ) -> Result<PromisedHandle<HandedBack<S>, WorksOn<S>>, HandedBack<S>>
-    requires begins { CanBegin (task queue.now job.now crew.now S.faults S.ends S.left) given }
+    requires begins { CanBegin (task queue.now job.now crew.now S.Source) given }
     ensures shared { IfOk result (λ h.
         (h.promise.queue.value ≡ queue.now) × (h.promise.job.value ≡ job.now)
         × (h.promise.crew.value ≡ crew.now)) }
     ensures own { IfOk result (λ h. h.promise.work.value ≡ given) }
     ensures back { IfErr result
-        (HandsBack (task queue.now job.now crew.now S.faults S.ends S.left) given) }
+        (HandsBack (task queue.now job.now crew.now S.Source) given) }
 {
     let promise = WorksOn::of(job, queue, crew, &given);
     let job_there = move || -> HandedBack<S>
-        requires { CanBegin (task queue.now job.now crew.now S.faults S.ends S.left) given }
+        requires { CanBegin (task queue.now job.now crew.now S.Source) given }
         ensures { HandsBack
-            (task queue.entry.now job.entry.now crew.entry.now S.faults S.ends S.left)
-            given result }
+            (task queue.entry.now job.entry.now crew.entry.now S.Source) given result }
     { work_there(rt, alloc, job, queue, gate, crew, held_back, given) };
     match scope.spawn_with(promise, job_there) {
         Ok(handle) => Ok(handle),

@@ -48,7 +48,7 @@ told_of {S} left sources P holds = at (all_left left sources) refl where
 
 -- what each source gave
 pub moved_of : {S : Type 0} (src : SourceOf S) (olds news : List S) → OfEach (length olds) (HasGiven src.faults src.left) olds news
-    → (k : ℕ) (d : S) → k < length olds → HasMoved src.faults src.left (slice_index_or olds k d) (slice_index_or news k d)
+    → (k : ℕ) (d : S) → k < length olds → HasMoved src (slice_index_or olds k d) (slice_index_or news k d)
 moved_of {S} src olds news given = λ k d lt. let h = given k d lt in record { bytes = h.bytes; moved = h.took; counted = h.counted }
 
 -- what is said of the end of a run over these sources, which came so and are now these

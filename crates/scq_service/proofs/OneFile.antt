@@ -64,7 +64,7 @@ module _ {S : Type 0} (size : ℕ) (src : SourceOf S) where
   calm source none = ap (λ n. nat_lt 0 n) none
 
   -- a source that was read to its end has no fault
-  pub one-whole : (file : ℕ) (content : List ℕ) (old new : S) → src.left old ≡ Some content → src.faults old ≡ 0 → reading.IsWhole size src.faults src.ends src.left old new
+  pub one-whole : (file : ℕ) (content : List ℕ) (old new : S) → src.left old ≡ Some content → src.faults old ≡ 0 → reading.IsWhole size src old new
       → fault_of_one file content new ≡ None
   one-whole file content old new is fresh whole =
       let judged = whole.judged in
@@ -73,7 +73,7 @@ module _ {S : Type 0} (size : ℕ) (src : SourceOf S) where
       one-fault file content judged.bytes split.0 new false None (calm new (whole.kept ∙ fresh)) split.1 split.2 (subst J split.1 judged.judges)
 
   -- what is said of the whole content, where the reading stopped at a fault
-  pub told : (content : List ℕ) (old new : S) (fault : FrameFault) → src.left old ≡ Some content → (stop : reading.IsStopped size src.faults src.left old new fault)
+  pub told : (content : List ℕ) (old new : S) (fault : FrameFault) → src.left old ≡ Some content → (stop : reading.IsStopped size src old new fault)
       → Told size content stop.judged.bytes (src.left new) fault
   told content old new fault is stop =
       let judged = stop.judged in
@@ -83,8 +83,7 @@ module _ {S : Type 0} (size : ℕ) (src : SourceOf S) where
 
   -- a source whose reading stopped at a fault has that fault
   pub one-stopped : (file : ℕ) (content : List ℕ) (old new : S) (fault : FrameFault) → fault ≢ frame.NoMemory → src.left old ≡ Some content → src.faults old ≡ 0
-      → reading.IsStopped size src.faults src.left old new fault
-      → fault_of_one file content new ≡ Some (fault_of_file size file fault)
+      → reading.IsStopped size src old new fault → fault_of_one file content new ≡ Some (fault_of_file size file fault)
   one-stopped file content old new frame.ReadFault other is fresh stop =
       let t = told content old new frame.ReadFault is stop in
       one-fault file content stop.judged.bytes t.rest new true None (lt-ltb 0 (src.faults new) (rose-above _ _ (stop.rose refl))) t.left t.whole t.judges
@@ -96,10 +95,10 @@ module _ {S : Type 0} (size : ℕ) (src : SourceOf S) where
       one-fault file content stop.judged.bytes t.rest new false (Some ManyBytes) (calm new (stop.kept (λ h. cc) ∙ fresh)) t.left t.whole t.judges.0
   one-stopped file content old new frame.NoMemory other is fresh stop = absurd (other refl)
 
-  pub long-of : (content : List ℕ) (old new : S) (line len : ℕ) → src.left old ≡ Some content → reading.IsStopped size src.faults src.left old new (frame.TooLong line len)
+  pub long-of : (content : List ℕ) (old new : S) (line len : ℕ) → src.left old ≡ Some content → reading.IsStopped size src old new (frame.TooLong line len)
       → file_trouble size false content ≡ Some (LongPayload line len)
   long-of content old new line len is stop = let t = told content old new (frame.TooLong line len) is stop in ap (file_trouble size false) t.whole ∙ t.judges.1
 
-  pub large-of : (content : List ℕ) (old new : S) (bytes : ℕ) → src.left old ≡ Some content → reading.IsStopped size src.faults src.left old new (frame.TooLarge bytes)
+  pub large-of : (content : List ℕ) (old new : S) (bytes : ℕ) → src.left old ≡ Some content → reading.IsStopped size src old new (frame.TooLarge bytes)
       → file_trouble size false content ≡ Some ManyBytes
   large-of content old new bytes is stop = let t = told content old new (frame.TooLarge bytes) is stop in ap (file_trouble size false) t.whole ∙ t.judges.1

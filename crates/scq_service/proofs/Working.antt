@@ -10,10 +10,10 @@ use Rattle.scq_frames.specs.declared.fault.FrameFault.{FrameFault}
 use Rattle.scq_frames.specs.declared.fault.FrameFault.TheVariants as frame
 use Rattle.scq_outside.specs.Table.{Table}
 use Rattle.scq_files.specs.Ends.{HasMoved, StopsAt, all_left}
-use Rattle.scq_work.specs.Ends.{HasCause}
+use Rattle.scq_desk.specs.Faults.{HasCause}
 use Rattle.scq_files.specs.Reading as reading
-use Rattle.scq_work.specs.declared.worked.WorkFault.{WorkFault}
-use Rattle.scq_work.specs.declared.worked.WorkFault.TheVariants as work
+use Rattle.scq_desk.specs.declared.fault.EndFault.{EndFault}
+use Rattle.scq_desk.specs.declared.fault.EndFault.TheVariants as work
 use Rattle.scq_service.specs.Members.{SourceOf}
 use Rattle.scq_service.specs.Answers.{HaveAllCome, HaveCome}
 use Rattle.scq_service.specs.Causes.{given_of, first_file_fault, HaveRest}
@@ -35,7 +35,7 @@ some-and {X = X} o x P e p = let Q : Option X → Type 0 = λ o. IsSomeAnd o P i
 module _ {S : Type 0} (size : ℕ) (src : SourceOf S) where
   -- each source has left what follows the bytes that it gave
   have-rest : (olds news : List S) (contents : List (List ℕ)) → length news ≡ length olds → all_left src.left olds ≡ Some contents
-      → ((k : ℕ) (d : S) → k < length olds → HasMoved src.faults src.left (slice_index_or olds k d) (slice_index_or news k d)) → HaveRest src.left contents news
+      → ((k : ℕ) (d : S) → k < length olds → HasMoved src (slice_index_or olds k d) (slice_index_or news k d)) → HaveRest src.left contents news
   have-rest [] [] contents long all moved = let H : List (List ℕ) → Type 0 = λ cs. HaveRest src.left cs [] in subst H (no-contents all) tt
   have-rest [] (new ∷ news) contents long all moved = absurd (omega (arith, long))
   have-rest (old ∷ olds) [] contents long all moved = absurd (omega (arith, long))
@@ -53,7 +53,7 @@ module _ {S : Type 0} (size : ℕ) (src : SourceOf S) where
   -- files that were read to their ends have no fault
   sound : (file : ℕ) (olds news : List S) (contents : List (List ℕ)) → length news ≡ length olds → all_left src.left olds ≡ Some contents
       → All (λ source. src.faults source ≡ 0) olds
-      → ((k : ℕ) (d : S) → k < length olds → reading.IsWhole size src.faults src.ends src.left (slice_index_or olds k d) (slice_index_or news k d))
+      → ((k : ℕ) (d : S) → k < length olds → reading.IsWhole size src (slice_index_or olds k d) (slice_index_or news k d))
       → first_file_fault size src file contents news ≡ None
   sound file [] [] contents long all fresh whole = ap (λ (cs : List (List ℕ)). first_file_fault size src file cs []) (sym (no-contents all))
   sound file [] (new ∷ news) contents long all fresh whole = absurd (omega (arith, long))
@@ -70,8 +70,8 @@ module _ {S : Type 0} (size : ℕ) (src : SourceOf S) where
   first : (file k : ℕ) (olds news : List S) (contents : List (List ℕ)) (fault : FrameFault) → fault ≢ frame.NoMemory → length news ≡ length olds
       → k < length olds
       → all_left src.left olds ≡ Some contents → All (λ source. src.faults source ≡ 0) olds
-      → ((j : ℕ) (d : S) → j < k → reading.IsWhole size src.faults src.ends src.left (slice_index_or olds j d) (slice_index_or news j d))
-      → ((d : S) → reading.IsStopped size src.faults src.left (slice_index_or olds k d) (slice_index_or news k d) fault)
+      → ((j : ℕ) (d : S) → j < k → reading.IsWhole size src (slice_index_or olds j d) (slice_index_or news j d))
+      → ((d : S) → reading.IsStopped size src (slice_index_or olds k d) (slice_index_or news k d) fault)
       → first_file_fault size src file contents news ≡ Some (fault_of_file size (file + k) fault)
   first file k [] news contents fault other long within all fresh before stop = absurd (omega (arith, within))
   first file k (old ∷ olds) [] contents fault other long within all fresh before stop = absurd (omega (arith, long))
@@ -133,7 +133,7 @@ module _ {S : Type 0} (size : ℕ) (src : SourceOf S) where
     missed-of true came less = absurd (omega (arith, came.0, less))
     missed-of false came less = came.1
 
-    pub has-got : (read : ℕ) → ((k : ℕ) (d : S) → k < length olds → HasMoved src.faults src.left (slice_index_or olds k d) (slice_index_or news k d))
+    pub has-got : (read : ℕ) → ((k : ℕ) (d : S) → k < length olds → HasMoved src (slice_index_or olds k d) (slice_index_or news k d))
         → (length olds ≡ length names → IsUnchanged opens) → HasGotSources src names olds
         (record { table = table; opens = opens; sources = news; read = read })
     has-got read moved kept =
@@ -152,14 +152,14 @@ module _ {S : Type 0} (size : ℕ) (src : SourceOf S) where
 
     -- so it is of the sources that are told, which are these
     pub got-so : (all : Bool) → HaveAllCome names (record { table = table; opens = opens; sources = olds; read = 0 }) all
-        → ((k : ℕ) (d : S) → k < length olds → HasMoved src.faults src.left (slice_index_or olds k d) (slice_index_or news k d)) → (got sources : List S) (read : ℕ)
+        → ((k : ℕ) (d : S) → k < length olds → HasMoved src (slice_index_or olds k d) (slice_index_or news k d)) → (got sources : List S) (read : ℕ)
         → got ≡ olds → sources ≡ news → HasGotSources src names got (record { table = table; opens = opens; sources = sources; read = read })
     got-so all came moved got sources read same_got same_sources =
         let G : List S → Type 0 = λ xs. HasGotSources src names xs (record { table = table; opens = opens; sources = sources; read = read }) in
         let N : List S → Type 0 = λ xs. HasGotSources src names olds (record { table = table; opens = opens; sources = xs; read = read }) in
         subst G (sym same_got) (subst N (sym same_sources) (has-got read moved (kept-of all came)))
 
-    pub ends-all : ((k : ℕ) (d : S) → k < length olds → reading.IsWhole size src.faults src.ends src.left (slice_index_or olds k d) (slice_index_or news k d))
+    pub ends-all : ((k : ℕ) (d : S) → k < length olds → reading.IsWhole size src (slice_index_or olds k d) (slice_index_or news k d))
         → length olds ≡ length names
         → ReadsOver size src names olds (record { table = table; opens = opens; sources = news; read = 0 }) None
     ends-all whole all = record {
@@ -171,7 +171,7 @@ module _ {S : Type 0} (size : ℕ) (src : SourceOf S) where
       read = refl;
     }
 
-    pub ends-stopped : ((k : ℕ) (d : S) → k < length olds → reading.IsWhole size src.faults src.ends src.left (slice_index_or olds k d) (slice_index_or news k d))
+    pub ends-stopped : ((k : ℕ) (d : S) → k < length olds → reading.IsWhole size src (slice_index_or olds k d) (slice_index_or news k d))
         → length olds < length names
         → HasMissed names (record { table = table; opens = opens; sources = olds; read = 0 })
         → ReadsOver size src names olds (record { table = table; opens = opens; sources = news; read = 0 })
@@ -188,14 +188,14 @@ module _ {S : Type 0} (size : ℕ) (src : SourceOf S) where
     }
 
     -- the file that has the first fault
-    refused : (read file : ℕ) (fault : FrameFault) → fault ≢ frame.NoMemory → StopsAt size src.faults src.ends src.left olds news file fault
+    refused : (read file : ℕ) (fault : FrameFault) → fault ≢ frame.NoMemory → StopsAt size src olds news file fault
         → (length olds < length names → HasMissed names (record { table = table; opens = opens; sources = olds; read = 0 }))
         → IsRefused size src names olds (record { table = table; opens = opens; sources = news; read = read }) file
         (fault_of_file size file fault)
     refused read file fault other stops missed =
         let within : file - 1 < length olds = omega (arith, stops.first, stops.last) in
         let number : 1 + (file - 1) ≡ file = omega (arith, stops.first) in
-        let before : (j : ℕ) (d : S) → j < file - 1 → reading.IsWhole size src.faults src.ends src.left (slice_index_or olds j d) (slice_index_or news j d) =
+        let before : (j : ℕ) (d : S) → j < file - 1 → reading.IsWhole size src (slice_index_or olds j d) (slice_index_or news j d) =
         λ j d less. stops.before j d (omega (arith, less)) in
         record {
           first = stops.first;
@@ -227,18 +227,18 @@ module _ {S : Type 0} (size : ℕ) (src : SourceOf S) where
         each d,
       )
 
-    pub ends-met : (fault : WorkFault) → HasCause size src.faults src.ends src.left olds news fault
+    pub ends-met : (fault : EndFault) → HasCause size src olds news fault
         → (length olds < length names → HasMissed names (record { table = table; opens = opens; sources = olds; read = 0 }))
         → ReadsOver size src names olds (record { table = table; opens = opens; sources = news; read = bytes_of_large fault })
         (Some (fault_of_work size fault))
     ends-met (work.Read file) stops missed =
-        let at = source-at file stops.first stops.last (λ old new. reading.IsStopped size src.faults src.left old new frame.ReadFault) stops.cause in (
+        let at = source-at file stops.first stops.last (λ old new. reading.IsStopped size src old new frame.ReadFault) stops.cause in (
           refused 0 file frame.ReadFault (λ e. cc) stops missed,
           refl,
           some-and (slice_get news (file - 1)) at.1 (λ source. 0 < src.faults source) at.2 (rose-above _ _ (at.4.rose refl)),
         )
     ends-met (work.TooLong file line len) stops missed =
-        let at = source-at file stops.first stops.last (λ old new. reading.IsStopped size src.faults src.left old new (frame.TooLong line len)) stops.cause in
+        let at = source-at file stops.first stops.last (λ old new. reading.IsStopped size src old new (frame.TooLong line len)) stops.cause in
         let above = at.4.long line len refl in (
           refused 0 file (frame.TooLong line len) (λ e. cc) stops missed,
           refl,
@@ -249,7 +249,7 @@ module _ {S : Type 0} (size : ℕ) (src : SourceOf S) where
               some-and (slice_get contents (file - 1)) c.0 _ c.1 (long-of size src c.0 at.0 at.1 line len c.2 at.4)),
         )
     ends-met (work.TooLarge file bytes) stops missed =
-        let at = source-at file stops.first stops.last (λ old new. reading.IsStopped size src.faults src.left old new (frame.TooLarge bytes)) stops.cause in
+        let at = source-at file stops.first stops.last (λ old new. reading.IsStopped size src old new (frame.TooLarge bytes)) stops.cause in
         let above = at.4.large bytes refl in (
           refused bytes file (frame.TooLarge bytes) (λ e. cc) stops missed,
           refl,

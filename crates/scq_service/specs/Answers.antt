@@ -71,8 +71,7 @@ pub record HaveGiven {S : Type 0} (topics : List (List ℕ × Kind)) (size : ℕ
     (got : List S) (r : Inputs S) (given : List (List Message)) : Type 0 where
   pub count : length r.sources ≡ length got
   pub whole : (k : ℕ) (d : S) → k < length got
-      → reading.IsWhole size src.faults src.ends src.left (slice_index_or got k d)
-      (slice_index_or r.sources k d)
+      → reading.IsWhole size src (slice_index_or got k d) (slice_index_or r.sources k d)
   pub gave : AreGiven topics size src.left 1 got given
 
 -- so many workers answered such messages, with payloads of at most `longest` bytes in parts of at

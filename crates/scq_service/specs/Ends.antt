@@ -98,7 +98,7 @@ pub record HasGotSources {S : Type 0} (src : SourceOf S) (names : List (List ℕ
   pub told : IfVisible r.table.old (take (length r.sources) names) (λ contents.
       all_left src.left got ≡ Some contents)
   pub moved : (k : ℕ) (d : S) → k < length got
-      → HasMoved src.faults src.left (slice_index_or got k d) (slice_index_or r.sources k d)
+      → HasMoved src (slice_index_or got k d) (slice_index_or r.sources k d)
   pub rest : IfTold src.left got (λ contents. HaveRest src.left contents r.sources)
 
 -- of the files that were got this is the first fault

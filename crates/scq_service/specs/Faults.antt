@@ -8,10 +8,8 @@ use Rattle.scq_words.specs.declared.fault.WordsFault.TheVariants.{NotUnderstood,
 use Rattle.scq_words.specs.declared.fault.WordsFault.TheVariants.{Size, Topics, TooManyFiles}
 use Rattle.scq_words.specs.declared.fault.WordsFault.TheVariants.{TooManyRecordings, NoName, Seed}
 use Rattle.scq_words.specs.declared.fault.WordsFault.TheVariants.{Lines, Room}
-use Rattle.scq_work.specs.declared.worked.WorkFault.{WorkFault}
-use Rattle.scq_work.specs.declared.worked.WorkFault.TheVariants as work
-use Rattle.scq_stages.specs.declared.staged.StageFault.{StageFault}
-use Rattle.scq_stages.specs.declared.staged.StageFault.TheVariants as stage
+use Rattle.scq_desk.specs.declared.fault.EndFault.{EndFault}
+use Rattle.scq_desk.specs.declared.fault.EndFault.TheVariants as work
 use Rattle.scq_service.specs.declared.fault.Fault.{Fault}
 use Rattle.scq_service.specs.declared.fault.Fault.TheVariants.{Words, OpenFault, ReadFault, TooLong}
 use Rattle.scq_service.specs.declared.fault.Fault.TheVariants.{TooLarge, WriteFault, BadLine}
@@ -131,22 +129,15 @@ fault_line (UnlawfulOf file line) = place_line file line (codes ": event out of 
 fault_line NoMemory = codes "out of memory\n"
 
 -- a fault of the workers, where a payload may have `size` bytes
-abbrev pub fault_of_work : ℕ → WorkFault → Fault
+abbrev pub fault_of_work : ℕ → EndFault → Fault
 fault_of_work size (work.Read file) = ReadFault file
 fault_of_work size (work.TooLong file line len) = TooLong file line len size
 fault_of_work size (work.TooLarge file bytes) = TooLarge file (2 ^ 30)
 fault_of_work size work.NoMemory = NoMemory
 
--- a fault of the workers of stages, as one of workers
-abbrev pub fault_of_stages : StageFault → WorkFault
-fault_of_stages (stage.Read file) = work.Read file
-fault_of_stages (stage.TooLong file line len) = work.TooLong file line len
-fault_of_stages (stage.TooLarge file bytes) = work.TooLarge file bytes
-fault_of_stages stage.NoMemory = work.NoMemory
-
 -- the number of bytes that were read of a file that is too large, and 0 at the workers' other
 -- faults
-abbrev pub bytes_of_large : WorkFault → ℕ
+abbrev pub bytes_of_large : EndFault → ℕ
 bytes_of_large (work.TooLarge file bytes) = bytes
 bytes_of_large _ = 0
 

@@ -5,10 +5,11 @@ ghost use Rattle.scq_service.specs.Faults.{bytes_of_large, bytes_of_large_text};
 use crate::commands::MOST_TEXT;
 use crate::{Fault, LetGo, Sources};
 use scq_block::Frame;
+use scq_desk::EndFault;
 use scq_outside::ReadAllFault;
 use scq_queue::Pass;
 use scq_stages::Staged;
-use scq_work::{Waited, WorkFault, Worked};
+use scq_work::{Waited, Worked};
 use std::snapshot::Snapshot;
 
 /// The greatest number of bytes of a file.
@@ -221,7 +222,7 @@ impl<S: Drop> Outcome<S> {
     }
 
     /// The end at a fault of the workers, where a payload may have `size` bytes.
-    pub(crate) fn of_work(sources: Vec<S>, size: u32, fault: WorkFault) -> Outcome<S>
+    pub(crate) fn of_work(sources: Vec<S>, size: u32, fault: EndFault) -> Outcome<S>
         ensures status { result.status ≡ status_of_fault (fault_of_work size fault) }
         ensures fault { result.fault ≡ Some (fault_of_work size fault) }
         ensures sources { result.sources.items ≡ sources.items }
@@ -232,8 +233,8 @@ impl<S: Drop> Outcome<S> {
         ensures unstaged { result.staged ≡ None }
     {
         match fault {
-            WorkFault::Read { file } => Outcome::at(sources, Fault::ReadFault { file }),
-            WorkFault::TooLong { file, line, len } => {
+            EndFault::Read { file } => Outcome::at(sources, Fault::ReadFault { file }),
+            EndFault::TooLong { file, line, len } => {
                 let limit = size;
                 Outcome::at(
                     sources,
@@ -245,7 +246,7 @@ impl<S: Drop> Outcome<S> {
                     },
                 )
             }
-            WorkFault::TooLarge { file, bytes } => Outcome {
+            EndFault::TooLarge { file, bytes } => Outcome {
                 read: bytes,
                 ..Outcome::at(
                     sources,
@@ -255,7 +256,7 @@ impl<S: Drop> Outcome<S> {
                     },
                 )
             },
-            WorkFault::NoMemory => Outcome::at(sources, Fault::NoMemory),
+            EndFault::NoMemory => Outcome::at(sources, Fault::NoMemory),
         }
     }
 

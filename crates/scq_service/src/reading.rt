@@ -8,8 +8,9 @@ ghost use Rattle.scq_service.specs.Answers.{HaveCome, HaveAllCome, TellsWork};
 ghost use Rattle.scq_service.specs.Ends.{ReadsOver, inputs_of};
 
 use crate::{Fault, Outcome};
+use scq_desk::{End, EndFault};
 use scq_outside::{Failed, Files};
-use scq_work::{Gate, Job, WaitEnd, Waited, WorkEnd, WorkFault, work, work_waiting};
+use scq_work::{Gate, Job, WaitEnd, Waited, WorkEnd, work, work_waiting};
 use std::alloc::Global;
 use std::snapshot::Snapshot;
 use std::sync::Wait;
@@ -121,7 +122,7 @@ fn conclude<F: Files>(
         (inputs_of F.Files was.now.value files.now got.value.items 0) }
     requires all { HaveAllCome (map string_bytes names.now)
         (inputs_of F.Files was.now.value files.now got.value.items 0) all }
-    requires end { EndsWork job.now F.Src.faults F.Src.ends F.Src.left got.value.items end }
+    requires end { EndsWork job.now F.Src.Source got.value.items end }
     ensures tells { TellsWork job.now F.Src.Source (map string_bytes names.now)
         (inputs_of F.Files was.now.value files.now result.sources.items result.read) result }
     ensures ends { ReadsOver job.now.longest F.Src.Source (map string_bytes names.now)
@@ -130,10 +131,10 @@ fn conclude<F: Files>(
     ensures waited { result.waited ≡ waited }
     ensures closed { (result.left ≡ end.left) × (result.passes ≡ end.passes)
         × (result.frames ≡ end.frames) }
-    ensures wanting { IsErrOf end.result WorkFault.NoMemory
+    ensures wanting { IsErrOf end.result EndFault.NoMemory
         → (result.fault ≡ Some Fault.NoMemory) × (result.worked ≡ None) }
 {
-    let WorkEnd {
+    let End {
         sources,
         result,
         left,

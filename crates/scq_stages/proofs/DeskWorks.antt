@@ -17,6 +17,7 @@ use Rattle.scq_queue.specs.Passes.{PassStanding, HeldStanding}
 use Rattle.scq_files.specs.Desks.{AllEnded, AllWhole, AreDealt}
 use Rattle.scq_files.specs.Ends.{AreGiven}
 use Rattle.scq_files.specs.Files.{own_of}
+use Rattle.scq_files.specs.Reading.{SourceOf}
 use Rattle.scq_files.specs.declared.desk.Desk.{Desk}
 use Rattle.scq_files.proofs.AllGave.{AllRead, all-messages, few-in-all, given, is-given, own-given, worker_messages}
 use Rattle.scq_files.proofs.Lists.{map-map}
@@ -47,26 +48,24 @@ module _ {B S : Type 0} where
   lists_at desks = map (λ (d : Desk (Seated B) S). d.worker.worker.members) desks
 
   -- the workers of a queue have left: each had its own of the files, and did what `HasRun` says, however the reading of these ended
-  pub record AllRan (c : Setup) (shared : Identity B) (size : ℕ) (faults end_count : S → ℕ) (left : S → Option (List ℕ)) (sources : List S)
-      (desks : List (Desk (Seated B) S)) : Type 0 where
+  pub record AllRan (c : Setup) (shared : Identity B) (size : ℕ) (src : SourceOf S) (sources : List S) (desks : List (Desk (Seated B) S)) : Type 0 where
     pub some : 0 < length desks
     pub few : length sources ≤ 64
     pub dealt : AreDealt 1 sources desks
-    pub run : All (λ d. HasRun shared size faults end_count left d.files.items d.worker.worker.pass d.worker.worker.members.items
-        d.worker.worker.starved d.worker.kept) desks
+    pub run : All (λ d. HasRun shared size src d.files.items d.worker.worker.pass d.worker.worker.members.items d.worker.worker.starved d.worker.kept) desks
     pub setup : shared.setup ≡ c
     pub numbers : (w : ℕ) (d : Desk (Seated B) S) → w < length desks → (slice_index_or desks w d).worker.worker.pass.number ≡ w
     pub rings : c.rings ≡ 3
     pub seats : c.seats ≡ length desks
     pub limit : c.limit ≡ 2 ^ 60
 
-  module _ (c : Setup) (shared : Identity B) (size : ℕ) (faults end_count : S → ℕ) (left : S → Option (List ℕ)) (sources : List S)
-      (desks : List (Desk (Seated B) S)) (ran : AllRan c shared size faults end_count left sources desks) where
-    pub all-read : AllRead [] size faults end_count left sources desks
+  module _ (c : Setup) (shared : Identity B) (size : ℕ) (src : SourceOf S) (sources : List S)
+      (desks : List (Desk (Seated B) S)) (ran : AllRan c shared size src sources desks) where
+    pub all-read : AllRead [] size src sources desks
     all-read = record { some = ran.some; few = ran.few; dealt = ran.dealt; read = λ k d less. (ran.run k d less).read }
 
     -- the reading of each file ended so
-    pub all-ended : AllEnded size faults end_count left desks
+    pub all-ended : AllEnded size src desks
     all-ended k d less j f inside = ((ran.run k d less).read j f inside).ends
 
     abbrev works : List (Work B)
@@ -99,7 +98,7 @@ module _ {B S : Type 0} where
       rings = ran.rings;
       seats = ran.seats ∙ sym (length-map desks work_of);
       limit = ran.limit;
-      few = omega (arith, sum_by-map (λ (w : Work B). length w.messages) work_of desks, few-in-all [] size faults end_count left sources desks all-read);
+      few = omega (arith, sum_by-map (λ (w : Work B). length w.messages) work_of desks, few-in-all [] size src sources desks all-read);
     }
 
     module _ {contents : B → List ℕ} {IsSameBuffer : B → B → Type 0} {buffers : List B} (left_in : List ℕ)
@@ -118,10 +117,10 @@ module _ {B S : Type 0} where
       -- where each file was read to its end and no worker wanted memory
       module _ (whole : AllWhole desks) (fed : All (λ (d : Desk (Seated B) S). d.worker.worker.starved ≡ false) desks) where
         abbrev pub messages_given : List (List Message)
-        messages_given = given [] size faults end_count left sources desks all-read
+        messages_given = given [] size src sources desks all-read
 
-        pub desks-gave : AreGiven [] size left 1 sources messages_given
-        desks-gave = is-given [] size faults end_count left sources desks all-read whole
+        pub desks-gave : AreGiven [] size src.left 1 sources messages_given
+        desks-gave = is-given [] size src sources desks all-read whole
 
         own-so : (w : ℕ) (v : Work B) → slice_get works w ≡ Some v → v.messages ≡ own_of (length works) w 1 messages_given
         own-so w v is = by (slice_get desks w) refl where
@@ -130,17 +129,17 @@ module _ {B S : Type 0} where
           by (Some d) at =
               let first : Some (work_of d) ≡ Some v = sym (slice_get-map work_of desks w ∙ ap (option_map work_of) at) ∙ is in
               let its : work_of d ≡ v = cc in
-              ap (λ (x : Work B). x.messages) (sym its) ∙ own-given [] size faults end_count left sources desks all-read w d at
+              ap (λ (x : Work B). x.messages) (sym its) ∙ own-given [] size src sources desks all-read w d at
               ∙ ap (λ n. own_of n w 1 messages_given) (sym (length-map desks work_of))
 
         all-so : IsPermutation (flat_map (λ own. own) messages_given) (messages_in works)
         all-so =
             subst (IsPermutation (flat_map (λ own. own) messages_given)) (sym (flat_map-map (λ (w : Work B). w.messages) work_of desks))
-            (all-messages [] size faults end_count left sources desks all-read)
+            (all-messages [] size src sources desks all-read)
 
         pub desks-staged : HaveFinished (length desks) messages_given (passes_at desks) (lists_at desks)
         desks-staged =
-            let all = have-staged c shared works all-done left_in closed-so size left sources messages_given desks-gave own-so all-so
+            let all = have-staged c shared works all-done left_in closed-so size src.left sources messages_given desks-gave own-so all-so
             (All-map (λ (w : Work B). w.starved ≡ false) work_of desks fed) in
             subst (λ n. HaveFinished n messages_given (passes_at desks) (lists_at desks)) (length-map desks work_of)
             (subst (λ (ls : List (Vec Finished Global)). HaveFinished (length works) messages_given (passes_at desks) ls) works-lists

@@ -1,20 +1,18 @@
 -- What becomes of the messages that files gave stands in order of file and line, one file behind the other. So no two members have one file and line.
-use Rattle.std.proofs.Common.{◌≡◌, ◌∙◌, refl, sym, ap, subst, inl, inr, arith, true, false, Bool, ℕ, ◌+◌, ◌<◌, ◌≤◌, List, [], ◌∷◌, ◌++◌, map, get_or, Option, Some, None}
+use Rattle.std.proofs.Common.{◌≡◌, ◌∙◌, refl, sym, ap, subst, inl, inr, arith, ℕ, ◌+◌, ◌<◌, ◌≤◌, List, [], ◌∷◌, ◌++◌, map, Option, Some, None}
 use Rattle.std.specs.Prelude.{IfSome, flat_map}
-use Rattle.std.specs.List.{All, IsDistinct}
+use Rattle.std.specs.List.{All}
 use Rattle.std.specs.List.Sorted.{IsPermutation}
-use Rattle.std.proofs.lemmas.Bool.Decides.{nat_tests}
-use Rattle.std.proofs.lemmas.List.{get_or-map, length-map, map-append}
+use Rattle.std.proofs.lemmas.List.{map-append}
 use Rattle.std.proofs.lemmas.List.Elements.{All-nil, All-cons, All-append, All-weaker}
-use Rattle.std.proofs.lemmas.List.Sorted.{IsPermutation-sym}
-use Rattle.std.proofs.lemmas.Map.Keys.{IsDistinct-IsPermutation, apart_from_distinct}
 use Rattle.scq_topics.specs.declared.kind.Kind.{Kind}
 use Rattle.scq_topics.specs.Topics.{topic_of}
 use Rattle.scq_frames.specs.declared.message.Message.{Message}
 use Rattle.scq_frames.specs.Numbered.{numbered}
 use Rattle.scq_frames.specs.Text.{messages_of}
 use Rattle.scq_collect.specs.Merging.{AreApart, IsBefore}
-use Rattle.scq_collect.proofs.Orders.{Ascends, ascends-append, ascends-distinct, is_position, is_position-flip}
+use Rattle.scq_collect.proofs.Orders.{Ascends, ascends-append}
+use Rattle.scq_desk.proofs.Apart.{apart-shown}
 use Rattle.scq_files.specs.Ends.{AreGiven, all_left, messages_in}
 use Rattle.scq_files.specs.Reading.{AreOf}
 use Rattle.scq_files.proofs.Lists.{map-map}
@@ -76,31 +74,12 @@ given-ascends topics size left file (x ∷ xs) (own ∷ more) gave =
     } in
     subst (AreFrom file) (sym (map-append handled_of own (all_of more))) whole
 
--- a position is itself
-is_position-itself : (p : ℕ × ℕ × ℕ) → is_position p p ≡ true
-is_position-itself p = grind (arith, nat_tests)
-
 -- members that are what becomes of given messages, in some order, are apart
 pub members-apart : {S : Type 0} (topics : List (List ℕ × Kind)) (size : ℕ) (left : S → Option (List ℕ)) (was : List S) (given : List (List Message))
     (members : List Finished) → AreGiven topics size left 1 was given
     → IsPermutation (map without_way members) (map handled_of (all_of given)) → AreApart position_of_finished members
-members-apart topics size left was given members gave same i j d less within alike =
-    let test : Handled → Handled → Bool = λ x y. is_position (position_of_handled x) (position_of_handled y) in
-    let handled = map handled_of (all_of given) in
-    let up = (given-ascends topics size left 1 was given gave).up in
-    let distinct : IsDistinct test (map without_way members) =
-    IsDistinct-IsPermutation test (λ x y. is_position-flip (position_of_handled x) (position_of_handled y)) handled (map without_way members)
-    (IsPermutation-sym (map without_way members) handled same) (ascends-distinct position_of_handled handled up) in
-    let plain : Handled = without_way d in
-    let long = length-map members without_way in
-    let apart = apart_from_distinct test (map without_way members) i j plain distinct less (omega arith) in
-    let first = get_or-map without_way members i d plain (omega arith) in
-    let second = get_or-map without_way members j d plain within in
-    let there : test (without_way (get_or members i d)) (without_way (get_or members j d)) ≡ false =
-    ap (λ a. test a (without_way (get_or members j d))) (sym first) ∙ ap (test (get_or (map without_way members) i plain)) (sym second) ∙ apart in
-    let itself : test (without_way (get_or members i d)) (without_way (get_or members j d)) ≡ true =
-    ap (λ p. is_position (position_of_finished (get_or members i d)) p) (sym alike) ∙ is_position-itself (position_of_finished (get_or members i d)) in
-    absurd (cc)
+members-apart topics size left was given members gave same =
+    apart-shown position_of_handled without_way members (map handled_of (all_of given)) (given-ascends topics size left 1 was given gave).up same
 
 -- what becomes of the messages in contents is what one thread makes of them
 told-handled : (file : ℕ) (contents : List (List ℕ)) → map handled_of (all_of (messages_in [] file contents)) ≡ all_handled file contents

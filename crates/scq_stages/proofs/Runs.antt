@@ -10,7 +10,7 @@ use Rattle.scq_topics.specs.declared.kind.Kind.{Kind}
 use Rattle.scq_queue.specs.Passes.{PassStanding, HeldStanding, first_pass, known_on}
 use Rattle.scq_files.specs.Given.{given_in}
 use Rattle.scq_files.specs.OwnFiles.{StopsAtAFault, all_given}
-use Rattle.scq_files.specs.Reading.{IsRead}
+use Rattle.scq_files.specs.Reading.{IsRead, SourceOf}
 use Rattle.scq_files.specs.declared.own_file.OwnFile.{OwnFile}
 use Rattle.scq_passes.specs.Becoming as becoming
 use Rattle.scq_passes.specs.PassedOn as passing
@@ -31,9 +31,9 @@ no-call [] after call is = absurd (cc)
 no-call (x ∷ before) after call is = absurd (cc)
 
 -- what of files is read
-abbrev pub AllRead : {S : Type 0} → List (List ℕ × Kind) → ℕ → (S → ℕ) → (S → ℕ) → (S → Option (List ℕ)) → List (OwnFile S) → Type 0
-AllRead topics size faults end_count left files =
-    All (λ f. IsRead topics size faults end_count left f.number f.was.value f.source (given_in f.given.value) f.end) files
+abbrev pub AllRead : {S : Type 0} → List (List ℕ × Kind) → ℕ → SourceOf S → List (OwnFile S) → Type 0
+AllRead topics size src files =
+    All (λ f. IsRead topics size src f.number f.was.value f.source (given_in f.given.value) f.end) files
 
 module _ {B : Type 0} where
   -- a new pass suits, and nothing is passed on yet
@@ -70,12 +70,12 @@ module _ {B : Type 0} where
         listed = λ fed. record { passed = passing.none; seconds = becoming.none; firsts = refl; directs = tt };
       }))
 
-  module _ {S : Type 0} (shared : Identity B) (size : ℕ) (faults end_count : S → ℕ) (left : S → Option (List ℕ)) (files : List (OwnFile S)) where
+  module _ {S : Type 0} (shared : Identity B) (size : ℕ) (src : SourceOf S) (files : List (OwnFile S)) where
     -- it has read its files, moved what was in first, retired, swept and left
     pub run-left : (p q : PassStanding B) (was is : List Finished) (before after : Bool) (kept : Option (HeldStanding B))
-        → AllRead [] size faults end_count left files → StopsAtAFault files → Suits shared 1 p → IsDone (all_given files) p was before → IsLeaving (all_given files) p q is after
+        → AllRead [] size src files → StopsAtAFault files → Suits shared 1 p → IsDone (all_given files) p was before → IsLeaving (all_given files) p q is after
         → ((t : ℕ) → t < 2 → (known_on t q).finished < (known_on t q).head) → kept ≡ None
-        → HasRun shared size faults end_count left files q is after kept
+        → HasRun shared size src files q is after kept
     run-left p q was is before after kept read stops suits done leaving empty nothing =
         let taken = leaving.taken in
         let long : length q.numbers ≡ 3 = taken.knows.rings ∙ suits.numbers in
@@ -101,12 +101,11 @@ module _ {B : Type 0} where
 
     -- it met Spent in a sweep
     pub run-late : (p q : PassStanding B) (was is : List Finished) (before after : Bool) (kept held : Option (HeldStanding B))
-        → AllRead [] size faults end_count left files → StopsAtAFault files → Suits shared 1 p → IsDone (all_given files) p was before
+        → AllRead [] size src files → StopsAtAFault files → Suits shared 1 p → IsDone (all_given files) p was before
         → HasLeftSo HasFewStageCalls (length (all_given files)) (length (all_given files)) (after_retire p) q held → kept ≡ held
-        → HasRun shared size faults end_count left files q is after kept
+        → HasRun shared size src files q is after kept
     run-late p q was is before after kept held read stops suits done end same =
-        subst (λ k. HasRun shared size faults end_count left files q is after k) (sym same)
-        (record {
+        subst (λ k. HasRun shared size src files q is after k) (sym same) (record {
           read = read;
           stops = stops;
           few_calls = end.few_calls (few_calls-retired 0 (length (all_given files)) p done.moved.few_calls);
@@ -119,12 +118,11 @@ module _ {B : Type 0} where
 
     -- it met Spent before it retired, and then retired
     pub run-stopped : (p q : PassStanding B) (is : List Finished) (after : Bool) (kept held : Option (HeldStanding B))
-        → AllRead [] size faults end_count left files → StopsAtAFault files → HasStopped shared (length (all_given files)) p held → q ≡ after_retire p → kept ≡ held
-        → HasRun shared size faults end_count left files q is after kept
+        → AllRead [] size src files → StopsAtAFault files → HasStopped shared (length (all_given files)) p held → q ≡ after_retire p → kept ≡ held
+        → HasRun shared size src files q is after kept
     run-stopped p q is after kept held read stops end retired same =
-        subst (λ k. HasRun shared size faults end_count left files q is after k) (sym same)
-        (subst (λ (x : PassStanding B). HasRun shared size faults end_count left files x is after held) (sym retired)
-        (record {
+        subst (λ k. HasRun shared size src files q is after k) (sym same)
+        (subst (λ (x : PassStanding B). HasRun shared size src files x is after held) (sym retired) (record {
           read = read;
           stops = stops;
           few_calls = few_calls-retired 1 (length (all_given files)) p end.few_calls;

@@ -10,7 +10,7 @@ use Rattle.scq_queue.specs.Lists.{Placed, sends_of, takes_of}
 use Rattle.scq_queue.specs.Passes.{PassStanding, HeldStanding, known_on}
 use Rattle.scq_files.specs.Given.{given_in}
 use Rattle.scq_files.specs.OwnFiles.{StopsAtAFault, all_given}
-use Rattle.scq_files.specs.Reading.{IsRead}
+use Rattle.scq_files.specs.Reading.{IsRead, SourceOf}
 use Rattle.scq_files.specs.declared.own_file.OwnFile.{OwnFile}
 use Rattle.scq_passes.specs.Calls.{IsBetweenParts, index_of, after_retire, calls_behind}
 use Rattle.scq_passes.specs.Records.{on}
@@ -113,14 +113,12 @@ module _ {B : Type 0} where
     pub swept : HasSwept pass
 
   -- a worker has done its work. `kept` is the value that it keeps where it met a ticket past the
-  -- limit. `faults`, `end_count` and `left` are what sources tell.
-  pub record HasRun {S : Type 0} (shared : Identity B) (size : ℕ) (faults end_count : S
-      → ℕ) (left : S → Option (List ℕ)) (files : List (OwnFile S))
-      (pass : PassStanding B) (members : List Finished) (starved : Bool)
+  -- limit.
+  pub record HasRun {S : Type 0} (shared : Identity B) (size : ℕ) (src : SourceOf S)
+      (files : List (OwnFile S)) (pass : PassStanding B) (members : List Finished) (starved : Bool)
       (kept : Option (HeldStanding B)) : Type 0 where
     pub read : All (λ f.
-        IsRead [] size faults end_count left f.number f.was.value f.source
-        (given_in f.given.value) f.end) files
+        IsRead [] size src f.number f.was.value f.source (given_in f.given.value) f.end) files
     pub stops : StopsAtAFault files
     pub few_calls : HasFewStageCalls 1 (length (all_given files)) pass
     pub queue : pass.queue ≡ shared

@@ -40,9 +40,8 @@ pub(crate) fn run_all<R: Threads + Sync, S: Source>(
         → (slice_index_or result.items w d).worker.worker.pass.number
         ≡ (slice_index_or desks.items w d).worker.worker.pass.number }
     ensures run { All (λ d.
-        HasRun queue.now job.now.size S.faults S.ends S.left d.files.items d.worker.worker.pass
-        d.worker.worker.members.items d.worker.worker.starved d.worker.kept)
-        result.items }
+        HasRun queue.now job.now.size S.Source d.files.items d.worker.worker.pass
+        d.worker.worker.members.items d.worker.worker.starved d.worker.kept) result.items }
     ensures behind { All (λ d. d.worker.worker.pass.spent ≡ None
         → HasLeftSwept bytes_of IsGivenBack 2 64 d.worker.worker.pass) result.items }
 {
@@ -52,10 +51,9 @@ pub(crate) fn run_all<R: Threads + Sync, S: Source>(
             × IsFresh queue.now desk.now.worker × All IsNew desk.now.files.items }
         ensures { (ids_of desk.exit.now.files.items ≡ ids_of desk.entry.now.files.items)
             × (desk.exit.now.worker.worker.pass.number ≡ desk.entry.now.worker.worker.pass.number)
-            × HasRun queue.entry.now job.entry.now.size S.faults S.ends S.left
-            desk.exit.now.files.items desk.exit.now.worker.worker.pass
-            desk.exit.now.worker.worker.members.items desk.exit.now.worker.worker.starved
-            desk.exit.now.worker.kept
+            × HasRun queue.entry.now job.entry.now.size S.Source desk.exit.now.files.items
+            desk.exit.now.worker.worker.pass desk.exit.now.worker.worker.members.items
+            desk.exit.now.worker.worker.starved desk.exit.now.worker.kept
             × (desk.exit.now.worker.worker.pass.spent ≡ None
             → HasLeftSwept bytes_of IsGivenBack 2 64 desk.exit.now.worker.worker.pass) }
     { run(desk, alloc, job, queue) };

@@ -36,6 +36,6 @@ mod worker;
 pub use finished::{Finished, StageWay};
 pub use in_place::{redact, squeeze};
 pub use job::StageJob;
-pub use staged::{StageEnd, StageFault, Staged};
+pub use staged::{StageEnd, Staged};
 pub use staging::stage_work;
 pub use text::stage_output;

@@ -41,9 +41,8 @@ fn work<S: Source>(
     requires unread { All IsNew files.old }
     ensures same { ids_of files.new ≡ ids_of files.old }
     ensures read { All (λ f.
-        IsRead topics.now job.now.size S.faults S.ends S.left f.number f.was.value f.source
-        (given_in f.given.value) f.end)
-        files.new }
+        IsRead topics.now job.now.size S.Source f.number f.was.value f.source
+        (given_in f.given.value) f.end) files.new }
     ensures stops { StopsAtAFault files.new }
     ensures suits { OnOk result (Suits queue.now 1 worker.new.pass) }
     ensures stays { OnOk result (worker.new.pass.retired ≡ None) }
@@ -75,7 +74,7 @@ pub(crate) fn run<S: Source>(
     requires fresh { IsFresh queue.now desk.old.worker }
     requires unread { All IsNew desk.old.files.items }
     ensures same { ids_of desk.new.files.items ≡ ids_of desk.old.files.items }
-    ensures run { HasRun queue.now job.now.size S.faults S.ends S.left desk.new.files.items
+    ensures run { HasRun queue.now job.now.size S.Source desk.new.files.items
         desk.new.worker.worker.pass
         desk.new.worker.worker.members.items desk.new.worker.worker.starved desk.new.worker.kept }
     ensures behind { desk.new.worker.worker.pass.spent ≡ None

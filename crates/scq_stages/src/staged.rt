@@ -1,6 +1,7 @@
 //! How the stages over all files end.
 use crate::Finished;
 use scq_block::Frame;
+use scq_desk::End;
 use scq_queue::{Counts, Pass};
 use std::snapshot::Snapshot;
 
@@ -16,49 +17,5 @@ pub struct Staged {
     pub passes: Snapshot<Vec<Pass<Frame>>>,
 }
 
-/// Why workers finish nothing. Files and lines are numbered from 1.
-#[derive(Clone, Copy, Debug, PartialEq, Eq)]
-pub enum StageFault {
-    /// A read of this file failed.
-    Read { file: u32 },
-    /// This line of this file has a payload of so many bytes, more than the job's size.
-    TooLong { file: u32, line: u32, len: u64 },
-    /// So many bytes of this file were read, one more than a file may have.
-    TooLarge { file: u32, bytes: u64 },
-    NoMemory,
-}
-
-/// How the stages ended: the sources in their order, in every case, and what was finished or why
-/// nothing was.
-#[derive(Drop)]
-pub struct StageEnd<S> {
-    pub sources: Vec<S>,
-    pub result: Result<Staged, StageFault>,
-    /// How many indices were left in each ring of the queue when it was closed, whatever the answer
-    /// is. None only at want of memory, where there was no queue.
-    pub left: Option<Vec<u64>>,
-    /// For contracts alone, and where `left` is there, the workers' passes as they were then.
-    pub passes: Option<Snapshot<Vec<Pass<Frame>>>>,
-    /// Likewise the queue's buffers as they came back, in the order of their indices, before their
-    /// block was merged.
-    pub frames: Option<Snapshot<Vec<Frame>>>,
-}
-
-impl<S> StageEnd<S> {
-    ghost use Rattle.std.specs.Prelude.{◌≡◌, None, Err};
-
-    /// The end where no memory was found for a queue.
-    pub(crate) fn starved(sources: Vec<S>) -> StageEnd<S>
-        ensures sources { result.sources ≡ sources }
-        ensures fault { result.result ≡ Err StageFault.NoMemory }
-        ensures left { (result.left ≡ None) × (result.passes ≡ None) × (result.frames ≡ None) }
-    {
-        StageEnd {
-            sources,
-            result: Err(StageFault::NoMemory),
-            left: None,
-            passes: None,
-            frames: None,
-        }
-    }
-}
+/// How the stages ended.
+pub type StageEnd<S> = End<Staged, S>;

@@ -10,15 +10,14 @@ ghost use Rattle.scq_passes.specs.Leaving.{HasLeftSwept};
 ghost use Rattle.scq_passes.specs.Records.{IsGivenBack};
 ghost use Rattle.scq_files.specs.Ends.{AreGiven, HasMoved, StopsAtFaults, all_left, messages_in};
 ghost use Rattle.scq_files.specs.Reading.{IsWhole};
-ghost use Rattle.scq_desk.specs.Faults.{MemoryIsFirst};
+ghost use Rattle.scq_desk.specs.Faults.{HasCause, MemoryIsFirst};
 ghost use Rattle.scq_stages.specs.AllStages.{HasStaged, NothingIsStranded};
-ghost use Rattle.scq_stages.specs.Ends.{HasCause, as_end};
 ghost use Rattle.scq_stages.specs.Output.{finished_in, all_handled, without_way};
 
 use crate::apart::run_all;
 use crate::winding::wind_up;
-use crate::{StageEnd, StageFault, StageJob};
-use scq_desk::{lay_out, make_room};
+use crate::{StageEnd, StageJob};
+use scq_desk::{End, EndFault, lay_out, make_room};
 use scq_outside::Source;
 use scq_passes::make_queue;
 use scq_word::{NoMemory, Setup};
@@ -56,17 +55,17 @@ pub fn stage_work<R: Threads + Sync, S: Source>(
     requires { vec_len sources ≤ 64 }
     ensures count { length result.sources.items ≡ length sources.items }
     ensures moved { (k : ℕ) (d : S) → k < length sources.items
-        → HasMoved S.faults S.left (slice_index_or sources.items k d)
+        → HasMoved S.Source (slice_index_or sources.items k d)
         (slice_index_or result.sources.items k d) }
 
     // No worker read a file behind one of its own at which it stopped.
-    ensures stops { StopsAtFaults job.now.workers job.now.size S.faults S.ends S.left
+    ensures stops { StopsAtFaults job.now.workers job.now.size S.Source
         sources.items result.sources.items }
 
     // Each source was read to its end, and where the bytes of all are visible the members are what
     // becomes of their messages, each once.
     ensures whole { OnOk result.result ((k : ℕ) (d : S) → k < length sources.items
-        → IsWhole job.now.size S.faults S.ends S.left (slice_index_or sources.items k d)
+        → IsWhole job.now.size S.Source (slice_index_or sources.items k d)
         (slice_index_or result.sources.items k d)) }
     ensures handled { IfOk result.result (λ s. IfSome (all_left S.left sources.items) (λ contents.
         IsPermutation (map without_way (finished_in s.done.items)) (all_handled 1 contents))) }
@@ -86,17 +85,16 @@ pub fn stage_work<R: Threads + Sync, S: Source>(
         IsSomeAnd result.passes (λ passes. IsSomeAnd result.frames (λ frames.
         NothingIsStranded job.now.order job.now.workers passes.value.items frames.value.items
         left.items))) }
-    ensures none { result.left ≡ None → IsErrOf result.result StageFault.NoMemory }
+    ensures none { result.left ≡ None → IsErrOf result.result EndFault.NoMemory }
     ensures same { IfOk result.result (λ s.
         IsSomeAnd result.passes (λ passes. passes.value.items ≡ s.passes.value.items)) }
 
     // A fault is that of its file, and those in front of it were read to their ends. Where there is
     // one of a file, each source is as one whose reading didn't stop for want of memory.
-    ensures cause { IfErr result.result (λ fault.
-        HasCause job.now.size S.faults S.ends S.left sources.items result.sources.items fault) }
-    ensures memory_first { IfErr result.result (λ fault.
-        MemoryIsFirst job.now.size S.faults S.ends S.left sources.items result.sources.items
-        (as_end fault)) }
+    ensures cause { IfErr result.result
+        (HasCause job.now.size S.Source sources.items result.sources.items) }
+    ensures memory_first { IfErr result.result
+        (MemoryIsFirst job.now.size S.Source sources.items result.sources.items) }
 
     // Each worker asked before each of its sweeps whether all had retired, and left after one
     // before which they had, or after 64 in a row that took nothing.
@@ -104,7 +102,7 @@ pub fn stage_work<R: Threads + Sync, S: Source>(
         All (HasLeftSwept bytes_of IsGivenBack 2 64) passes.value.items) }
 {
     let Ok(room) = make_room(alloc, job.workers, sources.len()) else {
-        return StageEnd::starved(sources);
+        return End::starved(sources);
     };
     match make_queue(alloc, setup_of(job), job.size) {
         Ok((block, queue, passes)) => {
@@ -114,7 +112,7 @@ pub fn stage_work<R: Threads + Sync, S: Source>(
         }
         Err(NoMemory) => {
             room.destroy_empty();
-            StageEnd::starved(sources)
+            End::starved(sources)
         }
     }
 }

@@ -1,5 +1,5 @@
 //! The end of the stages, once each worker has done its own work.
-ghost use Rattle.std.specs.Prelude.{◌≡◌, ℕ, ◌^◌, ◌<◌, List, [], None, Some, false, length};
+ghost use Rattle.std.specs.Prelude.{◌≡◌, ℕ, ◌^◌, ◌<◌, List, [], None, length};
 ghost use Rattle.std.specs.Prelude.{map, slice_index_or, IfOk, IfErr, IfSome, IsSome, IsErrOf};
 ghost use Rattle.std.specs.Prelude.{IsSomeAnd, OnOk};
 ghost use Rattle.std.specs.List.{All};
@@ -11,45 +11,16 @@ ghost use Rattle.scq_files.specs.Ends.{AreGiven, HasMoved, StopsAtFaults, all_le
 ghost use Rattle.scq_files.specs.Reading.{IsWhole};
 ghost use Rattle.scq_desk.specs.Rooms.{IsLaid};
 ghost use Rattle.scq_stages.specs.AllStages.{HasStaged, NothingIsStranded};
-ghost use Rattle.scq_desk.specs.Faults.{MemoryIsFirst, fault_of_workers};
-ghost use Rattle.scq_stages.specs.Ends.{HasCause, as_end};
+ghost use Rattle.scq_desk.specs.Faults.{HasCause, MemoryIsFirst};
 ghost use Rattle.scq_stages.specs.Output.{finished_in, all_handled, without_way};
 ghost use Rattle.scq_stages.specs.Working.{HasRun};
 
 use crate::worker::StageDesk;
-use crate::{Finished, StageEnd, StageFault, StageJob, Staged};
+use crate::{Finished, StageEnd, StageJob, Staged};
 use scq_block::{Block, Frame};
-use scq_desk::{EndFault, LaidOut, WoundUp, fault_of_all, wind_up_desks};
-use scq_frames::FrameFault;
+use scq_desk::{End, EndFault, LaidOut, WoundUp, conclude, wind_up_desks};
 use scq_outside::Source;
 use scq_queue::Queue;
-
-/// The fault of all workers, told as one of this crate.
-fn stage_fault(fault: EndFault) -> StageFault
-    ensures { as_end result ≡ fault }
-{
-    match fault {
-        EndFault::Read { file } => StageFault::Read { file },
-        EndFault::TooLong { file, line, len } => StageFault::TooLong { file, line, len },
-        EndFault::TooLarge { file, bytes } => StageFault::TooLarge { file, bytes },
-        EndFault::NoMemory => StageFault::NoMemory,
-    }
-}
-
-/// What was finished, where no worker wanted memory and no file has a fault.
-fn conclude(
-    staged: Staged,
-    starved: bool,
-    first: Option<(u32, FrameFault)>,
-) -> Result<Staged, StageFault>
-    ensures ok { IfOk result (λ s. (s ≡ staged) × (starved ≡ false) × (first ≡ None)) }
-    ensures err { IfErr result (λ f. fault_of_workers starved first ≡ Some (as_end f)) }
-{
-    match fault_of_all(starved, first) {
-        Some(fault) => Err(stage_fault(fault)),
-        None => Ok(staged),
-    }
-}
 
 /// Ends the stages once each worker has done its own work: the files are gathered, the queue is
 /// closed and its block merged, in every answer.
@@ -70,17 +41,16 @@ pub(crate) fn wind_up<S: Source>(
     requires numbers { (w : ℕ) (d : _) → w < length desks.items
         → (slice_index_or desks.items w d).worker.worker.pass.number ≡ w }
     requires run { All (λ d.
-        HasRun queue job.now.size S.faults S.ends S.left d.files.items d.worker.worker.pass
-        d.worker.worker.members.items d.worker.worker.starved d.worker.kept)
-        desks.items }
+        HasRun queue job.now.size S.Source d.files.items d.worker.worker.pass
+        d.worker.worker.members.items d.worker.worker.starved d.worker.kept) desks.items }
     ensures count { length result.sources.items ≡ length laid.was.value.items }
     ensures moved { (k : ℕ) (d : S) → k < length laid.was.value.items
-        → HasMoved S.faults S.left (slice_index_or laid.was.value.items k d)
+        → HasMoved S.Source (slice_index_or laid.was.value.items k d)
         (slice_index_or result.sources.items k d) }
-    ensures stops { StopsAtFaults job.now.workers job.now.size S.faults S.ends S.left
+    ensures stops { StopsAtFaults job.now.workers job.now.size S.Source
         laid.was.value.items result.sources.items }
     ensures whole { OnOk result.result ((k : ℕ) (d : S) → k < length laid.was.value.items
-        → IsWhole job.now.size S.faults S.ends S.left (slice_index_or laid.was.value.items k d)
+        → IsWhole job.now.size S.Source (slice_index_or laid.was.value.items k d)
         (slice_index_or result.sources.items k d)) }
     ensures handled { IfOk result.result (λ s.
         IfSome (all_left S.left laid.was.value.items) (λ contents.
@@ -100,15 +70,13 @@ pub(crate) fn wind_up<S: Source>(
         passes.value.items ≡ map (λ d. d.worker.worker.pass) desks.items) }
     ensures there { IsSome result.passes }
     ensures closed { IsSome result.left }
-    ensures none { result.left ≡ None → IsErrOf result.result StageFault.NoMemory }
+    ensures none { result.left ≡ None → IsErrOf result.result EndFault.NoMemory }
     ensures same { IfOk result.result (λ s.
         IsSomeAnd result.passes (λ passes. passes.value.items ≡ s.passes.value.items)) }
-    ensures cause { IfErr result.result (λ fault.
-        HasCause job.now.size S.faults S.ends S.left laid.was.value.items result.sources.items
-        fault) }
-    ensures memory_first { IfErr result.result (λ fault.
-        MemoryIsFirst job.now.size S.faults S.ends S.left laid.was.value.items result.sources.items
-        (as_end fault)) }
+    ensures cause { IfErr result.result
+        (HasCause job.now.size S.Source laid.was.value.items result.sources.items) }
+    ensures memory_first { IfErr result.result
+        (MemoryIsFirst job.now.size S.Source laid.was.value.items result.sources.items) }
 {
     let WoundUp {
         sources,
@@ -127,7 +95,7 @@ pub(crate) fn wind_up<S: Source>(
         done: lists,
         passes,
     };
-    StageEnd {
+    End {
         sources,
         result: conclude(staged, starved, fault),
         left: Some(left),

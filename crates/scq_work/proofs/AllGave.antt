@@ -1,6 +1,6 @@
 -- The parts of what the files at all desks gave once their workers have left: they are those of all messages, each once, and they are few,
 -- however the reading of each file ended.
-use Rattle.std.proofs.Common.{◌≡◌, sym, ◌∙◌, ap, subst, arith, ℕ, ◌+◌, ◌^◌, ◌<◌, ◌≤◌, List, [], ◌∷◌, length, map, get_or, Option, Some}
+use Rattle.std.proofs.Common.{◌≡◌, sym, ◌∙◌, ap, subst, arith, ℕ, ◌+◌, ◌^◌, ◌<◌, ◌≤◌, List, [], ◌∷◌, length, map, get_or, Some}
 use Rattle.std.specs.Prelude.{slice_index_or, slice_get, flat_map, sum_by}
 use Rattle.std.specs.List.{All}
 use Rattle.std.specs.List.Sorted.{IsPermutation}
@@ -18,7 +18,7 @@ use Rattle.scq_band.specs.Standing.{Identity}
 use Rattle.scq_files.specs.Desks.{AllWhole, AreDealt}
 use Rattle.scq_files.specs.Ends.{AreGiven}
 use Rattle.scq_files.specs.Files.{own_of}
-use Rattle.scq_files.specs.Reading.{most_parts}
+use Rattle.scq_files.specs.Reading.{most_parts, SourceOf}
 use Rattle.scq_files.specs.declared.desk.Desk.{Desk}
 use Rattle.scq_files.proofs.AllGave as files
 use Rattle.scq_files.proofs.AllGave.{AllRead, by-number, worker_messages}
@@ -45,12 +45,12 @@ parts-spread size (m ∷ ms) some =
 
 module _ {B S : Type 0} where
   -- the workers of a queue have left: each had its own of the files, and did what `HasRun` says, however the reading of these ended
-  pub record AllRan (c : Setup) (shared : Identity B) (topics : List (List ℕ × Kind)) (size longest : ℕ) (faults end_count : S → ℕ) (left : S → Option (List ℕ))
+  pub record AllRan (c : Setup) (shared : Identity B) (topics : List (List ℕ × Kind)) (size longest : ℕ) (src : SourceOf S)
       (sources : List S) (desks : List (Desk (Seated B) S)) : Type 0 where
     pub some : 0 < length desks
     pub few : length sources ≤ 64
     pub dealt : AreDealt 1 sources desks
-    pub run : All (λ d. HasRun shared topics size longest faults end_count left d.files.items d.worker.worker.pass d.worker.worker.members
+    pub run : All (λ d. HasRun shared topics size longest src d.files.items d.worker.worker.pass d.worker.worker.members
         d.worker.worker.starved d.worker.kept) desks
     pub setup : shared.setup ≡ c
     pub numbers : (w : ℕ) (d : Desk (Seated B) S) → w < length desks → (slice_index_or desks w d).worker.worker.pass.number ≡ w
@@ -60,21 +60,20 @@ module _ {B S : Type 0} where
     pub limit : c.limit ≡ 2 ^ 60
     pub some_size : 0 < size
 
-  module _ (c : Setup) (shared : Identity B) (topics : List (List ℕ × Kind)) (size longest : ℕ) (faults end_count : S → ℕ) (left : S → Option (List ℕ))
-      (sources : List S)
-      (desks : List (Desk (Seated B) S)) (ran : AllRan c shared topics size longest faults end_count left sources desks) where
-    pub all-read : AllRead topics longest faults end_count left sources desks
+  module _ (c : Setup) (shared : Identity B) (topics : List (List ℕ × Kind)) (size longest : ℕ) (src : SourceOf S) (sources : List S)
+      (desks : List (Desk (Seated B) S)) (ran : AllRan c shared topics size longest src sources desks) where
+    pub all-read : AllRead topics longest src sources desks
     all-read = record { some = ran.some; few = ran.few; dealt = ran.dealt; read = λ k d less. (ran.run k d less).read }
 
     abbrev pub given : List (List Message)
-    given = files.given topics longest faults end_count left sources desks all-read
+    given = files.given topics longest src sources desks all-read
 
-    pub is-given : AllWhole desks → AreGiven topics longest left 1 sources given
-    is-given = files.is-given topics longest faults end_count left sources desks all-read
+    pub is-given : AllWhole desks → AreGiven topics longest src.left 1 sources given
+    is-given = files.is-given topics longest src sources desks all-read
 
     -- a worker passed on what its files gave
     pub own-given : (w : ℕ) (d : Desk (Seated B) S) → slice_get desks w ≡ Some d → worker_messages d ≡ own_of (length desks) w 1 given
-    own-given = files.own-given topics longest faults end_count left sources desks all-read
+    own-given = files.own-given topics longest src sources desks all-read
 
     -- the parts of the messages of all workers are those of all files, in some order
     pub all-parts-passed : IsPermutation (parts_in size (flat_map (λ own. own) given)) (parts_in size (flat_map worker_messages desks))
@@ -93,7 +92,7 @@ module _ {B S : Type 0} where
     -- and they are few
     pub few-in-all : sum_by (λ (d : Desk (Seated B) S). length (parts_in size (worker_messages d))) desks ≤ 2 ^ 36
     few-in-all =
-        let few = files.few-parts-in-all topics longest faults end_count left sources desks all-read in
+        let few = files.few-parts-in-all topics longest src sources desks all-read in
         let spread = parts-spread size (flat_map worker_messages desks) ran.some_size in
         let same = ap length (flat-parts size worker_messages desks) in
         let all = length-flat_map (λ (d : Desk (Seated B) S). parts_in size (worker_messages d)) desks in

@@ -30,7 +30,7 @@ use Rattle.scq_files.specs.Ends.{AreGiven}
 use Rattle.scq_files.specs.Files.{own_of}
 use Rattle.scq_worker.specs.Members.{AnswersItsTakes, AnswersItsFulls}
 use Rattle.scq_worker.specs.Passing.{parts_in, HasPassedOn, FollowsCalls}
-use Rattle.scq_files.specs.Reading.{IsRead}
+use Rattle.scq_files.specs.Reading.{IsRead, SourceOf}
 use Rattle.scq_passes.specs.Records.{HoldsNothingAtEachFull, MeetsNoSpent}
 use Rattle.scq_passes.specs.Together.{SendsAreTakes, NoneSpent, IsBounded, HasSwept}
 use Rattle.scq_passes.specs.Calls.{HasFewCalls, index_of}
@@ -86,15 +86,14 @@ module _ {B S : Type 0} where
         let its_list : d.worker.worker.members ≡ list = cc in
         subst (λ q. P w q list) its_pass (subst (λ (l : List Answered). P w d.worker.worker.pass l) its_list (each w d is))
 
-  module _ (c : Setup) (shared : Identity B) (topics : List (List ℕ × Kind)) (size longest : ℕ) (faults end_count : S → ℕ) (left : S → Option (List ℕ))
-      (sources : List S)
-      (desks : List (Desk (Seated B) S)) (ran : AllRan c shared topics size longest faults end_count left sources desks) where
+  module _ (c : Setup) (shared : Identity B) (topics : List (List ℕ × Kind)) (size longest : ℕ) (src : SourceOf S) (sources : List S)
+      (desks : List (Desk (Seated B) S)) (ran : AllRan c shared topics size longest src sources desks) where
     -- what `AllGave` says of these desks, by short names
     abbrev messages_given : List (List Message)
-    messages_given = given c shared topics size longest faults end_count left sources desks ran
+    messages_given = given c shared topics size longest src sources desks ran
 
     own-gave : (w : ℕ) (d : Desk (Seated B) S) → slice_get desks w ≡ Some d → worker_messages d ≡ own_of (length desks) w 1 messages_given
-    own-gave = own-given c shared topics size longest faults end_count left sources desks ran
+    own-gave = own-given c shared topics size longest src sources desks ran
 
     abbrev works : List (ℕ × PassStanding B)
     works = map (counted size) desks
@@ -105,7 +104,7 @@ module _ {B S : Type 0} where
     few-messages : messages_of works ≤ 2 ^ 36
     few-messages =
         let counts = sum_by-map (λ (w : ℕ × PassStanding B). w.0) (counted size) desks in
-        let few = few-in-all c shared topics size longest faults end_count left sources desks ran in
+        let few = few-in-all c shared topics size longest src sources desks ran in
         omega arith
 
     all-few : All (λ (w : ℕ × PassStanding B). HasFewCalls 1 w.0 w.1) works
@@ -142,12 +141,12 @@ module _ {B S : Type 0} where
       messages-known : (k : ℕ) (d : Desk (Seated B) S) → k < length desks → All (λ m. m.topic ≤ length topics) (worker_messages (get_or desks k d))
       messages-known k d less =
           let files = (get_or desks k d).files.items in
-          flat-known (reverse files) (All-permutation (λ (f : OwnFile S). IsRead topics longest faults end_count left f.number f.was.value f.source (given_of f)
+          flat-known (reverse files) (All-permutation (λ (f : OwnFile S). IsRead topics longest src f.number f.was.value f.source (given_of f)
           f.end)
           files (reverse files)
           (IsPermutation-reverse files) (ran.run k d less).read)
         where
-          flat-known : (fs : List (OwnFile S)) → All (λ f. IsRead topics longest faults end_count left f.number f.was.value f.source (given_of f) f.end) fs
+          flat-known : (fs : List (OwnFile S)) → All (λ f. IsRead topics longest src f.number f.was.value f.source (given_of f) f.end) fs
               → All (λ m. m.topic ≤ length topics) (flat_map given_of fs)
           flat-known [] read = All-nil (λ (m : Message). m.topic ≤ length topics)
           flat-known (f ∷ fs) read =
@@ -199,8 +198,8 @@ module _ {B S : Type 0} where
 
       -- where each file was read to its end and no worker wanted memory
       module _ (whole : AllWhole desks) (fed : All (λ d. d.worker.worker.starved ≡ false) desks) where
-        gave : AreGiven topics longest left 1 sources messages_given
-        gave = is-given c shared topics size longest faults end_count left sources desks ran whole
+        gave : AreGiven topics longest src.left 1 sources messages_given
+        gave = is-given c shared topics size longest src sources desks ran whole
 
         listed : (k : ℕ) (d : Desk (Seated B) S) → k < length desks
             → HasListed topics (parts_in size (worker_messages (get_or desks k d))) (get_or desks k d).worker.worker.pass (get_or desks k d).worker.worker.members
@@ -236,7 +235,7 @@ module _ {B S : Type 0} where
             let given_parts : List Part = parts_in size (flat_map (λ own. own) messages_given) in
             let back : IsPermutation (map (part_answer topics) passed) (map (part_answer topics) given_parts) =
             IsPermutation-map (part_answer topics) passed given_parts
-            (IsPermutation-sym given_parts passed (all-parts-passed c shared topics size longest faults end_count left sources desks ran)) in
+            (IsPermutation-sym given_parts passed (all-parts-passed c shared topics size longest src sources desks ran)) in
             IsPermutation-trans (map without_way (members_of (lists_at desks))) (map (part_answer topics) passed) (map (part_answer topics) given_parts)
             (subst (IsPermutation (map without_way (members_of (lists_at desks)))) (ap (map (part_answer topics)) parts)
             (subst (λ l. IsPermutation (map without_way l) (map (part_answer topics) (messages_in (map (work_of size) desks)))) members all)) back
@@ -246,9 +245,9 @@ module _ {B S : Type 0} where
           each_pass = length-map desks (λ (d : Desk (Seated B) S). d.worker.worker.pass);
           each_list = length-map desks (λ (d : Desk (Seated B) S). d.worker.worker.members);
           once = once;
-          whole = members-whole topics size longest left sources messages_given (members_of (lists_at desks)) gave once;
+          whole = members-whole topics size longest src.left sources messages_given (members_of (lists_at desks)) gave once;
           known = members-known topics size (flat_map (λ own. own) messages_given) (members_of (lists_at desks)) once
-              (given-known topics longest left 1 sources messages_given gave);
+              (given-known topics longest src.left 1 sources messages_given gave);
           short = members-short topics size (flat_map (λ own. own) messages_given) (members_of (lists_at desks)) once;
           takes = of-each (λ w p list. AnswersItsTakes topics (takes_of p.calls) list) desks (λ w d is.
               (all-taken topics (map (work_of size) desks) all-works (subst (λ (ps : List (PassStanding B)). EachTakeIsASend ps) (sym work-passes) closed.takes)

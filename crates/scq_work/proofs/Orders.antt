@@ -1,15 +1,12 @@
 -- The messages of files, one file behind the other: on known topics, with parts in order of file, line and number. So the answers of workers, which are
 -- those to the parts in some order, are whole messages, on known topics.
-use Rattle.std.proofs.Common.{◌≡◌, ◌∙◌, refl, sym, ap, subst, inl, inr, arith, zero, suc, true, false, Bool, ℕ, ◌+◌, ◌-◌, ◌<◌, ◌≤◌, List, [], ◌∷◌, ◌++◌, length, map, get_or, Option, Some, None}
+use Rattle.std.proofs.Common.{◌≡◌, ◌∙◌, refl, sym, ap, subst, inl, inr, arith, zero, suc, ℕ, ◌+◌, ◌-◌, ◌<◌, ◌≤◌, List, [], ◌∷◌, ◌++◌, length, map, get_or, Option, Some, None}
 use Rattle.std.specs.Prelude.{slice_index_or, IfSome, flat_map}
-use Rattle.std.specs.List.{Contains, IsDistinct, range_with_len}
+use Rattle.std.specs.List.{Contains, range_with_len}
 use Rattle.std.specs.List.Sorted.{IsPermutation}
-use Rattle.std.proofs.lemmas.Bool.Decides.{nat_tests}
 use Rattle.std.proofs.lemmas.Grind.{flat_map-append}
 use Rattle.std.proofs.lemmas.List.{append_assoc, get_or-map, length-map}
 use Rattle.std.proofs.lemmas.List.Elements.{Contains-get_or}
-use Rattle.std.proofs.lemmas.List.Sorted.{IsPermutation-sym}
-use Rattle.std.proofs.lemmas.Map.Keys.{IsDistinct-IsPermutation, apart_from_distinct}
 use Rattle.scq_topics.specs.declared.kind.Kind.{Kind}
 use Rattle.scq_topics.specs.Topics.{topic_of}
 use Rattle.scq_frames.specs.declared.message.Message.{Message}
@@ -20,17 +17,14 @@ use Rattle.scq_collect.specs.declared.answered.Answered.{Answered}
 use Rattle.scq_collect.specs.Collected.{messages_to}
 use Rattle.scq_collect.specs.Joined.{AreWhole, PartAnswer, part_answer, part_answers, without_way}
 use Rattle.scq_collect.specs.Merging.{AreApart, IsBefore, IsInOrder, position_of_part}
-use Rattle.scq_collect.proofs.Orders.{is_position, is_position-flip, ascends, ascends-distinct}
+use Rattle.scq_collect.proofs.Orders.{ascends}
+use Rattle.scq_desk.proofs.Apart.{apart-shown}
 use Rattle.scq_files.specs.Reading.{AreOf}
 use Rattle.scq_files.specs.Ends.{AreGiven, all_left, messages_in}
 use Rattle.scq_files.proofs.GivenLemmas.{given-told}
 use Rattle.scq_worker.specs.Passing.{parts_in}
 use Rattle.scq_work.proofs.PartMembers.{IsPartOf, has-part, same-place, part-of-member, member-of-part}
 use Rattle.scq_passes.proofs.ManyLists.{found-at, in-all}
-
--- a place is itself
-is_position-itself : (p : ℕ × ℕ × ℕ) → is_position p p ≡ true
-is_position-itself p = grind (arith, nat_tests)
 
 -- where a part stands, and its answer
 abbrev place_at : Part → ℕ × ℕ × ℕ
@@ -146,24 +140,11 @@ module _ {S : Type 0} (topics : List (List ℕ × Kind)) (size longest : ℕ) (l
     (same : IsPermutation (map without_way members) (part_answers topics size (all_of given))) where
   -- members whose answers are those to the parts, in some order, are apart
   members-apart : AreApart position_of_part members
-  members-apart i j d less within alike =
-      let test : PartAnswer → PartAnswer → Bool = λ x y. is_position (position_of_text x) (position_of_text y) in
+  members-apart =
       let answers = part_answers topics size (all_of given) in
-      let up = ascends position_of_text answers
-      (answers-in-order topics (parts_in size (all_of given)) (given-in-order topics size longest left was given gave)) in
-      let distinct : IsDistinct test (map without_way members) =
-      IsDistinct-IsPermutation test (λ x y. is_position-flip (position_of_text x) (position_of_text y)) answers (map without_way members)
-      (IsPermutation-sym (map without_way members) answers same) (ascends-distinct position_of_text answers up) in
-      let plain : PartAnswer = without_way d in
-      let long = length-map members without_way in
-      let apart = apart_from_distinct test (map without_way members) i j plain distinct less (omega arith) in
-      let first = get_or-map without_way members i d plain (omega arith) in
-      let second = get_or-map without_way members j d plain within in
-      let there : test (without_way (get_or members i d)) (without_way (get_or members j d)) ≡ false =
-      ap (λ a. test a (without_way (get_or members j d))) (sym first) ∙ ap (test (get_or (map without_way members) i plain)) (sym second) ∙ apart in
-      let itself : test (without_way (get_or members i d)) (without_way (get_or members j d)) ≡ true =
-      ap (λ p. is_position (position_of_part (get_or members i d)) p) (sym alike) ∙ is_position-itself (position_of_part (get_or members i d)) in
-      absurd (cc)
+      apart-shown position_of_text without_way members answers
+      (ascends position_of_text answers
+      (answers-in-order topics (parts_in size (all_of given)) (given-in-order topics size longest left was given gave))) same
 
   -- those of one file and line are of one message
   one-message : (a b : Answered) → IsPartOf topics size (all_of given) a → IsPartOf topics size (all_of given) b → a.file ≡ b.file → a.line ≡ b.line

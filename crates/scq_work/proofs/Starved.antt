@@ -3,26 +3,28 @@ use Rattle.std.proofs.Common.{◌≡◌, refl, sym, ap, subst, inl, ℕ, List, [
 use Rattle.std.specs.Prelude.{slice_index_or}
 use Rattle.std.specs.Option.{option_map}
 use Rattle.scq_files.specs.Ends.{HasMoved}
+use Rattle.scq_files.specs.Reading.{SourceOf}
 use Rattle.scq_files.proofs.ReadLemmas.{stops-unread}
 use Rattle.scq_work.specs.Ends.{EndsWork}
-use Rattle.scq_work.specs.declared.worked.WorkEnd.{WorkEnd}
-use Rattle.scq_work.specs.declared.worked.WorkFault.TheVariants.{NoMemory}
+use Rattle.scq_work.specs.declared.worked.Worked.{Worked}
+use Rattle.scq_desk.specs.declared.end.End.{End}
+use Rattle.scq_desk.specs.declared.fault.EndFault.TheVariants.{NoMemory}
 use Rattle.scq_worker.specs.declared.job.Job.{Job}
 
 -- a source that nobody read is as it was
-unmoved : {S : Type 0} (faults : S → ℕ) (left : S → Option (List ℕ)) (source : S) → HasMoved faults left source source
-unmoved faults left source = record { bytes = []; moved = at (left source); counted = inl refl } where
+unmoved : {S : Type 0} (src : SourceOf S) (source : S) → HasMoved src source source
+unmoved src source = record { bytes = []; moved = at (src.left source); counted = inl refl } where
   at : (o : Option (List ℕ)) → o ≡ option_map (λ (rest : List ℕ). rest) o
   at None = refl
   at (Some rest) = refl
 
-pub ends-starved : {S : Type 0} (j : Job) (faults end_count : S → ℕ) (left : S → Option (List ℕ)) (sources : List S) (end : WorkEnd S)
-    → end.sources.items ≡ sources → end.result ≡ Err NoMemory → end.left ≡ None → EndsWork j faults end_count left sources end
-ends-starved {S} j faults end_count left sources end same fault none = record {
+pub ends-starved : {S : Type 0} (j : Job) (src : SourceOf S) (sources : List S) (end : End Worked S)
+    → end.sources.items ≡ sources → end.result ≡ Err NoMemory → end.left ≡ None → EndsWork j src sources end
+ends-starved {S} j src sources end same fault none = record {
   count = ap length same;
-  moved = λ k d less. subst (λ (l : List S). HasMoved faults left (slice_index_or sources k d) (slice_index_or l k d)) (sym same)
-      (unmoved faults left (slice_index_or sources k d));
-  stops = stops-unread j.workers j.longest faults end_count left sources end.sources.items same;
+  moved = λ k d less. subst (λ (l : List S). HasMoved src (slice_index_or sources k d) (slice_index_or l k d)) (sym same)
+      (unmoved src (slice_index_or sources k d));
+  stops = stops-unread j.workers j.longest src sources end.sources.items same;
   whole = rw fault tt;
   answers = rw fault tt;
   told = rw fault tt;

@@ -1,6 +1,6 @@
 -- How the work on all files ended: the fault of the workers and its cause, and what is known of
 -- each end. Files are numbered from 1.
-use Rattle.std.specs.Prelude.{◌≡◌, ℕ, ◌+◌, ◌<◌, List, length, map, slice_index_or, Option}
+use Rattle.std.specs.Prelude.{◌≡◌, ℕ, ◌+◌, ◌<◌, List, length, map, slice_index_or}
 use Rattle.std.specs.Prelude.{None, IfOk, IfErr, IfSome, IsErrOf, IsSomeAnd, OnOk}
 use Rattle.std.specs.List.Sorted.{IsPermutation}
 use Rattle.scq_frames.specs.declared.message.Message.{Message}
@@ -8,53 +8,37 @@ use Rattle.scq_collect.specs.Collected.{messages_to}
 use Rattle.scq_collect.specs.Joined.{part_answers, without_way}
 use Rattle.scq_collect.specs.Merging.{members_of}
 use Rattle.scq_files.specs.Ends.{AreGiven, HasMoved, StopsAtFaults, all_left, messages_in}
-use Rattle.scq_files.specs.Reading.{IsWhole}
+use Rattle.scq_files.specs.Reading.{IsWhole, SourceOf}
 use Rattle.scq_work.specs.AllWorkers.{HasWorked, NothingIsStranded}
 use Rattle.scq_worker.specs.declared.job.Job.{Job}
-use Rattle.scq_work.specs.declared.worked.WorkEnd.{WorkEnd}
-use Rattle.scq_desk.specs.Faults as workers
-use Rattle.scq_desk.specs.declared.fault.EndFault.{EndFault}
-use Rattle.scq_desk.specs.declared.fault.EndFault.TheVariants as ends
-use Rattle.scq_work.specs.declared.worked.WorkFault.{WorkFault}
-use Rattle.scq_work.specs.declared.worked.WorkFault.TheVariants.{Read, TooLong, TooLarge, NoMemory}
-
--- a fault as one of the workers at desks
-abbrev pub as_end : WorkFault → EndFault
-as_end (Read file) = ends.Read file
-as_end (TooLong file line len) = ends.TooLong file line len
-as_end (TooLarge file bytes) = ends.TooLarge file bytes
-as_end NoMemory = ends.NoMemory
-
--- the cause of each fault
-abbrev pub HasCause : {S : Type 0} → ℕ → (S → ℕ) → (S → ℕ) → (S → Option (List ℕ)) → List S → List S
-    → WorkFault → Type 0
-HasCause size faults end_count left olds news fault =
-    workers.HasCause size faults end_count left olds news (as_end fault)
+use Rattle.scq_work.specs.declared.worked.Worked.{Worked}
+use Rattle.scq_desk.specs.declared.end.End.{End}
+use Rattle.scq_desk.specs.Faults.{HasCause, MemoryIsFirst}
+use Rattle.scq_desk.specs.declared.fault.EndFault.TheVariants.{NoMemory}
 
 -- what is known of the end of a job's work on these sources, which come back in their order in
 -- every case
-pub record EndsWork {S : Type 0} (j : Job) (faults end_count : S → ℕ) (left : S
-    → Option (List ℕ)) (sources : List S) (end : WorkEnd S) : Type 0 where
+pub record EndsWork {S : Type 0} (j : Job) (src : SourceOf S) (sources : List S)
+    (end : End Worked S) : Type 0 where
   pub count : length end.sources.items ≡ length sources
   pub moved : (k : ℕ) (d : S) → k < length sources
-      → HasMoved faults left (slice_index_or sources k d) (slice_index_or end.sources.items k d)
+      → HasMoved src (slice_index_or sources k d) (slice_index_or end.sources.items k d)
   -- no worker read a file behind one of its own at which it stopped
-  pub stops : StopsAtFaults j.workers j.longest faults end_count left sources end.sources.items
+  pub stops : StopsAtFaults j.workers j.longest src sources end.sources.items
   -- each source was read to its end, and where the bytes of all are visible the answers are those
   -- to all parts of their messages
   pub whole : OnOk end.result ((k : ℕ) (d : S) → k < length sources
-      → IsWhole j.longest faults end_count left (slice_index_or sources k d)
-      (slice_index_or end.sources.items k d))
-  pub answers : IfOk end.result (λ w. IfSome (all_left left sources) (λ contents.
+      → IsWhole j.longest src (slice_index_or sources k d) (slice_index_or end.sources.items k d))
+  pub answers : IfOk end.result (λ w. IfSome (all_left src.left sources) (λ contents.
       IsPermutation (map without_way (members_of w.answered.items))
       (part_answers j.topics j.size (messages_to j.topics 1 contents))))
   -- the lists answer for the messages that the files gave, and the passes for what was sent and
   -- taken: of contents that are visible, and of every source
   pub told : IfOk end.result (λ w.
-      IfSome (all_left left sources) (λ contents.
+      IfSome (all_left src.left sources) (λ contents.
       HasWorked j.topics j.size j.workers (messages_in j.topics 1 contents) w))
   pub worked : IfOk end.result (λ w.
-      (given : List (List Message)) × AreGiven j.topics j.longest left 1 sources given
+      (given : List (List Message)) × AreGiven j.topics j.longest src.left 1 sources given
       × HasWorked j.topics j.size j.workers given w)
   -- whatever the answer is, the queue was closed with each buffer free: each pass has retired, and
   -- what was sent was taken. Only where there was no memory for a queue there was none
@@ -65,7 +49,5 @@ pub record EndsWork {S : Type 0} (j : Job) (faults end_count : S → ℕ) (left 
   pub same : IfOk end.result (λ w. IsSomeAnd end.passes (λ p. p.value.items ≡ w.passes.value.items))
   -- a fault is that of its file, and those in front of it were read to their ends. Where there is
   -- one of a file, each source is as one whose reading didn't stop for want of memory
-  pub cause : IfErr end.result (HasCause j.longest faults end_count left sources end.sources.items)
-  pub memory_first : IfErr end.result (λ fault.
-      workers.MemoryIsFirst j.longest faults end_count left sources end.sources.items
-      (as_end fault))
+  pub cause : IfErr end.result (HasCause j.longest src sources end.sources.items)
+  pub memory_first : IfErr end.result (MemoryIsFirst j.longest src sources end.sources.items)

@@ -10,5 +10,5 @@ mod working;
 
 pub use scq_worker::{FreeGate, Gate, Job, Point};
 pub use waited::{WaitEnd, Waited, work_waiting};
-pub use worked::{WorkEnd, WorkFault, Worked};
+pub use worked::{WorkEnd, Worked};
 pub use working::work;

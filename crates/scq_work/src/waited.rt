@@ -12,10 +12,10 @@ ghost use Rattle.scq_rest.specs.Waiting.{HaveWaited};
 
 use crate::winding::wind_up;
 use crate::working::setup_of;
-use crate::{WorkEnd, WorkFault};
+use crate::WorkEnd;
 use scq_block::{Block, Frame};
 use scq_collect::Answers;
-use scq_desk::{Room, lay_out, make_room};
+use scq_desk::{End, EndFault, Room, lay_out, make_room};
 use scq_outside::Source;
 use scq_park::{Crew, Rested, Stand};
 use scq_passes::make_queue;
@@ -48,12 +48,12 @@ impl<S> WaitEnd<S> {
     /// The end where no memory was found for a crew, its room or its queue.
     fn starved(sources: Vec<S>) -> WaitEnd<S>
         ensures sources { result.end.sources ≡ sources }
-        ensures fault { result.end.result ≡ Err WorkFault.NoMemory }
+        ensures fault { result.end.result ≡ Err EndFault.NoMemory }
         ensures left { (result.end.left ≡ None) × (result.end.passes ≡ None) }
         ensures waited { result.waited ≡ None }
     {
         WaitEnd {
-            end: WorkEnd::starved(sources),
+            end: End::starved(sources),
             waited: None,
         }
     }
@@ -110,14 +110,14 @@ pub fn work_waiting<R: Threads + Wait + Sync, S: Source, G: Gate + Sync>(
     gate: &G,
 ) -> WaitEnd<S>
     requires { vec_len sources ≤ 64 }
-    ensures end { EndsWork job.now S.faults S.ends S.left sources.items result.end }
+    ensures end { EndsWork job.now S.Source sources.items result.end }
 
     // Each worker was told that all had retired, rested no more often than it was woken, and took
     // in vain no more often than one does that rests after each sweep that took nothing.
     ensures waited { IfSome result.waited (λ waited. IsSomeAnd result.end.passes (λ passes.
         HaveWaited (length job.now.topics
         + 1) job.now.workers passes.value.items waited.saw.items waited.rested.items)) }
-    ensures unwaited { result.waited ≡ None → IsErrOf result.end.result WorkFault.NoMemory }
+    ensures unwaited { result.waited ≡ None → IsErrOf result.end.result EndFault.NoMemory }
     ensures both { OnSome result.waited (IsSome result.end.left) }
 {
     let Ok((crew, stands)) = Crew::make(alloc, job.workers) else {
@@ -154,7 +154,7 @@ fn wait_in<R: Threads + Wait + Sync, S: Source, G: Gate + Sync>(
     requires resting_room { HasRoom job.now.workers made.resting_room }
     requires crew { length crew ≡ job.now.workers }
     requires stands { stands.items ≡ first_posts crew job.now.workers }
-    ensures end { EndsWork job.now S.faults S.ends S.left sources.items result.end }
+    ensures end { EndsWork job.now S.Source sources.items result.end }
     ensures waited { IfSome result.waited (λ waited. IsSomeAnd result.end.passes (λ passes.
         HaveWaited (length job.now.topics
         + 1) job.now.workers passes.value.items waited.saw.items waited.rested.items)) }

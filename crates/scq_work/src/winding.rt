@@ -1,35 +1,21 @@
 //! How the work of all workers ends.
-ghost use Rattle.std.specs.Prelude.{◌≡◌, ℕ, ◌+◌, ◌^◌, ◌<◌, ◌≤◌, None, Some, false, length, map};
-ghost use Rattle.std.specs.Prelude.{slice_index_or, IfOk, IfErr, IfSome, IsSome};
+ghost use Rattle.std.specs.Prelude.{◌≡◌, ℕ, ◌+◌, ◌^◌, ◌<◌, ◌≤◌, length, map};
+ghost use Rattle.std.specs.Prelude.{slice_index_or, IfSome, IsSome};
 ghost use Rattle.std.specs.List.{All};
 ghost use Rattle.scq_block.specs.Blocks.{AreAllOf};
 ghost use Rattle.scq_queue.specs.Passes.{was_told};
 ghost use Rattle.scq_files.specs.Desks.{AreDealt};
 ghost use Rattle.scq_desk.specs.Rooms.{IsLaid};
 ghost use Rattle.scq_worker.specs.Desks.{HasRun};
-ghost use Rattle.scq_desk.specs.Faults.{fault_of_workers};
-ghost use Rattle.scq_work.specs.Ends.{EndsWork, as_end};
+ghost use Rattle.scq_work.specs.Ends.{EndsWork};
 
-use crate::{WorkEnd, WorkFault, Worked};
+use crate::{WorkEnd, Worked};
 use scq_block::{Block, Frame};
 use scq_collect::Answers;
-use scq_desk::{EndFault, LaidOut, WoundUp, fault_of_all, wind_up_desks};
-use scq_frames::FrameFault;
+use scq_desk::{End, LaidOut, WoundUp, conclude, wind_up_desks};
 use scq_outside::Source;
 use scq_queue::Queue;
 use scq_worker::{Job, WorkDesk};
-
-/// The fault of all workers, told as one of this crate.
-fn work_fault(fault: EndFault) -> WorkFault
-    ensures { as_end result ≡ fault }
-{
-    match fault {
-        EndFault::Read { file } => WorkFault::Read { file },
-        EndFault::TooLong { file, line, len } => WorkFault::TooLong { file, line, len },
-        EndFault::TooLarge { file, bytes } => WorkFault::TooLarge { file, bytes },
-        EndFault::NoMemory => WorkFault::NoMemory,
-    }
-}
 
 /// Ends the work of all workers once each has done its own: the files are gathered, the queue is
 /// closed and its block merged, in every answer. With the end comes, of each worker, whether it saw
@@ -51,11 +37,10 @@ pub(crate) fn wind_up<S: Source>(
     requires numbers { (w : ℕ) (d : _) → w < length desks.items
         → (slice_index_or desks.items w d).worker.worker.pass.number ≡ w }
     requires run { All (λ d.
-        HasRun queue job.now.topics job.now.size job.now.longest S.faults S.ends S.left
-        d.files.items d.worker.worker.pass
-        d.worker.worker.members d.worker.worker.starved d.worker.kept)
+        HasRun queue job.now.topics job.now.size job.now.longest S.Source d.files.items
+        d.worker.worker.pass d.worker.worker.members d.worker.worker.starved d.worker.kept)
         desks.items }
-    ensures end { EndsWork job.now S.faults S.ends S.left laid.was.value.items result.0 }
+    ensures end { EndsWork job.now S.Source laid.was.value.items result.0 }
     ensures passes { IfSome result.0.passes (λ passes.
         passes.value.items ≡ map (λ d. d.worker.worker.pass) desks.items) }
     ensures saw { IfSome result.0.passes (λ passes.
@@ -80,7 +65,7 @@ pub(crate) fn wind_up<S: Source>(
         answered: lists,
         passes,
     };
-    let end = WorkEnd {
+    let end = End {
         sources,
         result: conclude(worked, starved, fault),
         left: Some(left),
@@ -88,19 +73,4 @@ pub(crate) fn wind_up<S: Source>(
         frames: Some(frames),
     };
     (end, saw)
-}
-
-/// What was answered, where no worker wanted memory and no file has a fault.
-fn conclude(
-    worked: Worked,
-    starved: bool,
-    first: Option<(u32, FrameFault)>,
-) -> Result<Worked, WorkFault>
-    ensures ok { IfOk result (λ w. (w ≡ worked) × (starved ≡ false) × (first ≡ None)) }
-    ensures err { IfErr result (λ f. fault_of_workers starved first ≡ Some (as_end f)) }
-{
-    match fault_of_all(starved, first) {
-        Some(fault) => Err(work_fault(fault)),
-        None => Ok(worked),
-    }
 }

@@ -9,7 +9,7 @@ ghost use Rattle.scq_work.specs.Ends.{EndsWork};
 use crate::WorkEnd;
 use crate::apart::run_apart;
 use crate::winding::wind_up;
-use scq_desk::{lay_out, make_room};
+use scq_desk::{End, lay_out, make_room};
 use scq_outside::Source;
 use scq_passes::make_queue;
 use scq_word::{NoMemory, Setup};
@@ -44,7 +44,7 @@ pub fn work<R: Threads + Sync, S: Source, G: Gate + Sync>(
     gate: &G,
 ) -> WorkEnd<S>
     requires { vec_len sources ≤ 64 }
-    ensures end { EndsWork job.now S.faults S.ends S.left sources.items result }
+    ensures end { EndsWork job.now S.Source sources.items result }
 
     // Each worker asked before each of its sweeps whether all had retired, and left after one
     // before which they had, or after 64 in a row that took nothing.
@@ -52,7 +52,7 @@ pub fn work<R: Threads + Sync, S: Source, G: Gate + Sync>(
         All (HasLeftSwept bytes_of IsReturn (length job.now.topics + 1) 64) passes.value.items) }
 {
     let Ok(room) = make_room(alloc, job.workers, sources.len()) else {
-        return WorkEnd::starved(sources);
+        return End::starved(sources);
     };
     match make_queue(alloc, setup_of(job), job.size) {
         Ok((block, queue, passes)) => {
@@ -63,7 +63,7 @@ pub fn work<R: Threads + Sync, S: Source, G: Gate + Sync>(
         }
         Err(NoMemory) => {
             room.destroy_empty();
-            WorkEnd::starved(sources)
+            End::starved(sources)
         }
     }
 }

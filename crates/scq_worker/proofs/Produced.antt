@@ -5,6 +5,7 @@ use Rattle.scq_collect.specs.declared.answered.Answered.{Answered}
 use Rattle.scq_band.specs.Standing.{Identity}
 use Rattle.scq_queue.specs.Passes.{PassStanding, HeldStanding, first_pass, known_on}
 use Rattle.scq_files.specs.OwnFiles.{StopsAtAFault, all_given}
+use Rattle.scq_files.specs.Reading.{SourceOf}
 use Rattle.scq_worker.specs.Desks.{IsToSweep, HasProduced, HasRun}
 use Rattle.scq_worker.specs.Passing.{parts_in}
 use Rattle.scq_passes.specs.Leaving.{HasLeftSwept, HasSweptLast}
@@ -36,13 +37,12 @@ module _ {B : Type 0} where
       → HasAnswered topics p q was is
   answered-awake topics p q was is h = record { takes = h.takes; directs = h.directs }
 
-module _ {B S : Type 0} (shared : Identity B) (topics : List (List ℕ × Kind)) (size longest : ℕ) (faults end_count : S → ℕ) (left : S → Option (List ℕ))
-    (files : List (OwnFile S)) where
+module _ {B S : Type 0} (shared : Identity B) (topics : List (List ℕ × Kind)) (size longest : ℕ) (src : SourceOf S) (files : List (OwnFile S)) where
   -- it has passed all on, and retired
   pub produced-awake : (p q : PassStanding B) (was is : List Answered) (before after : Bool) (kept : Option (HeldStanding B))
-      → AllRead topics longest faults end_count left files → StopsAtAFault files → Suits shared (length topics) p → IsAtWork topics (parts_in size (all_given files)) p was before
+      → AllRead topics longest src files → StopsAtAFault files → Suits shared (length topics) p → IsAtWork topics (parts_in size (all_given files)) p was before
       → HelpsInVain (length topics + 1) p → q ≡ after_retire p → is ≡ was → after ≡ before → kept ≡ None
-      → HasProduced shared topics size longest faults end_count left files q is after kept
+      → HasProduced shared topics size longest src files q is after kept
   produced-awake p q was is before after kept read stops suits work vain retired members starved none =
       record {
         awake = λ awake. record {
@@ -61,19 +61,18 @@ module _ {B S : Type 0} (shared : Identity B) (topics : List (List ℕ × Kind))
 
   -- it met a ticket past the limit, and retired
   pub produced-stopped : (p q : PassStanding B) (is : List Answered) (after : Bool) (kept held : Option (HeldStanding B))
-      → AllRead topics longest faults end_count left files → StopsAtAFault files → HasStopped shared (length (parts_in size (all_given files))) p held
+      → AllRead topics longest src files → StopsAtAFault files → HasStopped shared (length (parts_in size (all_given files))) p held
       → q ≡ after_retire p → kept ≡ held
-      → HasProduced shared topics size longest faults end_count left files q is after kept
+      → HasProduced shared topics size longest src files q is after kept
   produced-stopped p q is after kept held read stops end retired same =
       record {
         awake = λ awake. absurd (none-or q.spent end.spent.0 (ap (λ (x : PassStanding B). x.spent) retired ∙ end.spent.1) awake);
         done = λ ticket spent.
-            run-stopped shared topics size longest faults end_count left files p q is after kept held read stops end retired same;
+            run-stopped shared topics size longest src files p q is after kept held read stops end retired same;
       }
 
-module _ {B S : Type 0} (shared : Identity B) (job : Job) (faults end_count : S → ℕ) (left : S → Option (List ℕ)) (files : List (OwnFile S)) (was now : Worker B)
-    (kept : Option (HeldStanding B))
-    (t : IsToSweep shared job.topics job.size job.longest faults end_count left files was.pass was.members was.starved kept) where
+module _ {B S : Type 0} (shared : Identity B) (job : Job) (src : SourceOf S) (files : List (OwnFile S)) (was now : Worker B) (kept : Option (HeldStanding B))
+    (t : IsToSweep shared job.topics job.size job.longest src files was.pass was.members was.starved kept) where
   -- so its calls find its pass
   pub sweep-suits : Suits shared (length job.topics) was.pass
   sweep-suits = subst (λ (x : PassStanding B). Suits shared (length job.topics) x) (sym t.retired) (suits-retired shared (length job.topics) t.before t.suits)
@@ -81,9 +80,9 @@ module _ {B S : Type 0} (shared : Identity B) (job : Job) (faults end_count : S 
   -- it has swept, and left
   pub swept-out : (n : ℕ) → n ≡ length job.topics → HasTaken was.pass now.pass
       → ((k : ℕ) → k < n + 1 → (known_on k now.pass).finished < (known_on k now.pass).head) → HasAnsweredAll job.topics was now
-      → HasRun shared job.topics job.size job.longest faults end_count left files now.pass now.members now.starved kept
+      → HasRun shared job.topics job.size job.longest src files now.pass now.members now.starved kept
   swept-out n many taken past made =
-      run-left shared job.topics job.size job.longest faults end_count left files t.before now.pass was.members now.members was.starved now.starved
+      run-left shared job.topics job.size job.longest src files t.before now.pass was.members now.members was.starved now.starved
       kept t.read t.stops t.suits t.work (subst (λ (x : PassStanding B). HasTaken x now.pass) t.retired taken)
       (subst (λ m. (k : ℕ) → k < m + 1 → (known_on k now.pass).finished < (known_on k now.pass).head) many past) made.fed
       (λ all. answered-awake job.topics t.before now.pass was.members now.members
@@ -91,11 +90,11 @@ module _ {B S : Type 0} (shared : Identity B) (job : Job) (faults end_count : S 
 
   -- it met a ticket past the limit in a sweep, and keeps what came back
   pub late-out : (seat : Seated B) (held : Option (HeldStanding B)) → ((n : ℕ) → HasLeft n n was.pass now.pass held) → seat.worker ≡ now → seat.kept ≡ held
-      → HasRun shared job.topics job.size job.longest faults end_count left files seat.worker.pass seat.worker.members seat.worker.starved seat.kept
+      → HasRun shared job.topics job.size job.longest src files seat.worker.pass seat.worker.members seat.worker.starved seat.kept
   late-out seat held end same keeps =
       let n = length (parts_in job.size (all_given files)) in
-      subst (λ (w : Worker B). HasRun shared job.topics job.size job.longest faults end_count left files w.pass w.members w.starved seat.kept) (sym same)
-      (run-late shared job.topics job.size job.longest faults end_count left files t.before now.pass was.members now.members was.starved now.starved
+      subst (λ (w : Worker B). HasRun shared job.topics job.size job.longest src files w.pass w.members w.starved seat.kept) (sym same)
+      (run-late shared job.topics job.size job.longest src files t.before now.pass was.members now.members was.starved now.starved
       seat.kept held t.read t.stops t.suits t.work (subst (λ (x : PassStanding B). HasLeft n n x now.pass held) t.retired (end n)) keeps)
 
   -- its queue, once it has swept

@@ -18,7 +18,7 @@ use Rattle.scq_worker.specs.Passing.{no_call, parts_in}
 use Rattle.scq_passes.specs.Records.{HelpsOnceAfterEachFull}
 use Rattle.scq_passes.proofs.Blocks.{returns}
 use Rattle.scq_passes.proofs.Retired.{retired-taken}
-use Rattle.scq_files.specs.Reading.{IsRead}
+use Rattle.scq_files.specs.Reading.{IsRead, SourceOf}
 use Rattle.scq_passes.specs.Calls.{Suits, HasTaken, HasLeft, HasFewCalls, index_of, after_retire}
 use Rattle.scq_worker.specs.Working.{HasAnswered, IsSweeping, IsAtWork, HasStopped}
 use Rattle.scq_files.specs.declared.own_file.OwnFile.{OwnFile}
@@ -31,9 +31,8 @@ no-call [] after call is = absurd (cc)
 no-call (x ∷ before) after call is = absurd (cc)
 
 -- what of files is read
-abbrev pub AllRead : {S : Type 0} → List (List ℕ × Kind) → ℕ → (S → ℕ) → (S → ℕ) → (S → Option (List ℕ)) → List (OwnFile S) → Type 0
-AllRead topics size faults end_count left files = All
-    (λ f. IsRead topics size faults end_count left f.number f.was.value f.source (given_in f.given.value) f.end) files
+abbrev pub AllRead : {S : Type 0} → List (List ℕ × Kind) → ℕ → SourceOf S → List (OwnFile S) → Type 0
+AllRead topics size src files = All (λ f. IsRead topics size src f.number f.was.value f.source (given_in f.given.value) f.end) files
 
 module _ {B : Type 0} where
   -- a new pass suits, and nothing is passed on yet
@@ -92,14 +91,13 @@ module _ {B : Type 0} where
       }
 
   -- it has read its files, swept and left
-  pub run-left : {S : Type 0} (shared : Identity B) (topics : List (List ℕ × Kind)) (size longest : ℕ) (faults end_count : S → ℕ) (left : S → Option (List ℕ))
-      (files : List (OwnFile S))
+  pub run-left : {S : Type 0} (shared : Identity B) (topics : List (List ℕ × Kind)) (size longest : ℕ) (src : SourceOf S) (files : List (OwnFile S))
       (p q : PassStanding B) (was is : List Answered) (before after : Bool) (kept : Option (HeldStanding B))
-      → AllRead topics longest faults end_count left files → StopsAtAFault files → Suits shared (length topics) p → IsAtWork topics (parts_in size (all_given files)) p was before
+      → AllRead topics longest src files → StopsAtAFault files → Suits shared (length topics) p → IsAtWork topics (parts_in size (all_given files)) p was before
       → HasTaken (after_retire p) q → ((t : ℕ) → t < length topics + 1 → (known_on t q).finished < (known_on t q).head)
       → (after ≡ false → before ≡ false) → (after ≡ false → HasAnswered topics p q was is) → kept ≡ None
-      → HasRun shared topics size longest faults end_count left files q is after kept
-  run-left shared topics size longest faults end_count left files p q was is before after kept read stops suits work taken empty fed_before more nothing =
+      → HasRun shared topics size longest src files q is after kept
+  run-left shared topics size longest src files p q was is before after kept read stops suits work taken empty fed_before more nothing =
       let sweeping = sweeping-taken (length topics + 1) (after_retire p) q
       (sweeping-retired (length topics + 1) p (sweeping-first (length topics + 1) p work.producing)) taken in
       let long : length q.numbers ≡ length topics + 2 = taken.knows.rings ∙ suits.numbers in
@@ -129,15 +127,13 @@ module _ {B : Type 0} where
   some-none p ticket is none_ = absurd (cc)
 
   -- it met Spent in a sweep
-  pub run-late : {S : Type 0} (shared : Identity B) (topics : List (List ℕ × Kind)) (size longest : ℕ) (faults end_count : S → ℕ) (left : S → Option (List ℕ))
-      (files : List (OwnFile S))
+  pub run-late : {S : Type 0} (shared : Identity B) (topics : List (List ℕ × Kind)) (size longest : ℕ) (src : SourceOf S) (files : List (OwnFile S))
       (p q : PassStanding B) (was is : List Answered) (before after : Bool) (kept held : Option (HeldStanding B))
-      → AllRead topics longest faults end_count left files → StopsAtAFault files → Suits shared (length topics) p → IsAtWork topics (parts_in size (all_given files)) p was before
+      → AllRead topics longest src files → StopsAtAFault files → Suits shared (length topics) p → IsAtWork topics (parts_in size (all_given files)) p was before
       → HasLeft (length (parts_in size (all_given files))) (length (parts_in size (all_given files))) (after_retire p) q held → kept ≡ held
-      → HasRun shared topics size longest faults end_count left files q is after kept
-  run-late shared topics size longest faults end_count left files p q was is before after kept held read stops suits work end same =
-      subst (λ k. HasRun shared topics size longest faults end_count left files q is after k) (sym same)
-      (record {
+      → HasRun shared topics size longest src files q is after kept
+  run-late shared topics size longest src files p q was is before after kept held read stops suits work end same =
+      subst (λ k. HasRun shared topics size longest src files q is after k) (sym same) (record {
         read = read;
         stops = stops;
         few_calls = end.few_calls (few_calls-retired 0 (length (parts_in size (all_given files))) p work.few_calls);
@@ -152,17 +148,14 @@ module _ {B : Type 0} where
       })
 
   -- it met Spent while it read its files, and then retired
-  pub run-stopped : {S : Type 0} (shared : Identity B) (topics : List (List ℕ × Kind)) (size longest : ℕ) (faults end_count : S → ℕ)
-      (left : S → Option (List ℕ))
-      (files : List (OwnFile S))
+  pub run-stopped : {S : Type 0} (shared : Identity B) (topics : List (List ℕ × Kind)) (size longest : ℕ) (src : SourceOf S) (files : List (OwnFile S))
       (p q : PassStanding B) (is : List Answered) (after : Bool) (kept held : Option (HeldStanding B))
-      → AllRead topics longest faults end_count left files → StopsAtAFault files → HasStopped shared (length (parts_in size (all_given files))) p held
+      → AllRead topics longest src files → StopsAtAFault files → HasStopped shared (length (parts_in size (all_given files))) p held
       → q ≡ after_retire p → kept ≡ held
-      → HasRun shared topics size longest faults end_count left files q is after kept
-  run-stopped shared topics size longest faults end_count left files p q is after kept held read stops end retired same =
-      subst (λ k. HasRun shared topics size longest faults end_count left files q is after k) (sym same)
-      (subst (λ (x : PassStanding B). HasRun shared topics size longest faults end_count left files x is after held) (sym retired)
-      (record {
+      → HasRun shared topics size longest src files q is after kept
+  run-stopped shared topics size longest src files p q is after kept held read stops end retired same =
+      subst (λ k. HasRun shared topics size longest src files q is after k) (sym same)
+      (subst (λ (x : PassStanding B). HasRun shared topics size longest src files x is after held) (sym retired) (record {
         read = read;
         stops = stops;
         few_calls = few_calls-retired 1 (length (parts_in size (all_given files))) p end.few_calls;

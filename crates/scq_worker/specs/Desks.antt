@@ -9,7 +9,7 @@ use Rattle.scq_queue.specs.Passes.{PassStanding, HeldStanding}
 use Rattle.scq_files.specs.Given.{given_in}
 use Rattle.scq_files.specs.OwnFiles.{StopsAtAFault, all_given}
 use Rattle.scq_worker.specs.Passing.{parts_in}
-use Rattle.scq_files.specs.Reading.{IsRead}
+use Rattle.scq_files.specs.Reading.{IsRead, SourceOf}
 use Rattle.scq_passes.specs.Records.{HelpsOnceAfterEachFull}
 use Rattle.scq_passes.specs.Together.{HasRetired, HasSwept}
 use Rattle.scq_passes.specs.Waiting.{HelpsInVain}
@@ -18,16 +18,13 @@ use Rattle.scq_worker.specs.Working.{IsAtWork, IsSweeping, HasListed}
 use Rattle.scq_files.specs.declared.own_file.OwnFile.{OwnFile}
 
 -- a worker has read its files and passed on what they gave it, in parts of at most `size` bytes,
--- and has retired; now it is to sweep. `before` is its pass before it retired. `faults`,
--- `end_count` and `left` are what sources tell.
+-- and has retired; now it is to sweep. `before` is its pass before it retired.
 pub record IsToSweep {B S : Type 0} (shared : Identity B) (topics : List (List ℕ × Kind))
-    (size longest : ℕ) (faults end_count : S → ℕ)
-    (left : S → Option (List ℕ)) (files : List (OwnFile S)) (pass : PassStanding B)
+    (size longest : ℕ) (src : SourceOf S) (files : List (OwnFile S)) (pass : PassStanding B)
     (members : List Answered) (starved : Bool)
     (kept : Option (HeldStanding B)) : Type 0 where
   pub read : All (λ f.
-      IsRead topics longest faults end_count left f.number f.was.value f.source
-      (given_in f.given.value) f.end) files
+      IsRead topics longest src f.number f.was.value f.source (given_in f.given.value) f.end) files
   pub stops : StopsAtAFault files
   pub before : PassStanding B
   pub retired : pass ≡ after_retire before
@@ -38,15 +35,13 @@ pub record IsToSweep {B S : Type 0} (shared : Identity B) (topics : List (List �
 
 -- a worker has done its work: what its files gave it has passed on, in parts of at most `size`
 -- bytes, it has retired, and it has left after a sweep, unless it met a ticket past the limit.
--- `kept` is the value that it then kept. `faults`, `end_count` and `left` are what sources tell.
+-- `kept` is the value that it then kept.
 pub record HasRun {B S : Type 0} (shared : Identity B) (topics : List (List ℕ × Kind))
-    (size longest : ℕ) (faults end_count : S → ℕ)
-    (left : S → Option (List ℕ)) (files : List (OwnFile S)) (pass : PassStanding B)
+    (size longest : ℕ) (src : SourceOf S) (files : List (OwnFile S)) (pass : PassStanding B)
     (members : List Answered) (starved : Bool)
     (kept : Option (HeldStanding B)) : Type 0 where
   pub read : All (λ f.
-      IsRead topics longest faults end_count left f.number f.was.value f.source
-      (given_in f.given.value) f.end) files
+      IsRead topics longest src f.number f.was.value f.source (given_in f.given.value) f.end) files
   pub stops : StopsAtAFault files
   pub few_calls : HasFewCalls 1 (length (parts_in size (all_given files))) pass
   pub queue : pass.queue ≡ shared
@@ -63,11 +58,10 @@ pub record HasRun {B S : Type 0} (shared : Identity B) (topics : List (List ℕ 
 -- a worker has read its files and retired: it is to sweep, or, where it met a ticket past the
 -- limit, it has done its work
 pub record HasProduced {B S : Type 0} (shared : Identity B) (topics : List (List ℕ × Kind))
-    (size longest : ℕ) (faults end_count : S → ℕ)
-    (left : S → Option (List ℕ)) (files : List (OwnFile S)) (pass : PassStanding B)
+    (size longest : ℕ) (src : SourceOf S) (files : List (OwnFile S)) (pass : PassStanding B)
     (members : List Answered) (starved : Bool)
     (kept : Option (HeldStanding B)) : Type 0 where
   pub awake : pass.spent ≡ None
-      → IsToSweep shared topics size longest faults end_count left files pass members starved kept
+      → IsToSweep shared topics size longest src files pass members starved kept
   pub done : (ticket : ℕ) → pass.spent ≡ Some ticket
-      → HasRun shared topics size longest faults end_count left files pass members starved kept
+      → HasRun shared topics size longest src files pass members starved kept

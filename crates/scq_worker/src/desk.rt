@@ -39,9 +39,9 @@ pub fn produce<S: Source, G: Gate, T, W: Bell<T>>(
     requires unread { All IsNew desk.old.files.items }
     requires bell { W.fits bell.now (W.kept stand.old) job.now.workers }
     ensures same { ids_of desk.new.files.items ≡ ids_of desk.old.files.items }
-    ensures produced { HasProduced queue.now job.now.topics job.now.size job.now.longest S.faults
-        S.ends S.left desk.new.files.items desk.new.worker.worker.pass
-        desk.new.worker.worker.members desk.new.worker.worker.starved desk.new.worker.kept }
+    ensures produced { HasProduced queue.now job.now.topics job.now.size job.now.longest S.Source
+        desk.new.files.items desk.new.worker.worker.pass desk.new.worker.worker.members
+        desk.new.worker.worker.starved desk.new.worker.kept }
     ensures number { desk.new.worker.worker.pass.number ≡ desk.old.worker.worker.pass.number }
     ensures bell { W.kept stand.new ≡ W.kept stand.old }
     ensures rung { desk.new.worker.worker.pass.spent ≡ None
@@ -81,9 +81,9 @@ pub fn run<S: Source, G: Gate>(
     requires fresh { IsFresh queue.now desk.old.worker }
     requires unread { All IsNew desk.old.files.items }
     ensures same { ids_of desk.new.files.items ≡ ids_of desk.old.files.items }
-    ensures run { HasRun queue.now job.now.topics job.now.size job.now.longest S.faults S.ends
-        S.left desk.new.files.items desk.new.worker.worker.pass
-        desk.new.worker.worker.members desk.new.worker.worker.starved desk.new.worker.kept }
+    ensures run { HasRun queue.now job.now.topics job.now.size job.now.longest S.Source
+        desk.new.files.items desk.new.worker.worker.pass desk.new.worker.worker.members
+        desk.new.worker.worker.starved desk.new.worker.kept }
     ensures behind { desk.new.worker.worker.pass.spent ≡ None
         → HasLeftSwept bytes_of IsReturn (length job.now.topics
         + 1) 64 desk.new.worker.worker.pass }
@@ -105,13 +105,13 @@ fn leave<S: Source, G: Gate>(
     queue: &Queue<Frame>,
     gate: &G,
 )
-    requires sweep { IsToSweep queue.now job.now.topics job.now.size job.now.longest S.faults S.ends
-        S.left desk.old.files.items desk.old.worker.worker.pass
-        desk.old.worker.worker.members desk.old.worker.worker.starved desk.old.worker.kept }
+    requires sweep { IsToSweep queue.now job.now.topics job.now.size job.now.longest S.Source
+        desk.old.files.items desk.old.worker.worker.pass desk.old.worker.worker.members
+        desk.old.worker.worker.starved desk.old.worker.kept }
     ensures same { desk.new.files.items ≡ desk.old.files.items }
-    ensures run { HasRun queue.now job.now.topics job.now.size job.now.longest S.faults S.ends
-        S.left desk.new.files.items desk.new.worker.worker.pass
-        desk.new.worker.worker.members desk.new.worker.worker.starved desk.new.worker.kept }
+    ensures run { HasRun queue.now job.now.topics job.now.size job.now.longest S.Source
+        desk.new.files.items desk.new.worker.worker.pass desk.new.worker.worker.members
+        desk.new.worker.worker.starved desk.new.worker.kept }
     ensures behind { desk.new.worker.worker.pass.spent ≡ None
         → HasLeftSwept bytes_of IsReturn (length job.now.topics
         + 1) 64 desk.new.worker.worker.pass }

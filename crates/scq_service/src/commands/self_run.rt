@@ -18,12 +18,13 @@ use crate::writing::write_all;
 use crate::{Fault, Outcome};
 use scq_block::Frame;
 use scq_collect::merge;
+use scq_desk::End;
 use scq_outside::{Failed, PlainSource, Sink};
 use scq_queue::Pass;
 use scq_self::{generate, self_topics, summary_text};
 use scq_topics::Topics;
 use scq_word::{Bytes, NoMemory};
-use scq_work::{Gate, WorkEnd, Worked, work};
+use scq_work::{Gate, Worked, work};
 use std::alloc::Global;
 use std::snapshot::Snapshot;
 use std::thread::Threads;
@@ -130,7 +131,7 @@ fn answer_file<R: Threads + Sync, G: Gate + Sync>(
     let source = PlainSource::new(generate(alloc, seed, lines)?);
     let mut sources = Vec::with_capacity(alloc, 1)?;
     sources.push_reserved(source);
-    let WorkEnd {
+    let End {
         sources: _,
         result,
         left,

@@ -6,21 +6,20 @@ ghost use Rattle.std.specs.List.Sorted.{IsPermutation};
 ghost use Rattle.scq_frames.specs.declared.message.Message.{Message as TheMessage};
 ghost use Rattle.scq_files.specs.Ends.{AreGiven, HasMoved, all_left, messages_in};
 ghost use Rattle.scq_files.specs.Reading.{IsWhole};
+ghost use Rattle.scq_desk.specs.Faults.{HasCause};
 ghost use Rattle.scq_stages.specs.AllStages.{HasStaged, NothingIsStranded};
-ghost use Rattle.scq_stages.specs.Ends.{HasCause};
 ghost use Rattle.scq_stages.specs.Output.{finished_in, one_thread_stage_output, all_handled};
 ghost use Rattle.scq_stages.specs.Output.{without_way};
 ghost use Rattle.scq_service.specs.Answers.{HaveAllCome, HaveCome, TellsStages};
 ghost use Rattle.scq_service.specs.Ends.{EndsOver, ReadsOver, inputs_of, wrote_of};
-ghost use Rattle.scq_service.specs.Faults.{fault_of_stages};
 
 use crate::reading::get_sources;
 use crate::writing::write_all;
 use crate::{Fault, Outcome};
+use scq_desk::{End, EndFault};
 use scq_outside::{Failed, Files, Sink};
-use scq_stages::{StageEnd, StageFault, StageJob, Staged, stage_output, stage_work};
+use scq_stages::{StageEnd, StageJob, Staged, stage_output, stage_work};
 use scq_word::{Bytes, NoMemory};
-use scq_work::WorkFault;
 use std::alloc::Global;
 use std::snapshot::Snapshot;
 use std::thread::Threads;
@@ -115,10 +114,10 @@ fn conclude<F: Files>(
         (inputs_of F.Files was.now.value files.now got.value.items 0) all }
     requires count { length end.sources.items ≡ length got.value.items }
     requires moved { (k : ℕ) (d : F.Src) → k < length got.value.items
-        → HasMoved F.Src.faults F.Src.left (slice_index_or got.value.items k d)
+        → HasMoved F.Src.Source (slice_index_or got.value.items k d)
         (slice_index_or end.sources.items k d) }
     requires whole { OnOk end.result ((k : ℕ) (d : F.Src) → k < length got.value.items
-        → IsWhole job.now.size F.Src.faults F.Src.ends F.Src.left
+        → IsWhole job.now.size F.Src.Source
         (slice_index_or got.value.items k d) (slice_index_or end.sources.items k d)) }
     requires handled { IfOk end.result (λ s.
         IfSome (all_left F.Src.left got.value.items) (λ contents.
@@ -133,19 +132,18 @@ fn conclude<F: Files>(
         IsSomeAnd end.passes (λ passes. IsSomeAnd end.frames (λ frames.
         NothingIsStranded job.now.order job.now.workers passes.value.items frames.value.items
         left.items))) }
-    requires none { end.left ≡ None → IsErrOf end.result StageFault.NoMemory }
+    requires none { end.left ≡ None → IsErrOf end.result EndFault.NoMemory }
     requires same { IfOk end.result (λ s.
         IsSomeAnd end.passes (λ passes. passes.value.items ≡ s.passes.value.items)) }
-    requires cause { IfErr end.result (λ fault.
-        HasCause job.now.size F.Src.faults F.Src.ends F.Src.left got.value.items end.sources.items
-        fault) }
+    requires cause { IfErr end.result
+        (HasCause job.now.size F.Src.Source got.value.items end.sources.items) }
     ensures tells { TellsStages job.now F.Src.Source (map string_bytes names.now)
         (inputs_of F.Files was.now.value files.now result.sources.items result.read) result }
     ensures ends { ReadsOver job.now.size F.Src.Source (map string_bytes names.now)
         result.got.items
         (inputs_of F.Files was.now.value files.now result.sources.items result.read) result.fault }
 {
-    let StageEnd {
+    let End {
         sources,
         result,
         left: _,
@@ -162,21 +160,7 @@ fn conclude<F: Files>(
             }
         }
         Err(fault) => {
-            Outcome::of_work(sources, job.size, work_fault(fault)).behind(
-                got, None, None, None, None,
-            )
+            Outcome::of_work(sources, job.size, fault).behind(got, None, None, None, None)
         }
-    }
-}
-
-/// A fault of the workers of stages, as one of workers.
-fn work_fault(fault: StageFault) -> WorkFault
-    ensures { result ≡ fault_of_stages fault }
-{
-    match fault {
-        StageFault::Read { file } => WorkFault::Read { file },
-        StageFault::TooLong { file, line, len } => WorkFault::TooLong { file, line, len },
-        StageFault::TooLarge { file, bytes } => WorkFault::TooLarge { file, bytes },
-        StageFault::NoMemory => WorkFault::NoMemory,
     }
 }

@@ -75,7 +75,7 @@ merge-requires g c =
 
 pub returns-clause-gathered : goal.returns-clause-gathered
 returns-clause-gathered g c size ended =
-    let P : List (Desk (Seat _ Frame) _) → Type 0 = λ ds. AllEnded size g.S.Source.faults g.S.Source.ends g.S.Source.left ds in
+    let P : List (Desk (Seat _ Frame) _) → Type 0 = λ ds. AllEnded size g.S.Source ds in
     let gathered = c.gather.ensures.gathered size (subst P (sym c.as_mut_slice.ensures.value) ended) in
     record {
       count = gathered.count;
@@ -88,9 +88,9 @@ returns-clause-gathered g c size ended =
 pub returns-clause-stops : goal.returns-clause-stops
 returns-clause-stops g c size ended stop =
     let its = c.as_mut_slice.ensures.value in
-    let Ended : List (Desk (Seat _ Frame) _) → Type 0 = λ ds. AllEnded size g.S.Source.faults g.S.Source.ends g.S.Source.left ds in
+    let Ended : List (Desk (Seat _ Frame) _) → Type 0 = λ ds. AllEnded size g.S.Source ds in
     let Stop : List (Desk (Seat _ Frame) _) → Type 0 = λ ds. AllStop ds in
-    subst (λ n. StopsAtFaults n size g.S.Source.faults g.S.Source.ends g.S.Source.left c.args.laid.was.value.items
+    subst (λ n. StopsAtFaults n size g.S.Source c.args.laid.was.value.items
     c.gather.new.gathered.sources.items) (ap length its) (c.gather.ensures.stops size (subst Ended (sym its) ended) (subst Stop (sym its) stop))
 
 pub returns-clause-whole : goal.returns-clause-whole

@@ -29,8 +29,7 @@ files-init g c =
       capacity = refl;
       so_far = λ size each. search rules;
       in_turn = λ size each stop. rw c.requires.empty.0
-          (in-turn-first (length desks) size g.S.Source.faults g.S.Source.ends g.S.Source.left c.args.was.now.value.items (map lists desks)
-          (All-map StopsAtAFault lists desks stop));
+          (in-turn-first (length desks) size g.S.Source c.args.was.now.value.items (map lists desks) (All-map StopsAtAFault lists desks stop));
       whole = λ none each. each;
       same = refl;
     }
@@ -40,9 +39,7 @@ files-preserved g c =
     let S = g.row.S.Denot in
     let W = g.row.W.Denot in
     let inv = c.files.invariant in
-    let faults = g.S.Source.faults in
-    let end_count = g.S.Source.ends in
-    let left = g.S.Source.left in
+    let src = g.S.Source in
     let was = c.args.was.now.value.items in
     let desks = c.files.desks in
     let workers = length desks in
@@ -77,8 +74,8 @@ files-preserved g c =
           (at + 1, x) ends in
           let number : file.number ≡ at + 1 = ap (λ (p : ℕ × S). p.0) parts.1 in
           let source : file.was.value ≡ x = ap (λ (p : ℕ × S). p.1) parts.1 in
-          let EndedSo : ℕ → OwnFile S → Type 0 = λ size f. EndsSo size faults end_count left f.was.value f.source f.end in
-          let all_ended : (size : ℕ) → AllEnded size faults end_count left c.args.desks.now → All (EndedSo size) (new.files.items ++ file ∷ []) = λ size each.
+          let EndedSo : ℕ → OwnFile S → Type 0 = λ size f. EndsSo size src f.was.value f.source f.end in
+          let all_ended : (size : ℕ) → AllEnded size src c.args.desks.now → All (EndedSo size) (new.files.items ++ file ∷ []) = λ size each.
           subst (λ (fs : List (OwnFile S)). All (EndedSo size) fs) is (inv.ended size each j desk within) in
           let took = w.take_in.ensures in
           rw w.gathered-is (record {
@@ -95,13 +92,13 @@ files-preserved g c =
             count = omega (arith, inv.count, took.len);
             capacity = took.capacity ∙ inv.capacity;
             so_far = λ size each. rw (took.sources, took.fault, took.starved)
-                (so-far-more size faults end_count left was at c.files.gathered.sources.items c.files.gathered.fault
+                (so-far-more size src was at c.files.gathered.sources.items c.files.gathered.fault
                 c.files.gathered.starved file.was.value file.source file.number file.end (inv.so_far size each) inside number
                 (λ d. get_or_default was at d file.was.value inside ∙ sym source) (all-last (EndedSo size) new.files.items file (all_ended size each)));
             in_turn = λ size each stop. rw took.sources
-                (subst (InTurn (length c.args.desks.now) size faults end_count left was (at + 1) (c.files.gathered.sources.items ++ file.source ∷ []))
+                (subst (InTurn (length c.args.desks.now) size src was (at + 1) (c.files.gathered.sources.items ++ file.source ∷ []))
                 (sym (map-set lists desks j new))
-                (in-turn-more (length c.args.desks.now) size faults end_count left was at j c.files.gathered.sources.items (map lists desks) new.files.items file
+                (in-turn-more (length c.args.desks.now) size src was at j c.files.gathered.sources.items (map lists desks) new.files.items file
                 (lists desk) (inv.so_far size each).count (omega (arith, within, length-map desks lists)) refl
                 (get_or-map lists desks j desk (lists desk) within ∙ is) (λ d. get_or_default was at d file.was.value inside ∙ sym source)
                 (all-last (EndedSo size) new.files.items file (all_ended size each)) (inv.in_turn size each stop)));
@@ -125,7 +122,7 @@ pub returns-clause-stops : goal.returns-clause-stops
 returns-clause-stops g c size each stop =
     let was = c.args.was.now.value.items in
     let all : c.files.at ≡ length was = omega (arith, c.files-test.false, c.requires.count.0, c.args.was.now.value.ok.0) in
-    in-turn-last (length c.args.desks.now) size g.S.Source.faults g.S.Source.ends g.S.Source.left was c.files.at c.files.gathered.sources.items
+    in-turn-last (length c.args.desks.now) size g.S.Source was c.files.at c.files.gathered.sources.items
     (map (λ d. d.files.items) c.files.desks) all (c.files.invariant.in_turn size each stop)
 
 pub returns-clause-gathered : goal.returns-clause-gathered

@@ -26,14 +26,13 @@ same-after g c =
 
 -- what is known of each file is what was read of it
 read-after : (g : _) (c : After-read_file g)
-    → All (λ f. IsRead c.args.topics.now c.args.longest g.S.Source.faults g.S.Source.ends g.S.Source.left f.number f.was.value f.source
+    → All (λ f. IsRead c.args.topics.now c.args.longest g.S.Source f.number f.was.value f.source
     (given_in f.given.value) f.end) (set c.files.files (c.files.at - 1) c.read_file.new.file)
 read-after g c k d less =
     let at = c.files.at - 1 in
     let inv = c.files.invariant in
     let within : at < length c.files.files = omega (arith, c.files-test.true, inv.within) in
-    set-each (λ j f. IsRead c.args.topics.now c.args.longest g.S.Source.faults g.S.Source.ends g.S.Source.left f.number f.was.value f.source
-    (given_in f.given.value) f.end) c.files.files at
+    set-each (λ j f. IsRead c.args.topics.now c.args.longest g.S.Source f.number f.was.value f.source (given_in f.given.value) f.end) c.files.files at
     c.read_file.new.file d within c.read_file.ensures.read (λ j below apart. inv.read j d below) k
     (omega (arith, less, length-set c.files.files at c.read_file.new.file))
 
@@ -111,9 +110,7 @@ files-init g c = record {
   unread = λ k d less. c.requires.unread k d less;
   sound = λ k d fault past less is. absurd (omega arith);
   same = refl;
-  read = λ k d less. reading-unread c.args.topics.now c.args.longest g.S.Source.faults g.S.Source.ends g.S.Source.left
-      (slice_index_or c.args.files.now k d)
-      (c.requires.unread k d less);
+  read = λ k d less. reading-unread c.args.topics.now c.args.longest g.S.Source (slice_index_or c.args.files.now k d) (c.requires.unread k d less);
   ready = c.requires.ready;
   handled =
       subst (λ (ms : List _). g.H.Handler.handled c.args.with.now ms c.args.beside.now c.args.handler.now c.args.beside.now c.args.handler.now)

@@ -13,8 +13,7 @@ invariant-files g l = record {
   unread : (k : ℕ) (d : _) → k < l.at → IsNew (slice_index_or l.files k d);
   sound : (k : ℕ) (d : _) (fault : _) → l.at ≤ k → k < length l.files → (slice_index_or l.files k d).end ≡ Stopped fault → ⊥;
   same : ids_of l.files ≡ ids_of l.fn.files;
-  read : All (λ f. IsRead l.topics l.longest g.S.Source.faults g.S.Source.ends g.S.Source.left f.number f.was.value f.source (given_in f.given.value)
-      f.end) l.files;
+  read : All (λ f. IsRead l.topics l.longest g.S.Source f.number f.was.value f.source (given_in f.given.value) f.end) l.files;
   ready : g.H.Handler.ready l.with l.beside l.handler;
   handled : g.H.Handler.handled l.with (all_given l.files) l.fn.beside l.fn.handler l.beside l.handler;
   fed : g.H.Handler.wanted l.fn.handler ≡ false → g.H.Handler.wanted l.handler ≡ false;

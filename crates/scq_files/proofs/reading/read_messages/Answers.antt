@@ -15,8 +15,7 @@ use Rattle.scq_files.proofs.reading.read_messages.Goals as goal
 use Rattle.scq_files.proofs.reading.read_messages.Goals.{After-next, After-handle}
 
 -- what the framer's answer says, whichever it is
-said : (g : _) (c : After-next g) → Answers g.S.Source.faults g.S.Source.ends g.S.Source.left c.messages.source c.next.new.source c.messages.framer
-    c.next.new.self
+said : (g : _) (c : After-next g) → Answers g.S.Source c.messages.source c.next.new.source c.messages.framer c.next.new.self
 said g c =
     let its = c.next.ensures in
     record {
@@ -31,9 +30,8 @@ said g c =
     }
 
 -- with the message that it gave
-reading : (g : _) (c : After-handle g) → Answers g.S.Source.faults g.S.Source.ends g.S.Source.left c.messages.source c.next.new.source c.messages.framer
-    c.next.new.self
-    → IsReading c.args.topics.now c.args.longest g.S.Source.faults g.S.Source.ends g.S.Source.left c.args.file c.args.source.now c.next.new.source
+reading : (g : _) (c : After-handle g) → Answers g.S.Source c.messages.source c.next.new.source c.messages.framer c.next.new.self
+    → IsReading c.args.topics.now c.args.longest g.S.Source c.args.file c.args.source.now c.next.new.source
     c.next.new.self (given_in c.give.new.given.value)
 reading g c answer =
     let m = c.in-Ok-Some.message in
@@ -54,7 +52,7 @@ reading g c answer =
     let fits : length m.payload ≤ c.messages.framer.size = subst S is its.fits in
     let known : m.topic ≤ length topics = subst T is its.topic in
     let found : Found c.messages.framer c.next.new.self (left c.messages.source) (left c.next.new.source) (Ok (Some m)) = subst F is its.found in
-    reading-next c.args.topics.now c.args.longest g.S.Source.faults g.S.Source.ends g.S.Source.left c.args.file start c.messages.source
+    reading-next c.args.topics.now c.args.longest g.S.Source c.args.file start c.messages.source
     c.next.new.source
     c.messages.framer c.next.new.self
     (given_in c.messages.given.value) (given_in c.give.new.given.value) m c.messages.invariant.reading answer gives next known fits found its.failed
@@ -73,9 +71,9 @@ returns-in_err-handle-in-Ok-Some-clause-unended g c =
     let now = reading g (goal.at.returns-in_err-handle-in-Ok-Some-clause-unended g c).After-handle
     (said g (goal.at.returns-in_err-handle-in-Ok-Some-clause-unended g c).After-next) in
     let is : c.from_residual.result ≡ Err c.in_err-handle-in-Ok-Some.field-0.0 = search rules in
-    subst (λ (r : Result _ _). IfErr r (λ l. IsRead c.args.topics.now c.args.longest g.S.Source.faults g.S.Source.ends g.S.Source.left c.args.file
+    subst (λ (r : Result _ _). IfErr r (λ l. IsRead c.args.topics.now c.args.longest g.S.Source c.args.file
     c.args.source.now c.next.new.source (given_in c.give.new.given.value) (Stopped NoMemory))) (sym is)
-    (reading-left c.args.topics.now c.args.longest g.S.Source.faults g.S.Source.ends g.S.Source.left c.args.file c.args.source.now
+    (reading-left c.args.topics.now c.args.longest g.S.Source c.args.file c.args.source.now
     c.next.new.source c.next.new.self (given_in c.give.new.given.value) now)
 
 pub returns-in_err-handle-in-Ok-Some-clause-stopped : goal.returns-in_err-handle-in-Ok-Some-clause-stopped
@@ -91,7 +89,7 @@ returns-in_err-handle-in-Ok-Some-clause-stopped g c =
 pub returns-then-starved-clause-read : goal.returns-then-starved-clause-read
 returns-then-starved-clause-read g c =
     let now = reading g (goal.at.returns-then-starved-clause-read g c).After-handle (said g (goal.at.returns-then-starved-clause-read g c).After-next) in
-    reading-left c.args.topics.now c.args.longest g.S.Source.faults g.S.Source.ends g.S.Source.left c.args.file c.args.source.now
+    reading-left c.args.topics.now c.args.longest g.S.Source c.args.file c.args.source.now
     c.next.new.source c.next.new.self (given_in c.give.new.given.value) now
 
 pub returns-then-starved-clause-handled : goal.returns-then-starved-clause-handled
@@ -120,7 +118,7 @@ returns-in-Ok-None-clause-read g c =
     let none_ : ahead ≡ option_map (λ _. []) (left c.messages.source) = subst N is its.none in
     let over : IsTrue c.next.new.self.ended × (c.next.new.self.held ≡ []) = subst O is its.over in
     let found : Found c.messages.framer c.next.new.self (left c.messages.source) (left c.next.new.source) (Ok None) = subst F is its.found in
-    reading-whole c.args.topics.now c.args.longest g.S.Source.faults g.S.Source.ends g.S.Source.left c.args.file c.args.source.now c.messages.source
+    reading-whole c.args.topics.now c.args.longest g.S.Source c.args.file c.args.source.now c.messages.source
     c.next.new.source c.messages.framer
     c.next.new.self (given_in c.messages.given.value) c.messages.invariant.reading (said g (goal.at.returns-in-Ok-None-clause-read g c).After-next) none_
     found over.0
@@ -131,7 +129,7 @@ returns-in-Err-clause-read g c =
     let its = c.next.ensures in
     let fault = c.in-Err.fault in
     let is = c.in-Err.is in
-    reading-fault c.args.topics.now c.args.longest g.S.Source.faults g.S.Source.ends g.S.Source.left c.args.file c.args.source.now c.messages.source
+    reading-fault c.args.topics.now c.args.longest g.S.Source c.args.file c.args.source.now c.messages.source
     c.next.new.source c.messages.framer
     c.next.new.self (given_in c.messages.given.value) fault c.messages.invariant.reading (said g (goal.at.returns-in-Err-clause-read g c).After-next)
     c.in-Err.ensures.found

@@ -6,8 +6,7 @@ use Rattle.scq_files.proofs.reading.read_messages.Given as goal
 -- what the framer gave so far is handled
 abbrev pub invariant-messages : goal.invariant-messages
 invariant-messages g l = record {
-  reading : IsReading l.topics l.longest g.S.Source.faults g.S.Source.ends g.S.Source.left l.fn.file l.fn.source l.source l.framer
-      (given_in l.given.value);
+  reading : IsReading l.topics l.longest g.S.Source l.fn.file l.fn.source l.source l.framer (given_in l.given.value);
   ready : g.H.Handler.ready l.with l.beside l.handler;
   handled : g.H.Handler.handled l.with (given_in l.given.value) l.fn.beside l.fn.handler l.beside l.handler;
   fed : g.H.Handler.wanted l.fn.handler ≡ false → g.H.Handler.wanted l.handler ≡ false;

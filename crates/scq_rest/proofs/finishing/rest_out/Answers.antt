@@ -12,7 +12,7 @@ use Rattle.scq_rest.proofs.finishing.rest_out.Goals as goal
 pub sweep_and_rest-requires-clause-suits : goal.sweep_and_rest-requires-clause-suits
 sweep_and_rest-requires-clause-suits g c κs within =
     let was = c.args.desk.now.worker in
-    sweep-suits c.args.queue.now c.args.job.now g.S.Source.faults g.S.Source.ends g.S.Source.left c.args.desk.now.files.items was.worker was.worker was.kept
+    sweep-suits c.args.queue.now c.args.job.now g.S.Source c.args.desk.now.files.items was.worker was.worker was.kept
     c.requires.sweep
 
 pub sweep_and_rest-requires-clause-stand : goal.sweep_and_rest-requires-clause-stand
@@ -21,7 +21,7 @@ sweep_and_rest-requires-clause-stand g c κs within = c.requires.stand.0
 pub returns-in-Ok-clause-run : goal.returns-in-Ok-clause-run
 returns-in-Ok-clause-run g c =
     let end = c.in-Ok.ensures in
-    swept-out c.args.queue.now c.args.job.now g.S.Source.faults g.S.Source.ends g.S.Source.left c.args.desk.now.files.items c.args.desk.now.worker.worker
+    swept-out c.args.queue.now c.args.job.now g.S.Source c.args.desk.now.files.items c.args.desk.now.worker.worker
     c.sweep_and_rest.new.taker c.args.desk.now.worker.kept c.requires.sweep c.len.result c.len.ensures.value end.taken end.past end.made
 
 pub returns-in-Ok-clause-waited : goal.returns-in-Ok-clause-waited
@@ -31,7 +31,7 @@ returns-in-Ok-clause-waited g c =
     let was = c.args.desk.now.worker.worker.pass in
     let now = c.sweep_and_rest.new.taker.pass in
     let all : end.swept.0 ≡ rests = omega (arith, end.swept.1, c.requires.stand.1) in
-    waited-told c.args.queue.now c.args.job.now g.S.Source.faults g.S.Source.ends g.S.Source.left c.args.desk.now.files.items c.args.desk.now.worker.worker
+    waited-told c.args.queue.now c.args.job.now g.S.Source c.args.desk.now.files.items c.args.desk.now.worker.worker
     c.sweep_and_rest.new.taker c.args.desk.now.worker.kept c.requires.sweep bytes_of c.args.stand.now.rests rests c.len.result c.len.ensures.value end.taken
     (subst (λ n. HasSweptTold bytes_of c.args.queue.now IsReturn (c.len.result + 1) n was now) all end.swept.2) end.told end.vain
 
@@ -41,7 +41,7 @@ returns-in-Ok-clause-number g c =
 
 pub returns-in-Err-clause-run : goal.returns-in-Err-clause-run
 returns-in-Err-clause-run g c =
-    late-out c.args.queue.now c.args.job.now g.S.Source.faults g.S.Source.ends g.S.Source.left c.args.desk.now.files.items c.args.desk.now.worker.worker
+    late-out c.args.queue.now c.args.job.now g.S.Source c.args.desk.now.files.items c.args.desk.now.worker.worker
     c.sweep_and_rest.new.taker c.args.desk.now.worker.kept c.requires.sweep c.keep.new.self c.in-Err.at_limit.held c.in-Err.ensures.left
     c.keep.ensures.same c.keep.ensures.kept
 

@@ -14,7 +14,7 @@ pub returns : goal.returns
 returns g c =
     let S = g.row.S.Denot in
     let R : Work S → Work S → Type 0 =
-    HasDone (task c.args.queue.now c.args.job.now c.args.crew.now g.S.Source.faults g.S.Source.ends g.S.Source.left) in
+    HasDone (task c.args.queue.now c.args.job.now c.args.crew.now g.S.Source) in
     let first : List (Runner S) = c.begin_all.new.places.items in
     let second : List (Runner S) = c.produce_all.new.places in
     let third : List (Runner S) = c.finish_all.new.places in

@@ -16,9 +16,9 @@ starts-init g c =
     let none = c.requires.empty in
     let back : reverse c.reverse.new.self.items ≡ all = ap reverse c.reverse.ensures.items ∙ reverse-reverse all in
     let Fresh : Work S → Type 0 =
-    IsGiven (task c.args.queue.now c.args.job.now c.args.crew.now g.S.Source.faults g.S.Source.ends g.S.Source.left) in
+    IsGiven (task c.args.queue.now c.args.job.now c.args.crew.now g.S.Source) in
     let Held : Runner S → Type 0 =
-    HasWork IsUntouched c.args.queue.now c.args.job.now c.args.crew.now g.S.Source.faults g.S.Source.ends g.S.Source.left in
+    HasWork IsUntouched c.args.queue.now c.args.job.now c.args.crew.now g.S.Source in
     record {
       given = ap (λ (ps : List (Runner S)). map given_to ps ++ reverse c.reverse.new.self.items) none ∙ back;
       rest = subst (All Fresh) (sym back) c.requires.given;
@@ -31,7 +31,7 @@ pub begin-requires-clause-given : goal.begin-requires-clause-given
 begin-requires-clause-given g c κs within =
     let S = g.row.S.Denot in
     let Fresh : Work S → Type 0 =
-    IsGiven (task c.args.queue.now c.args.job.now c.args.crew.now g.S.Source.faults g.S.Source.ends g.S.Source.left) in
+    IsGiven (task c.args.queue.now c.args.job.now c.args.crew.now g.S.Source) in
     let rest = c.pop.new.self.items in
     let one = c.in-Some.work in
     All-head Fresh one (reverse rest) (subst (All Fresh) (turned c.starts.given.items rest one c.in-Some.ensures.items) c.starts.invariant.rest)
@@ -41,9 +41,9 @@ starts-preserved g c =
     let S = g.row.S.Denot in
     let inv = c.starts.invariant in
     let Fresh : Work S → Type 0 =
-    IsGiven (task c.args.queue.now c.args.job.now c.args.crew.now g.S.Source.faults g.S.Source.ends g.S.Source.left) in
+    IsGiven (task c.args.queue.now c.args.job.now c.args.crew.now g.S.Source) in
     let Held : Runner S → Type 0 =
-    HasWork IsUntouched c.args.queue.now c.args.job.now c.args.crew.now g.S.Source.faults g.S.Source.ends g.S.Source.left in
+    HasWork IsUntouched c.args.queue.now c.args.job.now c.args.crew.now g.S.Source in
     let places = c.starts.places.items in
     let rest = c.pop.new.self.items in
     let one = c.in-Some.work in

@@ -9,10 +9,10 @@ use Rattle.scq_rest.proofs.places.begin_all.Given as goal
 abbrev pub invariant-starts : goal.invariant-starts
 invariant-starts g l = record {
   given : map given_to l.places.items ++ reverse l.given.items ≡ l.fn.given.items;
-  rest : All (IsGiven (task l.queue l.job l.crew g.S.Source.faults g.S.Source.ends g.S.Source.left)) (reverse l.given.items);
+  rest : All (IsGiven (task l.queue l.job l.crew g.S.Source)) (reverse l.given.items);
   flags : vec_len l.given ≤ length l.flags;
   room : vec_len l.places + vec_len l.given ≤ vec_capacity l.places;
-  stands : All (HasWork IsUntouched l.queue l.job l.crew g.S.Source.faults g.S.Source.ends g.S.Source.left) l.places.items;
+  stands : All (HasWork IsUntouched l.queue l.job l.crew g.S.Source) l.places.items;
 }
 
 abbrev pub decreases-starts : goal.decreases-starts

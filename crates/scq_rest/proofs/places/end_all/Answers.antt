@@ -17,9 +17,9 @@ ends-init g c =
     let none = c.requires.empty in
     let back : reverse c.reverse.new.self.items ≡ all = ap reverse c.reverse.ensures.items ∙ reverse-reverse all in
     let R : Work S → Work S → Type 0 =
-    HasDone (task c.args.queue.now c.args.job.now c.args.crew.now g.S.Source.faults g.S.Source.ends g.S.Source.left) in
+    HasDone (task c.args.queue.now c.args.job.now c.args.crew.now g.S.Source) in
     let Held : Runner S → Type 0 =
-    HasWork HasDone c.args.queue.now c.args.job.now c.args.crew.now g.S.Source.faults g.S.Source.ends g.S.Source.left in
+    HasWork HasDone c.args.queue.now c.args.job.now c.args.crew.now g.S.Source in
     record {
       ended = λ more so. subst (λ es. AllZip R (map given_to all) (es ++ more)) (sym none) (subst (λ ps. AllZip R (map given_to ps) more) back so);
       stands = subst (All Held) (sym back) c.requires.stands;
@@ -30,7 +30,7 @@ pub end-requires-clause-stands : goal.end-requires-clause-stands
 end-requires-clause-stands g c κs within =
     let S = g.row.S.Denot in
     let Held : Runner S → Type 0 =
-    HasWork HasDone c.args.queue.now c.args.job.now c.args.crew.now g.S.Source.faults g.S.Source.ends g.S.Source.left in
+    HasWork HasDone c.args.queue.now c.args.job.now c.args.crew.now g.S.Source in
     let rest = c.pop.new.self.items in
     let place = c.in-Some.place in
     All-head Held place (reverse rest) (subst (All Held) (turned c.ends.places.items rest place c.in-Some.ensures.items) c.ends.invariant.stands)
@@ -42,9 +42,9 @@ ends-preserved g c =
     let rest = c.pop.new.self.items in
     let place = c.in-Some.place in
     let R : Work S → Work S → Type 0 =
-    HasDone (task c.args.queue.now c.args.job.now c.args.crew.now g.S.Source.faults g.S.Source.ends g.S.Source.left) in
+    HasDone (task c.args.queue.now c.args.job.now c.args.crew.now g.S.Source) in
     let Held : Runner S → Type 0 =
-    HasWork HasDone c.args.queue.now c.args.job.now c.args.crew.now g.S.Source.faults g.S.Source.ends g.S.Source.left in
+    HasWork HasDone c.args.queue.now c.args.job.now c.args.crew.now g.S.Source in
     record {
       ended = λ more so. subst (λ es. AllZip R (map given_to c.args.places.items) (es ++ more)) (sym c.push_reserved.ensures.items)
           (zipped-next R given_to (map given_to c.args.places.items) c.ends.places.items rest place c.ends.ends.items c.end.result inv.ended
@@ -57,7 +57,7 @@ pub returns : goal.returns
 returns g c =
     let S = g.row.S.Denot in
     let R : Work S → Work S → Type 0 =
-    HasDone (task c.args.queue.now c.args.job.now c.args.crew.now g.S.Source.faults g.S.Source.ends g.S.Source.left) in
+    HasDone (task c.args.queue.now c.args.job.now c.args.crew.now g.S.Source) in
     let none : c.ends.places.items ≡ [] = nil_from_length c.ends.places.items (omega (arith, c.in_default.ensures.cases, c.ends.places.ok.0)) in
     subst (AllZip R (map given_to c.args.places.items)) (append-nil c.ends.ends.items)
     (c.ends.invariant.ended [] (subst (λ ps. AllZip R (map given_to (reverse ps)) []) (sym none) tt))

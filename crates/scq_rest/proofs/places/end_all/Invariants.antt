@@ -9,10 +9,10 @@ use Rattle.scq_rest.proofs.places.end_all.Given as goal
 abbrev pub invariant-ends : goal.invariant-ends
 invariant-ends g l = record {
   ended : (more : List _)
-      → AllZip (HasDone (task l.queue l.job l.crew g.S.Source.faults g.S.Source.ends g.S.Source.left)) (map given_to (reverse l.places.items)) more
-      → AllZip (HasDone (task l.queue l.job l.crew g.S.Source.faults g.S.Source.ends g.S.Source.left)) (map given_to l.fn.places.items) (l.ends.items ++ more);
+      → AllZip (HasDone (task l.queue l.job l.crew g.S.Source)) (map given_to (reverse l.places.items)) more
+      → AllZip (HasDone (task l.queue l.job l.crew g.S.Source)) (map given_to l.fn.places.items) (l.ends.items ++ more);
   stands : All (HasWork HasDone l.queue l.job l.crew
-      g.S.Source.faults g.S.Source.ends g.S.Source.left) (reverse l.places.items);
+      g.S.Source) (reverse l.places.items);
   room : vec_len l.ends + vec_len l.places ≤ vec_capacity l.ends;
 }
 

@@ -6,6 +6,5 @@ use Rattle.scq_rest.proofs.places.finish_all.Given as goal
 
 abbrev pub invariant-places : goal.invariant-places
 invariant-places g l =
-    Replaced (HasWork HasBegun l.queue l.job l.crew g.S.Source.faults g.S.Source.ends g.S.Source.left)
-    (HasWork HasDone l.queue l.job l.crew g.S.Source.faults g.S.Source.ends g.S.Source.left) given_to
+    Replaced (HasWork HasBegun l.queue l.job l.crew g.S.Source) (HasWork HasDone l.queue l.job l.crew g.S.Source) given_to
     (map given_to l.fn.places) l.places l.place-index

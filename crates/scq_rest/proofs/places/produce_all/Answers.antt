@@ -6,7 +6,7 @@ use Rattle.scq_rest.proofs.places.produce_all.Goals as goal
 
 pub places-preserved : goal.places-preserved
 places-preserved g c =
-    replaced-next (HasWork IsUntouched c.args.queue.now c.args.job.now c.args.crew.now g.S.Source.faults g.S.Source.ends g.S.Source.left)
-    (HasWork HasBegun c.args.queue.now c.args.job.now c.args.crew.now g.S.Source.faults g.S.Source.ends g.S.Source.left) given_to
+    replaced-next (HasWork IsUntouched c.args.queue.now c.args.job.now c.args.crew.now g.S.Source)
+    (HasWork HasBegun c.args.queue.now c.args.job.now c.args.crew.now g.S.Source) given_to
     (map given_to c.args.places.now) c.places.places c.places.place-index c.produce.new.self c.place-item.result c.places.invariant (omega arith)
     c.produce.ensures.given c.produce.ensures.stands

@@ -37,7 +37,7 @@ pair-first-requires-clause-many g c κs within =
 
 pub run_all-first-requires-clause-begins : goal.run_all-first-requires-clause-begins
 run_all-first-requires-clause-begins g c κs within =
-    let t = task c.args.queue.now c.args.job.now c.args.crew.now g.S.Source.faults g.S.Source.ends g.S.Source.left in
+    let t = task c.args.queue.now c.args.job.now c.args.crew.now g.S.Source in
     let first = c.pair-first.result in
     let given = c.pair-first.new.given in
     let new = new-of c.args.crew.now c.args.job.now.workers c.args.stands.items c.requires.stands in
@@ -57,7 +57,7 @@ run_all-first-requires-clause-begins g c κs within =
 
 pub take_apart-requires-clause-room : goal.take_apart-requires-clause-room
 take_apart-requires-clause-room g c κs within =
-    let t = task c.args.queue.now c.args.job.now c.args.crew.now g.S.Source.faults g.S.Source.ends g.S.Source.left in
+    let t = task c.args.queue.now c.args.job.now c.args.crew.now g.S.Source in
     let few = few-given c.args.desks.items c.pair-first.result c.pair-first.new.given.items c.pair-first.ensures.desks in
     let all = all-of c.args.crew.now c.args.job.now.workers c.args.stands.items c.requires.stands c.requires.workers.1 in
     let ends = c.run_all-first.result.1 in
@@ -79,7 +79,7 @@ take_apart-requires-clause-room g c κs within =
 
 pub returns-clause-count : goal.returns-clause-count
 returns-clause-count g c =
-    let t = task c.args.queue.now c.args.job.now c.args.crew.now g.S.Source.faults g.S.Source.ends g.S.Source.left in
+    let t = task c.args.queue.now c.args.job.now c.args.crew.now g.S.Source in
     let xs = c.pair-first.result ∷ c.pair-first.new.given.items in
     let ys = c.run_all-first.result.0 ∷ c.run_all-first.result.1.items in
     let z : AllZip (HasDone t) xs ys = c.run_all-first.ensures in
@@ -88,7 +88,7 @@ returns-clause-count g c =
 
 pub returns-clause-same : goal.returns-clause-same
 returns-clause-same g c w d less =
-    let t = task c.args.queue.now c.args.job.now c.args.crew.now g.S.Source.faults g.S.Source.ends g.S.Source.left in
+    let t = task c.args.queue.now c.args.job.now c.args.crew.now g.S.Source in
     let x = c.pair-first.result in
     let y = c.run_all-first.result.0 in
     (desks-same t (x ∷ c.pair-first.new.given.items) (y ∷ c.run_all-first.result.1.items) x y c.args.desks.items c.take_apart.new.desks.items
@@ -96,7 +96,7 @@ returns-clause-same g c w d less =
 
 pub returns-clause-numbers : goal.returns-clause-numbers
 returns-clause-numbers g c w d less =
-    let t = task c.args.queue.now c.args.job.now c.args.crew.now g.S.Source.faults g.S.Source.ends g.S.Source.left in
+    let t = task c.args.queue.now c.args.job.now c.args.crew.now g.S.Source in
     let x = c.pair-first.result in
     let y = c.run_all-first.result.0 in
     (desks-same t (x ∷ c.pair-first.new.given.items) (y ∷ c.run_all-first.result.1.items) x y c.args.desks.items c.take_apart.new.desks.items
@@ -106,10 +106,10 @@ pub returns-clause-run : goal.returns-clause-run
 returns-clause-run g c =
     let S = g.row.S.Denot in
     let job = c.args.job.now in
-    let t = task c.args.queue.now job c.args.crew.now g.S.Source.faults g.S.Source.ends g.S.Source.left in
+    let t = task c.args.queue.now job c.args.crew.now g.S.Source in
     let xs = c.pair-first.result ∷ c.pair-first.new.given.items in
     let ys = c.run_all-first.result.0 ∷ c.run_all-first.result.1.items in
-    let P : Desk (Seated Frame) S → Type 0 = λ d. HasRun c.args.queue.now job.topics job.size job.longest g.S.Source.faults g.S.Source.ends g.S.Source.left
+    let P : Desk (Seated Frame) S → Type 0 = λ d. HasRun c.args.queue.now job.topics job.size job.longest g.S.Source
     d.files.items d.worker.worker.pass d.worker.worker.members d.worker.worker.starved d.worker.kept in
     subst (All P) (sym c.take_apart.ensures.desks)
     (All-map P desk_of ys (each-done t (λ (w : Work S). P w.desk) xs ys c.run_all-first.ensures (λ x y done. done.run)))
@@ -118,7 +118,7 @@ pub returns-clause-settled : goal.returns-clause-settled
 returns-clause-settled g c =
     let S = g.row.S.Denot in
     let crew = c.args.crew.now in
-    let t = task c.args.queue.now c.args.job.now crew g.S.Source.faults g.S.Source.ends g.S.Source.left in
+    let t = task c.args.queue.now c.args.job.now crew g.S.Source in
     let topics = length c.args.job.now.topics + 1 in
     let xs = c.pair-first.result ∷ c.pair-first.new.given.items in
     let ys = c.run_all-first.result.0 ∷ c.run_all-first.result.1.items in

@@ -4,11 +4,11 @@ use Rattle.scq_outside.specs.Table.{Table}
 use Rattle.scq_frames.specs.declared.message.Message.{Message}
 use Rattle.scq_work.specs.AllWorkers.{HasWorked}
 use Rattle.scq_files.specs.Ends.{AreGiven}
-use Rattle.scq_work.specs.Ends.{HasCause}
+use Rattle.scq_desk.specs.Faults.{HasCause}
 use Rattle.scq_files.specs.Reading.{IsWhole}
 use Rattle.scq_work.specs.declared.worked.Worked.{Worked}
-use Rattle.scq_work.specs.declared.worked.WorkFault.{WorkFault}
-use Rattle.scq_work.specs.declared.worked.WorkFault.TheVariants.{NoMemory}
+use Rattle.scq_desk.specs.declared.fault.EndFault.{EndFault}
+use Rattle.scq_desk.specs.declared.fault.EndFault.TheVariants.{NoMemory}
 use Rattle.scq_service.specs.Faults.{fault_of_work}
 use Rattle.scq_service.specs.Answers.{HaveAllCome}
 use Rattle.scq_service.specs.Ends.{Change}
@@ -31,14 +31,14 @@ returns-then-all-clause-tells g c =
     let olds = c.args.got.value.items in
     let news = c.args.end.sources.items in
     let src = g.F.Src.Source in
-    let W : Result Worked WorkFault → Type 0 =
-    λ r. OnOk r ((k : ℕ) (d : _) → k < length olds → IsWhole size src.faults src.ends src.left (slice_index_or olds k d) (slice_index_or news k d)) in
+    let W : Result Worked EndFault → Type 0 =
+    λ r. OnOk r ((k : ℕ) (d : _) → k < length olds → IsWhole size src (slice_index_or olds k d) (slice_index_or news k d)) in
     let whole = subst W c.in-Ok.is did.end.whole in
-    let G : Result Worked WorkFault → Type 0 =
+    let G : Result Worked EndFault → Type 0 =
     λ r. IfOk r (λ w. (given : List (List Message)) × AreGiven job.topics job.longest src.left 1 olds given
     × HasWorked job.topics job.size job.workers given w) in
     let gave = subst G c.in-Ok.is did.end.worked in
-    let M : Result Worked WorkFault → Type 0 =
+    let M : Result Worked EndFault → Type 0 =
     λ r. IfOk r (λ w. IsSomeAnd c.args.end.passes (λ passes. passes.value.items ≡ w.passes.value.items)) in
     let had : c.args.end.left ≡ None → ⊥ = λ none. let err : c.args.end.result ≡ Err NoMemory = did.end.none none in cc (c.in-Ok.is, err) in
     record {
@@ -71,8 +71,8 @@ returns-then-all-clause-ends g c =
     let olds = c.args.got.value.items in
     let news = c.args.end.sources.items in
     let src = g.F.Src.Source in
-    let W : Result Worked WorkFault → Type 0 =
-    λ r. OnOk r ((k : ℕ) (d : _) → k < length olds → IsWhole size src.faults src.ends src.left (slice_index_or olds k d) (slice_index_or news k d)) in
+    let W : Result Worked EndFault → Type 0 =
+    λ r. OnOk r ((k : ℕ) (d : _) → k < length olds → IsWhole size src (slice_index_or olds k d) (slice_index_or news k d)) in
     let whole = subst W c.in-Ok.is did.end.whole in
     let A : Bool → Type 0 = λ all. HaveAllCome names (record { table = table; opens = opens; sources = olds; read = 0 }) all in
     let all = subst A c.if-all.true did.all in
@@ -122,8 +122,8 @@ returns-else-all-clause-ends g c =
     let olds = c.args.got.value.items in
     let news = c.args.end.sources.items in
     let src = g.F.Src.Source in
-    let W : Result Worked WorkFault → Type 0 =
-    λ r. OnOk r ((k : ℕ) (d : _) → k < length olds → IsWhole size src.faults src.ends src.left (slice_index_or olds k d) (slice_index_or news k d)) in
+    let W : Result Worked EndFault → Type 0 =
+    λ r. OnOk r ((k : ℕ) (d : _) → k < length olds → IsWhole size src (slice_index_or olds k d) (slice_index_or news k d)) in
     let whole = subst W c.in-Ok.is did.end.whole in
     let A : Bool → Type 0 = λ all. HaveAllCome names (record { table = table; opens = opens; sources = olds; read = 0 }) all in
     let next = subst A c.if-all.false did.all in
@@ -175,7 +175,7 @@ returns-in-Err-clause-ends g c =
     let olds = c.args.got.value.items in
     let news = c.args.end.sources.items in
     let src = g.F.Src.Source in
-    let W : Result Worked WorkFault → Type 0 = λ r. IfErr r (λ fault. HasCause size src.faults src.ends src.left olds news fault) in
+    let W : Result Worked EndFault → Type 0 = λ r. IfErr r (λ fault. HasCause size src olds news fault) in
     let cause = subst W c.in-Err.is did.end.cause in
     rw (after.read ∙ end.read, come, ap (λ v. v.items) after.sources ∙ end.sources, after.fault ∙ end.fault)
     (ends-met size src names table opens olds news did.end.count did.come c.in-Err.fault cause

@@ -37,9 +37,9 @@ whole g c =
     written-back c.args.desk.now.files.len new old (omega (arith, long, len))
 
 -- of each is known what was read of it
-read : (g : _) (c : After-work g) → AllRead [] c.args.job.now.size g.S.Source.faults g.S.Source.ends g.S.Source.left c.work.new.files
+read : (g : _) (c : After-work g) → AllRead [] c.args.job.now.size g.S.Source c.work.new.files
 read g c =
-    subst (λ topics. AllRead topics c.args.job.now.size g.S.Source.faults g.S.Source.ends g.S.Source.left c.work.new.files) c.none-topics.ensures
+    subst (λ topics. AllRead topics c.args.job.now.size g.S.Source c.work.new.files) c.none-topics.ensures
     c.work.ensures.read
 
 pub retire-requires-clause-pass : goal.retire-requires-clause-pass
@@ -52,19 +52,16 @@ retire-requires-clause-stays g c κs = (c.in-Err.ensures.left (begun g (goal.at.
 pub returns-in-Err-leave-clause-run : goal.returns-in-Err-leave-clause-run
 returns-in-Err-leave-clause-run g c =
     let job = c.args.job.now in
-    let faults = g.S.Source.faults in
-    let end_count = g.S.Source.ends in
-    let left = g.S.Source.left in
+    let src = g.S.Source in
     let files = c.work.new.files in
     let mid = c.work.new.worker in
     let now = c.leave.new.worker in
     let later = c.keep.new.self in
     let at = (goal.at.returns-in-Err-leave-clause-run g c).After-work in
-    subst (λ (fs : List (OwnFile _)). HasRun c.args.queue.now job.size faults end_count left fs later.worker.pass later.worker.members.items
+    subst (λ (fs : List (OwnFile _)). HasRun c.args.queue.now job.size src fs later.worker.pass later.worker.members.items
     later.worker.starved later.kept) (sym (whole g at))
-    (subst (λ (w : Worker _). HasRun c.args.queue.now job.size faults end_count left files w.pass w.members.items w.starved later.kept)
-    (sym c.keep.ensures.same)
-    (run-late c.args.queue.now job.size faults end_count left files mid.pass now.pass mid.members.items now.members.items mid.starved now.starved
+    (subst (λ (w : Worker _). HasRun c.args.queue.now job.size src files w.pass w.members.items w.starved later.kept) (sym c.keep.ensures.same)
+    (run-late c.args.queue.now job.size src files mid.pass now.pass mid.members.items now.members.items mid.starved now.starved
     later.kept c.in-Err-leave.at_limit.held (read g at) c.work.ensures.stops c.in-Ok.ensures.suits (c.in-Ok.ensures.done (begun g at))
     (c.in-Err-leave.ensures.left (length (all_given files))) c.keep.ensures.kept))
 
@@ -77,9 +74,7 @@ returns-in-Err-leave-clause-number g c =
 pub returns-in_default-clause-run : goal.returns-in_default-clause-run
 returns-in_default-clause-run g c =
     let job = c.args.job.now in
-    let faults = g.S.Source.faults in
-    let end_count = g.S.Source.ends in
-    let left = g.S.Source.left in
+    let src = g.S.Source in
     let files = c.work.new.files in
     let mid = c.work.new.worker in
     let now = c.leave.new.worker in
@@ -87,25 +82,22 @@ returns-in_default-clause-run g c =
     let at = (goal.at.returns-in_default-clause-run g c).After-work in
     let done : IsDone (all_given files) mid.pass mid.members.items mid.starved = c.in-Ok.ensures.done (begun g at) in
     let its = c.in_default.ensures in
-    subst (λ (fs : List (OwnFile _)). HasRun c.args.queue.now job.size faults end_count left fs now.pass now.members.items now.starved kept)
-    (sym (whole g at))
-    (run-left c.args.queue.now job.size faults end_count left files mid.pass now.pass mid.members.items now.members.items mid.starved now.starved kept
+    subst (λ (fs : List (OwnFile _)). HasRun c.args.queue.now job.size src fs now.pass now.members.items now.starved kept) (sym (whole g at))
+    (run-left c.args.queue.now job.size src files mid.pass now.pass mid.members.items now.members.items mid.starved now.starved kept
     (read g at) c.work.ensures.stops c.in-Ok.ensures.suits done (its.leaving (all_given files) done) its.empty c.requires.fresh.kept)
 
 -- it met Spent before it retired
 pub returns-in-Err-clause-run : goal.returns-in-Err-clause-run
 returns-in-Err-clause-run g c =
     let job = c.args.job.now in
-    let faults = g.S.Source.faults in
-    let end_count = g.S.Source.ends in
-    let left = g.S.Source.left in
+    let src = g.S.Source in
     let files = c.work.new.files in
     let mid = c.work.new.worker in
     let later = c.keep-in-Err.new.self in
     let at = (goal.at.returns-in-Err-clause-run g c).After-work in
-    subst (λ (fs : List (OwnFile _)). HasRun c.args.queue.now job.size faults end_count left fs later.worker.pass later.worker.members.items
+    subst (λ (fs : List (OwnFile _)). HasRun c.args.queue.now job.size src fs later.worker.pass later.worker.members.items
     later.worker.starved later.kept) (sym (whole g at))
-    (run-stopped c.args.queue.now job.size faults end_count left files mid.pass later.worker.pass later.worker.members.items later.worker.starved
+    (run-stopped c.args.queue.now job.size src files mid.pass later.worker.pass later.worker.members.items later.worker.starved
     later.kept c.in-Err.at_limit.held (read g at) c.work.ensures.stops (c.in-Err.ensures.left (begun g at))
     (ap (λ (w : Worker _). w.pass) c.keep-in-Err.ensures.same ∙ c.retire.ensures) c.keep-in-Err.ensures.kept)
 

@@ -25,13 +25,13 @@ wind_up-requires-clause-dealt g c κs within =
 pub returns-in_default-clause-stops : goal.returns-in_default-clause-stops
 returns-in_default-clause-stops g c =
     let job = c.args.job.now in
-    stops-unread job.workers job.size g.S.Source.faults g.S.Source.ends g.S.Source.left c.args.sources.items
+    stops-unread job.workers job.size g.S.Source c.args.sources.items
     c.starved.result.sources.items (ap (λ v. v.items) c.starved.ensures.sources)
 
 pub returns-in-Err-clause-stops : goal.returns-in-Err-clause-stops
 returns-in-Err-clause-stops g c =
     let job = c.args.job.now in
-    stops-unread job.workers job.size g.S.Source.faults g.S.Source.ends g.S.Source.left c.args.sources.items
+    stops-unread job.workers job.size g.S.Source c.args.sources.items
     c.starved-in-Err.result.sources.items (ap (λ v. v.items) c.starved-in-Err.ensures.sources)
 
 pub returns-in-Ok-make_queue-clause-moved : goal.returns-in-Ok-make_queue-clause-moved

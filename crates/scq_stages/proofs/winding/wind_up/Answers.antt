@@ -14,12 +14,11 @@ use Rattle.scq_passes.proofs.Counted.{counts-exact}
 use Rattle.scq_passes.proofs.Results.{err-then, ok-more, ok-on}
 use Rattle.scq_desk.specs.Rooms.{IsLaid}
 use Rattle.scq_stages.specs.declared.finished.Finished.{Finished}
-use Rattle.scq_stages.specs.declared.staged.StageFault.{StageFault}
+use Rattle.scq_desk.specs.declared.fault.EndFault.{EndFault}
 use Rattle.scq_stages.specs.declared.staged.Staged.{Staged}
 use Rattle.scq_stages.specs.AllStages.{HasStaged, HaveFinished}
 use Rattle.scq_stages.specs.Output.{finished_in}
 use Rattle.scq_stages.proofs.DeskWorks.{AllRan, all-ended, desks-gave, desks-shared, desks-staged, lists_at, messages_given, passes_at}
-use Rattle.scq_stages.specs.Ends.{as_end}
 use Rattle.scq_desk.proofs.Faults.{caused, memory-first}
 use Rattle.scq_stages.proofs.Told.{told-staged}
 use Rattle.scq_stages.proofs.Ordered.{members-told}
@@ -37,8 +36,7 @@ pub wind_up_desks-sources-requires-clause-own : goal.wind_up_desks-sources-requi
 wind_up_desks-sources-requires-clause-own g c κs within k d less = let ran = c.requires.run k d less in (ran.queue, ran.held, ran.its)
 
 -- what the workers did
-ran : (g : _) (c : After-conclude g) → AllRan c.args.queue.setup c.args.queue c.args.job.now.size g.S.Source.faults g.S.Source.ends g.S.Source.left
-    c.args.laid.was.value.items c.args.desks.items
+ran : (g : _) (c : After-conclude g) → AllRan c.args.queue.setup c.args.queue c.args.job.now.size g.S.Source c.args.laid.was.value.items c.args.desks.items
 ran g c =
     let setup = c.requires.setup in
     record {
@@ -54,11 +52,11 @@ ran g c =
     }
 
 -- how the reading of all files ended
-as-gathered : (g : _) (c : After-conclude g) → AreGathered c.args.job.now.size g.S.Source.faults g.S.Source.ends g.S.Source.left
+as-gathered : (g : _) (c : After-conclude g) → AreGathered c.args.job.now.size g.S.Source
     c.args.laid.was.value.items c.wind_up_desks-sources.result.sources.items c.wind_up_desks-sources.result.fault c.wind_up_desks-sources.result.starved
 as-gathered g c =
     c.wind_up_desks-sources.ensures.gathered c.args.job.now.size
-    (all-ended c.args.queue.setup c.args.queue c.args.job.now.size g.S.Source.faults g.S.Source.ends g.S.Source.left c.args.laid.was.value.items
+    (all-ended c.args.queue.setup c.args.queue c.args.job.now.size g.S.Source c.args.laid.was.value.items
     c.args.desks.items (ran g c))
 
 -- whatever the workers met
@@ -70,8 +68,8 @@ returns-clause-left g c =
     record {
       setup = c.args.queue.setup;
       of_job = record { buffers = setup.0; rings = omega (arith, setup.1); seats = setup.2; limit = setup.3 };
-      shared = rw wound.ensures.passes.1 (desks-shared c.args.queue.setup c.args.queue c.args.job.now.size g.S.Source.faults g.S.Source.ends
-          g.S.Source.left c.args.laid.was.value.items c.args.desks.items (ran g at) wound.result.left.items wound.ensures.closed);
+      shared = rw wound.ensures.passes.1 (desks-shared c.args.queue.setup c.args.queue c.args.job.now.size g.S.Source c.args.laid.was.value.items
+          c.args.desks.items (ran g at) wound.result.left.items wound.ensures.closed);
     }
 
 pub returns-clause-same : goal.returns-clause-same
@@ -83,9 +81,7 @@ returns-clause-same g c =
 pub returns-clause-staged : goal.returns-clause-staged
 returns-clause-staged g c =
     let size = c.args.job.now.size in
-    let faults = g.S.Source.faults in
-    let end_count = g.S.Source.ends in
-    let left = g.S.Source.left in
+    let src = g.S.Source in
     let queue = c.args.queue in
     let desks = c.args.desks.items in
     let sources = c.args.laid.was.value.items in
@@ -93,18 +89,18 @@ returns-clause-staged g c =
     let left_in = wound.result.left.items in
     let closed = wound.ensures.closed in
     let f = ran g (goal.at.returns-clause-staged g c).After-conclude in
-    let Of : Staged → Type 0 = λ s. (given : List (List Message)) × AreGiven [] size left 1 sources given × HasStaged c.args.job.now.workers given s in
+    let Of : Staged → Type 0 = λ s. (given : List (List Message)) × AreGiven [] size src.left 1 sources given × HasStaged c.args.job.now.workers given s in
     ok-more c.conclude.result _ Of c.conclude.ensures.ok (λ s is.
     let whole = wound.ensures.whole is.2 in
     let fed = wound.ensures.fed is.1 in
-    let gave = messages_given queue.setup queue size faults end_count left sources desks f left_in closed whole fed in
-    let staged = desks-staged queue.setup queue size faults end_count left sources desks f left_in closed whole fed in
-    let shared = desks-shared queue.setup queue size faults end_count left sources desks f left_in closed in
+    let gave = messages_given queue.setup queue size src sources desks f left_in closed whole fed in
+    let staged = desks-staged queue.setup queue size src sources desks f left_in closed whole fed in
+    let shared = desks-shared queue.setup queue size src sources desks f left_in closed in
     let its_passes : wound.result.passes.value.items ≡ passes_at desks = wound.ensures.passes.0 in
     let Are : List (PassStanding Frame) → List (Vec Finished Global) → ℕ → Type 0 = λ ps ls n. HaveFinished n gave ps ls in
     subst Of (sym is.0) (
       gave,
-      desks-gave queue.setup queue size faults end_count left sources desks f left_in closed whole fed,
+      desks-gave queue.setup queue size src sources desks f left_in closed whole fed,
       record {
         staged = subst (λ (ps : List (PassStanding Frame)). Are ps wound.result.lists.items c.args.job.now.workers) (sym its_passes)
             (subst (λ (ls : List (Vec Finished Global)). Are (passes_at desks) ls c.args.job.now.workers) (sym wound.ensures.lists)
@@ -136,14 +132,11 @@ returns-clause-moved g c = (as-gathered g (goal.at.returns-clause-moved g c).Aft
 pub returns-clause-stops : goal.returns-clause-stops
 returns-clause-stops g c =
     let size = c.args.job.now.size in
-    let faults = g.S.Source.faults in
-    let end_count = g.S.Source.ends in
-    let left = g.S.Source.left in
+    let src = g.S.Source in
     let sources = c.args.laid.was.value.items in
     let wound = c.wind_up_desks-sources in
-    subst (λ n. StopsAtFaults n size faults end_count left sources wound.result.sources.items) c.requires.count
-    (wound.ensures.stops size
-    (all-ended c.args.queue.setup c.args.queue size faults end_count left sources c.args.desks.items (ran g (goal.at.returns-clause-stops g c).After-conclude))
+    subst (λ n. StopsAtFaults n size src sources wound.result.sources.items) c.requires.count (wound.ensures.stops size
+    (all-ended c.args.queue.setup c.args.queue size src sources c.args.desks.items (ran g (goal.at.returns-clause-stops g c).After-conclude))
     (λ w d less. (c.requires.run w d less).stops))
 
 pub returns-clause-whole : goal.returns-clause-whole
@@ -156,16 +149,16 @@ returns-clause-cause g c =
     let at = (goal.at.returns-clause-cause g c).After-conclude in
     let wound = c.wind_up_desks-sources.result in
     err-then c.conclude.result _ _
-    (λ (f : StageFault) why. caused c.args.job.now.size g.S.Source.faults g.S.Source.ends g.S.Source.left c.args.laid.was.value.items
-    wound.sources.items wound.starved wound.fault (as_end f) why (as-gathered g at).cause) c.conclude.ensures.err
+    (λ (f : EndFault) why. caused c.args.job.now.size g.S.Source c.args.laid.was.value.items
+    wound.sources.items wound.starved wound.fault f why (as-gathered g at).cause) c.conclude.ensures.err
 
 pub returns-clause-memory_first : goal.returns-clause-memory_first
 returns-clause-memory_first g c =
     let at = (goal.at.returns-clause-memory_first g c).After-conclude in
     let wound = c.wind_up_desks-sources.result in
     err-then c.conclude.result _ _
-    (λ (f : StageFault) why. memory-first c.args.job.now.size g.S.Source.faults g.S.Source.ends g.S.Source.left c.args.laid.was.value.items
-    wound.sources.items wound.starved wound.fault (as_end f) why (as-gathered g at).fed) c.conclude.ensures.err
+    (λ (f : EndFault) why. memory-first c.args.job.now.size g.S.Source c.args.laid.was.value.items
+    wound.sources.items wound.starved wound.fault f why (as-gathered g at).fed) c.conclude.ensures.err
 
 pub returns-clause-passes : goal.returns-clause-passes
 returns-clause-passes g c = c.wind_up_desks-sources.ensures.passes.1

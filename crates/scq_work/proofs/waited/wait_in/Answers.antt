@@ -25,7 +25,7 @@ wind_up-end-requires-clause-dealt g c κs within =
 pub returns-clause-end : goal.returns-clause-end
 returns-clause-end g c =
     let S = g.row.S.Denot in
-    subst (λ (v : Vec S Global). EndsWork c.args.job.now g.S.Source.faults g.S.Source.ends g.S.Source.left v.items c.wind_up-end.result.0)
+    subst (λ (v : Vec S Global). EndsWork c.args.job.now g.S.Source v.items c.wind_up-end.result.0)
     c.lay_out-laid.ensures.was c.wind_up-end.ensures.end
 
 pub returns-clause-waited : goal.returns-clause-waited

@@ -31,11 +31,9 @@ wait_in-requires-clause-work_room g c κs within =
 pub returns-in_default-clause-end : goal.returns-in_default-clause-end
 returns-in_default-clause-end g c =
     let said = c.starved.ensures in
-    ends-starved c.args.job.now g.S.Source.faults g.S.Source.ends g.S.Source.left c.args.sources.items c.starved.result.end
-    (ap (λ v. v.items) said.sources) said.fault said.left.0
+    ends-starved c.args.job.now g.S.Source c.args.sources.items c.starved.result.end (ap (λ v. v.items) said.sources) said.fault said.left.0
 
 pub returns-in-Err-clause-end : goal.returns-in-Err-clause-end
 returns-in-Err-clause-end g c =
     let said = c.starved-in-Err.ensures in
-    ends-starved c.args.job.now g.S.Source.faults g.S.Source.ends g.S.Source.left c.args.sources.items c.starved-in-Err.result.end
-    (ap (λ v. v.items) said.sources) said.fault said.left.0
+    ends-starved c.args.job.now g.S.Source c.args.sources.items c.starved-in-Err.result.end (ap (λ v. v.items) said.sources) said.fault said.left.0

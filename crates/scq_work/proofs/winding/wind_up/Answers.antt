@@ -16,11 +16,10 @@ use Rattle.scq_files.specs.Ends.{AreGiven, StopsAtFaults, all_left}
 use Rattle.scq_files.proofs.GivenLemmas.{given-told}
 use Rattle.scq_desk.specs.Rooms.{IsLaid}
 use Rattle.scq_work.specs.AllWorkers.{HaveAnswered, HasWorked}
-use Rattle.scq_work.specs.declared.worked.WorkFault.{WorkFault}
+use Rattle.scq_desk.specs.declared.fault.EndFault.{EndFault}
 use Rattle.scq_work.specs.declared.worked.Worked.{Worked}
 use Rattle.scq_work.proofs.AllGave.{AllRan, given, is-given}
 use Rattle.scq_work.proofs.AllRun.{have-answered, all-shared, passes_at, lists_at}
-use Rattle.scq_work.specs.Ends.{as_end}
 use Rattle.scq_desk.proofs.Faults.{caused, memory-first}
 use Rattle.scq_work.proofs.Told.{told-worked}
 use Rattle.scq_work.proofs.Orders.{members-told}
@@ -39,7 +38,7 @@ wind_up_desks-sources-requires-clause-own g c κs within k d less = let ran = c.
 
 -- what the workers did
 ran : (g : _) (c : After-conclude g) → AllRan c.args.queue.setup c.args.queue c.args.job.now.topics c.args.job.now.size c.args.job.now.longest
-    g.S.Source.faults g.S.Source.ends g.S.Source.left c.args.laid.was.value.items c.args.desks.items
+    g.S.Source c.args.laid.was.value.items c.args.desks.items
 ran g c =
     let valid = c.args.job.now.valid in
     let setup = c.requires.setup in
@@ -63,9 +62,7 @@ returns-clause-end g c =
     let topics = c.args.job.now.topics in
     let size = c.args.job.now.size in
     let longest = c.args.job.now.longest in
-    let faults = g.S.Source.faults in
-    let end_count = g.S.Source.ends in
-    let left = g.S.Source.left in
+    let src = g.S.Source in
     let queue = c.args.queue in
     let desks = c.args.desks.items in
     let sources = c.args.laid.was.value.items in
@@ -76,20 +73,20 @@ returns-clause-end g c =
     let ok = c.conclude.ensures.ok in
     let f = ran g (goal.at.returns-clause-end g c).After-conclude in
     let setup = c.requires.setup in
-    let shared = all-shared queue.setup queue topics size longest faults end_count left sources desks f left_in said.closed in
-    let ended : AllEnded longest faults end_count left desks = λ w d less e o inside. ((c.requires.run w d less).read e o inside).ends in
+    let shared = all-shared queue.setup queue topics size longest src sources desks f left_in said.closed in
+    let ended : AllEnded longest src desks = λ w d less e o inside. ((c.requires.run w d less).read e o inside).ends in
     let gathered = said.gathered longest ended in
-    let Of : Worked → Type 0 = λ w. (given : List (List Message)) × AreGiven topics longest left 1 sources given
+    let Of : Worked → Type 0 = λ w. (given : List (List Message)) × AreGiven topics longest src.left 1 sources given
     × HasWorked topics size c.args.job.now.workers given w in
     let worked : IfOk result Of = ok-more result _ Of ok (λ w is.
     let whole = said.whole is.2 in
-    let answered = have-answered queue.setup queue topics size longest faults end_count left sources desks f left_in said.closed whole (said.fed is.1) in
+    let answered = have-answered queue.setup queue topics size longest src sources desks f left_in said.closed whole (said.fed is.1) in
     let its_passes : wound.passes.value.items ≡ passes_at desks = said.passes.0 in
-    let gave = given queue.setup queue topics size longest faults end_count left sources desks f in
+    let gave = given queue.setup queue topics size longest src sources desks f in
     let Are : List (PassStanding Frame) → List (List Answered) → ℕ → Type 0 = λ ps ls n. HaveAnswered topics size n gave ps ls in
     subst Of (sym is.0) (
       gave,
-      is-given queue.setup queue topics size longest faults end_count left sources desks f whole,
+      is-given queue.setup queue topics size longest src sources desks f whole,
       record {
         answered = subst (λ (ps : List (PassStanding Frame)). Are ps wound.lists.items c.args.job.now.workers) (sym its_passes)
             (subst (λ (ls : List (List Answered)). Are (passes_at desks) ls c.args.job.now.workers) (sym said.lists)
@@ -101,13 +98,13 @@ returns-clause-end g c =
     record {
       count = gathered.count;
       moved = gathered.moved;
-      stops = subst (λ n. StopsAtFaults n longest faults end_count left sources wound.sources.items) c.requires.count
+      stops = subst (λ n. StopsAtFaults n longest src sources wound.sources.items) c.requires.count
           (said.stops longest ended (λ w d less. (c.requires.run w d less).stops));
       whole = ok-on result _ _ ok (λ w why. gathered.sound why.2);
       answers = ok-more result Of _ worked
-          (λ w has. members-told topics size longest left sources has.0 (members_of w.answered.items) has.1 has.2.answered.once);
-      told = ok-more result Of _ worked (λ w has. told-worked topics size c.args.job.now.workers has.0 w (all_left left sources)
-          (given-told topics longest left 1 sources has.0 has.1) has.2);
+          (λ w has. members-told topics size longest src.left sources has.0 (members_of w.answered.items) has.1 has.2.answered.once);
+      told = ok-more result Of _ worked (λ w has. told-worked topics size c.args.job.now.workers has.0 w (all_left src.left sources)
+          (given-told topics longest src.left 1 sources has.0 has.1) has.2);
       worked = worked;
       none_stranded = record {
         setup = queue.setup;
@@ -116,10 +113,10 @@ returns-clause-end g c =
       };
       none = λ e. absurd (cc);
       same = ok-more result _ _ ok (λ w is. said.passes.1 ∙ sym said.passes.0 ∙ ap (λ (x : Worked). x.passes.value.items) (sym is.0));
-      cause = err-then result _ _ (λ (fault : WorkFault) why. caused longest faults end_count left sources wound.sources.items wound.starved wound.fault
-          (as_end fault) why gathered.cause) c.conclude.ensures.err;
-      memory_first = err-then result _ _ (λ (fault : WorkFault) why. memory-first longest faults end_count left sources wound.sources.items wound.starved
-          wound.fault (as_end fault) why gathered.fed) c.conclude.ensures.err;
+      cause = err-then result _ _ (λ (fault : EndFault) why. caused longest src sources wound.sources.items wound.starved wound.fault
+          fault why gathered.cause) c.conclude.ensures.err;
+      memory_first = err-then result _ _ (λ (fault : EndFault) why. memory-first longest src sources wound.sources.items wound.starved
+          wound.fault fault why gathered.fed) c.conclude.ensures.err;
     }
 
 -- each pass says whether it was told that all had retired

@@ -22,20 +22,19 @@ use Rattle.scq_work.proofs.working.work.Goals as goal
 pub returns-in_default-clause-end : goal.returns-in_default-clause-end
 returns-in_default-clause-end g c =
     let said = c.starved.ensures in
-    ends-starved c.args.job.now g.S.Source.faults g.S.Source.ends g.S.Source.left c.args.sources.items c.starved.result (ap (λ v. v.items) said.sources)
+    ends-starved c.args.job.now g.S.Source c.args.sources.items c.starved.result (ap (λ v. v.items) said.sources)
     said.fault said.left.0
 
 pub returns-in-Err-clause-end : goal.returns-in-Err-clause-end
 returns-in-Err-clause-end g c =
     let said = c.starved-in-Err.ensures in
-    ends-starved c.args.job.now g.S.Source.faults g.S.Source.ends g.S.Source.left c.args.sources.items c.starved-in-Err.result
-    (ap (λ v. v.items) said.sources) said.fault said.left.0
+    ends-starved c.args.job.now g.S.Source c.args.sources.items c.starved-in-Err.result (ap (λ v. v.items) said.sources) said.fault said.left.0
 
 -- the sources are those that were laid out
 pub returns-in-Ok-make_queue-clause-end : goal.returns-in-Ok-make_queue-clause-end
 returns-in-Ok-make_queue-clause-end g c =
     let S = g.row.S.Denot in
-    subst (λ (v : Vec S Global). EndsWork c.args.job.now g.S.Source.faults g.S.Source.ends g.S.Source.left v.items c.wind_up-end.result.0)
+    subst (λ (v : Vec S Global). EndsWork c.args.job.now g.S.Source v.items c.wind_up-end.result.0)
     c.lay_out-laid.ensures.was c.wind_up-end.ensures.end
 
 -- the passes were there when the queue was closed

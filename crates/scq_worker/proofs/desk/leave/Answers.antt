@@ -8,18 +8,18 @@ use Rattle.scq_worker.proofs.desk.leave.Goals as goal
 pub sweep_out-requires-clause-suits : goal.sweep_out-requires-clause-suits
 sweep_out-requires-clause-suits g c κs within =
     let was = c.args.desk.now.worker in
-    sweep-suits c.args.queue.now c.args.job.now g.S.Source.faults g.S.Source.ends g.S.Source.left c.args.desk.now.files.items was.worker was.worker was.kept
+    sweep-suits c.args.queue.now c.args.job.now g.S.Source c.args.desk.now.files.items was.worker was.worker was.kept
     c.requires.sweep
 
 pub returns-in-Ok-clause-run : goal.returns-in-Ok-clause-run
 returns-in-Ok-clause-run g c =
     let end = c.in-Ok.ensures in
-    swept-out c.args.queue.now c.args.job.now g.S.Source.faults g.S.Source.ends g.S.Source.left c.args.desk.now.files.items c.args.desk.now.worker.worker
+    swept-out c.args.queue.now c.args.job.now g.S.Source c.args.desk.now.files.items c.args.desk.now.worker.worker
     c.sweep_out.new.taker c.args.desk.now.worker.kept c.requires.sweep c.len.result c.len.ensures.value end.taken end.past end.made
 
 pub returns-in-Ok-clause-behind : goal.returns-in-Ok-clause-behind
 returns-in-Ok-clause-behind g c awake =
-    left-swept c.args.queue.now c.args.job.now g.S.Source.faults g.S.Source.ends g.S.Source.left c.args.desk.now.files.items c.args.desk.now.worker.worker
+    left-swept c.args.queue.now c.args.job.now g.S.Source c.args.desk.now.files.items c.args.desk.now.worker.worker
     c.sweep_out.new.taker c.args.desk.now.worker.kept c.requires.sweep bytes_of c.len.result c.len.ensures.value c.in-Ok.ensures.taken
     c.in-Ok.ensures.swept
 
@@ -29,7 +29,7 @@ returns-in-Ok-clause-number g c =
 
 pub returns-in-Err-clause-run : goal.returns-in-Err-clause-run
 returns-in-Err-clause-run g c =
-    late-out c.args.queue.now c.args.job.now g.S.Source.faults g.S.Source.ends g.S.Source.left c.args.desk.now.files.items c.args.desk.now.worker.worker
+    late-out c.args.queue.now c.args.job.now g.S.Source c.args.desk.now.files.items c.args.desk.now.worker.worker
     c.sweep_out.new.taker c.args.desk.now.worker.kept c.requires.sweep c.keep.new.self c.in-Err.at_limit.held c.in-Err.ensures.left
     c.keep.ensures.same c.keep.ensures.kept
 

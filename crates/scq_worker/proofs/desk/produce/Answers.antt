@@ -69,9 +69,7 @@ retire-requires-in-Err-clause-bell g c κs within =
 pub returns-in-Ok-clause-produced : goal.returns-in-Ok-clause-produced
 returns-in-Ok-clause-produced g c =
     let job = c.args.job.now in
-    let faults = g.S.Source.faults in
-    let end_count = g.S.Source.ends in
-    let left = g.S.Source.left in
+    let src = g.S.Source in
     let files = c.read_files.new.files in
     let was = c.read_files.new.handler in
     let now = c.retire.new.self in
@@ -79,10 +77,10 @@ returns-in-Ok-clause-produced g c =
     let gone = c.in-Ok.ensures.handled.0 in
     let at = gone.work [] (begun g (goal.at.returns-in-Ok-clause-produced g c).After-read_files) in
     let files-are = whole g (goal.at.returns-in-Ok-clause-produced g c).After-read_files in
-    subst (λ (fs : List (OwnFile _)). HasProduced c.args.queue.now job.topics job.size job.longest faults end_count left fs now.pass now.members
+    subst (λ (fs : List (OwnFile _)). HasProduced c.args.queue.now job.topics job.size job.longest src fs now.pass now.members
     now.starved kept)
     (sym files-are)
-    (produced-awake c.args.queue.now job.topics job.size job.longest faults end_count left files was.pass now.pass was.members now.members
+    (produced-awake c.args.queue.now job.topics job.size job.longest src files was.pass now.pass was.members now.members
     was.starved now.starved kept c.read_files.ensures.read c.read_files.ensures.stops gone.suits at.0 at.1 c.retire.ensures.pass c.retire.ensures.same.0
     c.retire.ensures.same.1 c.requires.fresh.kept)
 
@@ -95,16 +93,14 @@ returns-in-Ok-clause-bell g c = c.retire.ensures.bell ∙ c.in-Ok.ensures.handle
 pub returns-in-Err-clause-produced : goal.returns-in-Err-clause-produced
 returns-in-Err-clause-produced g c =
     let job = c.args.job.now in
-    let faults = g.S.Source.faults in
-    let end_count = g.S.Source.ends in
-    let left = g.S.Source.left in
+    let src = g.S.Source in
     let files = c.read_files.new.files in
     let was = c.read_files.new.handler in
     let now = c.keep.new.self in
     let start = begun g (goal.at.returns-in-Err-clause-produced g c).After-read_files in
-    subst (λ (fs : List (OwnFile _)). HasProduced c.args.queue.now job.topics job.size job.longest faults end_count left fs now.worker.pass
+    subst (λ (fs : List (OwnFile _)). HasProduced c.args.queue.now job.topics job.size job.longest src fs now.worker.pass
     now.worker.members now.worker.starved now.kept) (sym (whole g (goal.at.returns-in-Err-clause-produced g c).After-read_files))
-    (produced-stopped c.args.queue.now job.topics job.size job.longest faults end_count left files was.pass now.worker.pass now.worker.members
+    (produced-stopped c.args.queue.now job.topics job.size job.longest src files was.pass now.worker.pass now.worker.members
     now.worker.starved now.kept c.in-Err.at_limit.held c.read_files.ensures.read c.read_files.ensures.stops (c.in-Err.ensures.stopped.0.left [] start)
     (ap (λ (w : Worker _). w.pass) c.keep.ensures.same ∙ c.retire-in-Err.ensures.pass) c.keep.ensures.kept)
 

@@ -1,4 +1,4 @@
-use Rattle.std.proofs.Common.{◌≡◌, ◌∙◌, refl, ap, subst, map, length, ◌+◌, ◌<◌, ℕ, Bool, List, Option, Some, None, Result, Err, sym, [], rules}
+use Rattle.std.proofs.Common.{◌≡◌, ◌∙◌, refl, ap, subst, map, length, ◌+◌, ◌<◌, ℕ, Bool, List, Option, Some, None, Result, Err, [], rules}
 use Rattle.std.specs.Prelude.{string_bytes, slice_index_or, OnOk, IfOk, IfErr, IfSome, IsSomeAnd}
 use Rattle.scq_block.specs.declared.frame.Frame.{Frame}
 use Rattle.scq_queue.specs.Passes.{PassStanding}
@@ -6,28 +6,16 @@ use Rattle.scq_outside.specs.Table.{Table}
 use Rattle.scq_frames.specs.declared.message.Message.{Message}
 use Rattle.scq_files.specs.Ends.{AreGiven}
 use Rattle.scq_files.specs.Reading.{IsWhole}
+use Rattle.scq_desk.specs.Faults.{HasCause}
+use Rattle.scq_desk.specs.declared.fault.EndFault.{EndFault}
+use Rattle.scq_desk.specs.declared.fault.EndFault.TheVariants.{NoMemory}
 use Rattle.scq_stages.specs.AllStages.{HasStaged, NothingIsStranded}
-use Rattle.scq_stages.specs.Ends.{HasCause}
 use Rattle.scq_stages.specs.declared.staged.Staged.{Staged}
-use Rattle.scq_stages.specs.declared.staged.StageFault.{StageFault}
-use Rattle.scq_stages.specs.declared.staged.StageFault.TheVariants.{Read, TooLong, TooLarge, NoMemory}
-use Rattle.scq_work.specs.Ends as work
-use Rattle.scq_work.specs.declared.worked.WorkFault.{WorkFault}
-use Rattle.scq_service.specs.Members.{SourceOf}
-use Rattle.scq_service.specs.Faults.{fault_of_stages}
 use Rattle.scq_service.specs.Answers.{HaveAllCome}
 use Rattle.scq_service.specs.Ends.{Change}
 use Rattle.scq_service.specs.declared.fault.Fault.TheVariants.{OpenFault}
 use Rattle.scq_service.proofs.Working.{ends-all, ends-met, ends-stopped, got-so, missed-of}
 use Rattle.scq_service.proofs.commands.stages.conclude.Goals as goal
-
--- a cause of a fault of stages is one of that fault of workers
-caused : {S : Type 0} (size : ℕ) (src : SourceOf S) (olds news : List S) (fault : StageFault)
-    → HasCause size src.faults src.ends src.left olds news fault → work.HasCause size src.faults src.ends src.left olds news (fault_of_stages fault)
-caused size src olds news (Read file) stops = stops
-caused size src olds news (TooLong file line len) stops = stops
-caused size src olds news (TooLarge file bytes) stops = stops
-caused size src olds news NoMemory stops = stops
 
 -- where there was a queue, nothing is stranded in it, by passes that are these
 nothing-stranded : {L P F : Type 0} (order workers : ℕ) (left : Option L) (passes : Option P) (frames : Option F) (in_rings : L → List ℕ)
@@ -55,13 +43,13 @@ returns-then-all-clause-tells g c =
     let olds = c.args.got.value.items in
     let news = c.args.end.sources.items in
     let src = g.F.Src.Source in
-    let W : Result Staged StageFault → Type 0 =
-    λ r. OnOk r ((k : ℕ) (d : _) → k < length olds → IsWhole size src.faults src.ends src.left (slice_index_or olds k d) (slice_index_or news k d)) in
+    let W : Result Staged EndFault → Type 0 =
+    λ r. OnOk r ((k : ℕ) (d : _) → k < length olds → IsWhole size src (slice_index_or olds k d) (slice_index_or news k d)) in
     let whole = subst W c.in-Ok.is did.whole in
-    let G : Result Staged StageFault → Type 0 =
+    let G : Result Staged EndFault → Type 0 =
     λ r. IfOk r (λ s. (given : List (List Message)) × AreGiven [] job.size src.left 1 olds given × HasStaged job.workers given s) in
     let gave = subst G c.in-Ok.is did.staged in
-    let M : Result Staged StageFault → Type 0 =
+    let M : Result Staged EndFault → Type 0 =
     λ r. IfOk r (λ s. IsSomeAnd c.args.end.passes (λ passes. passes.value.items ≡ s.passes.value.items)) in
     record {
       got = got-so size src names table opens olds news did.count did.come c.args.all did.all did.moved _ _ _ after.got (ap (λ v. v.items) after.sources ∙ end.sources);
@@ -95,8 +83,8 @@ returns-then-all-clause-ends g c =
     let olds = c.args.got.value.items in
     let news = c.args.end.sources.items in
     let src = g.F.Src.Source in
-    let W : Result Staged StageFault → Type 0 =
-    λ r. OnOk r ((k : ℕ) (d : _) → k < length olds → IsWhole size src.faults src.ends src.left (slice_index_or olds k d) (slice_index_or news k d)) in
+    let W : Result Staged EndFault → Type 0 =
+    λ r. OnOk r ((k : ℕ) (d : _) → k < length olds → IsWhole size src (slice_index_or olds k d) (slice_index_or news k d)) in
     let whole = subst W c.in-Ok.is did.whole in
     let A : Bool → Type 0 = λ all. HaveAllCome names (record { table = table; opens = opens; sources = olds; read = 0 }) all in
     let all = subst A c.if-all.true did.all in
@@ -144,8 +132,8 @@ returns-in-Ok-clause-ends g c =
     let olds = c.args.got.value.items in
     let news = c.args.end.sources.items in
     let src = g.F.Src.Source in
-    let W : Result Staged StageFault → Type 0 =
-    λ r. OnOk r ((k : ℕ) (d : _) → k < length olds → IsWhole size src.faults src.ends src.left (slice_index_or olds k d) (slice_index_or news k d)) in
+    let W : Result Staged EndFault → Type 0 =
+    λ r. OnOk r ((k : ℕ) (d : _) → k < length olds → IsWhole size src (slice_index_or olds k d) (slice_index_or news k d)) in
     let whole = subst W c.in-Ok.is did.whole in
     let A : Bool → Type 0 = λ all. HaveAllCome names (record { table = table; opens = opens; sources = olds; read = 0 }) all in
     let next = subst A c.if-all.false did.all in
@@ -193,9 +181,7 @@ returns-clause-ends g c =
     let olds = c.args.got.value.items in
     let news = c.args.end.sources.items in
     let src = g.F.Src.Source in
-    let W : Result Staged StageFault → Type 0 = λ r. IfErr r (λ fault. HasCause size src.faults src.ends src.left olds news fault) in
-    let cause = caused size src olds news c.in-Err.fault (subst W c.in-Err.is did.cause) in
-    let C : WorkFault → Type 0 = λ fault. work.HasCause size src.faults src.ends src.left olds news fault in
+    let W : Result Staged EndFault → Type 0 = λ r. IfErr r (λ fault. HasCause size src olds news fault) in
     rw (after.read ∙ end.read, come, ap (λ v. v.items) after.sources ∙ end.sources, after.fault ∙ end.fault)
-    (ends-met size src names table opens olds news did.count did.come c.work_fault.result (subst C (sym c.work_fault.ensures) cause)
+    (ends-met size src names table opens olds news did.count did.come c.in-Err.fault (subst W c.in-Err.is did.cause)
     (missed-of size src names table opens olds news did.count did.come c.args.all did.all))
