@@ -10,9 +10,9 @@ ghost use Rattle.scq_park.specs.Crews.{first_posts};
 ghost use Rattle.scq_rest.specs.Resting.{HasRoom};
 ghost use Rattle.scq_rest.specs.Waiting.{HaveWaited};
 
+use crate::WorkEnd;
 use crate::winding::wind_up;
 use crate::working::setup_of;
-use crate::WorkEnd;
 use scq_block::{Block, Frame};
 use scq_collect::Answers;
 use scq_desk::{End, EndFault, Room, lay_out, make_room};
