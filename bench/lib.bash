@@ -202,7 +202,7 @@ pinned() {
 # The crate that a text of bench/proved/ says in its first line how to lay out, with those that it stands on, as a
 # repository in this folder. In the text a line `== FILE` begins a file of the crate, or with names behind it one for
 # each, with the name in place of each @; `<< FILE` stands for the lines of this file of proved/, and `~~ WORD LINE`
-# for a line of what $WORD is from there on.
+# for a line of what $WORD is from there on; $crate is the name of the crate.
 laid_out() {
     local text=$bench/proved/$1.txt line below it part
     line=$(sed -n '1s/^crate //p' "$text")
@@ -219,7 +219,8 @@ laid_out() {
     done
     { lines_of "${below[@]}" && echo "$line"; } >crates.txt
     cp "$top/HANDLES" .
-    awk -v into="crates/$crate/" -v folder="$bench/proved/" '
+    awk -v crate="$crate" -v folder="$bench/proved/" '
+        BEGIN { stands["crate"] = crate }
         NR > 1 { put($0) }
         function put(line,    word, i, from) {
             for (word in stands) gsub("[$]" word, stands[word], line)
@@ -233,10 +234,10 @@ laid_out() {
                 gsub(/&/, "\\\\&", line)
                 stands[word] = stands[word] (stands[word] ? "\n" : "") line
             } else if (line ~ /^== /) {
-                count = split(line, part, " ")
-                for (i = 3; i <= count || i == 3; i++) {
-                    name[i] = count > 2 ? part[i] : "@"
-                    path[i] = into part[2]
+                count = split(line, name, " ")
+                if (count == 2) name[++count] = "@"
+                for (i = 3; i <= count; i++) {
+                    path[i] = "crates/" crate "/" name[2]
                     gsub(/@/, name[i], path[i])
                     from = path[i]
                     sub(/[^\/]*$/, "", from)
@@ -244,7 +245,7 @@ laid_out() {
                     printf "" >path[i]
                 }
             } else {
-                for (i = 3; i <= count || i == 3; i++) {
+                for (i = 3; i <= count; i++) {
                     word = line
                     gsub(/@/, name[i], word)
                     print word >path[i]
@@ -326,7 +327,7 @@ versions() {
     for it; do
         { "$it" --version || "$it" -W version || echo "no $it"; } 2>/dev/null | sed '/^$/d' | head -n 1
     done
-} 
+}
 
 # Ticks since the machine started, of all processors: busy, stolen, all; and this script's own.
 ticks() {
