@@ -201,8 +201,8 @@ pinned() {
 
 # The crate that a text of bench/proved/ says in its first line how to lay out, with those that it stands on, as a
 # repository in this folder. In the text a line `== FILE` begins a file of the crate, or with names behind it one for
-# each, with the name in place of each @; `<< FILE` stands for this file of proved/, and `~~ WORD LINE` says what
-# $WORD is in it.
+# each, with the name in place of each @; `<< FILE` stands for the lines of this file of proved/, and `~~ WORD LINE`
+# for a line of what $WORD is from there on; $crate is the name of the crate.
 laid_out() {
     local text=$bench/proved/$1.txt line below it part
     line=$(sed -n '1s/^crate //p' "$text")
@@ -219,41 +219,37 @@ laid_out() {
     done
     { lines_of "${below[@]}" && echo "$line"; } >crates.txt
     cp "$top/HANDLES" .
-    awk -v into="crates/$crate/" -v folder="$bench/proved/" '
-        FNR == 1 && NR == 1 { next }
-        /^== / {
-            count = NF > 2 ? NF - 2 : 1
-            for (i = 1; i <= count; i++) {
-                name[i] = NF > 2 ? $(i + 2) : "@"
-                path[i] = into $2
-                gsub(/@/, name[i], path[i])
-                parent = path[i]
-                sub(/[^\/]*$/, "", parent)
-                system("mkdir -p " parent)
-                printf "" >path[i]
-            }
-            next
-        }
-        /^~~ / {
-            word = $2
-            sub(/^~~ [^ ]* /, "")
-            gsub(/&/, "\\\\&")
-            stands[word] = stands[word] (word in stands && stands[word] ? "\n" : "") $0
-            next
-        }
-        /^<< / {
-            while ((getline line <(folder $2)) > 0) {
-                for (word in stands) gsub("[$]" word, stands[word], line)
-                put(line)
-            }
-            next
-        }
-        { put($0) }
-        function put(text,    line) {
-            for (i = 1; i <= count; i++) {
-                line = text
-                gsub(/@/, name[i], line)
-                print line >path[i]
+    awk -v crate="$crate" -v folder="$bench/proved/" '
+        BEGIN { stands["crate"] = crate }
+        NR > 1 { put($0) }
+        function put(line,    word, i, from) {
+            for (word in stands) gsub("[$]" word, stands[word], line)
+            if (line ~ /^<< /) {
+                from = folder substr(line, 4)
+                while ((getline line <from) > 0) put(line)
+            } else if (line ~ /^~~ /) {
+                split(line, part, " ")
+                word = part[2]
+                sub(/^~~ [^ ]* ?/, "", line)
+                gsub(/&/, "\\\\&", line)
+                stands[word] = stands[word] (stands[word] ? "\n" : "") line
+            } else if (line ~ /^== /) {
+                count = split(line, name, " ")
+                if (count == 2) name[++count] = "@"
+                for (i = 3; i <= count; i++) {
+                    path[i] = "crates/" crate "/" name[2]
+                    gsub(/@/, name[i], path[i])
+                    from = path[i]
+                    sub(/[^\/]*$/, "", from)
+                    system("mkdir -p " from)
+                    printf "" >path[i]
+                }
+            } else {
+                for (i = 3; i <= count; i++) {
+                    word = line
+                    gsub(/@/, name[i], word)
+                    print word >path[i]
+                }
             }
         }
     ' "$text"
@@ -331,7 +327,7 @@ versions() {
     for it; do
         { "$it" --version || "$it" -W version || echo "no $it"; } 2>/dev/null | sed '/^$/d' | head -n 1
     done
-} 
+}
 
 # Ticks since the machine started, of all processors: busy, stolen, all; and this script's own.
 ticks() {

@@ -83,21 +83,6 @@ fn answered(kind: Kind, data: &[u8], size: usize) -> u64 {
     seen
 }
 
-fn timed(name: &str, kind: Kind, data: &[u8], size: usize) {
-    let mut seen = 0;
-    let start = Instant::now();
-    for _ in 0..PASSES {
-        seen = answered(kind, std::hint::black_box(data), size);
-    }
-    println!("{name} {size} {} {seen}", start.elapsed().as_nanos());
-}
-
-fn shown(kind: Kind, data: &[u8], size: usize) {
-    for part in data.chunks(size) {
-        println!("{}", String::from_utf8_lossy(&reply(kind, part)));
-    }
-}
-
 fn main() {
     let text = b"get /index.html 200\t a b".repeat(1_048_576 / 24);
     let sums = b"1103 52759 377401575 66 ".repeat(1_048_576 / 24);
@@ -114,10 +99,17 @@ fn main() {
                 continue;
             }
             if shows {
-                shown(kind, data, size);
-            } else {
-                timed(name, kind, data, size);
+                for part in data.chunks(size) {
+                    println!("{}", String::from_utf8_lossy(&reply(kind, part)));
+                }
+                continue;
             }
+            let mut seen = 0;
+            let start = Instant::now();
+            for _ in 0..PASSES {
+                seen = answered(kind, std::hint::black_box(data), size);
+            }
+            println!("{name} {size} {} {seen}", start.elapsed().as_nanos());
         }
     }
 }

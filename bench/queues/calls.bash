@@ -13,25 +13,25 @@ kept_in "$@"
 turns=$(rounds 9)
 pairs=$(many "${PAIRS:-4000000}")
 limit=${LIMIT:-50}
-# Of each mode, by how many threads it is run, how many pairs these make together, and its title.
-declare -A threads_of total_of title
-while read -r mode threads total words; do
-    threads_of[$mode]=$threads total_of[$mode]=$((total)) title[$mode]=$words
-done <<<"one 1 pairs one thread
-empty 1 pairs*12 on empty
-pair 2 pairs/4 one to one
-two 4 pairs/4 two to two
-four 4 pairs/4 four threads
-many 16 pairs/4 sixteen threads
-busy 4 pairs/20 four threads
-calm 2 pairs/100 two threads that pause
-order 4 pairs/40
-stop 3 $(many 150)*3 one of two threads stopped 150 times for 50 ms"
+# Of each mode, by how many threads it is run, how many calls each of them makes, their roles, and its title.
+declare -A threads_of each_of roles_of title
+while read -r mode threads each roles words; do
+    threads_of[$mode]=$threads each_of[$mode]=$((each)) roles_of[$mode]=$roles title[$mode]=$words
+done <<<"one 1 pairs b one thread
+empty 1 pairs*12 e on empty
+pair 2 pairs/4 pg one to one
+two 4 pairs/8 pgpg two to two
+four 4 pairs/16 bbbb four threads
+many 16 pairs/64 bbbbbbbbbbbbbbbb sixteen threads
+busy 4 pairs/80 busy four threads
+calm 2 pairs/200 calm two threads that pause
+order 4 pairs/160 order
+stop 3 $(many 150) stop one of two threads stopped 150 times for 50 ms"
 
 # `ours`, the driver in Rattle of this name, and the plain C++ of the step table over this header, by the
 # kit's compiler too: `plain`, and `seated`, of which each thread keeps what it knows.
 ours_and_plain() {
-    proved "$1" one 3 1
+    proved "$1" b 3 1
     cp "$ours" ours
     by_kit plain -I "$bench/queues" -DBARE -DQUEUE="\"$2.hpp\"" "$bench/queues/calls.cpp"
     by_kit seated -I "$bench/queues" -DBARE -DQUEUE="\"$2.hpp\"" -DSEATED "$bench/queues/calls.cpp"
@@ -58,22 +58,19 @@ aim() {
 run_once() {
     local key=$1 program mode order figures it status=0
     IFS=. read -r program mode order <<<"$key"
-    local threads=${threads_of[$mode]} total=${total_of[$mode]}
-    local each=$((total / threads))
-    [ "$mode" != pair ] && [ "$mode" != two ] || each=$((2 * each))
-    pinned "$threads" timeout "$limit" "./$program" "$mode" "$order" "$each" >answer || status=$?
+    local threads=${threads_of[$mode]} each=${each_of[$mode]} roles=${roles_of[$mode]}
+    pinned "$threads" timeout "$limit" "./$program" "$roles" "$order" "$each" >answer || status=$?
     read -ra figures <answer || true
     case $status-$mode in
-        0-busy | 0-calm)
-            for it in 50.2 99.3 999.4; do note "$key.${it%.*}" "${figures[${it#*.}]}"; done
-            ;;
+        0-busy | 0-calm) for it in 50.0 99.1 999.2; do note "$key.${it%.*}" "${figures[${it#*.}]}"; done ;;
         0-stop)
-            note "$key.held" "${figures[2]}"
-            note "$key.longest" "$((figures[3] / 1000000))"
+            note "$key.held" "${figures[0]}"
+            note "$key.longest" "$((figures[1] / 1000000))"
             ;;
         0-*)
-            note "$key" "$(calc "$total * 1000 / ${figures[2]}")"
-            same_sum "$mode" "$order" "${figures[3]}"
+            [[ $roles != pg* ]] || each=$((each / 2))
+            note "$key" "$(calc "$threads * $each * 1000 / ${figures[0]}")"
+            same_sum "$mode" "$order" "${figures[1]-}"
             ;;
         124-*) note "$key.endless" 1 ;;
         *) miss "$key ends with $status" ;;

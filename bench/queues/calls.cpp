@@ -1,21 +1,19 @@
 // Measures one queue, which is named to the compiler (queue.hpp):
 //
-//     calls MODE ORDER MANY
+//     calls ROLES ORDER MANY
 //
-// one    one thread puts and gets in turn         empty  one thread gets from an empty queue
-// pair   one puts, one gets                       two    two put, two get
-// four   four threads put and get in turn         many   sixteen do
+// ROLES has a letter for each thread: p puts, g gets, b does both in turn, and e gets from an empty
+// queue; or it is one of these words:
+//
 // busy   the time of a put and the get behind it in each of four threads that do nothing else
 // calm   the same with two threads that pause for about ten such times in between
 // stop   two threads put and get in turn, and one of them is stopped for 50 ms, MANY times
-// order  four threads put and get in turn; each message is seen once, and those of a thread in
-// order
+// order  four threads put and get in turn; each message is seen once, and each thread's in order
 //
 // MANY is how many each thread makes. Ends with 1 where what was got isn't what was put. Prints the
-// mode, the order, and the nanoseconds that all took; for busy and calm those which 50, 99 and 99.9
-// percent of the pairs took at most; for stop in how many stops the other thread was held up for
-// more than 20 ms, and its longest wait in nanoseconds. Last stands the sum of the values that were
-// got.
+// nanoseconds that all took, and the sum of the values that were got; for busy and calm the
+// nanoseconds which 50, 99 and 99.9 percent of the pairs took at most; for stop in how many stops
+// the other thread was held up for more than 20 ms, and its longest wait in nanoseconds.
 #include "loops.hpp"
 #include QUEUE
 #include <algorithm>
@@ -35,16 +33,13 @@ static uint64_t nanos_since(Clock::time_point start) {
 }
 
 struct Run {
-    std::string mode;
-    uint32_t order;
     uint64_t many;
     Queue queue;
     std::vector<std::unique_ptr<Port>> ports;
     std::vector<Seen> seen;
 
-    Run(const char *mode, uint32_t order, uint64_t many, size_t threads)
-        : mode(mode), order(order), many(many), queue(order, threads), ports(threads),
-          seen(threads) {}
+    Run(uint32_t order, uint64_t many, size_t threads)
+        : many(many), queue(order, threads), ports(threads), seen(threads) {}
 
     // Has each thread do the work with a port of its own, the first in this one, and tells how long
     // it took. Nobody begins before all are there.
@@ -69,9 +64,8 @@ struct Run {
         return nanos_since(start);
     }
 
-    int say(const std::string &figures, uint64_t sum, bool is_right) {
-        std::printf("%s %u %s %llu\n", mode.c_str(), order, figures.c_str(),
-                    static_cast<unsigned long long>(sum));
+    int say(const std::string &figures, bool is_right) {
+        std::printf("%s\n", figures.c_str());
         std::fflush(stdout);
         if (!is_right) std::fprintf(stderr, "what was got isn't what was put\n");
         return !is_right;
@@ -80,10 +74,10 @@ struct Run {
     // Gets what is left, and tells whether as much was got as put.
     bool is_complete() {
         Seen all = {};
-        uint64_t value;
         for (auto &port : ports) {
             port->flush();
-            while (port->get(value)) all.gets++, all.got_sum += value;
+            while (all.get(*port))
+                ;
         }
         for (const Seen &one : seen) {
             all.puts += one.puts;
@@ -110,7 +104,7 @@ struct Run {
         });
         uint64_t sum = 0;
         for (const Seen &one : seen) sum += one.got_sum;
-        return say(std::to_string(took), sum, roles == "e" || is_complete());
+        return say(std::to_string(took) + " " + std::to_string(sum), roles == "e" || is_complete());
     }
 
     // Ends when the first thread is through: what that one keeps, where messages go packed, others
@@ -129,16 +123,14 @@ struct Run {
         const auto begun = Clock::now();
         for (auto &its : times) its.reserve(many);
         in_threads([&](size_t number, Port &port, Seen &mine) {
-            uint64_t value, last = 0;
+            uint64_t last = 0;
             while (mine.puts < many && !is_over) {
                 for (uint64_t until = __builtin_ia32_rdtsc() + 10 * last;
                      pauses && __builtin_ia32_rdtsc() < until;)
                     __builtin_ia32_pause();
                 const uint64_t start = __builtin_ia32_rdtsc();
-                if (!until_over([&] { return port.put(mine.puts); })) break;
-                mine.put_sum += mine.puts++;
-                if (!until_over([&] { return port.get(value); })) break;
-                mine.gets++, mine.got_sum += value;
+                if (!until_over([&] { return mine.put(port); })) break;
+                if (!until_over([&] { return mine.get(port); })) break;
                 last = std::min(uint64_t(__builtin_ia32_rdtsc() - start), uint64_t(UINT32_MAX));
                 times[number].push_back(static_cast<uint32_t>(last));
                 last = std::min(last, uint64_t(10000));
@@ -155,7 +147,7 @@ struct Run {
             std::nth_element(all.begin(), at, all.end());
             figures += (figures.empty() ? "" : " ") + std::to_string(uint64_t(*at * nanos));
         }
-        return say(figures, 0, is_complete());
+        return say(figures, is_complete());
     }
 
     // The third thread stops the second, wherever it is, and looks how long the first waits.
@@ -178,20 +170,18 @@ struct Run {
             is_over = true;
         });
         in_threads([&](size_t number, Port &port, Seen &mine) {
-            uint64_t value;
             auto last = Clock::now();
             if (number == 1) victim = pthread_self();
             while (!is_over) {
-                if (port.put(mine.puts)) mine.put_sum += mine.puts++;
-                if (!port.get(value)) continue;
-                mine.gets++, mine.got_sum += value;
+                mine.put(port);
+                if (!mine.get(port)) continue;
                 const uint64_t wait = nanos_since(last);
                 if (number == 0 && wait > longest) longest = wait;
                 last = Clock::now();
             }
         });
         stopper.join();
-        return say(std::to_string(held) + " " + std::to_string(most), 0, is_complete());
+        return say(std::to_string(held) + " " + std::to_string(most), is_complete());
     }
 
     // A value is its thread and its number. No thread may get a thread's values but in their order,
@@ -220,30 +210,20 @@ struct Run {
             all.insert(all.end(), got[number].begin(), got[number].end());
         }
         std::sort(all.begin(), all.end());
-        return say(std::to_string(all.size()), 0, is_right && all == put);
+        return say(std::to_string(all.size()), is_right && all == put);
     }
 };
 
 int main(int argc, char **argv) {
     if (argc != 4) return 2;
-    const std::string mode = argv[1];
-    const std::map<std::string, std::string> roles_of = {
-        {"one", "b"},     {"empty", "e"},   {"pair", "pg"},
-        {"two", "pgpg"},  {"four", "bbbb"}, {"many", std::string(16, 'b')},
-        {"busy", "...."}, {"calm", ".."},   {"stop", ".."},
-        {"order", "...."}};
-    const auto roles = roles_of.find(mode);
-    if (roles == roles_of.end()) return 2;
-    Run run(argv[1], static_cast<uint32_t>(std::atoi(argv[2])), std::strtoull(argv[3], nullptr, 10),
-            roles->second.size());
-    int status;
-    if (mode == "stop")
-        status = run.stops();
-    else if (mode == "order")
-        status = run.in_order();
-    else if (roles->second[0] == '.')
-        status = run.latency(mode == "calm");
-    else
-        status = run.pairs(roles->second);
-    std::_Exit(status);
+    const std::string roles = argv[1];
+    const std::map<std::string, size_t> words = {
+        {"busy", 4}, {"calm", 2}, {"stop", 2}, {"order", 4}};
+    const auto word = words.find(roles);
+    Run run(static_cast<uint32_t>(std::atoi(argv[2])), std::strtoull(argv[3], nullptr, 10),
+            word == words.end() ? roles.size() : word->second);
+    std::_Exit(roles == "stop"       ? run.stops()
+               : roles == "order"    ? run.in_order()
+               : word == words.end() ? run.pairs(roles)
+                                     : run.latency(roles == "calm"));
 }

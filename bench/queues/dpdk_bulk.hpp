@@ -49,20 +49,14 @@ struct Port {
     Port(Queue &queue, size_t) : queue(queue) {}
     INLINE bool put(uint64_t value) {
         void *buffer = free.get(queue.free, queue.bulk);
-        if (!buffer) {
-            flush();
-            return false;
-        }
+        if (!buffer) return flush(), false;
         write_in(buffer, value);
         out.put(queue.sent, buffer, queue.bulk);
         return true;
     }
     INLINE bool get(uint64_t &value) {
         void *buffer = in.get(queue.sent, queue.bulk);
-        if (!buffer) {
-            flush();
-            return false;
-        }
+        if (!buffer) return flush(), false;
         value = read_in(buffer);
         back.put(queue.free, buffer, queue.bulk);
         return true;

@@ -28,58 +28,43 @@ struct Port : Seat {
     uint64_t sent = 0, taken = 0, full = 0;
     bool is_spent = false;
 
-    Port(Queue &queue, size_t) : Seat(queue.rings.order, 2), queue(queue) {}
+    Port(Queue &queue, size_t) : Seat(queue.rings), queue(queue) {}
     INLINE bool put(uint64_t value) {
         uint32_t index;
         Moved buffer;
-        if (!get_from(0, index, buffer)) {
-            count(full);
+        if (!take_out(0, index, buffer)) {
+            if (seated) full++;
             return false;
         }
         write_in(buffer.bytes, value);
-        put_to(1, index, buffer);
-        count(sent);
+        lay_in(1, index, buffer);
+        if (seated) sent++;
         return true;
     }
     INLINE bool get(uint64_t &value) {
         uint32_t index;
         Moved buffer;
-        if (!get_from(1, index, buffer)) return false;
-        count(taken);
+        if (!take_out(1, index, buffer)) return false;
+        if (seated) taken++;
         value = bare ? index : read_in(buffer.bytes);
-        put_to(0, index, buffer);
+        lay_in(0, index, buffer);
         return true;
     }
     void flush() {}
 
   private:
-    INLINE void refuse_spent() {
-#ifdef SEATED
-        if (is_spent) abort();
-#endif
-    }
-    INLINE bool get_from(uint32_t ring, uint32_t &index, Moved &buffer) {
-        refuse_spent();
-        uint64_t place;
-        const Got got = deq(queue.rings.ring(ring), place, index);
-        if (got == Got::Spent) abort();
-        if (got == Got::Nothing) {
-            finds_none(ring);
-            return false;
-        }
-        gets(ring, place, index);
+    INLINE bool take_out(uint32_t ring, uint32_t &index, Moved &buffer) {
+        if (seated && is_spent) abort();
+        const Got got = get_from(ring, index);
+        if (got == Got::Nothing) return false;
+        if (got == Got::Spent || !queue.slots[index].is_full) abort();
         Slot &slot = queue.slots[index];
-        if (!slot.is_full) abort();
         buffer = slot.buffer;
         slot.is_full = false;
         return true;
     }
-    INLINE void put_to(uint32_t ring, uint32_t index, const Moved &buffer) {
+    INLINE void lay_in(uint32_t ring, uint32_t index, const Moved &buffer) {
         queue.slots[index] = Slot{true, buffer};
-        refuse_spent();
-        lets_go(index);
-        uint64_t place;
-        if (!enq(queue.rings.ring(ring), index, place)) abort();
-        puts(ring, place);
+        if ((seated && is_spent) || !put_to(ring, index)) abort();
     }
 };

@@ -2,15 +2,16 @@
 #include "loops.hpp"
 
 struct RustPort;
+struct Port;
 extern "C" {
 const RustPort *rust_make(uint32_t order, size_t threads);
 const RustPort *rust_port(const RustPort *ports, size_t number);
 bool rust_put(const RustPort *port, uint64_t value);
 bool rust_get(const RustPort *port, uint64_t *value);
-void rust_put_many(const RustPort *port, uint64_t many, Seen *seen);
-void rust_get_all(const RustPort *port, const std::atomic<int> *putting, Seen *seen);
-void rust_both_many(const RustPort *port, uint64_t many, Seen *seen);
-void rust_get_none(const RustPort *port, uint64_t many, Seen *seen);
+void put_many(Port &port, uint64_t many, Seen &seen);
+void get_all(Port &port, const std::atomic<int> &putting, Seen &seen);
+void both_many(Port &port, uint64_t many, Seen &seen);
+void get_none(Port &port, uint64_t many, Seen &seen);
 }
 
 struct Queue {
@@ -27,16 +28,3 @@ struct Port {
     bool get(uint64_t &value) { return rust_get(port, &value); }
     void flush() {}
 };
-
-inline void put_many(Port &port, uint64_t many, Seen &seen) {
-    rust_put_many(port.port, many, &seen);
-}
-inline void get_all(Port &port, const std::atomic<int> &putting, Seen &seen) {
-    rust_get_all(port.port, &putting, &seen);
-}
-inline void both_many(Port &port, uint64_t many, Seen &seen) {
-    rust_both_many(port.port, many, &seen);
-}
-inline void get_none(Port &port, uint64_t many, Seen &seen) {
-    rust_get_none(port.port, many, &seen);
-}

@@ -22,10 +22,7 @@ struct Port : Fetched {
     }
     INLINE bool get(uint64_t &value) {
         if (at == there) {
-            if (!take(in)) {
-                if (packed) send_packed();
-                return false;
-            }
+            if (!take(in)) return flush(), false;
             at = 0;
             there = in.at[SIZE - 1];
         }

@@ -1,6 +1,12 @@
 // The step table of the rings in plain C++, over the layout of words of `scq_band`.
 #pragma once
 
+#ifdef SEATED
+constexpr bool seated = true;
+#else
+constexpr bool seated = false;
+#endif
+
 using Word = std::atomic<uint64_t>;
 
 constexpr uint64_t ZERO_LEVEL = uint64_t(1) << 32;
@@ -116,44 +122,46 @@ static INLINE Got deq(const Ring r, uint64_t &place, uint32_t &index) {
     }
 }
 
-// The indices in a thread's hand, and what it knows of each ring, as the seats of `scq_band` keep
-// them; without -DSEATED nothing of it.
+// What a thread puts and gets by. With -DSEATED it keeps the indices in its hand, and what it knows
+// of each ring, as the seats of `scq_band` do.
 struct Seat {
-#ifdef SEATED
     struct Known {
         uint64_t finished, seen, head;
     };
+    Rings &rings;
     std::vector<uint32_t> hand;
     std::vector<Known> known;
 
-    Seat(uint32_t order, uint32_t rings) : known(rings, Known{0, 0, 0}) {
-        hand.reserve(size_t(1) << order);
+    explicit Seat(Rings &rings) : rings(rings), known(2, Known{0, 0, 0}) {
+        hand.reserve(size_t(1) << rings.order);
     }
     static void raise(uint64_t &a, uint64_t b) {
         if (a < b) a = b;
     }
-    void gets(uint32_t ring, uint64_t place, uint32_t index) {
-        hand.push_back(index);
-        raise(known[ring].head, place + 1);
-        raise(known[ring].seen, place);
+    INLINE Got get_from(uint32_t ring, uint32_t &index) {
+        uint64_t place;
+        const Got got = deq(rings.ring(ring), place, index);
+        if (seated && got == Got::Index) {
+            hand.push_back(index);
+            raise(known[ring].head, place + 1);
+            raise(known[ring].seen, place);
+        } else if (seated) {
+            raise(known[ring].head, known[ring].finished + 1);
+        }
+        return got;
     }
-    void finds_none(uint32_t ring) { raise(known[ring].head, known[ring].finished + 1); }
-    void lets_go(uint32_t index) {
-        size_t at = hand.size() - 1;
-        while (hand[at] != index) at--;
-        hand.erase(hand.begin() + static_cast<long>(at));
+    INLINE bool put_to(uint32_t ring, uint32_t index) {
+        uint64_t place;
+        if (seated) {
+            size_t at = hand.size() - 1;
+            while (hand[at] != index) at--;
+            hand.erase(hand.begin() + static_cast<long>(at));
+        }
+        if (!enq(rings.ring(ring), index, place)) return false;
+        if (seated) {
+            raise(known[ring].finished, place);
+            raise(known[ring].seen, place);
+        }
+        return true;
     }
-    void puts(uint32_t ring, uint64_t place) {
-        raise(known[ring].finished, place);
-        raise(known[ring].seen, place);
-    }
-    void count(uint64_t &what) { what++; }
-#else
-    Seat(uint32_t, uint32_t) {}
-    void gets(uint32_t, uint64_t, uint32_t) {}
-    void finds_none(uint32_t) {}
-    void lets_go(uint32_t) {}
-    void puts(uint32_t, uint64_t) {}
-    void count(uint64_t &) {}
-#endif
 };

@@ -50,7 +50,7 @@ pub extern "C" fn rust_get(port: &Apart, value: &mut u64) -> bool {
 }
 
 #[no_mangle]
-pub extern "C" fn rust_put_many(port: &Apart, many: u64, seen: &mut Seen) {
+pub extern "C" fn put_many(port: &&Apart, many: u64, seen: &mut Seen) {
     while seen.puts < many {
         if port.0.put(seen.puts) {
             seen.put_sum += seen.puts;
@@ -62,7 +62,7 @@ pub extern "C" fn rust_put_many(port: &Apart, many: u64, seen: &mut Seen) {
 }
 
 #[no_mangle]
-pub extern "C" fn rust_get_all(port: &Apart, putting: &AtomicI32, seen: &mut Seen) {
+pub extern "C" fn get_all(port: &&Apart, putting: &AtomicI32, seen: &mut Seen) {
     let mut is_last = false;
     loop {
         if let Some(value) = port.0.get() {
@@ -78,7 +78,7 @@ pub extern "C" fn rust_get_all(port: &Apart, putting: &AtomicI32, seen: &mut See
 }
 
 #[no_mangle]
-pub extern "C" fn rust_both_many(port: &Apart, many: u64, seen: &mut Seen) {
+pub extern "C" fn both_many(port: &&Apart, many: u64, seen: &mut Seen) {
     while seen.gets < many {
         if port.0.put(seen.puts) {
             seen.put_sum += seen.puts;
@@ -92,6 +92,6 @@ pub extern "C" fn rust_both_many(port: &Apart, many: u64, seen: &mut Seen) {
 }
 
 #[no_mangle]
-pub extern "C" fn rust_get_none(port: &Apart, many: u64, seen: &mut Seen) {
+pub extern "C" fn get_none(port: &&Apart, many: u64, seen: &mut Seen) {
     seen.got_sum = (0..many).map(|_| u64::from(port.0.get().is_none())).sum();
 }
