@@ -3,8 +3,9 @@ use scq_topics::ReplyBytes;
 /// How a worker came to answer a part of a message.
 #[derive(Clone, Copy, Debug, PartialEq, Eq)]
 pub enum Way {
-    /// It took the part from its topic's ring, at this place.
-    Taken { place: u64 },
+    /// It took the part from its topic's ring, in the value at this place: the part with this number
+    /// in it, from 0.
+    Taken { place: u64, number: u64 },
     /// It answered a part of a message of its own file itself, since no buffer was free: with this
     /// head of the ring of free buffers.
     Direct { head: u64 },

@@ -1,16 +1,17 @@
 -- A worker's list of answers, against what its pass did. `topics` has the names and kinds of the
 -- declared topics.
-use Rattle.std.specs.Prelude.{◌≡◌, ℕ, ◌^◌, ◌<◌, ◌≤◌, Bool, true, false, not, List, length, filter}
-use Rattle.std.specs.List.{AllZip}
+use Rattle.std.specs.Prelude.{◌≡◌, ℕ, ◌+◌, ◌≤◌, Bool, true, false, not, nat_le, if◌then◌else◌}
+use Rattle.std.specs.Prelude.{List, [], ◌∷◌, ◌++◌, length, filter, flat_map}
+use Rattle.std.specs.List.{All, AllZip}
 use Rattle.scq_topics.specs.declared.kind.Kind.{Kind}
-use Rattle.scq_frames.specs.Parts.{Part, IsNumbered}
-use Rattle.scq_frames.specs.Encoded.{IsEncodable, BeginsWith}
+use Rattle.scq_frames.specs.Parts.{Part}
+use Rattle.scq_frames.specs.Encoded.{IsEncodable}
+use Rattle.scq_frames.specs.Batches.{batch_bytes, parts_at}
 use Rattle.scq_collect.specs.Joined.{text_of_part}
 use Rattle.scq_collect.specs.declared.answered.Answered.{Answered}
 use Rattle.scq_collect.specs.declared.answered.Way.{Way}
 use Rattle.scq_collect.specs.declared.answered.Way.TheVariants.{Taken, Direct}
 use Rattle.scq_queue.specs.Lists.{Placed}
-use Rattle.scq_passes.specs.Becoming.{BecomeSoFar}
 
 -- the answer to this part, come by in this way
 abbrev pub answered : List (List ℕ × Kind) → Way → Part → Answered
@@ -27,7 +28,7 @@ answered topics way p = record {
 
 -- whether a member was taken, or answered directly
 abbrev pub is_way_taken : Way → Bool
-is_way_taken (Taken place) = true
+is_way_taken (Taken place number) = true
 is_way_taken (Direct head) = false
 
 abbrev pub is_taken : Answered → Bool
@@ -36,41 +37,62 @@ is_taken a = is_way_taken a.way
 abbrev pub is_direct : Answered → Bool
 is_direct a = not (is_way_taken a.way)
 
--- this is the one part that these bytes begin with: it is one of its parts, whose number fits 32
--- bits, and no other encodable part begins them
-pub record Decodes (bytes : List ℕ) (p : Part) : Type 0 where
-  pub numbered : IsNumbered p.part p.parts
-  pub few : p.parts < 2 ^ 32
-  pub begins : BeginsWith bytes p
-  pub only : (other : Part) → IsEncodable other → BeginsWith bytes other → p ≡ other
+-- the bytes of a value are those of these parts, and no part begins behind them
+pub record Carries (bytes : List ℕ) (parts : List Part) : Type 0 where
+  pub encodable : All IsEncodable parts
+  pub begins : (rest : List ℕ) × (bytes ≡ batch_bytes parts ++ rest)
+  pub all : parts_at bytes ≡ parts
 
--- a member answers the part that the bytes of a take decode to, at the take's place
-pub record AnswersTake (topics : List (List ℕ × Kind)) (take : Placed) (a : Answered) : Type 0 where
-  pub part : Part
-  pub decodes : Decodes take.bytes part
-  pub known : part.topic ≤ length topics
-  pub answer : a ≡ answered topics (Taken take.place) part
+-- the way of the part with this number in its value
+abbrev pub numbered_way : Way → ℕ → Way
+numbered_way (Taken place first) number = Taken place number
+numbered_way (Direct head) number = Direct head
 
--- a member answers a part directly, where no buffer was free: with this head of the ring of free
--- buffers
-abbrev pub AnswersFull : ℕ → Answered → Type 0
-AnswersFull head a = a.way ≡ Direct head
+-- the answers to parts of which the first has this number in its value: to those on known topics
+abbrev pub answers_from : List (List ℕ × Kind) → Way → ℕ → List Part → List Answered
+answers_from topics way number [] = []
+answers_from topics way number (p ∷ parts) =
+    if nat_le p.topic (length topics) then
+    answered topics (numbered_way way number) p ∷ answers_from topics way (number + 1) parts
+    else answers_from topics way (number + 1) parts
 
--- one by one and in order, the Taken members of a list are the takes of a pass, and the Direct ones
--- its Full replies
-abbrev pub AnswersItsTakes : List (List ℕ × Kind) → List Placed → List Answered → Type 0
-AnswersItsTakes topics takes members = AllZip (AnswersTake topics) takes (filter is_taken members)
+-- the answers to all parts of a value
+abbrev pub answers_by : List (List ℕ × Kind) → Way → List Part → List Answered
+answers_by topics way parts = answers_from topics way 0 parts
 
-abbrev pub AnswersItsFulls : List ℕ → List Answered → Type 0
-AnswersItsFulls fulls members = AllZip AnswersFull fulls (filter is_direct members)
+-- the answers to what a take got: to the parts in its value, each with the take's place and its
+-- number there
+abbrev pub answers_to_take : List (List ℕ × Kind) → Placed → List Answered
+answers_to_take topics take = answers_by topics (Taken take.place 0) (parts_at take.bytes)
 
--- the bytes of a take decode to no part on a known topic
-abbrev pub IsPassedOver : List (List ℕ × Kind) → Placed → Type 0
-IsPassedOver topics take =
-    (p : Part) → IsEncodable p → BeginsWith take.bytes p → p.topic ≤ length topics → ⊥
+abbrev pub answers_to_takes : List (List ℕ × Kind) → List Placed → List Answered
+answers_to_takes topics takes = flat_map (answers_to_take topics) takes
 
--- what was taken so far is answered: each take whose bytes decode to a part on a known topic has
--- its member, and there are no others
+-- what was taken so far is answered, in order: each part in a value has its member where it is on a
+-- known topic, and there are no others
 abbrev pub AnswersSoFar : List (List ℕ × Kind) → List Placed → List Answered → Type 0
-AnswersSoFar topics takes members =
-    BecomeSoFar (IsPassedOver topics) (AnswersTake topics) takes members
+AnswersSoFar topics takes members = members ≡ answers_to_takes topics takes
+
+-- a take got one or more parts, each on a known topic
+pub record GotParts (topics : List (List ℕ × Kind)) (take : Placed) : Type 0 where
+  pub parts : List Part
+  pub carries : Carries take.bytes parts
+  pub some : parts ≡ [] → ⊥
+  pub known : All (λ p. p.topic ≤ length topics) parts
+
+-- in order, the Taken members of a list are the answers to the parts that the takes of a pass got,
+-- and none of these is passed over
+pub record AnswersItsTakes (topics : List (List ℕ × Kind)) (takes : List Placed)
+    (members : List Answered) : Type 0 where
+  pub got : All (GotParts topics) takes
+  pub answers : AnswersSoFar topics takes (filter is_taken members)
+
+-- members answer the parts of one value directly, where no buffer was free: one or more, with this
+-- head of the ring of free buffers
+pub record AnswersFull (head : ℕ) (group : List Answered) : Type 0 where
+  pub some : group ≡ [] → ⊥
+  pub each : All (λ a. a.way ≡ Direct head) group
+
+-- one by one and in order, groups of answers are those to the Full replies of a pass
+abbrev pub AnswersItsFulls : List ℕ → List (List Answered) → Type 0
+AnswersItsFulls fulls groups = AllZip AnswersFull fulls groups

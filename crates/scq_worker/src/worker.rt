@@ -3,12 +3,14 @@ ghost use Rattle.std.specs.Prelude.{[], length, filter, count_by, Some, None, Ok
 ghost use Rattle.std.specs.Prelude.{IfOk, IfErr, IfSome, IsSome, OnOk};
 ghost use Rattle.scq_collect.specs.Joined.{text_of_part};
 ghost use Rattle.scq_frames.specs.Parts.{IsNumbered, parts_of, part_of};
+ghost use Rattle.scq_frames.specs.Batches.{parts_at};
 ghost use Rattle.scq_frames.specs.Views.{part_of_view};
 ghost use Rattle.scq_queue.specs.Lists.{Placed};
 ghost use Rattle.scq_queue.specs.Passes.{IsHeldBy, after_put, after_spent_put};
 ghost use Rattle.scq_queue.specs.Passes.{having_seen};
 ghost use Rattle.scq_passes.specs.Records.{is_take};
-ghost use Rattle.scq_worker.specs.Members.{answered, is_taken, is_direct, AnswersSoFar};
+ghost use Rattle.scq_worker.specs.Members.{answered, answers_by, numbered_way};
+ghost use Rattle.scq_worker.specs.Members.{is_taken, is_direct, AnswersSoFar};
 ghost use Rattle.scq_worker.specs.Passing.{Sends};
 ghost use Rattle.scq_passes.specs.Leaving.{HasOnlyCalled, TookNothing};
 ghost use Rattle.scq_passes.specs.Taking.{HasEmptied, HasTakenFrom};
@@ -25,7 +27,7 @@ use crate::{Gate, Job, Point};
 pub(crate) use reading::Calls;
 use scq_collect::{Answers, Given, PartView, Way};
 use scq_desk::Sits;
-use scq_frames::{Message, View, decode, encode, view_of};
+use scq_frames::{Message, View, encode, next_part, view_of};
 use scq_passes::AtLimit;
 use scq_queue::{Held, Pass, Queue, TakeRefusal};
 use scq_topics::{ReplyBytes, reply};
@@ -87,6 +89,16 @@ fn text_of(alloc: Global, job: &Job, part: View<'_>) -> Result<ReplyBytes, NoMem
     ReplyBytes::copy_of(alloc, part.payload)
 }
 
+/// The way of the part with this number in a value, where this is the way of the part in front.
+fn numbered(way: Way, number: u64) -> Way
+    ensures { result ≡ numbered_way way number }
+{
+    match way {
+        Way::Taken { place, .. } => Way::Taken { place, number },
+        Way::Direct { head } => Way::Direct { head },
+    }
+}
+
 impl<B: BufferMut> Worker<B> {
     /// Puts the answer to this part behind the list.
     fn answer(&mut self, alloc: Global, job: &Job, part: View<'_>, way: Way)
@@ -116,8 +128,28 @@ impl<B: BufferMut> Worker<B> {
         }
     }
 
-    /// Answers what was taken at a place, where its bytes are those of a part on one of the job's
-    /// topics.
+    /// Answers each part in the bytes of a value, in order, where it is on one of the job's topics.
+    /// The way is that of the part in front.
+    fn answer_parts(&mut self, alloc: Global, job: &Job, bytes: &[u8], way: Way)
+        ensures listed { self.new.starved ≡ false
+            → self.new.members
+            ≡ self.old.members ++ answers_by job.now.topics way (parts_at bytes.now) }
+        ensures starved { self.new.starved ≡ false → self.old.starved ≡ false }
+        ensures same { (self.new.pass ≡ self.old.pass) × (self.new.number ≡ self.old.number) }
+    {
+        let mut rest = bytes;
+        let mut number = 0;
+        'parts: while let Some((part, behind)) = next_part(rest) {
+            if part.topic <= job.topics.len() {
+                self.answer(alloc, job, part, numbered(way, number));
+            }
+            rest = behind;
+            number += 1;
+        }
+    }
+
+    /// Answers what was taken at a place: each part in the value, in order, where it is on one of
+    /// the job's topics.
     fn answer_taken(&mut self, alloc: Global, job: &Job, place: u64, bytes: &[u8])
         ensures takes { self.new.starved ≡ false → (topic : ℕ) (takes : List Placed)
             → AnswersSoFar job.now.topics takes (filter is_taken self.old.members)
@@ -132,11 +164,7 @@ impl<B: BufferMut> Worker<B> {
         if self.starved {
             return;
         }
-        if let Some(part) = decode(bytes) {
-            if part.topic <= job.topics.len() {
-                self.answer(alloc, job, part, Way::Taken { place });
-            }
-        }
+        self.answer_parts(alloc, job, bytes, Way::Taken { place, number: 0 });
     }
 
     /// Takes once from a topic. What it got it answers and gives back. Whether it got anything.
