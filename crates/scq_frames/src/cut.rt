@@ -11,12 +11,15 @@ ghost use Rattle.scq_frames.specs.Finding.{IsTooLong};
 use crate::{FrameFault, Message};
 use memchr::memchr;
 use scq_topics::Topics;
-use scq_word::Bytes;
+use scq_word::{Bytes, NoMemory};
 use std::alloc::Global;
+use std::mem;
 
-/// The message of a line, where the line has bytes. A payload may have `size` bytes.
+/// The message of a line, where the line has bytes. A payload may have `size` bytes. It lies in the
+/// memory of `spare`, where that is enough.
 pub fn message_of_line(
     alloc: Global,
+    spare: &mut Vec<u8>,
     topics: &Topics,
     file: u32,
     size: u32,
@@ -46,8 +49,19 @@ pub fn message_of_line(
         file,
         line,
         topic: topics.find(topic),
-        payload: Bytes::copy_of(alloc, payload)?,
+        payload: copy_in(mem::replace(spare, Vec::new(alloc)), payload)?,
     }))
+}
+
+/// A copy, in this memory where it is enough.
+fn copy_in(spare: Vec<u8>, from: &[u8]) -> Result<Bytes, NoMemory>
+    ensures { IfOk result (λ copy. copy ≡ from.now) }
+{
+    let mut bytes = spare;
+    bytes.clear();
+    bytes.reserve_exact(from.len())?;
+    bytes.extend_from_slice(from)?;
+    Ok(Bytes::from(bytes))
 }
 
 /// What stands before the first space of a line, and what follows it.

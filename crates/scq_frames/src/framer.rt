@@ -36,6 +36,7 @@ pub struct Framer {
     failed: bool,
     weight: u64,
     short: bool,
+    spare: Vec<u8>,
 }
 
 impl Model for Framer {
@@ -68,6 +69,7 @@ impl Framer {
             failed: false,
             weight: 0,
             short: false,
+            spare: Vec::new(alloc),
         })
     }
 
@@ -170,6 +172,13 @@ impl Framer {
         Ok(given)
     }
 
+    /// Takes a message's memory, in which the next one's payload is to lie.
+    pub fn reuse(&mut self, message: Message)
+        ensures same { self.new ≡ self.old }
+    {
+        self.spare = Vec::from(message.payload);
+    }
+
     /// Whether the next call of `next` may have to wait: no line that is held has its end, and the
     /// last read gave fewer bytes than were asked for, as of a pipe that has no more yet.
     pub fn may_wait(&mut self) -> bool
@@ -225,7 +234,15 @@ impl Framer {
     {
         let line = self.line + 1;
         let bytes = self.window.front(len);
-        let given = message_of_line(self.alloc, topics, self.file, self.size, line, bytes)?;
+        let given = message_of_line(
+            self.alloc,
+            &mut self.spare,
+            topics,
+            self.file,
+            self.size,
+            line,
+            bytes,
+        )?;
         if let Some(message) = &given {
             self.weight += message.payload.bytes().len().max(1) as u64 + 1;
         }
