@@ -23,19 +23,20 @@ files-same : (f : Found) (rows : List Row) (name : List ℕ) (files : Option (Li
     → unwrap_or files [] ≡ unwrap_or (all_of name rows) []
 files-same f rows name files same got = ap (λ o. unwrap_or o []) (got ∙ raw_values-rows f name ∙ ap (all_of name) same)
 
-pub run-texts : (f : Found) (rows : List Row) (workers order size topics report : Option (List ℕ)) (files : Option (List (List ℕ))) (names : List (List ℕ))
+pub run-texts : (f : Found) (rows : List Row) (workers order size topics batch report : Option (List ℕ)) (files : Option (List (List ℕ))) (names : List (List ℕ))
     → rows_of f ≡ rows → workers ≡ first_value f (codes "workers") → order ≡ first_value f (codes "order") → size ≡ first_value f (codes "size")
-    → topics ≡ first_value f (codes "topics") → report ≡ first_value f (codes "report")
+    → topics ≡ first_value f (codes "topics") → batch ≡ first_value f (codes "batch") → report ≡ first_value f (codes "report")
     → files ≡ option_map raw_values (matched_of f (codes "files")) → names ≡ unwrap_or files []
-    → texts_of_run workers order size topics report names ≡ run_texts rows
-run-texts f rows workers order size topics report files names same w o s t r fs is =
+    → texts_of_run workers order size topics batch report names ≡ run_texts rows
+run-texts f rows workers order size topics batch report files names same w o s t b r fs is =
     let ew = text-same f rows (codes "workers") workers same w in
     let eo = text-same f rows (codes "order") order same o in
     let es = text-same f rows (codes "size") size same s in
     let et = text-same f rows (codes "topics") topics same t in
+    let eb = text-same f rows (codes "batch") batch same b in
     let er = text-same f rows (codes "report") report same r in
     let ef = is ∙ files-same f rows (codes "files") files same fs in
-    λ i. texts_of_run (ew i) (eo i) (es i) (et i) (er i) (ef i)
+    λ i. texts_of_run (ew i) (eo i) (es i) (et i) (eb i) (er i) (ef i)
 
 pub stages-texts : (f : Found) (rows : List Row) (workers order size : Option (List ℕ)) (files : Option (List (List ℕ))) (names : List (List ℕ))
     → rows_of f ≡ rows → workers ≡ first_value f (codes "workers") → order ≡ first_value f (codes "order") → size ≡ first_value f (codes "size")

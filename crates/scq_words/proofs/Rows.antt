@@ -16,23 +16,32 @@ row-alone : asked (codes "run" ∷ []) ≡ Err NotUnderstood
 unfolding asked_of_run walk_fault walked defaults_fault
 row-alone = refl
 
-row-one : asked (codes "run" ∷ codes "f" ∷ []) ≡ Ok (run (record { workers = 4; order = 6; size = 65536; topics = []; report = false; files = codes "f" ∷ [] }))
+row-one : asked (codes "run" ∷ codes "f" ∷ []) ≡ Ok (run (record { workers = 4; order = 6; size = 65536; topics = []; batch = false; report = false; files = codes "f" ∷ [] }))
 unfolding asked_of_run walk_fault walked defaults_fault
 row-one = refl
 
 row-two : asked (codes "run" ∷ codes "f" ∷ codes "g" ∷ [])
-    ≡ Ok (run (record { workers = 4; order = 6; size = 65536; topics = []; report = false; files = codes "f" ∷ codes "g" ∷ [] }))
+    ≡ Ok (run (record { workers = 4; order = 6; size = 65536; topics = []; batch = false; report = false; files = codes "f" ∷ codes "g" ∷ [] }))
 unfolding asked_of_run walk_fault walked defaults_fault
 row-two = refl
 
 row-report : asked (codes "run" ∷ codes "--report" ∷ codes "f" ∷ [])
-    ≡ Ok (run (record { workers = 4; order = 6; size = 65536; topics = []; report = true; files = codes "f" ∷ [] }))
+    ≡ Ok (run (record { workers = 4; order = 6; size = 65536; topics = []; batch = false; report = true; files = codes "f" ∷ [] }))
 unfolding asked_of_run walk_fault walked defaults_fault
 row-report = refl
 
 row-report_twice : asked (codes "run" ∷ codes "--report" ∷ codes "f" ∷ codes "--report" ∷ []) ≡ Err NotUnderstood
 unfolding asked_of_run walk_fault walked defaults_fault
 row-report_twice = refl
+
+row-batch : asked (codes "run" ∷ codes "f" ∷ codes "--batch" ∷ [])
+    ≡ Ok (run (record { workers = 4; order = 6; size = 65536; topics = []; batch = true; report = false; files = codes "f" ∷ [] }))
+unfolding asked_of_run walk_fault walked defaults_fault
+row-batch = refl
+
+row-stages_batch : asked (codes "stages" ∷ codes "--batch" ∷ codes "f" ∷ []) ≡ Err NotUnderstood
+unfolding asked_of_stages walk_fault walked defaults_fault
+row-stages_batch = refl
 
 row-report_value : asked (codes "run" ∷ codes "--report=true" ∷ codes "f" ∷ []) ≡ Err NotUnderstood
 unfolding asked_of_run walk_fault walked defaults_fault

@@ -68,6 +68,7 @@ pub record RunAsked : Type 0 where
   pub order : ℕ
   pub size : ℕ
   pub topics : List (List ℕ × Kind)
+  pub batch : Bool
   pub report : Bool
   pub files : List (List ℕ)
 
@@ -107,6 +108,7 @@ pub record RunTexts : Type 0 where
   pub order : Option (List ℕ)
   pub size : Option (List ℕ)
   pub topics : Option (List ℕ)
+  pub batch : Option (List ℕ)
   pub report : Option (List ℕ)
   pub files : List (List ℕ)
 
@@ -129,15 +131,16 @@ pub record JudgeTexts : Type 0 where
   pub files : List (List ℕ)
 
 abbrev pub texts_of_run : Option (List ℕ) → Option (List ℕ) → Option (List ℕ) → Option (List ℕ)
-    → Option (List ℕ) → List (List ℕ) → RunTexts
-texts_of_run workers order size topics report files =
+    → Option (List ℕ) → Option (List ℕ) → List (List ℕ) → RunTexts
+texts_of_run workers order size topics batch report files =
     record {
       workers = workers;
       order = order;
       size = size;
       topics = topics;
-      report =
-          report;
+      batch =
+          batch;
+      report = report;
       files = files;
     }
 
@@ -153,7 +156,8 @@ abbrev pub run_texts : List Row → RunTexts
 run_texts rows =
     texts_of_run (first_of (codes "workers") rows) (first_of (codes "order") rows)
     (first_of (codes "size") rows)
-    (first_of (codes "topics") rows) (first_of (codes "report") rows)
+    (first_of (codes "topics") rows) (first_of (codes "batch") rows)
+    (first_of (codes "report") rows)
     (unwrap_or (all_of (codes "files") rows) [])
 
 abbrev pub stages_texts : List Row → StagesTexts
@@ -203,6 +207,7 @@ run_asked t = record {
   order = number_or 6 t.order;
   size = number_or 65536 t.size;
   topics = topics_or_none t.topics;
+  batch = is_given t.batch;
   report = is_given t.report;
   files = t.files;
 }
@@ -313,6 +318,7 @@ run_of r = record {
   order = r.order;
   size = r.size;
   topics = r.topics;
+  batch = r.batch;
   report = r.report;
   files = map string_bytes r.files.items;
 }

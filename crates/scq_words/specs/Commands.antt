@@ -45,12 +45,15 @@ order_app name = with_rule (workers_app name) (option_rule (codes "order"))
 abbrev pub numbers_app : List ℕ → App
 numbers_app name = with_rule (order_app name) (option_rule (codes "size"))
 
--- `run` has two options more, and files
+-- `run` has an option and two flags more, and files
 abbrev pub topics_app : App
 topics_app = with_rule (numbers_app (codes "run")) (option_rule (codes "topics"))
 
+abbrev pub batch_app : App
+batch_app = with_rule topics_app (flag_rule (codes "batch"))
+
 abbrev pub report_app : App
-report_app = with_rule topics_app (flag_rule (codes "report"))
+report_app = with_rule batch_app (flag_rule (codes "report"))
 
 abbrev pub run_app : App
 run_app = with_rule report_app files_rule

@@ -1,7 +1,7 @@
 ghost use Rattle.std.specs.Prelude.{◌≡◌, ◌≢◌, IfOk, map, string_bytes, true, false};
 ghost use Rattle.clap.specs.Words.{app_of, is_simple_and_free, kind_of, rule_of};
-ghost use Rattle.scq_words.specs.Commands.{files_rule, flag_rule, judge_app, lines_app, named_app};
-ghost use Rattle.scq_words.specs.Commands.{numbers_app, option_rule, order_app, plain_app};
+ghost use Rattle.scq_words.specs.Commands.{batch_app, files_rule, flag_rule, judge_app, lines_app};
+ghost use Rattle.scq_words.specs.Commands.{named_app, numbers_app, option_rule, order_app, plain_app};
 ghost use Rattle.scq_words.specs.Commands.{report_app, room_app, run_app, seed_app, self_app};
 ghost use Rattle.scq_words.specs.Commands.{stages_app, text_app, topics_app, workers_app};
 ghost use Rattle.scq_words.specs.Parsing.{Parses};
@@ -38,7 +38,13 @@ fn run_command<'a>(alloc: Global) -> Result<Command<'a>, AllocError>
 fn report_command<'a>(alloc: Global) -> Result<Command<'a>, AllocError>
     ensures { IfOk result (λ command. app_of command ≡ report_app) }
 {
-    topics_command(alloc)?.arg(flag(alloc, "report"))
+    batch_command(alloc)?.arg(flag(alloc, "report"))
+}
+
+fn batch_command<'a>(alloc: Global) -> Result<Command<'a>, AllocError>
+    ensures { IfOk result (λ command. app_of command ≡ batch_app) }
+{
+    topics_command(alloc)?.arg(flag(alloc, "batch"))
 }
 
 fn topics_command<'a>(alloc: Global) -> Result<Command<'a>, AllocError>

@@ -4,14 +4,15 @@ use crate::TextRequest;
 use scq_topics::Topics;
 
 /// What is asked of files. Workers are in `1..=4096`, the order in `1..=12`, the
-/// most bytes of a part in `1..=65536`, and there are 1 to 64 files, each with a name. `report`
-/// asks for what each worker did.
+/// most bytes of a part in `1..=65536`, and there are 1 to 64 files, each with a name. `batch` asks
+/// that short parts share a buffer, and `report` for what each worker did.
 #[derive(Debug, Drop)]
 pub struct RunRequest {
     pub workers: u32,
     pub order: u32,
     pub size: u32,
     pub topics: Topics,
+    pub batch: bool,
     pub report: bool,
     pub files: Vec<String>,
     ghost few: { vec_len files ≤ 64 },

@@ -33,9 +33,10 @@ pub fn read_run(alloc: Global, words: &[String]) -> Result<RunRequest, WordsErro
     let order = matches.get_str("order");
     let size = matches.get_str("size");
     let topics = matches.get_str("topics");
+    let batch = matches.get_str("batch");
     let report = matches.get_str("report");
     let files = matches.get_strs("files").unwrap_or(&[]);
-    check_run(alloc, workers, order, size, topics, report, files)
+    check_run(alloc, workers, order, size, topics, batch, report, files)
 }
 
 /// Makes the tests in their order.
@@ -45,19 +46,20 @@ fn check_run(
     order: Option<&str>,
     size: Option<&str>,
     topics: Option<&str>,
+    batch: Option<&str>,
     report: Option<&str>,
     files: &[&str],
 ) -> Result<RunRequest, WordsError>
     ensures request { let texts =
         texts_of_run (text_in workers.entry) (text_in order.entry) (text_in size.entry)
         (text_in topics.entry)
-        (text_in report.entry) (map (λ name. name.now) files.now) in
+        (text_in batch.entry) (text_in report.entry) (map (λ name. name.now) files.now) in
         IfOk result (λ request.
         (first_of_tests (run_tests texts) ≡ None) × (run_asked texts ≡ run_of request)) }
     ensures refused { let texts =
         texts_of_run (text_in workers.entry) (text_in order.entry) (text_in size.entry)
         (text_in topics.entry)
-        (text_in report.entry) (map (λ name. name.now) files.now) in
+        (text_in batch.entry) (text_in report.entry) (map (λ name. name.now) files.now) in
         (fault : TheFault) → IsErrOf result (WordsError.Refused fault)
         → first_of_tests (run_tests texts) ≡ Some fault }
     ensures ranges { IfOk result (λ request. IsRunInRange (run_of request)) }
@@ -75,6 +77,7 @@ fn check_run(
         order,
         size,
         topics,
+        batch: is_given(batch),
         report: is_given(report),
         files,
     })

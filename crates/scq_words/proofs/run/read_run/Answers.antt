@@ -15,8 +15,8 @@ returns-clause-request c =
     let words = map string_bytes c.args.words.now in
     let names = ap (λ s. map (λ v. v.now) s.now) c.unwrap_or-files.ensures
     ∙ given_or_empty c.get_strs.result _ (λ s. map (λ v. v.now) s.now) refl in
-    let texts = run-texts (found_of c.in_ok-matches.matches) (matches_of run_app words) _ _ _ _ _ _ _ c.in_ok-matches.ensures.rows
-    c.get_str-workers.ensures c.get_str-order.ensures c.get_str-size.ensures c.get_str-topics.ensures c.get_str-report.ensures c.get_strs.ensures names in
+    let texts = run-texts (found_of c.in_ok-matches.matches) (matches_of run_app words) _ _ _ _ _ _ _ _ c.in_ok-matches.ensures.rows
+    c.get_str-workers.ensures c.get_str-order.ensures c.get_str-size.ensures c.get_str-topics.ensures c.get_str-batch.ensures c.get_str-report.ensures c.get_strs.ensures names in
     IfOk-weaker c.check_run.result _ (λ request. asked_of_run words ≡ Ok (run (run_of request)))
     (λ request h. run-answer words _ (Ok (run (run_of request))) c.in_ok-matches.ensures.passes texts
     (answer-ok _ _ (run (run_of request)) h.0 (ap run h.1))) c.check_run.ensures.request
@@ -26,8 +26,8 @@ returns-clause-refused c = λ fault is.
     let words = map string_bytes c.args.words.now in
     let names = ap (λ s. map (λ v. v.now) s.now) c.unwrap_or-files.ensures
     ∙ given_or_empty c.get_strs.result _ (λ s. map (λ v. v.now) s.now) refl in
-    let texts = run-texts (found_of c.in_ok-matches.matches) (matches_of run_app words) _ _ _ _ _ _ _ c.in_ok-matches.ensures.rows
-    c.get_str-workers.ensures c.get_str-order.ensures c.get_str-size.ensures c.get_str-topics.ensures c.get_str-report.ensures c.get_strs.ensures names in
+    let texts = run-texts (found_of c.in_ok-matches.matches) (matches_of run_app words) _ _ _ _ _ _ _ _ c.in_ok-matches.ensures.rows
+    c.get_str-workers.ensures c.get_str-order.ensures c.get_str-size.ensures c.get_str-topics.ensures c.get_str-batch.ensures c.get_str-report.ensures c.get_strs.ensures names in
     run-answer words _ (Err fault) c.in_ok-matches.ensures.passes texts (answer-err _ _ fault (c.check_run.ensures.refused fault is))
 
 pub returns-in_err-matches-clause-refused : goal.returns-in_err-matches-clause-refused
@@ -39,5 +39,5 @@ returns-in_err-matches-clause-refused c = λ fault is.
 pub returns-clause-taken : goal.returns-clause-taken
 returns-clause-taken c = λ is.
     let texts = texts_of_run (text_in c.get_str-workers.result) (text_in c.get_str-order.result) (text_in c.get_str-size.result)
-    (text_in c.get_str-topics.result) (text_in c.get_str-report.result) (map (λ name. name.now) c.unwrap_or-files.result.now) in
+    (text_in c.get_str-topics.result) (text_in c.get_str-batch.result) (text_in c.get_str-report.result) (map (λ name. name.now) c.unwrap_or-files.result.now) in
     absurd (run-other texts (c.check_run.ensures.refused NotUnderstood is))
