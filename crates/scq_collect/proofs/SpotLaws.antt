@@ -8,6 +8,7 @@ use Rattle.std.proofs.lemmas.List.Edits.{swap_is}
 use Rattle.std.proofs.lemmas.List.Elements.{All-cons, All-head, All-map, All-nil, All-tail}
 use Rattle.std.proofs.lemmas.List.Sorted.{All-permutation, IsPermutation-keeps, IsPermutation-map, IsPermutation-refl, IsPermutation-swap, IsPermutation-trans}
 use Rattle.scq_collect.specs.declared.answered.Answered.{Answered}
+use Rattle.scq_collect.specs.declared.blocks.OwnBlock.{OwnBlock}
 use Rattle.scq_collect.specs.declared.spots.Spot.{Spot}
 use Rattle.scq_collect.specs.Coding.{IsCodable, answer_bytes, answers_bytes, body_bytes, body_from, place_from}
 use Rattle.scq_collect.specs.InBlocks.{AreInBlocks}
@@ -119,12 +120,12 @@ in-groups P (group ∷ groups) all =
     All-cons (All P) group groups (all-left P group (flat_map (λ group. group) groups) all)
     (in-groups P groups (all-right P group (flat_map (λ group. group) groups) all))
 
-pub codable-groups : (full : List (List ℕ)) (block : List ℕ) (before : ℕ × ℕ) (answers : List PartAnswer) (held : AreInBlocks full block before answers)
+pub codable-groups : (full : List OwnBlock) (block : OwnBlock) (before : ℕ × ℕ) (answers : List PartAnswer) (held : AreInBlocks full block before answers)
     → All (All IsCodable) held.groups
 codable-groups full block before answers held =
     in-groups IsCodable held.groups (all-left IsCodable (flat_map (λ group. group) held.groups) held.last (subst (All IsCodable) held.all held.codable))
 
-pub codable-last : (full : List (List ℕ)) (block : List ℕ) (before : ℕ × ℕ) (answers : List PartAnswer) (held : AreInBlocks full block before answers)
+pub codable-last : (full : List OwnBlock) (block : OwnBlock) (before : ℕ × ℕ) (answers : List PartAnswer) (held : AreInBlocks full block before answers)
     → All IsCodable held.last
 codable-last full block before answers held =
     all-right IsCodable (flat_map (λ group. group) held.groups) held.last (subst (All IsCodable) held.all held.codable)

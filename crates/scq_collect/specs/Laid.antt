@@ -1,6 +1,6 @@
 -- Blocks of answers.
-use Rattle.std.specs.Prelude.{◌≡◌, true, List, [], ◌∷◌, flat_map}
-use Rattle.std.specs.List.{All}
+use Rattle.std.specs.Prelude.{◌≡◌, true, List, flat_map}
+use Rattle.std.specs.List.{All, AllZip}
 use Rattle.scq_collect.specs.declared.laid.Block.{Block}
 use Rattle.scq_collect.specs.Coding.{IsCodable, answers_bytes}
 use Rattle.scq_collect.specs.Joined.{PartAnswer}
@@ -12,15 +12,8 @@ pub record IsBlockOf (block : Block) (answers : List PartAnswer) : Type 0 where
   pub codable : All IsCodable answers
   pub within : All (λ a. is_in block.span a ≡ true) answers
 
--- block by block
-abbrev pub AreBlocksOf : List Block → List (List PartAnswer) → Type 0
-AreBlocksOf [] [] = Unit {0}
-AreBlocksOf (block ∷ blocks) (group ∷ groups) = IsBlockOf block group × AreBlocksOf blocks groups
-AreBlocksOf [] (group ∷ groups) = ⊥
-AreBlocksOf (block ∷ blocks) [] = ⊥
-
 -- the blocks have these answers, in their order
 pub record AreLaid (answers : List PartAnswer) (blocks : List Block) : Type 0 where
   pub groups : List (List PartAnswer)
-  pub each : AreBlocksOf blocks groups
+  pub each : AllZip IsBlockOf blocks groups
   pub all : answers ≡ flat_map (λ group. group) groups

@@ -1,10 +1,11 @@
 //! A worker's answers, in blocks of bytes that never move.
 ghost use Rattle.std.specs.Prelude.{◌≡◌, ◌++◌, ◌∷◌, [], OnOk, OnErr};
 
-use crate::blocks::make_room;
-use crate::coding::{MOST_HEAD, push_answer};
-use crate::laid::{Block, push_block, push_blocks};
+use crate::blocks::{OwnBlock, make_room};
+use crate::coding::MOST_HEAD;
+use crate::laid::{Block, push_block, push_blocks, push_sample};
 use crate::log::{Given, Log};
+use crate::spans::place_at;
 use scq_word::NoMemory;
 use std::alloc::Global;
 use std::marker::Model;
@@ -16,25 +17,26 @@ use std::marker::Model;
 #[derive(Drop)]
 pub struct Answers {
     alloc: Global,
-    full: Vec<Vec<u8>>,
-    block: Vec<u8>,
+    full: Vec<OwnBlock>,
+    block: OwnBlock,
     before: (u32, u32),
     count: usize,
+    samples: Vec<u64>,
     log: Log,
 }
 
 impl Model for Answers {
     ghost use Rattle.std.specs.Prelude.{◌≡◌, List, length, map};
     ghost use Rattle.scq_collect.specs.declared.answered.Answered.{Answered};
-    ghost use Rattle.scq_collect.specs.InBlocks.{AreInBlocks, contents};
+    ghost use Rattle.scq_collect.specs.InBlocks.{AreInBlocks};
     ghost use Rattle.scq_collect.specs.Joined.{without_way};
 
     ghost Value = { List Answered };
 
     ghost view = { λ s. s.log.items };
 
-    ghost invariant = { λ s. AreInBlocks (contents s.full.items) s.block.items s.before
-        (map without_way s.log.items) × (s.count ≡ length s.log.items) };
+    ghost invariant = { λ s. AreInBlocks s.full.items s.block s.before (map without_way s.log.items)
+        × (s.count ≡ length s.log.items) };
 }
 
 impl Answers {
@@ -50,9 +52,10 @@ impl Answers {
         Answers {
             alloc,
             full: Vec::new(alloc),
-            block: Vec::new(alloc),
+            block: OwnBlock::new(alloc),
             before: (0, 0),
             count: 0,
+            samples: Vec::new(alloc),
             log: Log::new(),
         }
     }
@@ -65,6 +68,11 @@ impl Answers {
         let answer = given.answer;
         let count = self.count.checked_add(1).ok_or(NoMemory)?;
         let bytes = answer.text.len().checked_add(MOST_HEAD).ok_or(NoMemory)?;
+        push_sample(
+            &mut self.samples,
+            place_at(answer.file, answer.line),
+            self.count,
+        )?;
         let before = make_room(
             self.alloc,
             &mut self.full,
@@ -72,7 +80,7 @@ impl Answers {
             self.before,
             bytes,
         )?;
-        push_answer(&mut self.block, before, answer);
+        self.block.push(before, answer);
         self.before = (answer.file, answer.line);
         self.count = count;
         self.log = self.log.and(&given);
@@ -95,8 +103,8 @@ impl Answers {
         ensures { (answers : List PartAnswer) → AreLaid answers blocks.old.items
             → OnOk result (AreLaid (answers ++ map without_way self.entry.now) blocks.new.items) }
     {
-        push_blocks(self.full.as_slice(), blocks, samples)?;
-        push_block(self.block.as_slice(), blocks, samples)?;
-        Ok(())
+        samples.extend_from_slice(self.samples.as_slice())?;
+        push_blocks(self.full.as_slice(), blocks)?;
+        push_block(&self.block, blocks)
     }
 }

@@ -1,21 +1,20 @@
 //! Blocks of answers, with the places of the messages in each.
-ghost use Rattle.std.specs.Prelude.{◌≡◌, ◌++◌, true, List, map, flat_map, IfOk, OnOk};
-ghost use Rattle.std.specs.List.{All};
-ghost use Rattle.scq_collect.specs.Coding.{IsCodable, answers_bytes};
-ghost use Rattle.scq_collect.specs.InBlocks.{contents};
+ghost use Rattle.std.specs.Prelude.{◌++◌, List, map, flat_map, IfOk, OnOk};
+ghost use Rattle.std.specs.List.{All, AllZip};
+ghost use Rattle.scq_collect.specs.Coding.{IsCodable};
+ghost use Rattle.scq_collect.specs.InBlocks.{HasAnswers};
 ghost use Rattle.scq_collect.specs.Joined.{PartAnswer, without_way};
-ghost use Rattle.scq_collect.specs.Laid.{AreLaid, IsBlockOf};
+ghost use Rattle.scq_collect.specs.Laid.{AreLaid};
 ghost use Rattle.scq_collect.specs.Merging.{members_of};
-ghost use Rattle.scq_collect.specs.Spans.{is_in};
 
 use crate::Answers;
-use crate::spans::{NONE, Span, place_at};
-use crate::spots::next_spot;
+use crate::blocks::OwnBlock;
+use crate::spans::Span;
 use scq_word::NoMemory;
 use std::alloc::Global;
 
 /// Of how many answers one gives a sample of the places.
-const SAMPLED: u32 = 256;
+const SAMPLED: usize = 256;
 
 /// A block of answers, and a span in which the messages of all of them stand.
 #[derive(Clone, Copy, Debug)]
@@ -41,64 +40,37 @@ pub fn blocks_of<'a>(
 }
 
 /// Adds these blocks.
-pub fn push_blocks<'a>(
-    full: &'a [Vec<u8>],
-    blocks: &mut Vec<Block<'a>>,
-    samples: &mut Vec<u64>,
-) -> Result<(), NoMemory>
+pub fn push_blocks<'a>(full: &'a [OwnBlock], blocks: &mut Vec<Block<'a>>) -> Result<(), NoMemory>
     ensures { (members : List PartAnswer) (groups : List (List PartAnswer))
         → AreLaid members blocks.old.items → All (All IsCodable) groups
-        → contents full.entry.now ≡ map (answers_bytes (0, 0)) groups
+        → AllZip HasAnswers full.entry.now groups
         → OnOk result (AreLaid (members ++ flat_map (λ group. group) groups) blocks.new.items) }
 {
     'each: for block in full {
-        push_block(block.as_slice(), blocks, samples)?;
+        push_block(block, blocks)?;
     }
     Ok(())
 }
 
 /// Adds a block.
-pub fn push_block<'a>(
-    bytes: &'a [u8],
-    blocks: &mut Vec<Block<'a>>,
-    samples: &mut Vec<u64>,
-) -> Result<(), NoMemory>
+pub fn push_block<'a>(block: &'a OwnBlock, blocks: &mut Vec<Block<'a>>) -> Result<(), NoMemory>
     ensures { (members answers : List PartAnswer) → AreLaid members blocks.old.items
-        → All IsCodable answers → bytes.entry.now ≡ answers_bytes (0, 0) answers
+        → All IsCodable answers → HasAnswers block.entry.now answers
         → OnOk result (AreLaid (members ++ answers) blocks.new.items) }
 {
-    let span = span_of(bytes, samples)?;
-    blocks.push(Block { bytes, span })?;
+    blocks.push(Block {
+        bytes: block.bytes.as_slice(),
+        span: block.span,
+    })?;
     Ok(())
 }
 
-/// A span in which the messages of a block's answers stand, and samples of their places.
-fn span_of(bytes: &[u8], samples: &mut Vec<u64>) -> Result<Span, NoMemory>
-    ensures { (answers : List PartAnswer) → All IsCodable answers
-        → bytes.now ≡ answers_bytes (0, 0) answers
-        → IfOk result (λ span. All (λ a. is_in span a ≡ true) answers) }
-{
-    let mut span = NONE;
-    let mut count = 0;
-    let mut at = (0, 0);
-    let mut rest = bytes;
-    'answers: while let Some((spot, behind)) = next_spot(at, rest) {
-        let place = place_at(spot.file, spot.line);
-        span = span.and(place);
-        count = push_sample(samples, place, count)?;
-        at = (spot.file, spot.line);
-        rest = behind;
+/// Adds the place of an answer with so many before it, where it is one of those that are sampled.
+pub fn push_sample(samples: &mut Vec<u64>, place: u64, before: usize) -> Result<(), NoMemory> {
+    if before % SAMPLED == 0 {
+        samples.push(place)?;
     }
-    Ok(span)
-}
-
-/// Adds one of so many places that come, and answers how many come before the next.
-fn push_sample(samples: &mut Vec<u64>, place: u64, before: u32) -> Result<u32, NoMemory> {
-    if before > 0 {
-        return Ok(before - 1);
-    }
-    samples.push(place)?;
-    Ok(SAMPLED - 1)
+    Ok(())
 }
 
 /// How many bytes blocks have.
