@@ -1,6 +1,6 @@
 -- A desk: a worker, its files, and the value that it keeps where it met a ticket past the limit.
 -- What the worker's work makes of it.
-use Rattle.std.specs.Prelude.{◌≡◌, ℕ, ◌+◌, false, Bool, List, length, Option, Some, None, IfSome}
+use Rattle.std.specs.Prelude.{◌≡◌, ℕ, ◌+◌, false, Bool, List, [], length, Option, Some, None, IfSome}
 use Rattle.std.specs.Prelude.{All}
 use Rattle.scq_topics.specs.declared.kind.Kind.{Kind}
 use Rattle.scq_collect.specs.declared.answered.Answered.{Answered}
@@ -14,13 +14,14 @@ use Rattle.scq_passes.specs.Records.{HelpsOnceAfterEachFull}
 use Rattle.scq_passes.specs.Together.{HasRetired, HasSwept}
 use Rattle.scq_passes.specs.Waiting.{HelpsInVain}
 use Rattle.scq_passes.specs.Calls.{Suits, HasFewCalls, index_of, after_retire}
-use Rattle.scq_worker.specs.Working.{IsAtWork, IsSweeping, HasListed}
+use Rattle.scq_worker.specs.Working.{IsAtWork, IsSweeping, HasListedAll}
 use Rattle.scq_files.specs.declared.own_file.OwnFile.{OwnFile}
 
--- a worker has read its files and passed on what they gave it, in parts of at most `size` bytes,
--- and has retired; now it is to sweep. `before` is its pass before it retired.
+-- a worker has read its files and passed on what they gave it, in parts of at most `size` bytes and
+-- in batches of at most `most`, and has retired; now it is to sweep. None is open. `before` is its
+-- pass before it retired.
 pub record IsToSweep {B S : Type 0} (shared : Identity B) (topics : List (List ℕ × Kind))
-    (size longest : ℕ) (src : SourceOf S) (files : List (OwnFile S)) (pass : PassStanding B)
+    (size most longest : ℕ) (src : SourceOf S) (files : List (OwnFile S)) (pass : PassStanding B)
     (members : List Answered) (starved : Bool)
     (kept : Option (HeldStanding B)) : Type 0 where
   pub read : All (λ f.
@@ -29,15 +30,15 @@ pub record IsToSweep {B S : Type 0} (shared : Identity B) (topics : List (List �
   pub before : PassStanding B
   pub retired : pass ≡ after_retire before
   pub suits : Suits shared (length topics) before
-  pub work : IsAtWork topics (parts_in size (all_given files)) before members starved
+  pub work : IsAtWork topics most (parts_in size (all_given files)) [] before members starved
   pub vain : HelpsInVain (length topics + 1) before
   pub none : kept ≡ None
 
 -- a worker has done its work: what its files gave it has passed on, in parts of at most `size`
--- bytes, it has retired, and it has left after a sweep, unless it met a ticket past the limit.
+-- bytes and in batches of at most `most`, it has retired, and it has left after a sweep, unless it met a ticket past the limit.
 -- `kept` is the value that it then kept.
 pub record HasRun {B S : Type 0} (shared : Identity B) (topics : List (List ℕ × Kind))
-    (size longest : ℕ) (src : SourceOf S) (files : List (OwnFile S)) (pass : PassStanding B)
+    (size most longest : ℕ) (src : SourceOf S) (files : List (OwnFile S)) (pass : PassStanding B)
     (members : List Answered) (starved : Bool)
     (kept : Option (HeldStanding B)) : Type 0 where
   pub read : All (λ f.
@@ -53,15 +54,15 @@ pub record HasRun {B S : Type 0} (shared : Identity B) (topics : List (List ℕ 
   pub ended : pass.spent ≡ None → HasRetired (HelpsOnceAfterEachFull (length topics + 1)) pass
   pub swept : pass.spent ≡ None → HasSwept pass
   pub listed : pass.spent ≡ None → starved ≡ false
-      → HasListed topics (parts_in size (all_given files)) pass members
+      → HasListedAll topics most (parts_in size (all_given files)) pass members
 
 -- a worker has read its files and retired: it is to sweep, or, where it met a ticket past the
 -- limit, it has done its work
 pub record HasProduced {B S : Type 0} (shared : Identity B) (topics : List (List ℕ × Kind))
-    (size longest : ℕ) (src : SourceOf S) (files : List (OwnFile S)) (pass : PassStanding B)
+    (size most longest : ℕ) (src : SourceOf S) (files : List (OwnFile S)) (pass : PassStanding B)
     (members : List Answered) (starved : Bool)
     (kept : Option (HeldStanding B)) : Type 0 where
   pub awake : pass.spent ≡ None
-      → IsToSweep shared topics size longest src files pass members starved kept
+      → IsToSweep shared topics size most longest src files pass members starved kept
   pub done : (ticket : ℕ) → pass.spent ≡ Some ticket
-      → HasRun shared topics size longest src files pass members starved kept
+      → HasRun shared topics size most longest src files pass members starved kept

@@ -1,5 +1,6 @@
 pub mod Members
 pub mod Passing
+pub mod Opening
 pub mod Working
 pub mod Reading
 pub mod Sweeping

@@ -1,52 +1,80 @@
--- What becomes of the parts of the messages of a worker's files: each is sent, or answered
--- directly.
-use Rattle.std.specs.Prelude.{◌≡◌, ℕ, suc, List, [], ◌∷◌, ◌++◌, filter, flat_map, None}
+-- What becomes of the parts of the messages of a worker's files: they go on in batches, each of
+-- which is sent, or answered directly.
+use Rattle.std.specs.Prelude.{◌≡◌, ◌==◌, ◌⊎◌, ◌<◌, ◌≤◌, ℕ, suc, List, [], ◌∷◌, ◌++◌, filter, map}
+use Rattle.std.specs.Prelude.{flat_map, length, None, All}
 use Rattle.scq_core.specs.declared.ended.Ended.{Ended}
 use Rattle.scq_core.specs.declared.ended.Ended.TheVariants.{Done, Nothing}
 use Rattle.scq_topics.specs.declared.kind.Kind.{Kind}
 use Rattle.scq_frames.specs.declared.message.Message.{Message}
 use Rattle.scq_frames.specs.Parts.{Part, all_parts}
-use Rattle.scq_frames.specs.Encoded.{IsEncodable, BeginsWith}
+use Rattle.scq_frames.specs.Batches.{batch_bytes, parts_at}
 use Rattle.scq_collect.specs.declared.answered.Answered.{Answered}
 use Rattle.scq_collect.specs.declared.answered.Way.TheVariants.{Direct}
 use Rattle.scq_queue.specs.Lists.{Placed, sent_by, was_full}
 use Rattle.scq_passes.specs.PassedOn as passed
-use Rattle.scq_worker.specs.Members.{answered, is_direct}
+use Rattle.scq_worker.specs.Members.{answered}
 
 -- all parts of messages, in order, where a part has at most so many bytes
 abbrev pub parts_in : ℕ → List Message → List Part
 parts_in size messages = flat_map (all_parts size) messages
 
--- this send has the bytes of the part, on its topic
-pub record Sends (p : Part) (send : Placed) : Type 0 where
-  pub topic : send.topic ≡ p.topic
-  pub fits : IsEncodable p
-  pub bytes : BeginsWith send.bytes p
+-- these parts may go in one value: they are of one file and topic, and where they are several they
+-- have together at most `most` bytes
+pub record IsBatch (most : ℕ) (batch : List Part) : Type 0 where
+  pub some : 0 < length batch
+  pub file : ℕ
+  pub of_file : All (λ p. p.file ≡ file) batch
+  pub topic : ℕ
+  pub on_topic : All (λ p. p.topic ≡ topic) batch
+  pub fits : (length batch ≡ 1) ⊎ (length (batch_bytes batch) ≤ most)
 
--- this member answers the part directly
-pub record AnswersDirectly (topics : List (List ℕ × Kind)) (p : Part) (a : Answered) : Type 0 where
+-- all parts of batches, one batch behind the other
+abbrev pub parts_among : List (List Part) → List Part
+parts_among batches = flat_map (λ batch. batch) batches
+
+-- those of parts that are on a topic, in order
+abbrev pub parts_on : ℕ → List Part → List Part
+parts_on topic parts = filter (λ (p : Part). p.topic == topic) parts
+
+-- parts went on in these batches: on each topic the parts of the batches are these, in order; and
+-- where none goes with another, each is a batch, in order
+pub record AreBatchesOf (most : ℕ) (parts : List Part) (batches : List (List Part)) : Type 0 where
+  pub each : All (IsBatch most) batches
+  pub same : (topic : ℕ) → parts_on topic parts ≡ parts_on topic (parts_among batches)
+  pub alone : most ≡ 0 → batches ≡ map (λ p. p ∷ []) parts
+
+-- this send has the bytes of the batch, and no other part's, on its topic
+pub record Sends (batch : List Part) (send : Placed) : Type 0 where
+  pub topic : All (λ p. p.topic ≡ send.topic) batch
+  pub parts : parts_at send.bytes ≡ batch
+
+-- these members answer the parts of the batch directly, with one head of the ring of free buffers
+pub record AnswersDirectly (topics : List (List ℕ × Kind)) (batch : List Part)
+    (group : List Answered) : Type 0 where
   pub head : ℕ
-  pub answer : a ≡ answered topics (Direct head) p
+  pub answers : group ≡ map (answered topics (Direct head)) batch
 
--- parts, in order, are each the next send or the next direct answer, and there are no other sends
--- and direct answers
-abbrev pub ArePassedOn : List (List ℕ × Kind) → List Part → List Placed → List Answered → Type 0
-ArePassedOn topics parts sends directs =
-    passed.ArePassedOn Sends (AnswersDirectly topics) parts sends directs
+-- batches, in order, are each the next send or the next direct answers, and there are no other
+-- sends and direct answers
+abbrev pub ArePassedOn : List (List ℕ × Kind) → List (List Part) → List Placed
+    → List (List Answered) → Type 0
+ArePassedOn topics batches sends groups =
+    passed.ArePassedOn Sends (AnswersDirectly topics) batches sends groups
 
--- a worker has passed on these parts, with these sends and this list
-abbrev pub HasPassedOn : List (List ℕ × Kind) → List Part → List Placed → List Answered → Type 0
-HasPassedOn topics parts sends members = ArePassedOn topics parts sends (filter is_direct members)
+-- these members answer a batch directly, where no buffer was free: with this head
+abbrev pub AnswersFull : ℕ → List Answered → Type 0
+AnswersFull head group = All (λ a. a.way ≡ Direct head) group
 
--- these parts, in order, are each the next send or the next Full in a record of calls, and there
+-- these batches, in order, are each the next send or the next Full in a record of calls, and there
 -- are no other sends and Fulls
-pub data FollowsCalls : List Part → List Ended → Type 0 where
+pub data FollowsCalls : List (List Part) → List Ended → Type 0 where
   no_call : FollowsCalls [] []
-  by_send : {ps : List Part} {calls : List Ended} (p : Part) (place : ℕ) (bytes : List ℕ)
-      → FollowsCalls ps calls → Sends p (record { topic = p.topic; place = place; bytes = bytes })
-      → FollowsCalls (ps ++ p ∷ []) (calls ++ Done (suc p.topic) place bytes ∷ [])
-  by_full : {ps : List Part} {calls : List Ended} (p : Part) → FollowsCalls ps calls
-      → FollowsCalls (ps ++ p ∷ []) (calls ++ Nothing 0 ∷ [])
-  by_other : {ps : List Part} {calls : List Ended} (call : Ended)
-      → FollowsCalls ps calls → sent_by call ≡ None → was_full call ≡ 0
-      → FollowsCalls ps (calls ++ call ∷ [])
+  by_send : {bs : List (List Part)} {calls : List Ended} (b : List Part) (topic place : ℕ)
+      (bytes : List ℕ) → FollowsCalls bs calls
+      → Sends b (record { topic = topic; place = place; bytes = bytes })
+      → FollowsCalls (bs ++ b ∷ []) (calls ++ Done (suc topic) place bytes ∷ [])
+  by_full : {bs : List (List Part)} {calls : List Ended} (b : List Part) → FollowsCalls bs calls
+      → FollowsCalls (bs ++ b ∷ []) (calls ++ Nothing 0 ∷ [])
+  by_other : {bs : List (List Part)} {calls : List Ended} (call : Ended)
+      → FollowsCalls bs calls → sent_by call ≡ None → was_full call ≡ 0
+      → FollowsCalls bs (calls ++ call ∷ [])

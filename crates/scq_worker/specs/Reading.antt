@@ -10,18 +10,18 @@ use Rattle.scq_worker.specs.Passing.{parts_in}
 use Rattle.scq_worker.specs.Working.{IsAtWork, HasStopped}
 use Rattle.scq_worker.specs.declared.worker.Worker.{Worker}
 
-module _ {B : Type 0} (shared : Identity B) (topics : List (List ℕ × Kind)) (size : ℕ) where
-  -- it has passed on the parts of these messages, and took in vain no more than it helped
+module _ {B : Type 0} (shared : Identity B) (topics : List (List ℕ × Kind)) (size most : ℕ) where
+  -- it has gathered the parts of these messages, and took in vain no more than it helped
   abbrev pub IsAt : List Message → Worker B → Type 0
   IsAt messages w =
-      IsAtWork topics (parts_in size messages) w.pass w.members w.starved
+      IsAtWork topics most (parts_in size messages) w.open.items w.pass w.members w.starved
       × HelpsInVain (length topics + 1) w.pass
 
   -- it met a ticket past the limit, with at most the parts of these messages passed on
   abbrev pub IsOver : List Message → Worker B → Option (HeldStanding B) → Type 0
   IsOver messages w kept = HasStopped shared (length (parts_in size messages)) w.pass kept
 
-  -- it has passed these messages on, and goes on
+  -- it has gathered the parts of these messages, and goes on
   abbrev pub HasGoneOn : List Message → Worker B → Worker B → Type 0
   HasGoneOn messages old new =
       going.HasGoneOn (λ w. w.pass) (λ w. w.starved) IsAt shared (length topics) messages old new

@@ -1,6 +1,7 @@
 -- What a worker's calls make of its pass and of its list.
-use Rattle.std.specs.Prelude.{◌≡◌, ℕ, ◌+◌, Bool, false, List, length, filter, Option, Some, None}
-use Rattle.std.specs.Prelude.{IfSome}
+use Rattle.std.specs.Prelude.{◌≡◌, ℕ, ◌+◌, Bool, false, List, length, filter, flat_map, Option}
+use Rattle.std.specs.Prelude.{Some, None, IfSome}
+use Rattle.std.specs.List.{AllZip}
 use Rattle.scq_topics.specs.declared.kind.Kind.{Kind}
 use Rattle.scq_frames.specs.Parts.{Part}
 use Rattle.scq_collect.specs.declared.answered.Answered.{Answered}
@@ -9,13 +10,14 @@ use Rattle.scq_band.specs.Standing.{Identity}
 use Rattle.scq_queue.specs.Passes.{PassStanding, HeldStanding}
 use Rattle.scq_passes.specs.Records.{HelpsOnceAfterEachFull, HelpsAfterEachFull}
 use Rattle.scq_passes.specs.Calls.{HasSentSo, IsBetweenParts, HasFewCalls, index_of}
-use Rattle.scq_worker.specs.Members.{AnswersSoFar, AnswersItsFulls, is_taken, is_direct}
-use Rattle.scq_worker.specs.Passing.{HasPassedOn, FollowsCalls, Sends}
+use Rattle.scq_worker.specs.Members.{AnswersSoFar, is_taken, is_direct}
+use Rattle.scq_worker.specs.Opening.{AreGathered}
+use Rattle.scq_worker.specs.Passing.{AreBatchesOf, ArePassedOn, AnswersFull, FollowsCalls, Sends}
 
 module _ {B : Type 0} where
-  -- a pass that was lent a buffer and sent a part in it
-  abbrev pub HasSent : Part → PassStanding B → PassStanding B → Type 0
-  HasSent part old new = HasSentSo part.topic (Sends part) old new
+  -- a pass that was lent a buffer and sent a batch in it on this topic
+  abbrev pub HasSent : ℕ → List Part → PassStanding B → PassStanding B → Type 0
+  HasSent topic batch old new = HasSentSo topic (Sends batch) old new
 
   -- the pass of a worker that reads its files, so far: it took just once from each topic after each
   -- Full, and never asked whether all had retired
@@ -29,13 +31,16 @@ module _ {B : Type 0} where
     pub helps : HelpsAfterEachFull topics p.calls
     pub between : IsBetweenParts p
 
-  -- its list, so far, against its pass and the parts that it has passed on
-  pub record HasListed (topics : List (List ℕ × Kind)) (parts : List Part) (p : PassStanding B)
-      (members : List Answered) : Type 0 where
-    pub passed : HasPassedOn topics parts (sends_of p.calls) members
-    pub follows : FollowsCalls parts p.calls
+  -- its list, so far, against its pass and the batches that it has passed on: the direct answers
+  -- stand in groups, one for each batch that met a Full, in order
+  pub record HasListed (topics : List (List ℕ × Kind)) (batches : List (List Part))
+      (p : PassStanding B) (members : List Answered) : Type 0 where
+    pub groups : List (List Answered)
+    pub directs : filter is_direct members ≡ flat_map (λ group. group) groups
+    pub passed : ArePassedOn topics batches (sends_of p.calls) groups
+    pub follows : FollowsCalls batches p.calls
     pub takes : AnswersSoFar topics (takes_of p.calls) (filter is_taken members)
-    pub fulls : AnswersItsFulls p.fulls members
+    pub fulls : AllZip AnswersFull p.fulls groups
 
   -- a list that has the answers to what its pass took meanwhile, and nothing else more
   pub record HasAnswered (topics : List (List ℕ × Kind)) (old new : PassStanding B)
@@ -44,13 +49,29 @@ module _ {B : Type 0} where
         → AnswersSoFar topics (takes_of new.calls) (filter is_taken is)
     pub directs : filter is_direct is ≡ filter is_direct was
 
-  -- a worker that has passed on these parts and goes on: its pass, and unless it wanted memory its
-  -- list
-  pub record IsAtWork (topics : List (List ℕ × Kind)) (parts : List Part) (p : PassStanding B)
-      (members : List Answered) (starved : Bool) : Type 0 where
+  -- a worker that has passed on these batches and goes on: its pass, and unless it wanted memory
+  -- its list
+  pub record HasPassed (topics : List (List ℕ × Kind)) (batches : List (List Part))
+      (p : PassStanding B) (members : List Answered) (starved : Bool) : Type 0 where
     pub producing : IsProducing (length topics + 1) p
-    pub few_calls : HasFewCalls 0 (length parts) p
-    pub listed : starved ≡ false → HasListed topics parts p members
+    pub few_calls : HasFewCalls 0 (length batches) p
+    pub listed : starved ≡ false → HasListed topics batches p members
+
+  -- a worker that has gathered these parts and goes on: it has passed them on in batches, but for
+  -- those that are open
+  pub record IsAtWork (topics : List (List ℕ × Kind)) (most : ℕ) (parts : List Part)
+      (opens : List (List Part)) (p : PassStanding B) (members : List Answered) (starved : Bool)
+      : Type 0 where
+    pub batches : List (List Part)
+    pub gathered : AreGathered most parts batches opens
+    pub passed : HasPassed topics batches p members starved
+
+  -- a list, against its pass and all parts of a worker's files: they went on in batches
+  pub record HasListedAll (topics : List (List ℕ × Kind)) (most : ℕ) (parts : List Part)
+      (p : PassStanding B) (members : List Answered) : Type 0 where
+    pub batches : List (List Part)
+    pub are : AreBatchesOf most parts batches
+    pub listed : HasListed topics batches p members
 
   -- a worker that met Spent while it read its files, after at most so many parts, the last one
   -- included: its pass, and the value that it keeps

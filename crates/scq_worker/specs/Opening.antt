@@ -1,0 +1,43 @@
+-- The batches that a worker has open, at most one for each topic: it gathers parts in them. They
+-- lie in its own memory, so that it holds no buffer meanwhile.
+use Rattle.std.specs.Prelude.{◌≡◌, ◌+◌, ◌≤◌, ℕ, Bool, List, [], ◌∷◌, ◌++◌, length, map, min}
+use Rattle.std.specs.Prelude.{if◌then◌else◌, slice_index_or, sum_by, All}
+use Rattle.scq_frames.specs.Parts.{Part}
+use Rattle.scq_frames.specs.Batches.{batch_bytes}
+use Rattle.scq_worker.specs.Passing.{IsBatch, parts_among, parts_on}
+
+-- how many bytes the parts of a value may have together where they are several: none go together
+-- unless there are batches
+abbrev pub most_bytes : ℕ → Bool → ℕ
+most_bytes size batch = if batch then min (size + 24) 4120 else 0
+
+-- the parts that are open on a topic
+abbrev pub open_on : ℕ → List (List Part) → List Part
+open_on topic opens = slice_index_or opens topic []
+
+-- what is open on a topic may go in one value
+pub record IsOpen (most topic : ℕ) (parts : List Part) : Type 0 where
+  pub file : ℕ
+  pub of_file : All (λ p. p.file ≡ file) parts
+  pub on_topic : All (λ p. p.topic ≡ topic) parts
+  pub fits : length (batch_bytes parts) ≤ most
+
+-- on each of so many topics and on no other
+pub record AreOpen (most topics : ℕ) (opens : List (List Part)) : Type 0 where
+  pub few : length opens ≤ topics
+  pub each : (topic : ℕ) → IsOpen most topic (open_on topic opens)
+
+-- on no topic
+abbrev pub NoneIsOpen : List (List Part) → Type 0
+NoneIsOpen opens = (topic : ℕ) → open_on topic opens ≡ []
+
+-- parts went on in these batches, but for those that are open: on each topic those of the batches
+-- and then those that are open are these, in order; and where none goes with another, each is a
+-- batch, in order. There are no more batches than parts that went on.
+pub record AreGathered (most : ℕ) (parts : List Part) (batches opens : List (List Part))
+    : Type 0 where
+  pub each : All (IsBatch most) batches
+  pub same : (topic : ℕ)
+      → parts_on topic parts ≡ parts_on topic (parts_among batches) ++ open_on topic opens
+  pub few : length batches + sum_by length opens ≤ length parts
+  pub alone : most ≡ 0 → batches ≡ map (λ p. p ∷ []) parts
