@@ -33,6 +33,14 @@ pub trait Handler<C, T> {
         ensures stopped { IfErr result
             (stopped with.now (message.now ∷ []) beside.old self.old beside.new self.new) };
 
+    /// Does what it would put off, before it may have to wait for a message. It handles none.
+    fn pause(&mut self, with: &C, beside: &mut T) -> Result<(), Self::Stop>
+        requires { ready with.now beside.old self.old }
+        ensures handled { OnOk result
+            (handled with.now [] beside.old self.old beside.new self.new) }
+        ensures stopped { IfErr result
+            (stopped with.now [] beside.old self.old beside.new self.new) };
+
     /// Whether it wanted memory.
     fn starved(&self) -> bool
         ensures { result ≡ wanted self.now };

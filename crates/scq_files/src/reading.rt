@@ -1,5 +1,5 @@
 //! How files are read: message by message, which a handler gets.
-ghost use Rattle.std.specs.Prelude.{◌≡◌, ◌≤◌, [], true, false, length, IfOk, IfErr, OnOk, All};
+ghost use Rattle.std.specs.Prelude.{◌≡◌, ◌≤◌, [], ◌∷◌, true, false, length, IfOk, IfErr, OnOk, All};
 ghost use Rattle.scq_frames.specs.declared.message.Message.{Message as TheMessage};
 ghost use Rattle.scq_files.specs.Given.{given_in};
 ghost use Rattle.scq_files.specs.Handling.{TellsOfWant, WantsAtLast};
@@ -9,7 +9,7 @@ ghost use Rattle.scq_files.specs.Reading.{IsRead};
 use crate::given::{Given, give};
 use crate::handler::Handler;
 use crate::own_file::{FileEnd, OwnFile};
-use scq_frames::{FrameFault, Framer};
+use scq_frames::{FrameFault, Framer, Message};
 use scq_outside::Source;
 use scq_topics::Topics;
 use std::alloc::Global;
@@ -17,6 +17,28 @@ use std::snapshot::Snapshot;
 
 /// The greatest number of bytes of a file.
 const MOST_BYTES: u64 = 1 << 30;
+
+/// Has a message handled, and a pause made where reading may wait behind it.
+fn handle_one<C, T, H: Handler<C, T>>(
+    handler: &mut H,
+    with: &C,
+    beside: &mut T,
+    may_wait: bool,
+    message: &Message,
+) -> Result<(), H::Stop>
+    requires ready { H.ready with.now beside.old handler.old }
+    requires takes { H.takes with.now message.now }
+    ensures handled { OnOk result
+        (H.handled with.now (message.now ∷ []) beside.old handler.old beside.new handler.new) }
+    ensures stopped { IfErr result
+        (H.stopped with.now (message.now ∷ []) beside.old handler.old beside.new handler.new) }
+{
+    handler.handle(with, beside, message)?;
+    if may_wait {
+        handler.pause(with, beside)?;
+    }
+    Ok(())
+}
 
 /// Reads the messages of a file one by one, and says how far it was read.
 fn read_messages<C, T, H: Handler<C, T>, S: Source>(
@@ -56,7 +78,8 @@ fn read_messages<C, T, H: Handler<C, T>, S: Source>(
         match framer.next(topics, source) {
             Ok(Some(message)) => {
                 give(given, &message);
-                handler.handle(with, beside, &message)?;
+                handle_one(handler, with, beside, framer.may_wait(), &message)?;
+                framer.reuse(message);
                 if handler.starved() {
                     return Ok(FileEnd::Stopped(FrameFault::NoMemory));
                 }

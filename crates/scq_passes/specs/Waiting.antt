@@ -4,7 +4,7 @@ use Rattle.std.specs.Prelude.{◌≡◌, ℕ, suc, ◌+◌, ◌*◌, ◌<◌, �
 use Rattle.std.specs.Prelude.{count_by}
 use Rattle.scq_core.specs.declared.ended.Ended.{Ended}
 use Rattle.scq_core.specs.declared.ended.Ended.TheVariants.{Nothing}
-use Rattle.scq_queue.specs.Lists.{takes_of}
+use Rattle.scq_queue.specs.Lists.{sends_of, takes_of}
 use Rattle.scq_queue.specs.Passes.{PassStanding}
 
 -- whether a call is a take of a topic that found nothing, and how many of a record are
@@ -24,12 +24,17 @@ module _ {B : Type 0} where
   abbrev pub TookMore : PassStanding B → PassStanding B → Type 0
   TookMore old new = length (takes_of old.calls) < length (takes_of new.calls)
 
-  -- a worker that reads its files: it took in vain at most once for each topic and each Full
-  abbrev pub HelpsInVain : ℕ → PassStanding B → Type 0
-  HelpsInVain topics p = vain_takes p.calls ≤ topics * length p.fulls
+  -- a worker that reads its files: it took in vain at most once for each topic and each Full, and so
+  -- often behind each send
+  abbrev pub HelpsInVain : ℕ → ℕ → PassStanding B → Type 0
+  HelpsInVain topics behind p =
+      vain_takes p.calls ≤ topics * length p.fulls + behind * length (sends_of p.calls)
 
   -- a worker that sweeps: it took in vain at most as often as there are topics for its last sweep,
-  -- each rest, each take and each Full. `begun` is 1 once its last sweep has begun, and 0 before it
-  abbrev pub SweepsInVain : ℕ → ℕ → ℕ → PassStanding B → Type 0
-  SweepsInVain topics begun rests p =
-      vain_takes p.calls ≤ topics * (begun + rests + length (takes_of p.calls) + length p.fulls)
+  -- each rest, each take and each Full, and so often behind each send. `begun` is 1 once its last
+  -- sweep has begun, and 0 before it
+  abbrev pub SweepsInVain : ℕ → ℕ → ℕ → ℕ → PassStanding B → Type 0
+  SweepsInVain topics behind begun rests p =
+      vain_takes p.calls
+      ≤ topics * (begun + rests + length (takes_of p.calls) + length p.fulls)
+      + behind * length (sends_of p.calls)

@@ -8,6 +8,7 @@ use Rattle.scq_band.specs.Standing.{Identity}
 use Rattle.scq_queue.specs.Passes.{PassStanding, HeldStanding}
 use Rattle.scq_files.specs.Given.{given_in}
 use Rattle.scq_files.specs.OwnFiles.{StopsAtAFault, all_given}
+use Rattle.scq_worker.specs.Opening.{takes_behind}
 use Rattle.scq_worker.specs.Passing.{parts_in}
 use Rattle.scq_files.specs.Reading.{IsRead, SourceOf}
 use Rattle.scq_passes.specs.Records.{HelpsOnceAfterEachFull}
@@ -31,12 +32,12 @@ pub record IsToSweep {B S : Type 0} (shared : Identity B) (topics : List (List �
   pub retired : pass ≡ after_retire before
   pub suits : Suits shared (length topics) before
   pub work : IsAtWork topics most (parts_in size (all_given files)) [] before members starved
-  pub vain : HelpsInVain (length topics + 1) before
+  pub vain : HelpsInVain (length topics + 1) (takes_behind most) before
   pub none : kept ≡ None
 
 -- a worker has done its work: what its files gave it has passed on, in parts of at most `size`
--- bytes and in batches of at most `most`, it has retired, and it has left after a sweep, unless it met a ticket past the limit.
--- `kept` is the value that it then kept.
+-- bytes and in batches of at most `most`, it has retired, and it has left after a sweep, unless it
+-- met a ticket past the limit. `kept` is the value that it then kept.
 pub record HasRun {B S : Type 0} (shared : Identity B) (topics : List (List ℕ × Kind))
     (size most longest : ℕ) (src : SourceOf S) (files : List (OwnFile S)) (pass : PassStanding B)
     (members : List Answered) (starved : Bool)

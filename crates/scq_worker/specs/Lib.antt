@@ -1,6 +1,7 @@
 pub mod Members
 pub mod Passing
 pub mod Opening
+pub mod Loads
 pub mod Working
 pub mod Reading
 pub mod Sweeping

@@ -3,6 +3,7 @@
 use Rattle.std.specs.Prelude.{◌≡◌, ◌+◌, ◌≤◌, ℕ, Bool, List, [], ◌∷◌, ◌++◌, length, map, min}
 use Rattle.std.specs.Prelude.{if◌then◌else◌, slice_index_or, sum_by, All}
 use Rattle.scq_frames.specs.Parts.{Part}
+use Rattle.scq_frames.specs.Encoded.{IsEncodable}
 use Rattle.scq_frames.specs.Batches.{batch_bytes}
 use Rattle.scq_worker.specs.Passing.{IsBatch, parts_among, parts_on}
 
@@ -11,12 +12,18 @@ use Rattle.scq_worker.specs.Passing.{IsBatch, parts_among, parts_on}
 abbrev pub most_bytes : ℕ → Bool → ℕ
 most_bytes size batch = if batch then min (size + 24) 4120 else 0
 
+-- how often a worker takes from a topic behind each value that it sent on it: where values may have
+-- several parts, once
+abbrev pub takes_behind : ℕ → ℕ
+takes_behind most = min most 1
+
 -- the parts that are open on a topic
 abbrev pub open_on : ℕ → List (List Part) → List Part
 open_on topic opens = slice_index_or opens topic []
 
 -- what is open on a topic may go in one value
 pub record IsOpen (most topic : ℕ) (parts : List Part) : Type 0 where
+  pub encodable : All IsEncodable parts
   pub file : ℕ
   pub of_file : All (λ p. p.file ≡ file) parts
   pub on_topic : All (λ p. p.topic ≡ topic) parts

@@ -7,12 +7,12 @@ use Rattle.scq_core.specs.declared.ended.Ended.TheVariants.{Done, Nothing}
 use Rattle.scq_topics.specs.declared.kind.Kind.{Kind}
 use Rattle.scq_frames.specs.declared.message.Message.{Message}
 use Rattle.scq_frames.specs.Parts.{Part, all_parts}
-use Rattle.scq_frames.specs.Batches.{batch_bytes, parts_at}
+use Rattle.scq_frames.specs.Batches.{batch_bytes}
 use Rattle.scq_collect.specs.declared.answered.Answered.{Answered}
 use Rattle.scq_collect.specs.declared.answered.Way.TheVariants.{Direct}
 use Rattle.scq_queue.specs.Lists.{Placed, sent_by, was_full}
 use Rattle.scq_passes.specs.PassedOn as passed
-use Rattle.scq_worker.specs.Members.{answered}
+use Rattle.scq_worker.specs.Members.{answered, Carries}
 
 -- all parts of messages, in order, where a part has at most so many bytes
 abbrev pub parts_in : ℕ → List Message → List Part
@@ -43,10 +43,10 @@ pub record AreBatchesOf (most : ℕ) (parts : List Part) (batches : List (List P
   pub same : (topic : ℕ) → parts_on topic parts ≡ parts_on topic (parts_among batches)
   pub alone : most ≡ 0 → batches ≡ map (λ p. p ∷ []) parts
 
--- this send has the bytes of the batch, and no other part's, on its topic
+-- this send has the bytes of the batch, on its topic
 pub record Sends (batch : List Part) (send : Placed) : Type 0 where
   pub topic : All (λ p. p.topic ≡ send.topic) batch
-  pub parts : parts_at send.bytes ≡ batch
+  pub carries : Carries send.bytes batch
 
 -- these members answer the parts of the batch directly, with one head of the ring of free buffers
 pub record AnswersDirectly (topics : List (List ℕ × Kind)) (batch : List Part)
@@ -60,10 +60,6 @@ abbrev pub ArePassedOn : List (List ℕ × Kind) → List (List Part) → List P
     → List (List Answered) → Type 0
 ArePassedOn topics batches sends groups =
     passed.ArePassedOn Sends (AnswersDirectly topics) batches sends groups
-
--- these members answer a batch directly, where no buffer was free: with this head
-abbrev pub AnswersFull : ℕ → List Answered → Type 0
-AnswersFull head group = All (λ a. a.way ≡ Direct head) group
 
 -- these batches, in order, are each the next send or the next Full in a record of calls, and there
 -- are no other sends and Fulls

@@ -1,7 +1,6 @@
 -- What a worker's calls make of its pass and of its list.
 use Rattle.std.specs.Prelude.{◌≡◌, ℕ, ◌+◌, Bool, false, List, length, filter, flat_map, Option}
 use Rattle.std.specs.Prelude.{Some, None, IfSome}
-use Rattle.std.specs.List.{AllZip}
 use Rattle.scq_topics.specs.declared.kind.Kind.{Kind}
 use Rattle.scq_frames.specs.Parts.{Part}
 use Rattle.scq_collect.specs.declared.answered.Answered.{Answered}
@@ -10,9 +9,9 @@ use Rattle.scq_band.specs.Standing.{Identity}
 use Rattle.scq_queue.specs.Passes.{PassStanding, HeldStanding}
 use Rattle.scq_passes.specs.Records.{HelpsOnceAfterEachFull, HelpsAfterEachFull}
 use Rattle.scq_passes.specs.Calls.{HasSentSo, IsBetweenParts, HasFewCalls, index_of}
-use Rattle.scq_worker.specs.Members.{AnswersSoFar, is_taken, is_direct}
+use Rattle.scq_worker.specs.Members.{AnswersSoFar, AnswersItsFulls, is_taken, is_direct}
 use Rattle.scq_worker.specs.Opening.{AreGathered}
-use Rattle.scq_worker.specs.Passing.{AreBatchesOf, ArePassedOn, AnswersFull, FollowsCalls, Sends}
+use Rattle.scq_worker.specs.Passing.{AreBatchesOf, ArePassedOn, FollowsCalls, Sends}
 
 module _ {B : Type 0} where
   -- a pass that was lent a buffer and sent a batch in it on this topic
@@ -40,7 +39,7 @@ module _ {B : Type 0} where
     pub passed : ArePassedOn topics batches (sends_of p.calls) groups
     pub follows : FollowsCalls batches p.calls
     pub takes : AnswersSoFar topics (takes_of p.calls) (filter is_taken members)
-    pub fulls : AllZip AnswersFull p.fulls groups
+    pub fulls : AnswersItsFulls p.fulls groups
 
   -- a list that has the answers to what its pass took meanwhile, and nothing else more
   pub record HasAnswered (topics : List (List ℕ × Kind)) (old new : PassStanding B)

@@ -1,10 +1,14 @@
 //! What a worker does at its desk: all that one thread does.
-ghost use Rattle.std.specs.Prelude.{◌≡◌, ◌≤◌, ◌+◌, [], length, None, All};
+ghost use Rattle.std.specs.Prelude.{◌≡◌, ◌≤◌, ◌+◌, [], length, None, IfErr, OnOk, All};
 ghost use Rattle.scq_block.specs.Frames.{bytes_of};
-ghost use Rattle.scq_files.specs.OwnFiles.{IsNew, ids_of};
-ghost use Rattle.scq_worker.specs.Bells.{HasRung};
+ghost use Rattle.scq_files.specs.Given.{given_in};
+ghost use Rattle.scq_files.specs.OwnFiles.{IsNew, StopsAtAFault, ids_of, all_given};
+ghost use Rattle.scq_files.specs.Reading.{IsRead};
+ghost use Rattle.scq_worker.specs.Bells.{HasRung, RingsOn};
+ghost use Rattle.scq_worker.specs.Reading.{HasPassedAllOn, IsOver};
 ghost use Rattle.scq_worker.specs.Seats.{IsFresh};
 ghost use Rattle.scq_worker.specs.Desks.{HasProduced, IsToSweep, HasRun};
+ghost use Rattle.scq_passes.specs.Calls.{Suits};
 ghost use Rattle.scq_passes.specs.Leaving.{HasLeftSwept};
 ghost use Rattle.scq_passes.specs.Records.{IsReturn};
 
@@ -15,7 +19,7 @@ use scq_block::Frame;
 use scq_desk::Seat;
 use scq_files::{Desk, read_files};
 use scq_outside::Source;
-use scq_passes::sweep_out;
+use scq_passes::{AtLimit, sweep_out};
 use scq_queue::Queue;
 use std::alloc::Global;
 
@@ -39,7 +43,7 @@ pub fn produce<S: Source, G: Gate, T, W: Bell<T>>(
     requires unread { All IsNew desk.old.files.items }
     requires bell { W.fits bell.now (W.kept stand.old) job.now.workers }
     ensures same { ids_of desk.new.files.items ≡ ids_of desk.old.files.items }
-    ensures produced { HasProduced queue.now job.now.topics job.now.size job.now.longest S.Source
+    ensures produced { HasProduced queue.now job.now.topics job.now.size job.now.most job.now.longest S.Source
         desk.new.files.items desk.new.worker.worker.pass desk.new.worker.worker.members
         desk.new.worker.worker.starved desk.new.worker.kept }
     ensures number { desk.new.worker.worker.pass.number ≡ desk.old.worker.worker.pass.number }
@@ -47,6 +51,48 @@ pub fn produce<S: Source, G: Gate, T, W: Bell<T>>(
     ensures rung { desk.new.worker.worker.pass.spent ≡ None
         → HasRung desk.old.worker.worker.number job.now.workers desk.new.worker.worker.pass
         (W.wakes stand.old) (W.wakes stand.new) }
+{
+    match pass_all_on(desk, alloc, job, queue, gate, bell, stand) {
+        Ok(()) => desk.worker.worker.retire(job, queue, bell, stand),
+        Err(at_limit) => {
+            desk.worker.worker.retire(job, queue, bell, stand);
+            desk.worker.keep(at_limit);
+        }
+    }
+}
+
+/// It reads its files and passes their messages on, so that no part stays open.
+fn pass_all_on<S: Source, G: Gate, T, W: Bell<T>>(
+    desk: &mut WorkDesk<S>,
+    alloc: Global,
+    job: &Job,
+    queue: &Queue<Frame>,
+    gate: &G,
+    bell: &W,
+    stand: &mut T,
+) -> Result<(), AtLimit<Frame>>
+    requires rings { queue.now.setup.rings ≡ length job.now.topics + 2 }
+    requires room { All (λ b. job.now.size + 24 ≤ length b.bytes.items) queue.now.given }
+    requires fresh { IsFresh queue.now desk.old.worker }
+    requires unread { All IsNew desk.old.files.items }
+    requires bell { W.fits bell.now (W.kept stand.old) job.now.workers }
+    ensures same { ids_of desk.new.files.items ≡ ids_of desk.old.files.items }
+    ensures read { All (λ f. IsRead job.now.topics job.now.longest S.Source f.number f.was.value
+        f.source (given_in f.given.value) f.end) desk.new.files.items }
+    ensures stops { StopsAtAFault desk.new.files.items }
+    ensures suits { OnOk result
+        (Suits queue.now (length job.now.topics) desk.new.worker.worker.pass) }
+    ensures stays { OnOk result (desk.new.worker.worker.pass.retired ≡ None) }
+    ensures work { OnOk result (HasPassedAllOn job.now.topics job.now.size job.now.most
+        (all_given desk.new.files.items) desk.new.worker.worker) }
+    ensures stopped { IfErr result (λ l. IsOver queue.now job.now.topics job.now.size job.now.most
+        (all_given desk.new.files.items) desk.new.worker.worker l.held) }
+    ensures kept { desk.new.worker.kept ≡ desk.old.worker.kept }
+    ensures number { desk.new.worker.worker.pass.number ≡ desk.old.worker.worker.pass.number }
+    ensures bell { W.kept stand.new ≡ W.kept stand.old }
+    ensures rung { OnOk result ((desk.new.worker.worker.number ≡ desk.old.worker.worker.number)
+        × RingsOn desk.old.worker.worker.number job.now.workers desk.old.worker.worker.pass
+        desk.new.worker.worker.pass (W.wakes stand.old) (W.wakes stand.new)) }
 {
     let with = Calls {
         alloc,
@@ -57,13 +103,9 @@ pub fn produce<S: Source, G: Gate, T, W: Bell<T>>(
     };
     let worker = &mut desk.worker.worker;
     let files = desk.files.as_mut_slice();
-    match read_files(worker, &with, stand, alloc, &job.topics, job.longest, files) {
-        Ok(()) => desk.worker.worker.retire(job, queue, bell, stand),
-        Err(at_limit) => {
-            desk.worker.worker.retire(job, queue, bell, stand);
-            desk.worker.keep(at_limit);
-        }
-    }
+    read_files(worker, &with, stand, alloc, &job.topics, job.longest, files)?;
+    desk.worker.worker.pass_all_open(alloc, job, queue, gate, bell, stand)?;
+    Ok(())
 }
 
 /// The worker's whole work: it reads its files and passes their messages on, retires, and sweeps
@@ -81,7 +123,7 @@ pub fn run<S: Source, G: Gate>(
     requires fresh { IsFresh queue.now desk.old.worker }
     requires unread { All IsNew desk.old.files.items }
     ensures same { ids_of desk.new.files.items ≡ ids_of desk.old.files.items }
-    ensures run { HasRun queue.now job.now.topics job.now.size job.now.longest S.Source
+    ensures run { HasRun queue.now job.now.topics job.now.size job.now.most job.now.longest S.Source
         desk.new.files.items desk.new.worker.worker.pass desk.new.worker.worker.members
         desk.new.worker.worker.starved desk.new.worker.kept }
     ensures behind { desk.new.worker.worker.pass.spent ≡ None
@@ -105,11 +147,11 @@ fn leave<S: Source, G: Gate>(
     queue: &Queue<Frame>,
     gate: &G,
 )
-    requires sweep { IsToSweep queue.now job.now.topics job.now.size job.now.longest S.Source
+    requires sweep { IsToSweep queue.now job.now.topics job.now.size job.now.most job.now.longest S.Source
         desk.old.files.items desk.old.worker.worker.pass desk.old.worker.worker.members
         desk.old.worker.worker.starved desk.old.worker.kept }
     ensures same { desk.new.files.items ≡ desk.old.files.items }
-    ensures run { HasRun queue.now job.now.topics job.now.size job.now.longest S.Source
+    ensures run { HasRun queue.now job.now.topics job.now.size job.now.most job.now.longest S.Source
         desk.new.files.items desk.new.worker.worker.pass desk.new.worker.worker.members
         desk.new.worker.worker.starved desk.new.worker.kept }
     ensures behind { desk.new.worker.worker.pass.spent ≡ None

@@ -1,8 +1,7 @@
 ghost use Rattle.std.specs.Prelude.{◌≡◌, ◌≤◌, ◌<◌, ◌+◌, ◌++◌, ◌∷◌, ◌==◌, ℕ, suc, List, true, false};
 ghost use Rattle.std.specs.Prelude.{[], length, filter, count_by, Some, None, Ok, if◌then◌else◌};
-ghost use Rattle.std.specs.Prelude.{IfOk, IfErr, IfSome, IsSome, OnOk};
+ghost use Rattle.std.specs.Prelude.{IfOk, IfErr, IfSome, IsSome, OnOk, map, All};
 ghost use Rattle.scq_collect.specs.Joined.{text_of_part};
-ghost use Rattle.scq_frames.specs.Parts.{IsNumbered, parts_of, part_of};
 ghost use Rattle.scq_frames.specs.Batches.{parts_at};
 ghost use Rattle.scq_frames.specs.Views.{part_of_view};
 ghost use Rattle.scq_queue.specs.Lists.{Placed};
@@ -10,7 +9,8 @@ ghost use Rattle.scq_queue.specs.Passes.{IsHeldBy, after_put, after_spent_put};
 ghost use Rattle.scq_queue.specs.Passes.{having_seen};
 ghost use Rattle.scq_passes.specs.Records.{is_take};
 ghost use Rattle.scq_worker.specs.Members.{answered, answers_by, numbered_way};
-ghost use Rattle.scq_worker.specs.Members.{is_taken, is_direct, AnswersSoFar};
+ghost use Rattle.scq_worker.specs.Members.{is_taken, is_direct, AnswersSoFar, Carries};
+ghost use Rattle.scq_worker.specs.Loads.{parts_of_load, IsLoad};
 ghost use Rattle.scq_worker.specs.Passing.{Sends};
 ghost use Rattle.scq_passes.specs.Leaving.{HasOnlyCalled, TookNothing};
 ghost use Rattle.scq_passes.specs.Taking.{HasEmptied, HasTakenFrom};
@@ -18,16 +18,18 @@ ghost use Rattle.scq_passes.specs.Waiting.{TookInVain};
 ghost use Rattle.scq_passes.specs.Calls.{Suits, HasTaken, HasLeft};
 ghost use Rattle.scq_worker.specs.Working.{HasAnswered};
 
+mod load;
 mod passing;
 mod reading;
 mod sweeping;
 
 use crate::bell::Bell;
 use crate::{Gate, Job, Point};
+pub(crate) use load::Load;
 pub(crate) use reading::Calls;
 use scq_collect::{Answers, Given, PartView, Way};
 use scq_desk::Sits;
-use scq_frames::{Message, View, encode, next_part, view_of};
+use scq_frames::{Batch, View, encode_alone, next_part, view_of};
 use scq_passes::AtLimit;
 use scq_queue::{Held, Pass, Queue, TakeRefusal};
 use scq_topics::{ReplyBytes, reply};
@@ -35,12 +37,13 @@ use scq_word::{Buffer, BufferMut, NoMemory};
 use std::alloc::Global;
 pub use sweeping::Takes;
 
-/// A worker: the pass by which it makes its calls, what it has answered, and whether it wanted
-/// memory.
+/// A worker: the pass by which it makes its calls, the parts that it has gathered on each topic and
+/// is to pass on together, what it has answered, and whether it wanted memory.
 #[derive(Drop)]
 pub struct Worker<B: Buffer> {
     pub number: u32,
     pub pass: Pass<B>,
+    pub open: Vec<Batch>,
     pub members: Answers,
     pub starved: bool,
 }
@@ -50,17 +53,18 @@ impl<B: Buffer> Sits<Pass<B>, Answers> for Worker<B> {
 
     ghost list_of = { λ w. w.members };
 
-    ghost has_none = { λ w. w.members ≡ [] };
+    ghost has_none = { λ w. (w.members ≡ []) × (w.open.items ≡ []) };
 
     ghost starved_of = { λ w. w.starved };
 
     fn begin(alloc: Global, number: u32, pass: Pass<B>) -> Worker<B>
         ensures pass { result.pass ≡ pass }
-        ensures list { result.members ≡ [] }
+        ensures list { (result.members ≡ []) × (result.open.items ≡ []) }
     {
         Worker {
             number,
             pass,
+            open: Vec::new(alloc),
             members: Answers::new(alloc),
             starved: false,
         }
@@ -70,6 +74,7 @@ impl<B: Buffer> Sits<Pass<B>, Answers> for Worker<B> {
         let Worker {
             number: _,
             pass,
+            open: _,
             members,
             starved,
         } = self;
@@ -107,7 +112,8 @@ impl<B: BufferMut> Worker<B> {
             → self.new.members
             ≡ self.old.members ++ answered job.now.topics way (part_of_view part.entry) ∷ [] }
         ensures starved { self.new.starved ≡ false → self.old.starved ≡ false }
-        ensures same { (self.new.pass ≡ self.old.pass) × (self.new.number ≡ self.old.number) }
+        ensures same { (self.new.pass ≡ self.old.pass) × (self.new.number ≡ self.old.number)
+            × (self.new.open ≡ self.old.open) }
     {
         match text_of(alloc, job, part) {
             Ok(text) => {
@@ -135,7 +141,8 @@ impl<B: BufferMut> Worker<B> {
             → self.new.members
             ≡ self.old.members ++ answers_by job.now.topics way (parts_at bytes.now) }
         ensures starved { self.new.starved ≡ false → self.old.starved ≡ false }
-        ensures same { (self.new.pass ≡ self.old.pass) × (self.new.number ≡ self.old.number) }
+        ensures same { (self.new.pass ≡ self.old.pass) × (self.new.number ≡ self.old.number)
+            × (self.new.open ≡ self.old.open) }
     {
         let mut rest = bytes;
         let mut number = 0;
@@ -159,7 +166,8 @@ impl<B: BufferMut> Worker<B> {
         ensures directs { self.new.starved ≡ false
             → filter is_direct self.new.members ≡ filter is_direct self.old.members }
         ensures starved { self.new.starved ≡ false → self.old.starved ≡ false }
-        ensures same { (self.new.pass ≡ self.old.pass) × (self.new.number ≡ self.old.number) }
+        ensures same { (self.new.pass ≡ self.old.pass) × (self.new.number ≡ self.old.number)
+            × (self.new.open ≡ self.old.open) }
     {
         if self.starved {
             return;
@@ -197,6 +205,7 @@ impl<B: BufferMut> Worker<B> {
             → HasLeft parts parts self.old.pass self.new.pass l.held) }
         ensures starved { self.new.starved ≡ false → self.old.starved ≡ false }
         ensures number { self.new.number ≡ self.old.number }
+        ensures open { self.new.open ≡ self.old.open }
     {
         gate.at(self.number, Point::BeforeTake);
         match queue.take(&mut self.pass, topic) {
@@ -235,6 +244,7 @@ impl<B: BufferMut> Worker<B> {
             → HasLeft parts parts self.old.pass self.new.pass l.held) }
         ensures starved { self.new.starved ≡ false → self.old.starved ≡ false }
         ensures number { self.new.number ≡ self.old.number }
+        ensures open { self.new.open ≡ self.old.open }
     {
         'topics: for topic in 0..job.topics.len() + 1 {
             self.take_one(alloc, job, queue, gate, topic)?;
@@ -242,71 +252,90 @@ impl<B: BufferMut> Worker<B> {
         Ok(())
     }
 
-    /// Answers a part of a message directly, where no buffer was free: with this head of the ring
-    /// of free buffers.
-    pub fn answer_directly(
+    /// Answers each part of a load directly, where no buffer was free: with this head of the ring of
+    /// free buffers.
+    fn answer_directly(
         &mut self,
         alloc: Global,
         job: &Job,
-        message: &Message,
-        part: u32,
+        topic: u32,
+        load: Load<'_>,
         head: u64,
     )
-        requires known { message.now.topic ≤ length job.now.topics }
-        requires short { length message.now.payload ≤ job.now.longest }
-        requires numbered { IsNumbered part (parts_of job.now.size message.now.payload) }
+        requires known { topic ≤ length job.now.topics }
+        requires load { IsLoad job.now.size job.now.longest job.now.most topic load }
         ensures listed { self.new.starved ≡ false
             → self.new.members
             ≡ self.old.members
-            ++ answered job.now.topics (Way.Direct head) (part_of job.now.size message.now part)
-            ∷ [] }
+            ++ map (answered job.now.topics (Way.Direct head)) (parts_of_load job.now.size load) }
         ensures starved { self.new.starved ≡ false → self.old.starved ≡ false }
-        ensures same { (self.new.pass ≡ self.old.pass) × (self.new.number ≡ self.old.number) }
+        ensures same { (self.new.pass ≡ self.old.pass) × (self.new.number ≡ self.old.number)
+            × (self.new.open ≡ self.old.open) }
     {
-        let view = view_of(message, job.size, part);
-        self.answer(alloc, job, view, Way::Direct { head });
+        let way = Way::Direct { head };
+        match load {
+            Load::Alone { message, part } => {
+                self.answer(alloc, job, view_of(message, job.size, part), way);
+            }
+            Load::Together(batch) => self.answer_parts(alloc, job, batch.bytes(), way),
+        }
     }
 
-    /// Sends a part of a message in a value that it holds.
-    pub fn send_in(
+    /// Sends a load on a topic in a value that it holds.
+    fn send_in(
         &mut self,
         job: &Job,
         queue: &Queue<B>,
-        message: &Message,
-        part: u32,
+        topic: u32,
+        load: Load<'_>,
         held: Held<B>,
     ) -> Result<(), AtLimit<B>>
         requires pass { (self.old.pass.queue ≡ queue.now) × (self.old.pass.spent ≡ None)
             × (self.old.pass.retired ≡ None) }
-        requires topic { message.now.topic + 1 < queue.now.setup.rings }
+        requires topic { topic + 1 < queue.now.setup.rings }
+        requires load { IsLoad job.now.size job.now.longest job.now.most topic load }
         requires held { IsHeldBy self.old.pass held }
         requires room { job.now.size + 24 ≤ length (B.contents held.buffer) }
-        requires short { length message.now.payload ≤ job.now.longest }
-        requires numbered { IsNumbered part (parts_of job.now.size message.now.payload) }
         ensures sent { OnOk result ((place : ℕ) × (bytes : List ℕ)
             × (self.new.pass ≡ having_seen self.new.pass.seen (after_put
-            (suc message.now.topic) held.index place bytes self.old.pass))
-            × Sends (part_of job.now.size message.now part)
-            (record { topic = message.now.topic; place = place; bytes = bytes })) }
+            (suc topic) held.index place bytes self.old.pass))
+            × Sends (parts_of_load job.now.size load)
+            (record { topic = topic; place = place; bytes = bytes })) }
         ensures spent { IfErr result (λ l.
             (ticket : ℕ) × (self.new.pass ≡ having_seen self.new.pass.seen (after_spent_put
-            (suc message.now.topic) ticket self.old.pass))) }
+            (suc topic) ticket self.old.pass))) }
         ensures back { IfErr result (λ l.
             IfSome l.held (λ h. (h.index ≡ held.index) × (h.queue ≡ held.queue))) }
         ensures kept { IfErr result (λ l. IsSome l.held) }
         ensures same { (self.new.members ≡ self.old.members)
-            × (self.new.starved ≡ self.old.starved) × (self.new.number ≡ self.old.number) }
+            × (self.new.starved ≡ self.old.starved) × (self.new.number ≡ self.old.number)
+            × (self.new.open ≡ self.old.open) }
     {
-        // Its numbers are read here, so that it is known of each that it is one of 32 bits, as
-        // encode writes it.
-        let _file = message.file;
-        let _line = message.line;
-        let topic = message.topic;
         let mut held = held;
-        encode(message, job.size, part, held.bytes_mut());
+        write_load(job, topic, load, held.bytes_mut());
         match queue.send(&mut self.pass, topic, held) {
             Ok(_) => Ok(()),
             Err((held, _)) => Err(AtLimit { held: Some(held) }),
         }
+    }
+}
+
+/// Writes the parts of a load to the front, and the end mark behind them.
+fn write_load(job: &Job, topic: u32, load: Load<'_>, into: &mut [u8])
+    requires load { IsLoad job.now.size job.now.longest job.now.most topic load }
+    requires room { job.now.size + 24 ≤ length into.old }
+    ensures carries { Carries into.new (parts_of_load job.now.size load) }
+    ensures topic { All (λ p. p.topic ≡ topic) (parts_of_load job.now.size load) }
+    ensures len { length into.new ≡ length into.old }
+{
+    match load {
+        Load::Alone { message, part } => {
+            // Its numbers are read here, so that it is known of each that it is one of 32 bits, as
+            // they are written.
+            let _file = message.file;
+            let _line = message.line;
+            encode_alone(message, job.size, part, into);
+        }
+        Load::Together(batch) => batch.write(into),
     }
 }
