@@ -64,12 +64,15 @@ fn request_text(alloc: Global, request: &Request) -> Result<String> {
     Ok(text)
 }
 
-/// The workers, the order, the size, the number of topics, whether a report is asked for, and the
-/// files.
+/// The workers, the order, the size, the number of topics, whether batches and a report are asked
+/// for, and the files.
 fn write_run(text: &mut String, run: &RunRequest) -> Result<()> {
     let (workers, order, size) = (run.workers, run.order, run.size);
     let topics = run.topics.len();
     write!(text, "run {workers} {order} {size} {topics}")?;
+    if run.batch {
+        text.push_str(" batch")?;
+    }
     if run.report {
         text.push_str(" report")?;
     }

@@ -1,6 +1,7 @@
 //! Runs the service over rows that stand in files: the words of a command line, the files that it
 //! names, and what is to come of it. It prints each row that ends otherwise, and how many rows of
-//! each file ran. `row.rt` has the form of a row.
+//! each file ran. Of the files behind the argument `--batch` it runs each row of `run` with that
+//! word, to the same end. `row.rt` has the form of a row.
 #![tactic(auto)]
 
 mod ending;
@@ -11,7 +12,7 @@ mod timed;
 
 use anyhow::{Context, Result, anyhow};
 use ending::difference_of;
-use row::Row;
+use row::{BATCH, Row};
 use std::alloc::Global;
 use std::sync::Wait;
 use std::thread::Threads;
@@ -20,21 +21,29 @@ use std::{env, fs};
 use timed::difference_in_time;
 
 fn main(rt: HostRuntime) -> Result<()> {
+    let mut batch = false;
     for name in env::args(&rt)?.skip(1) {
+        if name.as_str() == BATCH {
+            batch = true;
+            continue;
+        }
         let text = fs::read_to_string(&rt, &name)?;
-        let rows = run_rows(rt, rt.alloc(), &name, &text)?;
-        println!(rt; "{name}: {rows} rows")?;
+        let rows = run_rows(rt, rt.alloc(), &name, &text, batch)?;
+        let word = if batch { " with --batch" } else { "" };
+        println!(rt; "{name}{word}: {rows} rows")?;
     }
     Ok(())
 }
 
-/// Runs the rows of a file, prints those that end otherwise, and tells how many there are. Behind
-/// one that doesn't end no more are run.
+/// Runs the rows of a file, where `batch` is set those of `run` alone and with that word, prints
+/// those that end otherwise, and tells how many there are. Behind one that doesn't end no more are
+/// run.
 fn run_rows<R: Threads + Wait + Sync + Print + Clock + Copy + Send + 'static>(
     rt: R,
     alloc: Global,
     name: &str,
     text: &str,
+    batch: bool,
 ) -> Result<u64> {
     let mut rows = 0u64;
     let mut row = Row::new(alloc);
@@ -45,7 +54,10 @@ fn run_rows<R: Threads + Wait + Sync + Print + Clock + Copy + Send + 'static>(
         if let Some(status) = line.strip_prefix("= ") {
             let status = status.parse::<u8>().context("a status")?;
             let number = at.saturating_add(1);
-            let ended = std::mem::replace(&mut row, Row::new(alloc));
+            let mut ended = std::mem::replace(&mut row, Row::new(alloc));
+            if batch && !ended.add_batch(alloc)? {
+                continue;
+            }
             let difference = if ended.waits {
                 let Some(difference) = difference_in_time(rt, alloc, ended, status)? else {
                     println!(rt; "{name} line {number}: it hasn't ended")?;

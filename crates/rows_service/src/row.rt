@@ -28,6 +28,9 @@ use anyhow::{Context, Result};
 use rows_text::{add_line, word_of};
 use std::alloc::Global;
 
+/// The word by which short parts share a buffer.
+pub const BATCH: &str = "--batch";
+
 /// As many bytes as a sink has room for.
 const ROOM: u64 = 1 << 17;
 
@@ -43,6 +46,8 @@ pub struct Row {
     pub errors: Vec<u8>,
     /// The errors are a report of workers.
     pub reports: bool,
+    /// It is a row of `run` to which the word `--batch` was added.
+    pub batches: bool,
     /// Its workers wait in place of leaving early.
     pub waits: bool,
     /// Where its workers wait for one another.
@@ -66,6 +71,7 @@ impl Row {
             output: Vec::new(alloc),
             errors: Vec::new(alloc),
             reports: false,
+            batches: false,
             waits: false,
             gate: RowGate::Free,
             counts: Vec::new(alloc),
@@ -116,6 +122,22 @@ impl Row {
             _ => return Ok(false),
         }
         Ok(true)
+    }
+
+    /// Adds the word by which short parts share a buffer to a row of `run` that hasn't got it.
+    /// Whether it was added.
+    pub fn add_batch(&mut self, alloc: Global) -> Result<bool> {
+        if self.words.iter().any(|word| word.as_str() == BATCH) {
+            return Ok(false);
+        }
+        match self.words.as_slice() {
+            [command, ..] if command.as_str() == "run" => {
+                self.words.insert(1, word_of(alloc, BATCH)?)?;
+                self.batches = true;
+            }
+            _ => {}
+        }
+        Ok(self.batches)
     }
 }
 
