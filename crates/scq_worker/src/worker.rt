@@ -205,7 +205,7 @@ impl<B: BufferMut> Worker<B> {
             → HasLeft parts parts self.old.pass self.new.pass l.held) }
         ensures starved { self.new.starved ≡ false → self.old.starved ≡ false }
         ensures number { self.new.number ≡ self.old.number }
-        ensures open { self.new.open ≡ self.old.open }
+        ensures opens { self.new.open ≡ self.old.open }
     {
         gate.at(self.number, Point::BeforeTake);
         match queue.take(&mut self.pass, topic) {
@@ -244,7 +244,7 @@ impl<B: BufferMut> Worker<B> {
             → HasLeft parts parts self.old.pass self.new.pass l.held) }
         ensures starved { self.new.starved ≡ false → self.old.starved ≡ false }
         ensures number { self.new.number ≡ self.old.number }
-        ensures open { self.new.open ≡ self.old.open }
+        ensures opens { self.new.open ≡ self.old.open }
     {
         'topics: for topic in 0..job.topics.len() + 1 {
             self.take_one(alloc, job, queue, gate, topic)?;

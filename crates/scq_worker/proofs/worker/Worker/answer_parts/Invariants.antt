@@ -13,6 +13,7 @@ invariant-parts g l = record {
   starved : l.self.starved ≡ false → l.fn.self.starved ≡ false;
   pass : l.self.pass ≡ l.fn.self.pass;
   number : l.self.number ≡ l.fn.self.number;
+  opens : l.self.open ≡ l.fn.self.open;
 }
 
 abbrev pub decreases-parts : goal.decreases-parts

@@ -13,6 +13,7 @@ topics-init g c = record {
   answered = λ fed. answered-nothing c.args.job.now.topics c.args.self.now.pass c.args.self.now.members;
   starved = λ fed. fed;
   number = refl;
+  opens = refl;
   vain = omega arith;
   gates = refl;
   below = λ t low. absurd (omega arith);
@@ -28,6 +29,7 @@ topics-preserved g c =
           c.topics.self.members c.take_one.new.self.members (inv.answered (c.take_one.ensures.starved fed)) (c.in_ok-take_one.ensures.answered fed);
       starved = λ fed. inv.starved (c.take_one.ensures.starved fed);
       number = c.take_one.ensures.number ∙ inv.number;
+      opens = c.take_one.ensures.opens ∙ inv.opens;
       vain = omega (arith, inv.vain, c.in_ok-take_one.ensures.vain);
       gates = c.in_ok-take_one.ensures.only.gates ∙ inv.gates;
       below = counted-below c.topics.topic (λ t. count_by (is_take t) c.args.self.now.pass.calls) (λ t. count_by (is_take t) c.topics.self.pass.calls)

@@ -13,6 +13,7 @@ invariant-topics g l = record {
   answered : l.self.starved ≡ false → HasAnswered l.job.topics l.fn.self.pass l.self.pass l.fn.self.members l.self.members;
   starved : l.self.starved ≡ false → l.fn.self.starved ≡ false;
   number : l.self.number ≡ l.fn.self.number;
+  opens : l.self.open ≡ l.fn.self.open;
   vain : TookInVain l.topic l.fn.self.pass l.self.pass;
   gates : l.self.pass.gates ≡ l.fn.self.pass.gates;
   below : (t : ℕ) → t < l.topic → count_by (is_take t) l.self.pass.calls ≡ count_by (is_take t) l.fn.self.pass.calls + 1;
