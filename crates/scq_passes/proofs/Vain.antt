@@ -7,7 +7,7 @@ use Rattle.scq_core.specs.declared.ended.Ended.{Ended}
 use Rattle.scq_core.specs.declared.ended.Ended.TheVariants.{Done, Got, Nothing}
 use Rattle.scq_queue.specs.Lists.{Placed, sends_of, takes_of}
 use Rattle.scq_queue.specs.Passes.{PassStanding, HeldStanding, HasGot, WasGivenBack}
-use Rattle.scq_queue.proofs.Records.{takes-append}
+use Rattle.scq_queue.proofs.Records.{sends-append, takes-append}
 use Rattle.scq_passes.specs.Records.{Puts}
 use Rattle.scq_passes.specs.Calls.{HasTakenFollowed, HasSentSo, HasFoundFull}
 use Rattle.scq_passes.specs.Waiting.{vain_takes, TookInVain, TookMore, HelpsInVain, SweepsInVain}
@@ -52,9 +52,16 @@ module _ {B : Type 0} where
       ∙ length-append (takes_of p.calls) (takes_of h.block) in
       omega (arith, all)
 
+  -- nor off that of its sends
+  pub sends-rise : {By : Puts} (p q : PassStanding B) → HasTakenFollowed By p q → length (sends_of p.calls) ≤ length (sends_of q.calls)
+  sends-rise p q h =
+      let all = ap (λ (l : List Ended). length (sends_of l)) (taken-calls p q h) ∙ ap length (sends-append p.calls h.block)
+      ∙ length-append (sends_of p.calls) (sends_of h.block) in
+      omega (arith, all)
+
   -- a sweep adds one vain take of each topic. What was taken before it, and how often the worker rested, pays for that
   pub vain-swept : (topics behind begun rests then_begun then_rests : ℕ) (p q r : PassStanding B) → q.calls ≡ p.calls → q.fulls ≡ p.fulls → r.fulls ≡ q.fulls
-      → TookInVain topics q r → sends_of r.calls ≡ sends_of q.calls
+      → TookInVain topics q r → length (sends_of q.calls) ≤ length (sends_of r.calls)
       → begun + rests + length (takes_of p.calls) + 1 ≤ then_begun + then_rests + length (takes_of r.calls)
       → SweepsInVain topics behind begun rests p → SweepsInVain topics behind then_begun then_rests r
   vain-swept topics behind begun rests then_begun then_rests p q r calls fulls same few sends paid was =
@@ -62,10 +69,10 @@ module _ {B : Type 0} where
       let after = then_begun + then_rests + length (takes_of r.calls) + length r.fulls in
       let full = ap length (same ∙ fulls) in
       let old = ap vain_takes calls in
-      let sent : behind * length (sends_of r.calls) ≡ behind * length (sends_of p.calls) =
-      ap (λ (l : List Placed). behind * length l) (sends ∙ ap sends_of calls) in
+      let many = ap (λ (l : List Ended). length (sends_of l)) calls in
+      let sent : behind * length (sends_of p.calls) ≤ behind * length (sends_of r.calls) = mul-le-mul_left behind (omega (arith, sends, many)) in
       paid-for topics before after (behind * length (sends_of p.calls)) (vain_takes p.calls) (vain_takes r.calls) (behind * length (sends_of r.calls))
-      was (omega (arith, few, old)) (omega (arith, paid, full)) (omega (arith, sent))
+      was (omega (arith, few, old)) (omega (arith, paid, full)) sent
 
   -- what it took in vain while it read its files is paid for as in its sweeps
   pub sweeps-begin : (topics behind rests : ℕ) (p : PassStanding B) → HelpsInVain topics behind p → SweepsInVain topics behind 0 rests p

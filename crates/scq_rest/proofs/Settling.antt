@@ -10,6 +10,7 @@ use Rattle.scq_block.specs.declared.frame.Frame.{Frame}
 use Rattle.scq_queue.specs.Passes.{PassStanding, was_told}
 use Rattle.scq_park.specs.declared.rested.Rested.{Rested}
 use Rattle.scq_park.specs.Crews.{Post, AreInOrder, AreAll, counted, plus, woken, ended, rested_of, no_wakes, first_post, first_posts}
+use Rattle.scq_worker.specs.Opening.{takes_behind}
 use Rattle.scq_worker.specs.Seats.{IsFresh, Seated}
 use Rattle.scq_files.specs.OwnFiles.{IsNew, ids_of}
 use Rattle.scq_rest.specs.Resting.{AreSettled}
@@ -113,19 +114,19 @@ module _ {S : Type 0} where
   still-ordered t w (x ∷ xs) (y ∷ ys) z order = (z.0.worker ∙ order.0, still-ordered t (suc w) xs ys z.1 order.1)
 
   each-waited : (t : Task S) (xs ys : List (Work S)) → AllZip (HasDone t) xs ys
-      → EachWaited (length t.topics + 1) (map stand_of ys) (map (λ (d : Desk (Seated Frame) S). d.worker.worker.pass) (map desk_of ys))
+      → EachWaited (length t.topics + 1) (takes_behind t.most) (map stand_of ys) (map (λ (d : Desk (Seated Frame) S). d.worker.worker.pass) (map desk_of ys))
   each-waited t [] [] z w s p stands passes = absurd (cc)
   each-waited t [] (y ∷ ys) z w s p stands passes = absurd z
   each-waited t (x ∷ xs) [] z w s p stands passes = absurd z
   each-waited t (x ∷ xs) (y ∷ ys) z zero s p stands passes =
       let stand : y.stand ≡ s = cc in
       let pass : y.desk.worker.worker.pass ≡ p = cc in
-      subst (λ (q : PassStanding Frame). HasWaited bytes_of (length t.topics + 1) s.rests q) pass
-      (subst (λ (q : Post). HasWaited bytes_of (length t.topics + 1) q.rests y.desk.worker.worker.pass) stand z.0.waited)
+      subst (λ (q : PassStanding Frame). HasWaited bytes_of (length t.topics + 1) (takes_behind t.most) s.rests q) pass
+      (subst (λ (q : Post). HasWaited bytes_of (length t.topics + 1) (takes_behind t.most) q.rests y.desk.worker.worker.pass) stand z.0.waited)
   each-waited t (x ∷ xs) (y ∷ ys) z (suc w) s p stands passes = each-waited t xs ys z.1 w s p stands passes
 
   pub settled : (t : Task S) (xs ys : List (Work S)) → AllZip (HasDone t) xs ys → AreAll t.crew (map stand_of xs)
-      → AreSettled t.crew (length t.topics + 1) (map stand_of ys) (map (λ (d : Desk (Seated Frame) S). d.worker.worker.pass) (map desk_of ys))
+      → AreSettled t.crew (length t.topics + 1) (takes_behind t.most) (map stand_of ys) (map (λ (d : Desk (Seated Frame) S). d.worker.worker.pass) (map desk_of ys))
   settled t xs ys z all =
       record {
         all = record {
@@ -160,57 +161,57 @@ counted-cases n = elim (cases_lt n (2 ^ 64 - 1)) [
 ]
 
 -- each worker's count of rests, by its stand
-vain-told : (topics : ℕ) (ps : List Post) (ns : List ℕ) (passes : List (PassStanding Frame)) → NoneSpent passes → EachWaited topics ps passes
+vain-told : (topics behind : ℕ) (ps : List Post) (ns : List ℕ) (passes : List (PassStanding Frame)) → NoneSpent passes → EachWaited topics behind ps passes
     → (w : ℕ) (p : PassStanding Frame) (r : Rested) → slice_get passes w ≡ Some p → slice_get (ended ps ns) w ≡ Some r
-    → (r.rests ≡ 2 ^ 64 - 1) ⊎ SweepsInVain topics 1 r.rests p
-vain-told topics [] ns passes none each w p r pass rest = absurd (cc)
-vain-told topics (s ∷ ps) [] passes none each w p r pass rest = absurd (cc)
-vain-told topics (s ∷ ps) (n ∷ ns) [] none each w p r pass rest = absurd (cc)
-vain-told topics (s ∷ ps) (n ∷ ns) (q ∷ passes) none each zero p r pass rest =
+    → (r.rests ≡ 2 ^ 64 - 1) ⊎ SweepsInVain topics behind 1 r.rests p
+vain-told topics behind [] ns passes none each w p r pass rest = absurd (cc)
+vain-told topics behind (s ∷ ps) [] passes none each w p r pass rest = absurd (cc)
+vain-told topics behind (s ∷ ps) (n ∷ ns) [] none each w p r pass rest = absurd (cc)
+vain-told topics behind (s ∷ ps) (n ∷ ns) (q ∷ passes) none each zero p r pass rest =
     let same : q ≡ p = cc in
     let its : rested_of s.rests n ≡ r = cc in
-    let told : SweepsInVain topics 1 s.rests q = (each zero s q refl refl).vain (All-head (λ (x : PassStanding Frame). x.spent ≡ None) q passes none) in
+    let told : SweepsInVain topics behind 1 s.rests q = (each zero s q refl refl).vain (All-head (λ (x : PassStanding Frame). x.spent ≡ None) q passes none) in
     let rests : r.rests ≡ counted s.rests = sym (ap (λ (x : Rested). x.rests) its) in
     elim (counted-cases s.rests) [
       | inl last ↦ inl (rests ∙ last)
       | inr exact ↦
-          inr (subst (λ (x : PassStanding Frame). SweepsInVain topics 1 r.rests x) same
-          (subst (λ k. SweepsInVain topics 1 k q) (sym (rests ∙ exact)) told))
+          inr (subst (λ (x : PassStanding Frame). SweepsInVain topics behind 1 r.rests x) same
+          (subst (λ k. SweepsInVain topics behind 1 k q) (sym (rests ∙ exact)) told))
     ]
-vain-told topics (s ∷ ps) (n ∷ ns) (q ∷ passes) none each (suc w) p r pass rest =
-    vain-told topics ps ns passes (All-tail (λ (x : PassStanding Frame). x.spent ≡ None) q passes none) (λ v t x stand its. each (suc v) t x stand its) w p r pass rest
+vain-told topics behind (s ∷ ps) (n ∷ ns) (q ∷ passes) none each (suc w) p r pass rest =
+    vain-told topics behind ps ns passes (All-tail (λ (x : PassStanding Frame). x.spent ≡ None) q passes none) (λ v t x stand its. each (suc v) t x stand its) w p r pass rest
 
 -- each saw that all had retired
-closed-told : (topics : ℕ) (ps : List Post) (passes : List (PassStanding Frame)) → length ps ≡ length passes → NoneSpent passes → EachWaited topics ps passes
+closed-told : (topics behind : ℕ) (ps : List Post) (passes : List (PassStanding Frame)) → length ps ≡ length passes → NoneSpent passes → EachWaited topics behind ps passes
     → All (λ (s : Bool). s ≡ true) (map (λ (p : PassStanding Frame). was_told p.gate) passes)
-closed-told topics ps [] long none each = All-nil (λ (s : Bool). s ≡ true)
-closed-told topics [] (q ∷ passes) long none each = absurd (omega arith)
-closed-told topics (s ∷ ps) (q ∷ passes) long none each =
+closed-told topics behind ps [] long none each = All-nil (λ (s : Bool). s ≡ true)
+closed-told topics behind [] (q ∷ passes) long none each = absurd (omega arith)
+closed-told topics behind (s ∷ ps) (q ∷ passes) long none each =
     let told = (each zero s q refl refl).told (All-head (λ (x : PassStanding Frame). x.spent ≡ None) q passes none) in
     All-cons (λ (b : Bool). b ≡ true) (was_told q.gate) (map (λ (p : PassStanding Frame). was_told p.gate) passes) (ap was_told told)
-    (closed-told topics ps passes (omega arith) (All-tail (λ (x : PassStanding Frame). x.spent ≡ None) q passes none) (λ v t x stand its. each (suc v) t x stand its))
+    (closed-told topics behind ps passes (omega arith) (All-tail (λ (x : PassStanding Frame). x.spent ≡ None) q passes none) (λ v t x stand its. each (suc v) t x stand its))
 
 -- each rested once behind each sweep that took nothing, and left after the first sweep before which all had retired
-each-left : (topics : ℕ) (ps : List Post) (ns : List ℕ) (passes : List (PassStanding Frame)) → NoneSpent passes → EachWaited topics ps passes
+each-left : (topics behind : ℕ) (ps : List Post) (ns : List ℕ) (passes : List (PassStanding Frame)) → NoneSpent passes → EachWaited topics behind ps passes
     → (w : ℕ) (p : PassStanding Frame) (r : Rested) → slice_get passes w ≡ Some p → slice_get (ended ps ns) w ≡ Some r
     → (rests : ℕ) × (r.rests ≡ counted rests) × HasLeftTold bytes_of IsReturn topics rests p
-each-left topics [] ns passes none each w p r pass rest = absurd (cc)
-each-left topics (s ∷ ps) [] passes none each w p r pass rest = absurd (cc)
-each-left topics (s ∷ ps) (n ∷ ns) [] none each w p r pass rest = absurd (cc)
-each-left topics (s ∷ ps) (n ∷ ns) (q ∷ passes) none each zero p r pass rest =
+each-left topics behind [] ns passes none each w p r pass rest = absurd (cc)
+each-left topics behind (s ∷ ps) [] passes none each w p r pass rest = absurd (cc)
+each-left topics behind (s ∷ ps) (n ∷ ns) [] none each w p r pass rest = absurd (cc)
+each-left topics behind (s ∷ ps) (n ∷ ns) (q ∷ passes) none each zero p r pass rest =
     let same : q ≡ p = cc in
     let its : rested_of s.rests n ≡ r = cc in
     let left = (each zero s q refl refl).left (All-head (λ (x : PassStanding Frame). x.spent ≡ None) q passes none) in
     (s.rests, sym (ap (λ (x : Rested). x.rests) its), subst (λ (x : PassStanding Frame). HasLeftTold bytes_of IsReturn topics s.rests x) same left)
-each-left topics (s ∷ ps) (n ∷ ns) (q ∷ passes) none each (suc w) p r pass rest =
-    each-left topics ps ns passes (All-tail (λ (x : PassStanding Frame). x.spent ≡ None) q passes none) (λ v t x stand its. each (suc v) t x stand its) w p r pass rest
+each-left topics behind (s ∷ ps) (n ∷ ns) (q ∷ passes) none each (suc w) p r pass rest =
+    each-left topics behind ps ns passes (All-tail (λ (x : PassStanding Frame). x.spent ≡ None) q passes none) (λ v t x stand its. each (suc v) t x stand its) w p r pass rest
 
-pub have-waited : (topics workers : ℕ) (crew : List TableId) (ps : List Post) (passes : List (PassStanding Frame)) (saw : List Bool) (rested : List Rested)
-    → AreSettled crew topics ps passes → NoneSpent passes → length passes ≡ workers
+pub have-waited : (topics behind workers : ℕ) (crew : List TableId) (ps : List Post) (passes : List (PassStanding Frame)) (saw : List Bool) (rested : List Rested)
+    → AreSettled crew topics behind ps passes → NoneSpent passes → length passes ≡ workers
     → saw ≡ map (λ (p : PassStanding Frame). was_told p.gate) passes
     → rested ≡ ended ps (woken (no_wakes crew) ps) → All (λ (r : Rested). r.rests ≤ r.wakes) rested
-    → HaveWaited topics workers passes saw rested
-have-waited topics workers crew ps passes saw rested settled none long saw_is rested_is woke =
+    → HaveWaited topics behind workers passes saw rested
+have-waited topics behind workers crew ps passes saw rested settled none long saw_is rested_is woke =
     let posts : length ps ≡ workers = settled.many ∙ long in
     let counts : length (woken (no_wakes crew) ps) ≡ length crew =
     woken-length (no_wakes crew) ps ∙ length-map crew (λ (x : TableId). zero) in
@@ -218,12 +219,12 @@ have-waited topics workers crew ps passes saw rested settled none long saw_is re
       each_saw = ap length saw_is ∙ length-map passes (λ (p : PassStanding Frame). was_told p.gate) ∙ long;
       each_rested = ap length rested_is ∙ ended-length ps (woken (no_wakes crew) ps) (settled.all.many ∙ sym counts) ∙ posts;
       told = saw_is;
-      closed = subst (All (λ (s : Bool). s ≡ true)) (sym saw_is) (closed-told topics ps passes settled.many none settled.waited);
+      closed = subst (All (λ (s : Bool). s ≡ true)) (sym saw_is) (closed-told topics behind ps passes settled.many none settled.waited);
       woken = woke;
       left = λ w p r pass rest.
-          each-left topics ps (woken (no_wakes crew) ps) passes none settled.waited w p r pass
+          each-left topics behind ps (woken (no_wakes crew) ps) passes none settled.waited w p r pass
           (subst (λ (rs : List Rested). slice_get rs w ≡ Some r) rested_is rest);
       vain = λ w p r pass rest.
-          vain-told topics ps (woken (no_wakes crew) ps) passes none settled.waited w p r pass
+          vain-told topics behind ps (woken (no_wakes crew) ps) passes none settled.waited w p r pass
           (subst (λ (rs : List Rested). slice_get rs w ≡ Some r) rested_is rest);
     }

@@ -9,6 +9,7 @@ use Rattle.scq_passes.specs.Waiting.{SweepsInVain}
 use Rattle.scq_passes.proofs.Vain.{sweeps-begin}
 use Rattle.scq_files.specs.Reading.{SourceOf}
 use Rattle.scq_worker.specs.Desks.{IsToSweep}
+use Rattle.scq_worker.specs.Opening.{takes_behind}
 use Rattle.scq_worker.specs.declared.job.Job.{Job}
 use Rattle.scq_worker.specs.declared.worker.Worker.{Worker}
 use Rattle.scq_worker.proofs.Produced.{none-or, queue-swept}
@@ -17,21 +18,21 @@ use Rattle.scq_rest.specs.Waiting.{HasWaited}
 
 module _ {B : Type 0} where
   -- one that met a ticket past the limit is asked for nothing more
-  pub waited-spent : (contents : B → List ℕ) (topics rests ticket : ℕ) (p : PassStanding B) → p.spent ≡ Some ticket
-      → HasWaited contents topics rests p
-  waited-spent contents topics rests ticket p is = record {
+  pub waited-spent : (contents : B → List ℕ) (topics behind rests ticket : ℕ) (p : PassStanding B) → p.spent ≡ Some ticket
+      → HasWaited contents topics behind rests p
+  waited-spent contents topics behind rests ticket p is = record {
     told = λ none. absurd (none-or p.spent ticket is none);
     vain = λ none. absurd (none-or p.spent ticket is none);
     left = λ none. absurd (none-or p.spent ticket is none);
   }
 
 module _ {B S : Type 0} (shared : Identity B) (job : Job) (src : SourceOf S) (files : List (OwnFile S)) (was now : Worker B) (kept : Option (HeldStanding B))
-    (t : IsToSweep shared job.topics job.size job.longest src files was.pass was.members was.starved kept) where
+    (t : IsToSweep shared job.topics job.size job.most job.longest src files was.pass was.members was.starved kept) where
   left-told : (contents : B → List ℕ) (topics rests : ℕ) → HasTaken was.pass now.pass → HasSweptTold contents shared IsReturn topics rests was.pass now.pass
       → HasLeftTold contents IsReturn topics rests now.pass
   left-told contents topics rests taken end = record {
     before = t.before;
-    unasked = t.work.producing.unasked;
+    unasked = t.work.passed.producing.unasked;
     swept = subst (λ (k : Identity B). HasSweptTold contents k IsReturn topics rests (after_retire t.before) now.pass)
         (sym (queue-swept shared job src files was now kept t taken))
         (subst (λ (x : PassStanding B). HasSweptTold contents shared IsReturn topics rests x now.pass) t.retired end);
@@ -40,13 +41,14 @@ module _ {B S : Type 0} (shared : Identity B) (job : Job) (src : SourceOf S) (fi
   -- it swept and rested until it was told
   pub waited-told : (contents : B → List ℕ) (first rests n : ℕ) → n ≡ length job.topics → HasTaken was.pass now.pass
       → HasSweptTold contents shared IsReturn (n + 1) rests was.pass now.pass → now.pass.gate ≡ Some 0
-      → (SweepsInVain (n + 1) 0 first was.pass → SweepsInVain (n + 1) 1 rests now.pass) → HasWaited contents (length job.topics + 1) rests now.pass
+      → ((behind : ℕ) → SweepsInVain (n + 1) behind 0 first was.pass → SweepsInVain (n + 1) behind 1 rests now.pass)
+      → HasWaited contents (length job.topics + 1) (takes_behind job.most) rests now.pass
   waited-told contents first rests n many taken end told more =
       record {
         told = λ awake. told;
-        vain = λ awake. subst (λ m. SweepsInVain (m + 1) 1 rests now.pass) many
-            (more (subst (λ m. SweepsInVain (m + 1) 0 first was.pass) (sym many)
-            (subst (λ (x : PassStanding B). SweepsInVain (length job.topics + 1) 0 first x) (sym t.retired)
-            (sweeps-begin (length job.topics + 1) first t.before t.vain))));
+        vain = λ awake. subst (λ m. SweepsInVain (m + 1) (takes_behind job.most) 1 rests now.pass) many
+            (more (takes_behind job.most) (subst (λ m. SweepsInVain (m + 1) (takes_behind job.most) 0 first was.pass) (sym many)
+            (subst (λ (x : PassStanding B). SweepsInVain (length job.topics + 1) (takes_behind job.most) 0 first x) (sym t.retired)
+            (sweeps-begin (length job.topics + 1) (takes_behind job.most) first t.before t.vain))));
         left = λ awake. subst (λ m. HasLeftTold contents IsReturn (m + 1) rests now.pass) many (left-told contents (n + 1) rests taken end);
       }

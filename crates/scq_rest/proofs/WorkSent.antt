@@ -11,6 +11,8 @@ use Rattle.scq_block.proofs.FramesSent.{frame_sent}
 use Rattle.scq_band.specs.contracts.seat.Seat as seat
 use Rattle.scq_band.proofs.SeatsSent.{snapshot_sent, vec_sent, u32_sent, option_sent}
 use Rattle.scq_collect.proofs.answers.Answers.TheSendSync as answers
+use Rattle.scq_frames.specs.contracts.batch.Batch as batch
+use Rattle.scq_frames.proofs.batch.Batch.TheSendSync as batches
 use Rattle.scq_park.proofs.Crossing.{stand_sent}
 use Rattle.scq_queue.specs.contracts.held.Held as held
 use Rattle.scq_queue.specs.contracts.held.Held.TheInside as held_inside
@@ -39,7 +41,7 @@ own_file_sent S sends =
 worker_sent : (B : RattleType) (buffer : BufferGhosts B.Denot) → IsSend B → IsSend (worker.the_row B buffer)
 worker_sent B buffer sends =
     declared_send (worker.the_type B buffer)
-    (u32_sent, (pass_sent B buffer sends, (answers.the_send, (bool_sent, tt))))
+    (u32_sent, (pass_sent B buffer sends, (vec_sent batch.the_row batches.the_send, (answers.the_send, (bool_sent, tt)))))
 
 place_sent : (W B : RattleType) (buffer : BufferGhosts B.Denot) → IsSend W → IsSend B → IsSend (place.the_row W B buffer)
 place_sent W B buffer worker_sends sends =

@@ -15,8 +15,8 @@ pub record HasRoom {S : Type 0} (workers : ℕ) (b : RestingRoom S) : Type 0 whe
       × (workers ≤ vec_capacity b.ends)
 
 -- the stands are all of the crew, in order, and each worker has waited as it should
-pub record AreSettled (crew : List TableId) (topics : ℕ) (stands : List Post)
+pub record AreSettled (crew : List TableId) (topics behind : ℕ) (stands : List Post)
     (passes : List (PassStanding Frame)) : Type 0 where
   pub all : AreAll crew stands
   pub many : length stands ≡ length passes
-  pub waited : EachWaited topics stands passes
+  pub waited : EachWaited topics behind stands passes

@@ -6,6 +6,7 @@ use Rattle.scq_block.specs.declared.frame.Frame.{Frame}
 use Rattle.scq_topics.specs.declared.kind.Kind.{Kind}
 use Rattle.scq_band.specs.Standing.{Identity}
 use Rattle.scq_park.specs.Crews.{first_post}
+use Rattle.scq_worker.specs.Opening.{takes_behind}
 use Rattle.scq_worker.specs.Seats.{IsFresh}
 use Rattle.scq_files.specs.OwnFiles.{IsNew, ids_of}
 use Rattle.scq_files.specs.Reading.{SourceOf}
@@ -22,6 +23,7 @@ pub record Task (S : Type 0) : Type 1 where
   pub queue : Identity Frame
   pub topics : List (List ℕ × Kind)
   pub size : ℕ
+  pub most : ℕ
   pub longest : ℕ
   pub workers : ℕ
   pub crew : List TableId
@@ -34,6 +36,7 @@ module _ {S : Type 0} where
         queue = q;
         topics = j.topics;
         size = j.size;
+        most = j.most;
         longest = j.longest;
         workers = j.workers;
         crew = crew;
@@ -61,7 +64,7 @@ module _ {S : Type 0} where
 
   -- one that has read its files and retired
   pub record IsBegun (t : Task S) (w : Work S) : Type 0 where
-    pub produced : HasProduced t.queue t.topics t.size t.longest t.src
+    pub produced : HasProduced t.queue t.topics t.size t.most t.longest t.src
         w.desk.files.items w.desk.worker.worker.pass
         w.desk.worker.worker.members w.desk.worker.worker.starved w.desk.worker.kept
     pub stand : w.stand.crew ≡ t.crew
@@ -76,11 +79,11 @@ module _ {S : Type 0} where
 
   -- its whole work is done
   pub record HasDone (t : Task S) (old new : Work S) : Type 0 where
-    pub run : HasRun t.queue t.topics t.size t.longest t.src
+    pub run : HasRun t.queue t.topics t.size t.most t.longest t.src
         new.desk.files.items new.desk.worker.worker.pass
         new.desk.worker.worker.members new.desk.worker.worker.starved new.desk.worker.kept
     pub waited : HasWaited bytes_of (length t.topics
-        + 1) new.stand.rests new.desk.worker.worker.pass
+        + 1) (takes_behind t.most) new.stand.rests new.desk.worker.worker.pass
     pub files : ids_of new.desk.files.items ≡ ids_of old.desk.files.items
     pub number : new.desk.worker.worker.pass.number ≡ old.desk.worker.worker.pass.number
     pub crew : new.stand.crew ≡ old.stand.crew

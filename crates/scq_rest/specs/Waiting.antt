@@ -1,5 +1,5 @@
 -- Workers that have waited in place of leaving early: how often each rested and took in vain.
--- `topics` is the number of topic rings.
+-- `topics` is the number of topic rings, and `behind` how often a worker takes behind each send.
 use Rattle.std.specs.Prelude.{◌≡◌, ◌⊎◌, ℕ, ◌-◌, ◌^◌, ◌≤◌, Bool, true, List, length, map, All}
 use Rattle.std.specs.Prelude.{Some, None, slice_get}
 use Rattle.scq_park.specs.declared.rested.Rested.{Rested}
@@ -16,23 +16,23 @@ use Rattle.scq_rest.specs.Sweeping.{HasLeftTold}
 -- rested as often as sweeps before its last took nothing, and left after a sweep before which it
 -- was told that all had retired
 pub record HasWaited {B : Type 0} (contents : B
-    → List ℕ) (topics rests : ℕ) (p : PassStanding B) : Type 0 where
+    → List ℕ) (topics behind rests : ℕ) (p : PassStanding B) : Type 0 where
   pub told : p.spent ≡ None → p.gate ≡ Some 0
-  pub vain : p.spent ≡ None → SweepsInVain topics 1 rests p
+  pub vain : p.spent ≡ None → SweepsInVain topics behind 1 rests p
   pub left : p.spent ≡ None → HasLeftTold contents IsReturn topics rests p
 
 -- so has each worker, by its stand and its pass
-abbrev pub EachWaited : ℕ → List Post → List (PassStanding Frame) → Type 0
-EachWaited topics stands passes =
+abbrev pub EachWaited : ℕ → ℕ → List Post → List (PassStanding Frame) → Type 0
+EachWaited topics behind stands passes =
     (w : ℕ) (s : Post) (p : PassStanding Frame) → slice_get stands w ≡ Some s
-    → slice_get passes w ≡ Some p → HasWaited bytes_of topics s.rests p
+    → slice_get passes w ≡ Some p → HasWaited bytes_of topics behind s.rests p
 
 -- all workers: each saw that all had retired, as its pass read the gate, rested no more often than
 -- it was woken, took in vain no more often than one does that rests after each sweep that took
 -- nothing, rested as often as sweeps before its last took nothing, and left after a sweep before
 -- which it was told that all had retired. A count of rests stands still at the last value of 64
 -- bits
-pub record HaveWaited (topics workers : ℕ) (passes : List (PassStanding Frame)) (saw : List Bool)
+pub record HaveWaited (topics behind workers : ℕ) (passes : List (PassStanding Frame)) (saw : List Bool)
     (rested : List Rested) : Type 0 where
   pub each_saw : length saw ≡ workers
   pub each_rested : length rested ≡ workers
@@ -41,7 +41,7 @@ pub record HaveWaited (topics workers : ℕ) (passes : List (PassStanding Frame)
   pub woken : All (λ (r : Rested). r.rests ≤ r.wakes) rested
   pub vain : (w : ℕ) (p : PassStanding Frame) (r : Rested) → slice_get passes w ≡ Some p
       → slice_get rested w ≡ Some r
-      → (r.rests ≡ 2 ^ 64 - 1) ⊎ SweepsInVain topics 1 r.rests p
+      → (r.rests ≡ 2 ^ 64 - 1) ⊎ SweepsInVain topics behind 1 r.rests p
   pub left : (w : ℕ) (p : PassStanding Frame) (r : Rested) → slice_get passes w ≡ Some p
       → slice_get rested w ≡ Some r
       → (rests : ℕ) × (r.rests ≡ counted rests) × HasLeftTold bytes_of IsReturn topics rests p

@@ -2,6 +2,7 @@
 ghost use Rattle.std.specs.Prelude.{◌≡◌, ◌+◌, length};
 ghost use Rattle.scq_block.specs.Frames.{bytes_of};
 ghost use Rattle.scq_worker.specs.Desks.{HasProduced, HasRun, IsToSweep};
+ghost use Rattle.scq_worker.specs.Opening.{takes_behind};
 ghost use Rattle.scq_rest.specs.Waiting.{HasWaited};
 
 use crate::sweeping::sweep_and_rest;
@@ -25,16 +26,16 @@ pub fn finish<S: Source, G: Gate, R: Wait>(
     crew: &Crew,
     stand: &mut Stand,
 )
-    requires produced { HasProduced queue.now job.now.topics job.now.size job.now.longest S.Source
+    requires produced { HasProduced queue.now job.now.topics job.now.size job.now.most job.now.longest S.Source
         desk.old.files.items desk.old.worker.worker.pass desk.old.worker.worker.members
         desk.old.worker.worker.starved desk.old.worker.kept }
     requires stand { (stand.old.crew ≡ crew.now) × (stand.old.rests ≡ 0) }
     ensures same { desk.new.files.items ≡ desk.old.files.items }
-    ensures run { HasRun queue.now job.now.topics job.now.size job.now.longest S.Source
+    ensures run { HasRun queue.now job.now.topics job.now.size job.now.most job.now.longest S.Source
         desk.new.files.items desk.new.worker.worker.pass desk.new.worker.worker.members
         desk.new.worker.worker.starved desk.new.worker.kept }
     ensures waited { HasWaited bytes_of (length job.now.topics
-        + 1) stand.new.rests desk.new.worker.worker.pass }
+        + 1) (takes_behind job.now.most) stand.new.rests desk.new.worker.worker.pass }
     ensures number { desk.new.worker.worker.pass.number ≡ desk.old.worker.worker.pass.number }
     ensures stand { (stand.new.crew ≡ stand.old.crew) × (stand.new.worker ≡ stand.old.worker) }
     ensures wakes { stand.new.wakes ≡ stand.old.wakes }
@@ -56,16 +57,16 @@ fn rest_out<S: Source, G: Gate, R: Wait>(
     crew: &Crew,
     stand: &mut Stand,
 )
-    requires sweep { IsToSweep queue.now job.now.topics job.now.size job.now.longest S.Source
+    requires sweep { IsToSweep queue.now job.now.topics job.now.size job.now.most job.now.longest S.Source
         desk.old.files.items desk.old.worker.worker.pass desk.old.worker.worker.members
         desk.old.worker.worker.starved desk.old.worker.kept }
     requires stand { (stand.old.crew ≡ crew.now) × (stand.old.rests ≡ 0) }
     ensures same { desk.new.files.items ≡ desk.old.files.items }
-    ensures run { HasRun queue.now job.now.topics job.now.size job.now.longest S.Source
+    ensures run { HasRun queue.now job.now.topics job.now.size job.now.most job.now.longest S.Source
         desk.new.files.items desk.new.worker.worker.pass desk.new.worker.worker.members
         desk.new.worker.worker.starved desk.new.worker.kept }
     ensures waited { HasWaited bytes_of (length job.now.topics
-        + 1) stand.new.rests desk.new.worker.worker.pass }
+        + 1) (takes_behind job.now.most) stand.new.rests desk.new.worker.worker.pass }
     ensures number { desk.new.worker.worker.pass.number ≡ desk.old.worker.worker.pass.number }
     ensures stand { (stand.new.crew ≡ stand.old.crew) × (stand.new.worker ≡ stand.old.worker) }
     ensures wakes { stand.new.wakes ≡ stand.old.wakes }

@@ -3,6 +3,7 @@ ghost use Rattle.std.specs.Prelude.{◌≡◌, ℕ, ◌+◌, ◌<◌, ◌≤◌,
 ghost use Rattle.std.specs.Prelude.{slice_index_or, vec_len, vec_capacity, IfOk};
 ghost use Rattle.std.specs.List.{All};
 ghost use Rattle.scq_park.specs.Crews.{first_posts};
+ghost use Rattle.scq_worker.specs.Opening.{takes_behind};
 ghost use Rattle.scq_worker.specs.Seats.{IsFresh};
 ghost use Rattle.scq_files.specs.OwnFiles.{IsNew, ids_of};
 ghost use Rattle.scq_worker.specs.Desks.{HasRun};
@@ -86,11 +87,11 @@ pub fn run_resting<R: Threads + Wait + Sync, S: Source, G: Gate + Sync>(
         → (slice_index_or result.0.items w d).worker.worker.pass.number
         ≡ (slice_index_or desks.items w d).worker.worker.pass.number }
     ensures run { All (λ d.
-        HasRun queue.now job.now.topics job.now.size job.now.longest S.Source d.files.items
+        HasRun queue.now job.now.topics job.now.size job.now.most job.now.longest S.Source d.files.items
         d.worker.worker.pass d.worker.worker.members d.worker.worker.starved d.worker.kept)
         result.0.items }
     ensures settled { AreSettled crew.now (length job.now.topics
-        + 1) result.1.items (map (λ d. d.worker.worker.pass) result.0.items) }
+        + 1) (takes_behind job.now.most) result.1.items (map (λ d. d.worker.worker.pass) result.0.items) }
 {
     let RestingRoom {
         flags,

@@ -32,8 +32,9 @@ pub fn sweep_and_rest<C, B: Buffer, T: Taker<C, B>, R: Wait>(
         × HasSweptTold B.contents (T.queue with.now) T.follows topics rests
         (T.pass taker.old) (T.pass taker.new)) }
     ensures told { OnOk result ((T.pass taker.new).gate ≡ Some 0) }
-    ensures vain { OnOk result (SweepsInVain topics 0 stand.old.rests (T.pass taker.old)
-        → SweepsInVain topics 1 stand.new.rests (T.pass taker.new)) }
+    ensures vain { OnOk result ((behind : ℕ)
+        → SweepsInVain topics behind 0 stand.old.rests (T.pass taker.old)
+        → SweepsInVain topics behind 1 stand.new.rests (T.pass taker.new)) }
     ensures left { IfErr result (λ l. T.left with.now taker.old taker.new l.held) }
     ensures stand { (stand.new.crew ≡ stand.old.crew) × (stand.new.worker ≡ stand.old.worker) }
     ensures wakes { stand.new.wakes ≡ stand.old.wakes }

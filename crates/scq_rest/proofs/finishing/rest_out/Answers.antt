@@ -4,6 +4,7 @@ use Rattle.scq_queue.specs.Passes.{PassStanding}
 use Rattle.scq_passes.specs.Records.{IsReturn}
 use Rattle.scq_rest.specs.Sweeping.{HasSweptTold}
 use Rattle.scq_rest.specs.Waiting.{HasWaited}
+use Rattle.scq_worker.specs.Opening.{takes_behind}
 use Rattle.scq_worker.specs.declared.worker.Worker.{Worker}
 use Rattle.scq_worker.proofs.Produced.{sweep-suits, swept-out, late-out}
 use Rattle.scq_rest.proofs.Waited.{waited-told, waited-spent}
@@ -51,8 +52,9 @@ returns-in-Err-clause-waited g c =
     let all = length c.args.job.now.topics + 1 in
     let rests = c.sweep_and_rest.new.stand.rests in
     let left = c.in-Err.ensures.left 0 in
-    subst (λ (w : Worker _). HasWaited contents all rests w.pass) (sym c.keep.ensures.same)
-    (waited-spent contents all rests left.spent.0 c.sweep_and_rest.new.taker.pass left.spent.1)
+    let behind = takes_behind c.args.job.now.most in
+    subst (λ (w : Worker _). HasWaited contents all behind rests w.pass) (sym c.keep.ensures.same)
+    (waited-spent contents all behind rests left.spent.0 c.sweep_and_rest.new.taker.pass left.spent.1)
 
 pub returns-in-Err-clause-number : goal.returns-in-Err-clause-number
 returns-in-Err-clause-number g c =

@@ -7,6 +7,7 @@ use Rattle.atomic_table.specs.Seated.{TableId}
 use Rattle.scq_block.specs.declared.frame.Frame.{Frame}
 use Rattle.scq_park.specs.Crews.{Post, AreAll, first_posts}
 use Rattle.scq_park.proofs.Firsts.{firsts_all}
+use Rattle.scq_worker.specs.Opening.{takes_behind}
 use Rattle.scq_worker.specs.Seats.{Seated}
 use Rattle.scq_worker.specs.Desks.{HasRun}
 use Rattle.scq_rest.specs.Resting.{AreSettled}
@@ -109,7 +110,7 @@ returns-clause-run g c =
     let t = task c.args.queue.now job c.args.crew.now g.S.Source in
     let xs = c.pair-first.result ∷ c.pair-first.new.given.items in
     let ys = c.run_all-first.result.0 ∷ c.run_all-first.result.1.items in
-    let P : Desk (Seated Frame) S → Type 0 = λ d. HasRun c.args.queue.now job.topics job.size job.longest g.S.Source
+    let P : Desk (Seated Frame) S → Type 0 = λ d. HasRun c.args.queue.now job.topics job.size job.most job.longest g.S.Source
     d.files.items d.worker.worker.pass d.worker.worker.members d.worker.worker.starved d.worker.kept in
     subst (All P) (sym c.take_apart.ensures.desks)
     (All-map P desk_of ys (each-done t (λ (w : Work S). P w.desk) xs ys c.run_all-first.ensures (λ x y done. done.run)))
@@ -120,9 +121,10 @@ returns-clause-settled g c =
     let crew = c.args.crew.now in
     let t = task c.args.queue.now c.args.job.now crew g.S.Source in
     let topics = length c.args.job.now.topics + 1 in
+    let behind = takes_behind c.args.job.now.most in
     let xs = c.pair-first.result ∷ c.pair-first.new.given.items in
     let ys = c.run_all-first.result.0 ∷ c.run_all-first.result.1.items in
     let all = subst (AreAll crew) c.pair-first.ensures.stands (all-of crew c.args.job.now.workers c.args.stands.items c.requires.stands c.requires.workers.1) in
-    subst (λ (ps : List Post). AreSettled crew topics ps (map (λ (d : Desk (Seated Frame) S). d.worker.worker.pass) c.take_apart.new.desks.items)) (sym c.take_apart.ensures.stands)
-    (subst (λ (ds : List (Desk (Seated Frame) S)). AreSettled crew topics (map stand_of ys) (map (λ (d : Desk (Seated Frame) S). d.worker.worker.pass) ds))
+    subst (λ (ps : List Post). AreSettled crew topics behind ps (map (λ (d : Desk (Seated Frame) S). d.worker.worker.pass) c.take_apart.new.desks.items)) (sym c.take_apart.ensures.stands)
+    (subst (λ (ds : List (Desk (Seated Frame) S)). AreSettled crew topics behind (map stand_of ys) (map (λ (d : Desk (Seated Frame) S). d.worker.worker.pass) ds))
     (sym c.take_apart.ensures.desks) (settled t xs ys c.run_all-first.ensures all))

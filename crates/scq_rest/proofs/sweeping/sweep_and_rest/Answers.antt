@@ -8,7 +8,7 @@ use Rattle.scq_passes.specs.Leaving.{IsSweep, no_sweep, and_some, and_idle}
 use Rattle.scq_passes.specs.Calls.{HasTakenFollowed}
 use Rattle.scq_passes.proofs.PassLemmas.{suits-taken, taken-nothing, taken-along, looked}
 use Rattle.scq_passes.proofs.Sweeps.{sweep-of, some-left, took-nothing, took-some}
-use Rattle.scq_passes.proofs.Vain.{vain-swept, takes-rise}
+use Rattle.scq_passes.proofs.Vain.{vain-swept, sends-rise, takes-rise}
 use Rattle.scq_rest.specs.Sweeping.{idle_sweeps}
 use Rattle.scq_rest.proofs.sweeping.sweep_and_rest.Goals as goal
 use Rattle.scq_rest.proofs.sweeping.sweep_and_rest.Goals.{After-closed-over, In_ok-some}
@@ -45,7 +45,7 @@ sweeps-init g c =
       finite = tt;
       taken = taken-nothing p;
       made = g.met.T.Taker.made_none c.args.with.now c.args.taker.now;
-      vain = λ was. was;
+      vain = λ behind was. was;
       sweeps = (0, no_sweep p, omega arith);
       crew = refl;
       worker = refl;
@@ -103,7 +103,7 @@ returns-then-over-clause-told g c =
     c.in_ok-some.ensures.only.gate ∙ ap (λ (x : PassStanding _). x.gate) said.1 ∙ ap Some none
 
 pub returns-then-over-clause-vain : goal.returns-then-over-clause-vain
-returns-then-over-clause-vain g c was =
+returns-then-over-clause-vain g c behind was =
     let pass = g.T.Taker.pass in
     let at = pass c.sweeps.taker in
     let asks = pass c.closed-over.new.self in
@@ -113,8 +113,8 @@ returns-then-over-clause-vain g c was =
     let its = c.in_ok-some.ensures in
     let rise = takes-rise asks now its.taken in
     let same = ap (λ l. length (takes_of l)) calls in
-    vain-swept c.args.topics 0 c.sweeps.stand.rests 1 c.sweeps.stand.rests at asks now calls (ap (λ (x : PassStanding _). x.fulls) said.1)
-    (ap (λ (x : PassStanding _). x.fulls) its.taken.pass) its.emptied.vain (omega (arith, rise, same)) (c.sweeps.invariant.vain was)
+    vain-swept c.args.topics behind 0 c.sweeps.stand.rests 1 c.sweeps.stand.rests at asks now calls (ap (λ (x : PassStanding _). x.fulls) said.1)
+    (ap (λ (x : PassStanding _). x.fulls) its.taken.pass) its.emptied.vain (sends-rise asks now its.taken) (omega (arith, rise, same)) (c.sweeps.invariant.vain behind was)
 
 -- it took nothing, and rested
 pub sweeps-preserved-then-not-some : goal.sweeps-preserved-then-not-some
@@ -136,8 +136,8 @@ sweeps-preserved-then-not-some g c =
       finite = tt;
       taken = taken-along _ _ _ (asked g at_look) its.taken;
       made = g.met.T.Taker.made_along _ _ _ _ (asked g at_look) its.taken (made-asked g at_look) its.made;
-      vain = λ was. vain-swept c.args.topics 0 c.sweeps.stand.rests 0 c.rest.new.stand.rests at asks now calls (ap (λ (x : PassStanding _). x.fulls) said.1)
-          (ap (λ (x : PassStanding _). x.fulls) its.taken.pass) its.emptied.vain (omega (arith, rise, same, rested)) (inv.vain was);
+      vain = λ behind was. vain-swept c.args.topics behind 0 c.sweeps.stand.rests 0 c.rest.new.stand.rests at asks now calls (ap (λ (x : PassStanding _). x.fulls) said.1)
+          (ap (λ (x : PassStanding _). x.fulls) its.taken.pass) its.emptied.vain (sends-rise asks now its.taken) (omega (arith, rise, same, rested)) (inv.vain behind was);
       sweeps = (
         inv.sweeps.0 + 1,
         and_idle said.0 inv.sweeps.1 (swept-once g (goal.at.sweeps-preserved-then-not-some g c).In_ok-some)
@@ -170,8 +170,8 @@ sweeps-preserved g c =
       finite = tt;
       taken = taken-along _ _ _ (asked g at_look) its.taken;
       made = g.met.T.Taker.made_along _ _ _ _ (asked g at_look) its.taken (made-asked g at_look) its.made;
-      vain = λ was. vain-swept c.args.topics 0 c.sweeps.stand.rests 0 c.sweeps.stand.rests at asks now calls (ap (λ (x : PassStanding _). x.fulls) said.1)
-          (ap (λ (x : PassStanding _). x.fulls) its.taken.pass) its.emptied.vain (omega (arith, more, same)) (inv.vain was);
+      vain = λ behind was. vain-swept c.args.topics behind 0 c.sweeps.stand.rests 0 c.sweeps.stand.rests at asks now calls (ap (λ (x : PassStanding _). x.fulls) said.1)
+          (ap (λ (x : PassStanding _). x.fulls) its.taken.pass) its.emptied.vain (sends-rise asks now its.taken) (omega (arith, more, same)) (inv.vain behind was);
       sweeps = (
         0,
         and_some said.0 inv.sweeps.1 (swept-once g (goal.at.sweeps-preserved g c).In_ok-some)

@@ -15,7 +15,7 @@ invariant-sweeps g l =
       finite : (goal.iterator-sweeps g).is_finite l.iterator';
       taken : HasTakenFollowed g.T.Taker.follows p q;
       made : g.T.Taker.made l.with l.fn.taker l.taker;
-      vain : SweepsInVain l.topics 0 l.fn.stand.rests p → SweepsInVain l.topics 0 l.stand.rests q;
+      vain : (behind : ℕ) → SweepsInVain l.topics behind 0 l.fn.stand.rests p → SweepsInVain l.topics behind 0 l.stand.rests q;
       sweeps : (idle : ℕ)
           × (all : AreSweeps g.B.Buffer.contents (g.T.Taker.queue l.with) g.T.Taker.follows l.topics (λ n. Unit {0}) idle p q)
           × (l.stand.rests ≡ l.fn.stand.rests + idle_sweeps all);
