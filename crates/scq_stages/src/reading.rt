@@ -59,6 +59,11 @@ impl<'a> Handler<Calls<'a>, ()> for Worker<Frame> {
         }
     }
 
+    /// It puts nothing off.
+    fn pause(&mut self, _with: &Calls<'a>, _beside: &mut ()) -> Result<(), AtLimit<Frame>> {
+        Ok(())
+    }
+
     fn starved(&self) -> bool
         ensures { result ≡ self.now.starved }
     {
