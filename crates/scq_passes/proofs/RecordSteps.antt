@@ -121,6 +121,17 @@ pub helps-sent : (topics : ℕ) (xs : List Ended) (from ring place : ℕ) (over 
     → HelpsOnceAfterEachFull topics ((xs ++ Got 0 from over ∷ []) ++ Done ring place bytes ∷ [])
 helps-sent topics xs from ring place over bytes once = after-sent (TakesOnce topics) xs from ring place over bytes once
 
+-- the same with takes behind it
+pub helps-behind : {By : Puts} (topics : ℕ) (xs block : List Ended) (from ring place : ℕ) (over bytes : List ℕ) → AreTakesFollowed By block
+    → HelpsOnceAfterEachFull topics xs
+    → HelpsOnceAfterEachFull topics (((xs ++ Got 0 from over ∷ []) ++ Done ring place bytes ∷ []) ++ block)
+helps-behind topics xs block from ring place over bytes are once =
+    let got : List Ended = Got 0 from over ∷ [] in
+    let put : List Ended = Done ring place bytes ∷ [] in
+    subst (HelpsOnceAfterEachFull topics) (sym (ap (λ l. l ++ block) (append_assoc xs got put) ∙ append_assoc xs (got ++ put) block))
+    (after-led (TakesOnce topics) xs (Done ring place bytes ∷ block) (Got 0 from over) once refl
+    (λ front after is. absurd (no-full (Got 0 from over ∷ Done ring place bytes ∷ block) front after (takes-no_full block are) is)))
+
 pub alone-sent : (xs : List Ended) (from ring place : ℕ) (over bytes : List ℕ) → HoldsNothingAtEachFull xs
     → HoldsNothingAtEachFull ((xs ++ Got 0 from over ∷ []) ++ Done ring place bytes ∷ [])
 alone-sent xs from ring place over bytes alone =
