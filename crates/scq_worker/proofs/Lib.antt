@@ -1,9 +1,9 @@
 mod Following
 pub mod WorkerSteps
-mod Vain
 mod MemberLemmas
 pub mod MessageParts
 mod PassedOn
+pub mod Gathered
 mod RunLemmas
 pub mod Produced
 mod Rung

@@ -1,5 +1,5 @@
--- A worker that goes on after one part more, or stops at a ticket past the limit.
-use Rattle.std.proofs.Common.{◌≡◌, sym, ◌∙◌, ap, subst, arith, suc, ℕ, ◌+◌, ◌<◌, ◌≤◌, List, [], ◌∷◌, ◌++◌, length, Option, Some, None, Bool, false, rules}
+-- A worker that goes on after one batch more, or stops at a ticket past the limit.
+use Rattle.std.proofs.Common.{◌≡◌, sym, ◌∙◌, ap, subst, arith, suc, ℕ, ◌+◌, ◌<◌, ◌≤◌, List, [], ◌∷◌, ◌++◌, length, map, Option, Some, None, Bool, false, rules}
 use Rattle.std.specs.Prelude.{count_by, IfSome, IsSome}
 use Rattle.std.proofs.lemmas.List.{length-append}
 use Rattle.scq_topics.specs.declared.kind.Kind.{Kind}
@@ -11,10 +11,11 @@ use Rattle.scq_queue.specs.Passes.{PassStanding, HeldStanding, WasLent, after_sp
 use Rattle.scq_passes.specs.Records.{is_take}
 use Rattle.scq_worker.specs.Members.{answered}
 use Rattle.scq_passes.specs.Calls.{Suits, HasTaken, HasFoundFull, HasLeft, HasFewCalls, index_of}
-use Rattle.scq_worker.specs.Working.{HasSent, HasAnswered, HasListed, IsAtWork, HasStopped}
+use Rattle.scq_worker.specs.Passing.{Sends}
+use Rattle.scq_worker.specs.Working.{HasSent, HasAnswered, HasListed, HasPassed, HasStopped}
 use Rattle.scq_passes.proofs.LeftLemmas.{left-at-send}
 use Rattle.scq_passes.proofs.Kept.{few_calls-full, few_calls-taken}
-use Rattle.scq_worker.proofs.WorkerSteps.{producing-sent, producing-helped, few_calls-sent, listed-sent, listed-full, listed-taken}
+use Rattle.scq_worker.proofs.WorkerSteps.{producing-behind, producing-helped, few_calls-sent, listed-sent, listed-full, listed-taken}
 
 module _ {B : Type 0} where
   -- the pass still suits
@@ -27,43 +28,75 @@ module _ {B : Type 0} where
         spent = ap (λ (x : PassStanding B). x.spent) h.pass ∙ suits.spent;
       }
 
-  -- it has sent a part more
-  pub work-sent : (topics : List (List ℕ × Kind)) (messages : List Part) (m : Part) (p q : PassStanding B) (members : List Answered) (starved : Bool)
-      → IsAtWork topics messages p members starved → suc m.topic < length p.numbers → HasSent m p q → IsAtWork topics (messages ++ m ∷ []) q members starved
-  work-sent topics messages m p q members starved was within h =
+  pub suits-sent : (shared : Identity B) (topics topic : ℕ) (b : List Part) (p q : PassStanding B) → Suits shared topics p → HasSent topic b p q
+      → Suits shared topics q
+  suits-sent shared topics topic b p q suits h =
       record {
-        producing = producing-sent (length topics + 1) m p q was.producing within h;
-        few_calls = subst (λ n. HasFewCalls 0 n q) (sym (length-append messages (m ∷ []))) (few_calls-sent (length messages) m p q was.few_calls h);
-        listed = λ fed. listed-sent topics messages m p q members (was.listed fed) h;
+        queue = ap (λ (x : PassStanding B). x.queue) h.pass ∙ suits.queue;
+        rings = suits.rings;
+        numbers = h.knows.rings ∙ suits.numbers;
+        spent = ap (λ (x : PassStanding B). x.spent) h.pass ∙ suits.spent;
       }
 
-  -- it found no buffer free, has answered a part more itself, and has helped
-  pub work-helped : (topics : List (List ℕ × Kind)) (messages : List Part) (m : Part) (head : ℕ) (p q r : PassStanding B) (was mid is : List Answered)
+  -- it has sent a batch more, and taken behind it
+  pub passed-sent : (topics : List (List ℕ × Kind)) (batches : List (List Part)) (topic : ℕ) (b : List Part) (p q r : PassStanding B) (was is : List Answered)
       (before after : Bool)
-      → IsAtWork topics messages p was before → HasFoundFull head p q → HasTaken q r
-      → ((topic : ℕ) → topic < length topics + 1 → count_by (is_take topic) r.calls ≡ count_by (is_take topic) q.calls + 1)
-      → r.gates ≡ q.gates → (after ≡ false → before ≡ false) → (after ≡ false → mid ≡ was ++ answered topics (Direct head) m ∷ []) → (after ≡ false → HasAnswered topics q r mid is)
-      → IsAtWork topics (messages ++ m ∷ []) r is after
-  work-helped topics messages m head p q r was mid is before after work full taken each gates fed_before grown more =
+      → HasPassed topics batches p was before → suc topic < length p.numbers → HasSent topic b p q → HasTaken q r → r.gates ≡ q.gates
+      → (after ≡ false → before ≡ false) → (after ≡ false → HasAnswered topics q r was is) → HasPassed topics (batches ++ b ∷ []) r is after
+  passed-sent topics batches topic b p q r was is before after passed within h taken gates fed_before more =
       record {
-        producing = producing-helped (length topics + 1) head p q r work.producing full taken each gates;
-        few_calls = subst (λ n. HasFewCalls 0 n r) (sym (length-append messages (m ∷ [])))
-            (few_calls-taken (length messages + 1) q r (few_calls-full (length messages) head p q work.few_calls full) taken);
+        producing = producing-behind (length topics + 1) topic b p q r passed.producing within h taken gates;
+        few_calls = subst (λ n. HasFewCalls 0 n r) (sym (length-append batches (b ∷ [])))
+            (few_calls-taken (length batches + 1) q r (few_calls-sent (length batches) topic b p q passed.few_calls h) taken);
         listed = λ fed.
-            listed-taken topics (messages ++ m ∷ []) q r mid is
-            (subst (HasListed topics (messages ++ m ∷ []) q) (sym (grown fed)) (listed-full topics messages m head p q was (work.listed (fed_before fed)) full))
+            listed-taken topics (batches ++ b ∷ []) q r was is (listed-sent topics batches topic b p q was (passed.listed (fed_before fed)) h) taken (more fed);
+      }
+
+  -- it found no buffer free, has answered a batch more itself, and has helped
+  pub passed-helped : (topics : List (List ℕ × Kind)) (batches : List (List Part)) (b : List Part) (head : ℕ) (p q r : PassStanding B)
+      (was mid is : List Answered) (before after : Bool)
+      → HasPassed topics batches p was before → 0 < length b → HasFoundFull head p q → HasTaken q r
+      → ((topic : ℕ) → topic < length topics + 1 → count_by (is_take topic) r.calls ≡ count_by (is_take topic) q.calls + 1)
+      → r.gates ≡ q.gates → (after ≡ false → before ≡ false) → (after ≡ false → mid ≡ was ++ map (answered topics (Direct head)) b)
+      → (after ≡ false → HasAnswered topics q r mid is)
+      → HasPassed topics (batches ++ b ∷ []) r is after
+  passed-helped topics batches b head p q r was mid is before after passed some_ full taken each gates fed_before grown more =
+      record {
+        producing = producing-helped (length topics + 1) head p q r passed.producing full taken each gates;
+        few_calls = subst (λ n. HasFewCalls 0 n r) (sym (length-append batches (b ∷ [])))
+            (few_calls-taken (length batches + 1) q r (few_calls-full (length batches) head p q passed.few_calls full) taken);
+        listed = λ fed.
+            listed-taken topics (batches ++ b ∷ []) q r mid is
+            (subst (HasListed topics (batches ++ b ∷ []) q) (sym (grown fed))
+            (listed-full topics batches b head p q was (passed.listed (fed_before fed)) some_ full))
             taken (more fed);
       }
 
   -- the send of a value that was lent met Spent: that value came back
-  pub left-sent : (contents : B → List ℕ) (messages topic ticket : ℕ) (p q r : PassStanding B) (h : HeldStanding B) (kept : Option (HeldStanding B))
+  pub left-sent : (contents : B → List ℕ) (batches topic ticket : ℕ) (p q r : PassStanding B) (h : HeldStanding B) (kept : Option (HeldStanding B))
       → WasLent contents p q h
       → r ≡ having_seen r.seen (after_spent_put (suc topic) ticket q) → IsSome kept → IfSome kept (λ k. (k.index ≡ h.index) × (k.queue ≡ h.queue))
-      → HasLeft messages (messages + 1) p r kept
-  left-sent contents messages topic ticket p q r h None lent is some_ back = absurd (search rules)
-  left-sent contents messages topic ticket p q r h (Some k) lent is some_ back = left-at-send contents messages topic ticket p q r h k lent is back.0 back.1
+      → HasLeft batches (batches + 1) p r kept
+  left-sent contents batches topic ticket p q r h None lent is some_ back = absurd (search rules)
+  left-sent contents batches topic ticket p q r h (Some k) lent is some_ back = left-at-send contents batches topic ticket p q r h k lent is back.0 back.1
 
-  -- the same of more messages
+  -- a take behind a send met Spent
+  pub left-behind : (batches topic : ℕ) (b : List Part) (p q r : PassStanding B) (kept : Option (HeldStanding B)) → HasSent topic b p q
+      → HasLeft (batches + 1) (batches + 1) q r kept → HasLeft batches (batches + 1) p r kept
+  left-behind batches topic b p q r kept h left =
+      record {
+        spent = left.spent;
+        few_calls = λ was. left.few_calls (few_calls-sent batches topic b p q was h);
+        held = left.held ∙ ap (λ (x : PassStanding B). x.held ++ index_of kept) h.pass;
+        own = (
+          left.own.0 ∙ ap (λ (x : PassStanding B). x.queue) h.pass,
+          left.own.1 ∙ ap (λ (x : PassStanding B). x.number) h.pass,
+          left.own.2 ∙ ap (λ (x : PassStanding B). x.retired) h.pass,
+        );
+        its = subst (λ (x : Identity B). IfSome kept (λ h. h.queue ≡ x)) (ap (λ (x : PassStanding B). x.queue) h.pass) left.its;
+      }
+
+  -- the same of more parts
   pub stopped-more : (shared : Identity B) (few many : ℕ) (p : PassStanding B) (kept : Option (HeldStanding B)) → few ≤ many
       → HasStopped shared few p kept → HasStopped shared many p kept
   stopped-more shared few many p kept low was = record {
@@ -80,15 +113,15 @@ module _ {B : Type 0} where
     its = was.its;
   }
 
-  -- it met Spent at this part
-  pub work-stopped : (shared : Identity B) (topics : List (List ℕ × Kind)) (messages : List Part) (m : Part) (p q : PassStanding B)
+  -- it met Spent at one batch more
+  pub passed-stopped : (shared : Identity B) (topics : List (List ℕ × Kind)) (batches : List (List Part)) (p q : PassStanding B)
       (members : List Answered) (starved : Bool)
-      (kept : Option (HeldStanding B)) → IsAtWork topics messages p members starved → p.queue ≡ shared → p.retired ≡ None
-      → HasLeft (length messages) (length messages + 1) p q kept → HasStopped shared (length (messages ++ m ∷ [])) q kept
-  work-stopped shared topics messages m p q members starved kept was queue stays left =
+      (kept : Option (HeldStanding B)) → HasPassed topics batches p members starved → p.queue ≡ shared → p.retired ≡ None
+      → HasLeft (length batches) (length batches + 1) p q kept → HasStopped shared (length batches + 1) q kept
+  passed-stopped shared topics batches p q members starved kept was queue stays left =
       record {
         spent = left.spent;
-        few_calls = subst (λ n. HasFewCalls 1 n q) (sym (length-append messages (m ∷ []))) (left.few_calls was.few_calls);
+        few_calls = left.few_calls was.few_calls;
         queue = left.own.0 ∙ queue;
         stays = left.own.2 ∙ stays;
         held = left.held ∙ ap (λ l. l ++ index_of kept) was.producing.between.none;

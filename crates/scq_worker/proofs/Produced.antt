@@ -1,5 +1,5 @@
 -- A worker that has read its files and retired, and what becomes of it by its sweeps.
-use Rattle.std.proofs.Common.{◌≡◌, sym, ◌∙◌, ap, subst, arith, ℕ, ◌+◌, ◌<◌, List, length, Option, Some, None, Bool}
+use Rattle.std.proofs.Common.{◌≡◌, sym, ◌∙◌, ap, subst, arith, ℕ, ◌+◌, ◌<◌, List, [], length, Option, Some, None, Bool}
 use Rattle.scq_topics.specs.declared.kind.Kind.{Kind}
 use Rattle.scq_collect.specs.declared.answered.Answered.{Answered}
 use Rattle.scq_band.specs.Standing.{Identity}
@@ -7,6 +7,7 @@ use Rattle.scq_queue.specs.Passes.{PassStanding, HeldStanding, first_pass, known
 use Rattle.scq_files.specs.OwnFiles.{StopsAtAFault, all_given}
 use Rattle.scq_files.specs.Reading.{SourceOf}
 use Rattle.scq_worker.specs.Desks.{IsToSweep, HasProduced, HasRun}
+use Rattle.scq_worker.specs.Opening.{takes_behind}
 use Rattle.scq_worker.specs.Passing.{parts_in}
 use Rattle.scq_passes.specs.Leaving.{HasLeftSwept, HasSweptLast}
 use Rattle.scq_passes.specs.Records.{IsReturn}
@@ -26,8 +27,8 @@ none-or o ticket is none = absurd (cc)
 
 module _ {B : Type 0} where
   -- a new pass took nothing in vain
-  pub vain-first : (shared : Identity B) (topics number : ℕ) (p : PassStanding B) → p ≡ first_pass shared number → HelpsInVain topics p
-  vain-first shared topics number p is = subst (λ (q : PassStanding B). HelpsInVain topics q) (sym is) (omega arith)
+  pub vain-first : (shared : Identity B) (topics behind number : ℕ) (p : PassStanding B) → p ≡ first_pass shared number → HelpsInVain topics behind p
+  vain-first shared topics behind number p is = subst (λ (q : PassStanding B). HelpsInVain topics behind q) (sym is) (omega arith)
 
   -- that it has retired makes no difference to whether it suits, nor to what it took
   pub suits-retired : (shared : Identity B) (topics : ℕ) (p : PassStanding B) → Suits shared topics p → Suits shared topics (after_retire p)
@@ -37,12 +38,13 @@ module _ {B : Type 0} where
       → HasAnswered topics p q was is
   answered-awake topics p q was is h = record { takes = h.takes; directs = h.directs }
 
-module _ {B S : Type 0} (shared : Identity B) (topics : List (List ℕ × Kind)) (size longest : ℕ) (src : SourceOf S) (files : List (OwnFile S)) where
+module _ {B S : Type 0} (shared : Identity B) (topics : List (List ℕ × Kind)) (size most longest : ℕ) (src : SourceOf S) (files : List (OwnFile S)) where
   -- it has passed all on, and retired
   pub produced-awake : (p q : PassStanding B) (was is : List Answered) (before after : Bool) (kept : Option (HeldStanding B))
-      → AllRead topics longest src files → StopsAtAFault files → Suits shared (length topics) p → IsAtWork topics (parts_in size (all_given files)) p was before
-      → HelpsInVain (length topics + 1) p → q ≡ after_retire p → is ≡ was → after ≡ before → kept ≡ None
-      → HasProduced shared topics size longest src files q is after kept
+      → AllRead topics longest src files → StopsAtAFault files → Suits shared (length topics) p
+      → IsAtWork topics most (parts_in size (all_given files)) [] p was before
+      → HelpsInVain (length topics + 1) (takes_behind most) p → q ≡ after_retire p → is ≡ was → after ≡ before → kept ≡ None
+      → HasProduced shared topics size most longest src files q is after kept
   produced-awake p q was is before after kept read stops suits work vain retired members starved none =
       record {
         awake = λ awake. record {
@@ -51,8 +53,8 @@ module _ {B S : Type 0} (shared : Identity B) (topics : List (List ℕ × Kind))
           before = p;
           retired = retired;
           suits = suits;
-          work = subst (λ (s : Bool). IsAtWork topics (parts_in size (all_given files)) p is s) (sym starved)
-              (subst (λ (l : List Answered). IsAtWork topics (parts_in size (all_given files)) p l before) (sym members) work);
+          work = subst (λ (s : Bool). IsAtWork topics most (parts_in size (all_given files)) [] p is s) (sym starved)
+              (subst (λ (l : List Answered). IsAtWork topics most (parts_in size (all_given files)) [] p l before) (sym members) work);
           vain = vain;
           none = none;
         };
@@ -63,16 +65,16 @@ module _ {B S : Type 0} (shared : Identity B) (topics : List (List ℕ × Kind))
   pub produced-stopped : (p q : PassStanding B) (is : List Answered) (after : Bool) (kept held : Option (HeldStanding B))
       → AllRead topics longest src files → StopsAtAFault files → HasStopped shared (length (parts_in size (all_given files))) p held
       → q ≡ after_retire p → kept ≡ held
-      → HasProduced shared topics size longest src files q is after kept
+      → HasProduced shared topics size most longest src files q is after kept
   produced-stopped p q is after kept held read stops end retired same =
       record {
         awake = λ awake. absurd (none-or q.spent end.spent.0 (ap (λ (x : PassStanding B). x.spent) retired ∙ end.spent.1) awake);
         done = λ ticket spent.
-            run-stopped shared topics size longest src files p q is after kept held read stops end retired same;
+            run-stopped shared topics size most longest src files p q is after kept held read stops end retired same;
       }
 
 module _ {B S : Type 0} (shared : Identity B) (job : Job) (src : SourceOf S) (files : List (OwnFile S)) (was now : Worker B) (kept : Option (HeldStanding B))
-    (t : IsToSweep shared job.topics job.size job.longest src files was.pass was.members was.starved kept) where
+    (t : IsToSweep shared job.topics job.size job.most job.longest src files was.pass was.members was.starved kept) where
   -- so its calls find its pass
   pub sweep-suits : Suits shared (length job.topics) was.pass
   sweep-suits = subst (λ (x : PassStanding B). Suits shared (length job.topics) x) (sym t.retired) (suits-retired shared (length job.topics) t.before t.suits)
@@ -80,9 +82,9 @@ module _ {B S : Type 0} (shared : Identity B) (job : Job) (src : SourceOf S) (fi
   -- it has swept, and left
   pub swept-out : (n : ℕ) → n ≡ length job.topics → HasTaken was.pass now.pass
       → ((k : ℕ) → k < n + 1 → (known_on k now.pass).finished < (known_on k now.pass).head) → HasAnsweredAll job.topics was now
-      → HasRun shared job.topics job.size job.longest src files now.pass now.members now.starved kept
+      → HasRun shared job.topics job.size job.most job.longest src files now.pass now.members now.starved kept
   swept-out n many taken past made =
-      run-left shared job.topics job.size job.longest src files t.before now.pass was.members now.members was.starved now.starved
+      run-left shared job.topics job.size job.most job.longest src files t.before now.pass was.members now.members was.starved now.starved
       kept t.read t.stops t.suits t.work (subst (λ (x : PassStanding B). HasTaken x now.pass) t.retired taken)
       (subst (λ m. (k : ℕ) → k < m + 1 → (known_on k now.pass).finished < (known_on k now.pass).head) many past) made.fed
       (λ all. answered-awake job.topics t.before now.pass was.members now.members
@@ -90,11 +92,11 @@ module _ {B S : Type 0} (shared : Identity B) (job : Job) (src : SourceOf S) (fi
 
   -- it met a ticket past the limit in a sweep, and keeps what came back
   pub late-out : (seat : Seated B) (held : Option (HeldStanding B)) → ((n : ℕ) → HasLeft n n was.pass now.pass held) → seat.worker ≡ now → seat.kept ≡ held
-      → HasRun shared job.topics job.size job.longest src files seat.worker.pass seat.worker.members seat.worker.starved seat.kept
+      → HasRun shared job.topics job.size job.most job.longest src files seat.worker.pass seat.worker.members seat.worker.starved seat.kept
   late-out seat held end same keeps =
       let n = length (parts_in job.size (all_given files)) in
-      subst (λ (w : Worker B). HasRun shared job.topics job.size job.longest src files w.pass w.members w.starved seat.kept) (sym same)
-      (run-late shared job.topics job.size job.longest src files t.before now.pass was.members now.members was.starved now.starved
+      subst (λ (w : Worker B). HasRun shared job.topics job.size job.most job.longest src files w.pass w.members w.starved seat.kept) (sym same)
+      (run-late shared job.topics job.size job.most job.longest src files t.before now.pass was.members now.members was.starved now.starved
       seat.kept held t.read t.stops t.suits t.work (subst (λ (x : PassStanding B). HasLeft n n x now.pass held) t.retired (end n)) keeps)
 
   -- its queue, once it has swept
@@ -107,7 +109,7 @@ module _ {B S : Type 0} (shared : Identity B) (job : Job) (src : SourceOf S) (fi
       → HasSweptLast contents shared IsReturn (n + 1) 64 was.pass now.pass → HasLeftSwept contents IsReturn (length job.topics + 1) 64 now.pass
   left-swept contents n many taken end = record {
     before = t.before;
-    unasked = t.work.producing.unasked;
+    unasked = t.work.passed.producing.unasked;
     swept = subst (λ m. HasSweptLast contents now.pass.queue IsReturn (m + 1) 64 (after_retire t.before) now.pass) many
         (subst (λ (k : Identity B). HasSweptLast contents k IsReturn (n + 1) 64 (after_retire t.before) now.pass) (sym (queue-swept taken))
         (subst (λ (x : PassStanding B). HasSweptLast contents shared IsReturn (n + 1) 64 x now.pass) t.retired end));

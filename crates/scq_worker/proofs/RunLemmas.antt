@@ -1,10 +1,11 @@
 -- A worker's whole work: how it begins, and what its end is, by how it left.
-use Rattle.std.proofs.Common.{◌≡◌, refl, sym, ◌∙◌, ap, subst, arith, ℕ, ◌+◌, ◌<◌, List, [], ◌∷◌, ◌++◌, length, Option, Some, None, Bool, false, rules}
+use Rattle.std.proofs.Common.{◌≡◌, refl, sym, ◌∙◌, ap, subst, arith, ℕ, ◌+◌, ◌<◌, ◌≤◌, List, [], ◌∷◌, ◌++◌, length, Option, Some, None, Bool, false, rules}
 use Rattle.std.specs.Prelude.{IfSome}
 use Rattle.std.specs.List.{All}
 use Rattle.scq_core.specs.declared.ended.Ended.{Ended}
 use Rattle.scq_core.specs.declared.ended.Ended.TheVariants.{Nothing}
 use Rattle.scq_topics.specs.declared.kind.Kind.{Kind}
+use Rattle.scq_frames.specs.Parts.{Part}
 use Rattle.scq_collect.specs.declared.answered.Answered.{Answered}
 use Rattle.scq_band.specs.Standing.{Identity}
 use Rattle.scq_band.proofs.Opening.{numbers_length}
@@ -12,7 +13,6 @@ use Rattle.scq_queue.specs.Passes.{PassStanding, HeldStanding, first_pass, known
 use Rattle.scq_files.specs.OwnFiles.{StopsAtAFault, all_given}
 use Rattle.scq_worker.specs.Desks.{HasRun}
 use Rattle.scq_files.specs.Given.{given_in}
-use Rattle.scq_passes.specs.Becoming.{none}
 use Rattle.scq_passes.specs.PassedOn as passing
 use Rattle.scq_worker.specs.Passing.{no_call, parts_in}
 use Rattle.scq_passes.specs.Records.{HelpsOnceAfterEachFull}
@@ -20,9 +20,11 @@ use Rattle.scq_passes.proofs.Blocks.{returns}
 use Rattle.scq_passes.proofs.Retired.{retired-taken}
 use Rattle.scq_files.specs.Reading.{IsRead, SourceOf}
 use Rattle.scq_passes.specs.Calls.{Suits, HasTaken, HasLeft, HasFewCalls, index_of, after_retire}
-use Rattle.scq_worker.specs.Working.{HasAnswered, IsSweeping, IsAtWork, HasStopped}
+use Rattle.scq_worker.specs.Opening.{AreGathered}
+use Rattle.scq_worker.specs.Working.{HasAnswered, IsSweeping, HasPassed, IsAtWork, HasStopped}
 use Rattle.scq_files.specs.declared.own_file.OwnFile.{OwnFile}
 use Rattle.scq_passes.proofs.Kept.{swept, few_calls-taken}
+use Rattle.scq_worker.proofs.Gathered.{batches-of, few-batches, gathered-first}
 use Rattle.scq_worker.proofs.WorkerSteps.{sweeping-first, sweeping-taken, listed-taken}
 
 -- of no calls each is nowhere
@@ -42,27 +44,32 @@ module _ {B : Type 0} where
       subst (Suits shared topics) (sym is)
       (record { queue = refl; rings = rings; numbers = numbers_length shared.setup shared.setup.rings ∙ rings; spent = refl })
 
-  pub work-first : (topics : List (List ℕ × Kind)) (shared : Identity B) (number : ℕ) (p : PassStanding B) (members : List Answered) (starved : Bool)
+  pub work-first : (topics : List (List ℕ × Kind)) (most : ℕ) (shared : Identity B) (number : ℕ) (p : PassStanding B) (opens : List (List Part))
+      (members : List Answered) (starved : Bool)
       → p ≡ first_pass shared number
-      → members ≡ [] → IsAtWork topics [] p members starved
-  work-first topics shared number p members starved is new =
-      subst (λ (q : PassStanding B). IsAtWork topics [] q members starved) (sym is)
-      (subst (λ (l : List Answered). IsAtWork topics [] (first_pass shared number) l starved) (sym new)
-      (record {
-        producing = record {
-          helps = λ before after at topic low. absurd (no-call before after (Nothing 0) at);
-          between = record {
-            alone = λ before after at. absurd (no-call before after (Nothing 0) at);
-            even = refl;
-            none = refl;
-            unspent = λ ring ticket put has. absurd (search rules);
-            knows = record { sends = λ m has. absurd (search rules) };
-          };
-          unasked = refl;
-        };
-        few_calls = record { sends = omega arith; fulls = omega arith; puts = λ topic. omega arith; returns = omega arith };
-        listed = λ fed. record { passed = passing.none; follows = no_call; takes = none; fulls = tt };
-      }))
+      → members ≡ [] → opens ≡ [] → IsAtWork topics most [] opens p members starved
+  work-first topics most shared number p opens members starved is new none_open =
+      record {
+        batches = [];
+        gathered = subst (λ (l : List (List Part)). AreGathered most [] [] l) (sym none_open) (gathered-first most);
+        passed = subst (λ (q : PassStanding B). HasPassed topics [] q members starved) (sym is)
+            (subst (λ (l : List Answered). HasPassed topics [] (first_pass shared number) l starved) (sym new)
+            (record {
+              producing = record {
+                helps = λ before after at topic low. absurd (no-call before after (Nothing 0) at);
+                between = record {
+                  alone = λ before after at. absurd (no-call before after (Nothing 0) at);
+                  even = refl;
+                  none = refl;
+                  unspent = λ ring ticket put has. absurd (search rules);
+                  knows = record { sends = λ m has. absurd (search rules) };
+                };
+                unasked = refl;
+              };
+              few_calls = record { sends = omega arith; fulls = omega arith; puts = λ topic. omega arith; returns = omega arith };
+              listed = λ fed. record { groups = []; directs = refl; passed = passing.none; follows = no_call; takes = refl; fulls = tt };
+            }));
+      }
 
   -- retiring changes none of these
   sweeping-retired : (topics : ℕ) (p : PassStanding B) → IsSweeping topics p → IsSweeping topics (after_retire p)
@@ -90,36 +97,63 @@ module _ {B : Type 0} where
         returns = let low = was.returns in omega arith;
       }
 
+  -- there are no more calls than for more parts
+  few_calls-more : (late few many : ℕ) (p : PassStanding B) → few ≤ many → HasFewCalls late few p → HasFewCalls late many p
+  few_calls-more late few many p low was = record {
+    sends = let its = was.sends in omega arith;
+    fulls = let its = was.fulls in omega arith;
+    puts = λ topic. let its = was.puts topic in omega arith;
+    returns = was.returns;
+  }
+
+  -- it has few calls for all parts that it has gathered
+  pub few_calls-gathered : (topics : List (List ℕ × Kind)) (most : ℕ) (parts : List Part) (opens : List (List Part)) (p : PassStanding B)
+      (members : List Answered) (starved : Bool) → IsAtWork topics most parts opens p members starved → HasFewCalls 0 (length parts) p
+  few_calls-gathered topics most parts opens p members starved work =
+      few_calls-more 0 (length work.batches) (length parts) p (few-batches most parts work.batches opens work.gathered) work.passed.few_calls
+
   -- it has read its files, swept and left
-  pub run-left : {S : Type 0} (shared : Identity B) (topics : List (List ℕ × Kind)) (size longest : ℕ) (src : SourceOf S) (files : List (OwnFile S))
+  pub run-left : {S : Type 0} (shared : Identity B) (topics : List (List ℕ × Kind)) (size most longest : ℕ) (src : SourceOf S) (files : List (OwnFile S))
       (p q : PassStanding B) (was is : List Answered) (before after : Bool) (kept : Option (HeldStanding B))
-      → AllRead topics longest src files → StopsAtAFault files → Suits shared (length topics) p → IsAtWork topics (parts_in size (all_given files)) p was before
+      → AllRead topics longest src files → StopsAtAFault files → Suits shared (length topics) p → IsAtWork topics most (parts_in size (all_given files)) [] p was before
       → HasTaken (after_retire p) q → ((t : ℕ) → t < length topics + 1 → (known_on t q).finished < (known_on t q).head)
       → (after ≡ false → before ≡ false) → (after ≡ false → HasAnswered topics p q was is) → kept ≡ None
-      → HasRun shared topics size longest src files q is after kept
-  run-left shared topics size longest src files p q was is before after kept read stops suits work taken empty fed_before more nothing =
+      → HasRun shared topics size most longest src files q is after kept
+  run-left shared topics size most longest src files p q was is before after kept read stops suits work taken empty fed_before more nothing =
       let sweeping = sweeping-taken (length topics + 1) (after_retire p) q
-      (sweeping-retired (length topics + 1) p (sweeping-first (length topics + 1) p work.producing)) taken in
+      (sweeping-retired (length topics + 1) p (sweeping-first (length topics + 1) p work.passed.producing)) taken in
       let long : length q.numbers ≡ length topics + 2 = taken.knows.rings ∙ suits.numbers in
       record {
         read = read;
         stops = stops;
         few_calls = few_calls-on_time (length (parts_in size (all_given files))) q
             (few_calls-taken (length (parts_in size (all_given files))) (after_retire p) q
-            (few_calls-retired 0 (length (parts_in size (all_given files))) p work.few_calls) taken);
+            (few_calls-retired 0 (length (parts_in size (all_given files))) p
+            (few_calls-gathered topics most (parts_in size (all_given files)) [] p was before work)) taken);
         queue = ap (λ (x : PassStanding B). x.queue) taken.pass ∙ suits.queue;
         retired = (length p.calls, ap (λ (x : PassStanding B). x.retired) taken.pass);
         held = sweeping.between.none ∙ ap index_of (sym nothing);
         its = subst (λ (k : Option (HeldStanding B)). IfSome k (λ h. h.queue ≡ shared)) (sym nothing) tt;
         sweeping = λ awake. sweeping;
-        ended = λ awake. retired-taken (HelpsOnceAfterEachFull (length topics + 1)) returns p q work.producing.helps taken;
+        ended = λ awake. retired-taken (HelpsOnceAfterEachFull (length topics + 1)) returns p q work.passed.producing.helps taken;
         swept = λ awake. swept q sweeping.between.knows (λ t low. empty t (omega arith));
         listed = λ awake fed.
-            let old = work.listed (fed_before fed) in
+            let old = work.passed.listed (fed_before fed) in
             let answered = more fed in
-            listed-taken topics (parts_in size (all_given files)) (after_retire p) q was is
-            (record { passed = old.passed; follows = old.follows; takes = old.takes; fulls = old.fulls }) taken
-            (record { takes = answered.takes; directs = answered.directs });
+            record {
+              batches = work.batches;
+              are = batches-of most (parts_in size (all_given files)) work.batches work.gathered;
+              listed = listed-taken topics work.batches (after_retire p) q was is
+                  (record {
+                    groups = old.groups;
+                    directs = old.directs;
+                    passed = old.passed;
+                    follows = old.follows;
+                    takes = old.takes;
+                    fulls = old.fulls;
+                  }) taken
+                  (record { takes = answered.takes; directs = answered.directs });
+            };
       }
 
   -- of a pass that keeps a ticket none of what is said of others need be shown
@@ -127,19 +161,20 @@ module _ {B : Type 0} where
   some-none p ticket is none_ = absurd (cc)
 
   -- it met Spent in a sweep
-  pub run-late : {S : Type 0} (shared : Identity B) (topics : List (List ℕ × Kind)) (size longest : ℕ) (src : SourceOf S) (files : List (OwnFile S))
+  pub run-late : {S : Type 0} (shared : Identity B) (topics : List (List ℕ × Kind)) (size most longest : ℕ) (src : SourceOf S) (files : List (OwnFile S))
       (p q : PassStanding B) (was is : List Answered) (before after : Bool) (kept held : Option (HeldStanding B))
-      → AllRead topics longest src files → StopsAtAFault files → Suits shared (length topics) p → IsAtWork topics (parts_in size (all_given files)) p was before
+      → AllRead topics longest src files → StopsAtAFault files → Suits shared (length topics) p → IsAtWork topics most (parts_in size (all_given files)) [] p was before
       → HasLeft (length (parts_in size (all_given files))) (length (parts_in size (all_given files))) (after_retire p) q held → kept ≡ held
-      → HasRun shared topics size longest src files q is after kept
-  run-late shared topics size longest src files p q was is before after kept held read stops suits work end same =
-      subst (λ k. HasRun shared topics size longest src files q is after k) (sym same) (record {
+      → HasRun shared topics size most longest src files q is after kept
+  run-late shared topics size most longest src files p q was is before after kept held read stops suits work end same =
+      subst (λ k. HasRun shared topics size most longest src files q is after k) (sym same) (record {
         read = read;
         stops = stops;
-        few_calls = end.few_calls (few_calls-retired 0 (length (parts_in size (all_given files))) p work.few_calls);
+        few_calls = end.few_calls (few_calls-retired 0 (length (parts_in size (all_given files))) p
+            (few_calls-gathered topics most (parts_in size (all_given files)) [] p was before work));
         queue = end.own.0 ∙ suits.queue;
         retired = (length p.calls, end.own.2);
-        held = end.held ∙ ap (λ l. l ++ index_of held) work.producing.between.none;
+        held = end.held ∙ ap (λ l. l ++ index_of held) work.passed.producing.between.none;
         its = subst (λ (x : Identity B). IfSome held (λ h. h.queue ≡ x)) suits.queue end.its;
         sweeping = λ awake. absurd (some-none q end.spent.0 end.spent.1 awake);
         ended = λ awake. absurd (some-none q end.spent.0 end.spent.1 awake);
@@ -148,14 +183,14 @@ module _ {B : Type 0} where
       })
 
   -- it met Spent while it read its files, and then retired
-  pub run-stopped : {S : Type 0} (shared : Identity B) (topics : List (List ℕ × Kind)) (size longest : ℕ) (src : SourceOf S) (files : List (OwnFile S))
+  pub run-stopped : {S : Type 0} (shared : Identity B) (topics : List (List ℕ × Kind)) (size most longest : ℕ) (src : SourceOf S) (files : List (OwnFile S))
       (p q : PassStanding B) (is : List Answered) (after : Bool) (kept held : Option (HeldStanding B))
       → AllRead topics longest src files → StopsAtAFault files → HasStopped shared (length (parts_in size (all_given files))) p held
       → q ≡ after_retire p → kept ≡ held
-      → HasRun shared topics size longest src files q is after kept
-  run-stopped shared topics size longest src files p q is after kept held read stops end retired same =
-      subst (λ k. HasRun shared topics size longest src files q is after k) (sym same)
-      (subst (λ (x : PassStanding B). HasRun shared topics size longest src files x is after held) (sym retired) (record {
+      → HasRun shared topics size most longest src files q is after kept
+  run-stopped shared topics size most longest src files p q is after kept held read stops end retired same =
+      subst (λ k. HasRun shared topics size most longest src files q is after k) (sym same)
+      (subst (λ (x : PassStanding B). HasRun shared topics size most longest src files x is after held) (sym retired) (record {
         read = read;
         stops = stops;
         few_calls = few_calls-retired 1 (length (parts_in size (all_given files))) p end.few_calls;

@@ -12,13 +12,14 @@ use Rattle.scq_worker.specs.Passing.{Sends}
 use Rattle.scq_worker.specs.Working.{HasSent}
 
 module _ {B : Type 0} (number workers : ℕ) where
-  -- a part was sent, and the next worker woken
-  pub rung-sent : (m : Part) (p q : PassStanding B) (was is : List ℕ) → HasSent m p q → is ≡ one_more (next_of number workers) was
-      → RingsOn number workers p q was is
-  rung-sent m p q was is h more first rings =
-      let sends : length (sends_of q.calls) ≡ length (sends_of p.calls) + 1 =
-      ap length (sent-sends m.topic (Sends m) p q h) ∙ length-append (sends_of p.calls) (placed m.topic (Sends m) p q h ∷ []) in
-      let one : suc (length (sends_of p.calls)) ≡ length (sends_of q.calls) = omega (arith, sends) in
+  -- a batch was sent, and the next worker woken; then topics were taken from
+  pub rung-sent : (topic : ℕ) (b : List Part) (p q r : PassStanding B) (was is : List ℕ) → HasSent topic b p q → HasTaken q r
+      → is ≡ one_more (next_of number workers) was → RingsOn number workers p r was is
+  rung-sent topic b p q r was is h taken more first rings =
+      let sends : length (sends_of r.calls) ≡ length (sends_of p.calls) + 1 =
+      ap length (taken-sends q r taken) ∙ ap length (sent-sends topic (Sends b) p q h)
+      ∙ length-append (sends_of p.calls) (placed topic (Sends b) p q h ∷ []) in
+      let one : suc (length (sends_of p.calls)) ≡ length (sends_of r.calls) = omega (arith, sends) in
       more ∙ ap (one_more (next_of number workers)) rings ∙ ap (λ k. more_often (next_of number workers) k first) one
 
   -- no buffer was free, and nothing was sent

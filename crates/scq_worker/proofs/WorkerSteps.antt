@@ -1,10 +1,10 @@
--- What is kept of a worker's pass and of its list: one message more was passed on, or topics were taken from.
-use Rattle.std.proofs.Common.{◌≡◌, refl, sym, ◌∙◌, ap, subst, arith, suc, ℕ, ◌+◌, ◌<◌, ◌≤◌, List, [], ◌∷◌, ◌++◌, length, false}
-use Rattle.std.specs.Prelude.{count_by, filter, ◌==◌}
-use Rattle.std.specs.List.{AllZip}
+-- What is kept of a worker's pass and of its list: one batch more was passed on, or topics were taken from.
+use Rattle.std.proofs.Common.{◌≡◌, refl, sym, ◌∙◌, ap, subst, arith, suc, ℕ, ◌+◌, ◌<◌, ◌≤◌, List, [], ◌∷◌, ◌++◌, length, map, false}
+use Rattle.std.specs.Prelude.{count_by, filter, flat_map, ◌==◌}
 use Rattle.std.proofs.lemmas.Bool.{ne_eqb}
+use Rattle.std.proofs.lemmas.Grind.{flat_map-append}
 use Rattle.std.proofs.lemmas.List.{append-nil, length-append}
-use Rattle.std.proofs.lemmas.List.Elements.{filter-append}
+use Rattle.std.proofs.lemmas.List.Elements.{filter-append, All-map}
 use Rattle.std.proofs.lemmas.List.Sums.{sum_by-append}
 use Rattle.std.proofs.lemmas.Slice.Zip.{all_zipped_more}
 use Rattle.scq_core.specs.declared.ended.Ended.{Ended}
@@ -18,7 +18,7 @@ use Rattle.scq_collect.specs.declared.answered.Way.TheVariants.{Direct}
 use Rattle.scq_queue.specs.Lists.{sends_of, takes_of}
 use Rattle.scq_queue.specs.Passes.{PassStanding}
 use Rattle.scq_passes.specs.Records.{is_take, HelpsAfterEachFull, HelpsOnceAfterEachFull}
-use Rattle.scq_worker.specs.Members.{answered, is_taken, is_direct, AnswersSoFar, AnswersItsFulls, AnswersFull}
+use Rattle.scq_worker.specs.Members.{answered, is_taken, is_direct, AnswersSoFar, AnswersFull, AnswersItsFulls}
 use Rattle.scq_passes.specs.PassedOn.{and_sent, and_made}
 use Rattle.scq_worker.specs.Passing.{ArePassedOn, Sends, FollowsCalls, by_full}
 use Rattle.scq_passes.specs.Calls.{HasTaken, HasFoundFull, HasFewCalls}
@@ -26,18 +26,36 @@ use Rattle.scq_worker.specs.Working.{HasSent, IsProducing, IsSweeping, HasListed
 use Rattle.scq_passes.proofs.Kept.{at_most, taken-calls, taken-sends, sent-calls, sent-sends, sent-takes, placed, full-calls, full-sends, full-takes}
 use Rattle.scq_passes.proofs.Between.{between-sent, between-full, between-taken}
 use Rattle.scq_worker.proofs.Following.{follows-sent, follows-taken}
-use Rattle.scq_passes.proofs.RecordSteps.{helps-sent, helps-helped, helps-taken, helps-once}
+use Rattle.scq_passes.proofs.RecordSteps.{helps-behind, helps-helped, helps-taken, helps-once}
+
+-- direct answers are all direct
+directs-are : (topics : List (List ℕ × Kind)) (head : ℕ) (b : List Part)
+    → filter is_direct (map (answered topics (Direct head)) b) ≡ map (answered topics (Direct head)) b
+directs-are topics head [] = refl
+directs-are topics head (p ∷ b) = ap (λ (l : List Answered). answered topics (Direct head) p ∷ l) (directs-are topics head b)
+
+none-taken : (topics : List (List ℕ × Kind)) (head : ℕ) (b : List Part) → filter is_taken (map (answered topics (Direct head)) b) ≡ []
+none-taken topics head [] = refl
+none-taken topics head (p ∷ b) = none-taken topics head b
+
+-- they answer a Full
+full-answered : (topics : List (List ℕ × Kind)) (head : ℕ) (b : List Part) → 0 < length b → AnswersFull head (map (answered topics (Direct head)) b)
+full-answered topics head [] some_ = absurd (omega arith)
+full-answered topics head (p ∷ b) some_ = record {
+  some = λ is. absurd (cc);
+  each = All-map (λ (a : Answered). a.way ≡ Direct head) (answered topics (Direct head)) (p ∷ b) (λ k d less. refl);
+}
 
 module _ {B : Type 0} where
-  -- a message was sent
-  pub producing-sent : (topics : ℕ) (m : Part) (p q : PassStanding B) → IsProducing topics p → suc m.topic < length p.numbers → HasSent m p q
-      → IsProducing topics q
-  producing-sent topics m p q was within h =
+  -- a batch was sent, and topics were taken from behind it
+  pub producing-behind : (topics topic : ℕ) (b : List Part) (p q r : PassStanding B) → IsProducing topics p → suc topic < length p.numbers → HasSent topic b p q
+      → HasTaken q r → r.gates ≡ q.gates → IsProducing topics r
+  producing-behind topics topic b p q r was within h t gates =
       record {
-        helps = subst (HelpsOnceAfterEachFull topics) (sym (sent-calls m.topic (Sends m) p q h))
-            (helps-sent topics p.calls h.from (suc m.topic) h.place h.over h.bytes was.helps);
-        between = between-sent m.topic (Sends m) p q was.between within h;
-        unasked = ap (λ (x : PassStanding B). x.gates) h.pass ∙ was.unasked;
+        helps = subst (HelpsOnceAfterEachFull topics) (sym (taken-calls q r t ∙ ap (λ l. l ++ t.block) (sent-calls topic (Sends b) p q h)))
+            (helps-behind topics p.calls t.block h.from (suc topic) h.place h.over h.bytes t.are was.helps);
+        between = between-taken q r (between-sent topic (Sends b) p q was.between within h) t;
+        unasked = gates ∙ ap (λ (x : PassStanding B). x.gates) h.pass ∙ was.unasked;
       }
 
   -- no buffer was free, and a take of each topic was made
@@ -71,70 +89,77 @@ module _ {B : Type 0} where
       }
 
   -- how much was begun
-  pub few_calls-sent : (messages : ℕ) (m : Part) (p q : PassStanding B) → HasFewCalls 0 messages p → HasSent m p q → HasFewCalls 0 (messages + 1) q
-  few_calls-sent messages m p q was h =
+  pub few_calls-sent : (batches topic : ℕ) (b : List Part) (p q : PassStanding B) → HasFewCalls 0 batches p → HasSent topic b p q
+      → HasFewCalls 0 (batches + 1) q
+  few_calls-sent batches topic b p q was h =
       let got : List Ended = Got 0 h.from h.over ∷ [] in
-      let put : List Ended = Done (suc m.topic) h.place h.bytes ∷ [] in
-      let calls = sent-calls m.topic (Sends m) p q h in
+      let put : List Ended = Done (suc topic) h.place h.bytes ∷ [] in
+      let calls = sent-calls topic (Sends b) p q h in
       let sends : length (sends_of q.calls) ≡ length (sends_of p.calls) + 1 =
-      ap length (sent-sends m.topic (Sends m) p q h) ∙ length-append (sends_of p.calls) (placed m.topic (Sends m) p q h ∷ []) in
+      ap length (sent-sends topic (Sends b) p q h) ∙ length-append (sends_of p.calls) (placed topic (Sends b) p q h ∷ []) in
       let fulls : q.fulls ≡ p.fulls = ap (λ (x : PassStanding B). x.fulls) h.pass in
       let all : (r : ℕ) → tally (was_put r) q.calls ≡ tally (was_put r) p.calls + tally (was_put r) put = λ r.
       ap (tally (was_put r)) calls ∙ tally-append (was_put r) (p.calls ++ got) put
       ∙ ap (λ n. n + tally (was_put r) put) (tally-append (was_put r) p.calls got ∙ omega arith) in
-      let few : (r : ℕ) → tally (was_put r) put ≤ 1 = λ r. at_most (suc m.topic == r) in
-      let none_ : tally (was_put 0) put ≡ 0 = let other : (suc m.topic == 0) ≡ false = ne_eqb (suc m.topic) 0 (λ e. omega arith) in rw other (omega arith) in
+      let few : (r : ℕ) → tally (was_put r) put ≤ 1 = λ r. at_most (suc topic == r) in
+      let none_ : tally (was_put 0) put ≡ 0 = let other : (suc topic == 0) ≡ false = ne_eqb (suc topic) 0 (λ e. omega arith) in rw other (omega arith) in
       record {
         sends = let low = was.sends in omega arith;
         fulls = let low = was.fulls in omega (arith, ap length fulls);
-        puts = λ topic. let low = was.puts topic in let one = few (suc topic) in omega (arith, all (suc topic));
-        returns = let low = was.returns in omega (arith, all 0, ap length (sent-takes m.topic (Sends m) p q h));
+        puts = λ t. let low = was.puts t in let one = few (suc t) in omega (arith, all (suc t));
+        returns = let low = was.returns in omega (arith, all 0, ap length (sent-takes topic (Sends b) p q h));
       }
 
   -- the list
-  pub listed-sent : (topics : List (List ℕ × Kind)) (messages : List Part) (m : Part) (p q : PassStanding B) (members : List Answered)
-      → HasListed topics messages p members → HasSent m p q → HasListed topics (messages ++ m ∷ []) q members
-  listed-sent topics messages m p q members was h =
+  pub listed-sent : (topics : List (List ℕ × Kind)) (batches : List (List Part)) (topic : ℕ) (b : List Part) (p q : PassStanding B) (members : List Answered)
+      → HasListed topics batches p members → HasSent topic b p q → HasListed topics (batches ++ b ∷ []) q members
+  listed-sent topics batches topic b p q members was h =
       record {
-        passed = subst (λ sends. ArePassedOn topics (messages ++ m ∷ []) sends (filter is_direct members)) (sym (sent-sends m.topic (Sends m) p q h))
-            (and_sent m (placed m.topic (Sends m) p q h) was.passed h.sends);
-        follows = subst (FollowsCalls (messages ++ m ∷ [])) (sym (sent-calls m.topic (Sends m) p q h))
-            (follows-sent messages m p.calls h.from h.place h.over h.bytes was.follows h.sends);
-        takes = subst (λ takes. AnswersSoFar topics takes (filter is_taken members)) (sym (sent-takes m.topic (Sends m) p q h)) was.takes;
-        fulls = subst (λ fulls. AnswersItsFulls fulls members) (sym (ap (λ (x : PassStanding B). x.fulls) h.pass)) was.fulls;
+        groups = was.groups;
+        directs = was.directs;
+        passed = subst (λ sends. ArePassedOn topics (batches ++ b ∷ []) sends was.groups) (sym (sent-sends topic (Sends b) p q h))
+            (and_sent b (placed topic (Sends b) p q h) was.passed h.sends);
+        follows = subst (FollowsCalls (batches ++ b ∷ [])) (sym (sent-calls topic (Sends b) p q h))
+            (follows-sent batches b p.calls h.from topic h.place h.over h.bytes was.follows h.sends);
+        takes = subst (λ takes. AnswersSoFar topics takes (filter is_taken members)) (sym (sent-takes topic (Sends b) p q h)) was.takes;
+        fulls = subst (λ fulls. AnswersItsFulls fulls was.groups) (sym (ap (λ (x : PassStanding B). x.fulls) h.pass)) was.fulls;
       }
 
-  pub listed-full : (topics : List (List ℕ × Kind)) (messages : List Part) (m : Part) (head : ℕ) (p q : PassStanding B) (members : List Answered)
-      → HasListed topics messages p members → HasFoundFull head p q → HasListed topics (messages ++ m ∷ []) q (members ++ answered topics (Direct head) m ∷ [])
-  listed-full topics messages m head p q members was h =
-      let a = answered topics (Direct head) m in
-      let directs : filter is_direct (members ++ a ∷ []) ≡ filter is_direct members ++ a ∷ [] = filter-append is_direct members (a ∷ []) in
-      let takens : filter is_taken (members ++ a ∷ []) ≡ filter is_taken members =
-      filter-append is_taken members (a ∷ []) ∙ append-nil (filter is_taken members) in
-      let passed : ArePassedOn topics (messages ++ m ∷ []) (sends_of p.calls) (filter is_direct members ++ a ∷ []) =
-      and_made m a was.passed (record { head = head; answer = refl }) in
-      let fulls : AllZip AnswersFull (p.fulls ++ head ∷ []) (filter is_direct members ++ a ∷ []) =
-      all_zipped_more AnswersFull p.fulls (filter is_direct members) head a was.fulls refl in
+  pub listed-full : (topics : List (List ℕ × Kind)) (batches : List (List Part)) (b : List Part) (head : ℕ) (p q : PassStanding B) (members : List Answered)
+      → HasListed topics batches p members → 0 < length b → HasFoundFull head p q
+      → HasListed topics (batches ++ b ∷ []) q (members ++ map (answered topics (Direct head)) b)
+  listed-full topics batches b head p q members was some_ h =
+      let group : List Answered = map (answered topics (Direct head)) b in
+      let directs : filter is_direct (members ++ group) ≡ filter is_direct members ++ group =
+      filter-append is_direct members group ∙ ap (λ (l : List Answered). filter is_direct members ++ l) (directs-are topics head b) in
+      let takens : filter is_taken (members ++ group) ≡ filter is_taken members =
+      filter-append is_taken members group ∙ ap (λ (l : List Answered). filter is_taken members ++ l) (none-taken topics head b)
+      ∙ append-nil (filter is_taken members) in
+      let all : flat_map (λ (g : List Answered). g) (was.groups ++ group ∷ []) ≡ flat_map (λ (g : List Answered). g) was.groups ++ group =
+      flat_map-append (λ (g : List Answered). g) was.groups (group ∷ [])
+      ∙ ap (λ (l : List Answered). flat_map (λ (g : List Answered). g) was.groups ++ l) (append-nil group) in
       record {
-        passed = subst (λ sends. ArePassedOn topics (messages ++ m ∷ []) sends (filter is_direct (members ++ a ∷ []))) (sym (full-sends head p q h))
-            (subst (λ l. ArePassedOn topics (messages ++ m ∷ []) (sends_of p.calls) l) (sym directs) passed);
-        follows = subst (FollowsCalls (messages ++ m ∷ [])) (sym (full-calls head p q h)) (by_full m was.follows);
-        takes = subst (λ takes. AnswersSoFar topics takes (filter is_taken (members ++ a ∷ []))) (sym (full-takes head p q h))
+        groups = was.groups ++ group ∷ [];
+        directs = directs ∙ ap (λ (l : List Answered). l ++ group) was.directs ∙ sym all;
+        passed = subst (λ sends. ArePassedOn topics (batches ++ b ∷ []) sends (was.groups ++ group ∷ [])) (sym (full-sends head p q h))
+            (and_made b group was.passed (record { head = head; answers = refl }));
+        follows = subst (FollowsCalls (batches ++ b ∷ [])) (sym (full-calls head p q h)) (by_full b was.follows);
+        takes = subst (λ takes. AnswersSoFar topics takes (filter is_taken (members ++ group))) (sym (full-takes head p q h))
             (subst (λ l. AnswersSoFar topics (takes_of p.calls) l) (sym takens) was.takes);
-        fulls = subst (λ l. AllZip AnswersFull l (filter is_direct (members ++ a ∷ []))) (sym (ap (λ (x : PassStanding B). x.fulls) h.pass))
-            (subst (λ l. AllZip AnswersFull (p.fulls ++ head ∷ []) l) (sym directs) fulls);
+        fulls = subst (λ fulls. AnswersItsFulls fulls (was.groups ++ group ∷ [])) (sym (ap (λ (x : PassStanding B). x.fulls) h.pass))
+            (all_zipped_more AnswersFull p.fulls was.groups head group was.fulls (full-answered topics head b some_));
       }
 
-  pub listed-taken : (topics : List (List ℕ × Kind)) (messages : List Part) (p q : PassStanding B) (was is : List Answered)
-      → HasListed topics messages p was → HasTaken p q → HasAnswered topics p q was is → HasListed topics messages q is
-  listed-taken topics messages p q was is listed h more =
+  pub listed-taken : (topics : List (List ℕ × Kind)) (batches : List (List Part)) (p q : PassStanding B) (was is : List Answered)
+      → HasListed topics batches p was → HasTaken p q → HasAnswered topics p q was is → HasListed topics batches q is
+  listed-taken topics batches p q was is listed h more =
       record {
-        passed = subst (λ sends. ArePassedOn topics messages sends (filter is_direct is)) (sym (taken-sends p q h))
-            (subst (λ l. ArePassedOn topics messages (sends_of p.calls) l) (sym more.directs) listed.passed);
-        follows = subst (FollowsCalls messages) (sym (taken-calls p q h)) (follows-taken messages p.calls h.block h.are listed.follows);
+        groups = listed.groups;
+        directs = more.directs ∙ listed.directs;
+        passed = subst (λ sends. ArePassedOn topics batches sends listed.groups) (sym (taken-sends p q h)) listed.passed;
+        follows = subst (FollowsCalls batches) (sym (taken-calls p q h)) (follows-taken batches p.calls h.block h.are listed.follows);
         takes = more.takes listed.takes;
-        fulls = subst (λ l. AllZip AnswersFull l (filter is_direct is)) (sym (ap (λ (x : PassStanding B). x.fulls) h.pass))
-            (subst (λ l. AllZip AnswersFull p.fulls l) (sym more.directs) listed.fulls);
+        fulls = subst (λ fulls. AnswersItsFulls fulls listed.groups) (sym (ap (λ (x : PassStanding B). x.fulls) h.pass)) listed.fulls;
       }
 
   pub answered-along : (topics : List (List ℕ × Kind)) (p q r : PassStanding B) (xs ys zs : List Answered) → HasAnswered topics p q xs ys

@@ -1,7 +1,7 @@
 -- The batches that a worker has open, at most one for each topic: it gathers parts in them. They
 -- lie in its own memory, so that it holds no buffer meanwhile.
 use Rattle.std.specs.Prelude.{◌≡◌, ◌+◌, ◌≤◌, ℕ, Bool, List, [], ◌∷◌, ◌++◌, length, map, min}
-use Rattle.std.specs.Prelude.{if◌then◌else◌, slice_index_or, sum_by, All}
+use Rattle.std.specs.Prelude.{if◌then◌else◌, slice_index_or, All}
 use Rattle.scq_frames.specs.Parts.{Part}
 use Rattle.scq_frames.specs.Encoded.{IsEncodable}
 use Rattle.scq_frames.specs.Batches.{batch_bytes}
@@ -40,11 +40,10 @@ NoneIsOpen opens = (topic : ℕ) → open_on topic opens ≡ []
 
 -- parts went on in these batches, but for those that are open: on each topic those of the batches
 -- and then those that are open are these, in order; and where none goes with another, each is a
--- batch, in order. There are no more batches than parts that went on.
+-- batch, in order
 pub record AreGathered (most : ℕ) (parts : List Part) (batches opens : List (List Part))
     : Type 0 where
   pub each : All (IsBatch most) batches
   pub same : (topic : ℕ)
       → parts_on topic parts ≡ parts_on topic (parts_among batches) ++ open_on topic opens
-  pub few : length batches + sum_by length opens ≤ length parts
   pub alone : most ≡ 0 → batches ≡ map (λ p. p ∷ []) parts

@@ -104,7 +104,9 @@ fn pass_all_on<S: Source, G: Gate, T, W: Bell<T>>(
     let worker = &mut desk.worker.worker;
     let files = desk.files.as_mut_slice();
     read_files(worker, &with, stand, alloc, &job.topics, job.longest, files)?;
-    desk.worker.worker.pass_all_open(alloc, job, queue, gate, bell, stand)?;
+    desk.worker
+        .worker
+        .pass_all_open(alloc, job, queue, gate, bell, stand)?;
     Ok(())
 }
 

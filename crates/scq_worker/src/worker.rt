@@ -254,20 +254,13 @@ impl<B: BufferMut> Worker<B> {
 
     /// Answers each part of a load directly, where no buffer was free: with this head of the ring of
     /// free buffers.
-    fn answer_directly(
-        &mut self,
-        alloc: Global,
-        job: &Job,
-        topic: u32,
-        load: Load<'_>,
-        head: u64,
-    )
+    fn answer_directly(&mut self, alloc: Global, job: &Job, topic: u32, load: Load<'_>, head: u64)
         requires known { topic ≤ length job.now.topics }
         requires load { IsLoad job.now.size job.now.longest job.now.most topic load }
         ensures listed { self.new.starved ≡ false
             → self.new.members
             ≡ self.old.members
-            ++ map (answered job.now.topics (Way.Direct head)) (parts_of_load job.now.size load) }
+            ++ map (answered job.now.topics (Way.Direct head)) (parts_of_load job.now.size load.entry) }
         ensures starved { self.new.starved ≡ false → self.old.starved ≡ false }
         ensures same { (self.new.pass ≡ self.old.pass) × (self.new.number ≡ self.old.number)
             × (self.new.open ≡ self.old.open) }
@@ -299,7 +292,7 @@ impl<B: BufferMut> Worker<B> {
         ensures sent { OnOk result ((place : ℕ) × (bytes : List ℕ)
             × (self.new.pass ≡ having_seen self.new.pass.seen (after_put
             (suc topic) held.index place bytes self.old.pass))
-            × Sends (parts_of_load job.now.size load)
+            × Sends (parts_of_load job.now.size load.entry)
             (record { topic = topic; place = place; bytes = bytes })) }
         ensures spent { IfErr result (λ l.
             (ticket : ℕ) × (self.new.pass ≡ having_seen self.new.pass.seen (after_spent_put
@@ -324,8 +317,8 @@ impl<B: BufferMut> Worker<B> {
 fn write_load(job: &Job, topic: u32, load: Load<'_>, into: &mut [u8])
     requires load { IsLoad job.now.size job.now.longest job.now.most topic load }
     requires room { job.now.size + 24 ≤ length into.old }
-    ensures carries { Carries into.new (parts_of_load job.now.size load) }
-    ensures topic { All (λ p. p.topic ≡ topic) (parts_of_load job.now.size load) }
+    ensures carries { Carries into.new (parts_of_load job.now.size load.entry) }
+    ensures topic { All (λ p. p.topic ≡ topic) (parts_of_load job.now.size load.entry) }
     ensures len { length into.new ≡ length into.old }
 {
     match load {

@@ -76,7 +76,7 @@ impl<B: BufferMut> Worker<B> {
         ensures stays { OnOk result (self.new.pass.retired ≡ None) }
         ensures passed { OnOk result ((batches : List (List ThePart))
             → HasPassed job.now.topics batches self.old.pass self.old.members self.old.starved
-            → HasPassed job.now.topics (batches ++ parts_of_load job.now.size load
+            → HasPassed job.now.topics (batches ++ parts_of_load job.now.size load.entry
             ∷ []) self.new.pass self.new.members self.new.starved) }
         ensures left { IfErr result (λ l. (batches : List (List ThePart))
             → HasPassed job.now.topics batches self.old.pass self.old.members self.old.starved
@@ -213,8 +213,8 @@ impl<B: BufferMut> Worker<B> {
         Ok(())
     }
 
-    /// Lays out batches up to that of a topic: whether there was memory for them.
-    fn lay_out(&mut self, alloc: Global, topic: u32) -> bool
+    /// Begins batches up to that of a topic: whether there was memory for them.
+    fn begin_up_to(&mut self, alloc: Global, topic: u32) -> bool
         ensures long { result ≡ true → topic < length self.new.open.items }
         ensures few { length self.new.open.items ≤ max (length self.old.open.items) (topic + 1) }
         ensures open { (t : ℕ) → open_on t self.new.open.items ≡ open_on t self.old.open.items }
@@ -247,7 +247,7 @@ impl<B: BufferMut> Worker<B> {
             × (self.new.starved ≡ self.old.starved) × (self.new.number ≡ self.old.number) }
     {
         let len = view_of(message, job.size, part).payload.len();
-        if job.most == 0 || !self.lay_out(alloc, message.topic) {
+        if job.most == 0 || !self.begin_up_to(alloc, message.topic) {
             return false;
         }
         let batch = &mut self.open[message.topic as usize];

@@ -1,0 +1,14 @@
+use Rattle.std.proofs.Common.{◌≡◌, ◌≤◌, ◌+◌, ℕ, length, max}
+use Rattle.scq_worker.specs.Opening.{open_on}
+use Rattle.scq_worker.proofs.worker.Worker.begin_up_to.Given as goal
+
+-- nothing more is open, however many batches are begun
+abbrev pub invariant-topics : goal.invariant-topics
+invariant-topics g l = record {
+  few : length l.self.open.items ≤ max (length l.fn.self.open.items) (l.topic + 1);
+  open : (t : ℕ) → open_on t l.self.open.items ≡ open_on t l.fn.self.open.items;
+  pass : l.self.pass ≡ l.fn.self.pass;
+  members : l.self.members ≡ l.fn.self.members;
+  starved : l.self.starved ≡ l.fn.self.starved;
+  number : l.self.number ≡ l.fn.self.number;
+}
