@@ -4,6 +4,7 @@ mod MemberLemmas
 pub mod MessageParts
 mod PassedOn
 pub mod Gathered
+mod Loading
 mod RunLemmas
 pub mod Produced
 mod Rung

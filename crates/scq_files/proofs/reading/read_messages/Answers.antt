@@ -12,7 +12,7 @@ use Rattle.scq_files.specs.declared.own_file.FileEnd.TheVariants.{Stopped}
 use Rattle.scq_files.proofs.ReadLemmas.{IsReading, Answers, reading-next, reading-whole, reading-fault, reading-left}
 use Rattle.scq_files.proofs.Wants.{wants-none, wants-more}
 use Rattle.scq_files.proofs.reading.read_messages.Goals as goal
-use Rattle.scq_files.proofs.reading.read_messages.Goals.{After-next, After-handle}
+use Rattle.scq_files.proofs.reading.read_messages.Goals.{After-next, After-handle_one}
 
 -- what the framer's answer says, whichever it is
 said : (g : _) (c : After-next g) → Answers g.S.Source c.messages.source c.next.new.source c.messages.framer c.next.new.self
@@ -30,7 +30,7 @@ said g c =
     }
 
 -- with the message that it gave
-reading : (g : _) (c : After-handle g) → Answers g.S.Source c.messages.source c.next.new.source c.messages.framer c.next.new.self
+reading : (g : _) (c : After-handle_one g) → Answers g.S.Source c.messages.source c.next.new.source c.messages.framer c.next.new.self
     → IsReading c.args.topics.now c.args.longest g.S.Source c.args.file c.args.source.now c.next.new.source
     c.next.new.self (given_in c.give.new.given.value)
 reading g c answer =
@@ -59,50 +59,52 @@ reading g c answer =
     (its.kept (λ e. absurd (cc))) c.give.ensures
 
 -- it is handled behind the others
-handled-next : (g : _) (c : After-handle g)
-    → g.H.Handler.handled c.args.with.now (c.in-Ok-Some.message ∷ []) c.messages.beside c.messages.handler c.handle.new.beside c.handle.new.self
-    → g.H.Handler.handled c.args.with.now (given_in c.give.new.given.value) c.args.beside.now c.args.handler.now c.handle.new.beside c.handle.new.self
+handled-next : (g : _) (c : After-handle_one g)
+    → g.H.Handler.handled c.args.with.now (c.in-Ok-Some.message ∷ []) c.messages.beside c.messages.handler c.handle_one.new.beside c.handle_one.new.handler
+    → g.H.Handler.handled c.args.with.now (given_in c.give.new.given.value) c.args.beside.now c.args.handler.now c.handle_one.new.beside c.handle_one.new.handler
 handled-next g c its =
-    subst (λ (ms : List _). g.H.Handler.handled c.args.with.now ms c.args.beside.now c.args.handler.now c.handle.new.beside c.handle.new.self)
+    subst (λ (ms : List _). g.H.Handler.handled c.args.with.now ms c.args.beside.now c.args.handler.now c.handle_one.new.beside c.handle_one.new.handler)
     (sym c.give.ensures) (g.met.H.Handler.more_handled _ _ _ _ _ _ _ _ _ c.messages.invariant.handled its)
 
-pub returns-in_err-handle-in-Ok-Some-clause-unended : goal.returns-in_err-handle-in-Ok-Some-clause-unended
-returns-in_err-handle-in-Ok-Some-clause-unended g c =
-    let now = reading g (goal.at.returns-in_err-handle-in-Ok-Some-clause-unended g c).After-handle
-    (said g (goal.at.returns-in_err-handle-in-Ok-Some-clause-unended g c).After-next) in
-    let is : c.from_residual.result ≡ Err c.in_err-handle-in-Ok-Some.field-0.0 = search rules in
+pub returns-in_err-handle_one-in-Ok-Some-clause-unended : goal.returns-in_err-handle_one-in-Ok-Some-clause-unended
+returns-in_err-handle_one-in-Ok-Some-clause-unended g c =
+    let now = reading g (goal.at.returns-in_err-handle_one-in-Ok-Some-clause-unended g c).After-handle_one
+    (said g (goal.at.returns-in_err-handle_one-in-Ok-Some-clause-unended g c).After-next) in
+    let is : c.from_residual.result ≡ Err c.in_err-handle_one-in-Ok-Some.field-0.0 = search rules in
     subst (λ (r : Result _ _). IfErr r (λ l. IsRead c.args.topics.now c.args.longest g.S.Source c.args.file
     c.args.source.now c.next.new.source (given_in c.give.new.given.value) (Stopped NoMemory))) (sym is)
     (reading-left c.args.topics.now c.args.longest g.S.Source c.args.file c.args.source.now
     c.next.new.source c.next.new.self (given_in c.give.new.given.value) now)
 
-pub returns-in_err-handle-in-Ok-Some-clause-stopped : goal.returns-in_err-handle-in-Ok-Some-clause-stopped
-returns-in_err-handle-in-Ok-Some-clause-stopped g c =
-    let stop = c.in_err-handle-in-Ok-Some.field-0.0 in
+pub returns-in_err-handle_one-in-Ok-Some-clause-stopped : goal.returns-in_err-handle_one-in-Ok-Some-clause-stopped
+returns-in_err-handle_one-in-Ok-Some-clause-stopped g c =
+    let stop = c.in_err-handle_one-in-Ok-Some.field-0.0 in
     let is : c.from_residual.result ≡ Err stop = search rules in
     subst (λ (r : Result _ _). IfErr r (g.H.Handler.stopped c.args.with.now (given_in c.give.new.given.value) c.args.beside.now c.args.handler.now
-    c.handle.new.beside c.handle.new.self)) (sym is)
-    (subst (λ (ms : List _). g.H.Handler.stopped c.args.with.now ms c.args.beside.now c.args.handler.now c.handle.new.beside c.handle.new.self stop)
+    c.handle_one.new.beside c.handle_one.new.handler)) (sym is)
+    (subst (λ (ms : List _). g.H.Handler.stopped c.args.with.now ms c.args.beside.now c.args.handler.now c.handle_one.new.beside c.handle_one.new.handler stop)
     (sym c.give.ensures)
-    (g.met.H.Handler.then_stopped _ _ _ _ _ _ _ _ _ stop c.messages.invariant.handled c.in_err-handle-in-Ok-Some.ensures.stopped))
+    (g.met.H.Handler.then_stopped _ _ _ _ _ _ _ _ _ stop c.messages.invariant.handled c.in_err-handle_one-in-Ok-Some.ensures.stopped))
 
 pub returns-then-starved-clause-read : goal.returns-then-starved-clause-read
 returns-then-starved-clause-read g c =
-    let now = reading g (goal.at.returns-then-starved-clause-read g c).After-handle (said g (goal.at.returns-then-starved-clause-read g c).After-next) in
+    let now = reading g (goal.at.returns-then-starved-clause-read g c).After-handle_one (said g (goal.at.returns-then-starved-clause-read g c).After-next) in
     reading-left c.args.topics.now c.args.longest g.S.Source c.args.file c.args.source.now
     c.next.new.source c.next.new.self (given_in c.give.new.given.value) now
 
 pub returns-then-starved-clause-handled : goal.returns-then-starved-clause-handled
 returns-then-starved-clause-handled g c =
-    handled-next g (goal.at.returns-then-starved-clause-handled g c).After-handle c.in_ok-handle-in-Ok-Some.ensures.handled
+    handled-next g (goal.at.returns-then-starved-clause-handled g c).After-handle_one c.in_ok-handle_one-in-Ok-Some.ensures.handled
 
 pub messages-preserved : goal.messages-preserved
 messages-preserved g c =
-    let its = c.in_ok-handle-in-Ok-Some.ensures in
+    let its = c.in_ok-handle_one-in-Ok-Some.ensures in
     record {
-      reading = reading g (goal.at.messages-preserved g c).After-handle (said g (goal.at.messages-preserved g c).After-next);
+      reading = subst (λ framer. IsReading c.args.topics.now c.args.longest g.S.Source c.args.file c.args.source.now c.next.new.source framer
+          (given_in c.give.new.given.value)) (sym (c.reuse.ensures.same ∙ c.may_wait.ensures.same))
+          (reading g (goal.at.messages-preserved g c).After-handle_one (said g (goal.at.messages-preserved g c).After-next));
       ready = g.met.H.Handler.stays_ready _ _ _ _ _ _ c.messages.invariant.ready its.handled;
-      handled = handled-next g (goal.at.messages-preserved g c).After-handle its.handled;
+      handled = handled-next g (goal.at.messages-preserved g c).After-handle_one its.handled;
       fed = λ fed. sym c.starved.ensures ∙ c.if-starved.false;
     }
 
@@ -137,8 +139,8 @@ returns-in-Err-clause-read g c =
     (λ line len e. its.too_long line len (is ∙ ap Err e)) (λ n e. its.too_large n (is ∙ ap Err e))
 
 -- memory was wanted at this message, if at all
-pub returns-in_err-handle-in-Ok-Some-clause-wanted : goal.returns-in_err-handle-in-Ok-Some-clause-wanted
-returns-in_err-handle-in-Ok-Some-clause-wanted g c fed =
+pub returns-in_err-handle_one-in-Ok-Some-clause-wanted : goal.returns-in_err-handle_one-in-Ok-Some-clause-wanted
+returns-in_err-handle_one-in-Ok-Some-clause-wanted g c fed =
     wants-more _ _ c.in-Ok-Some.message _ _ _ _ c.give.ensures c.messages.invariant.handled (c.messages.invariant.fed fed)
 
 pub returns-then-starved-clause-wanted : goal.returns-then-starved-clause-wanted

@@ -1,0 +1,56 @@
+use Rattle.std.proofs.Common.{rules, ◌≡◌, ◌+◌, ◌∙◌, ap, sym, subst, arith, [], ◌++◌, List, length, take, drop, Err, Result}
+use Rattle.std.specs.Prelude.{IfErr}
+use Rattle.std.specs.List.{All}
+use Rattle.scq_frames.specs.declared.message.Message.{Message}
+use Rattle.scq_queue.specs.Passes.{PassStanding}
+use Rattle.scq_files.specs.Given.{given_in}
+use Rattle.scq_files.specs.OwnFiles.{StopsAtAFault, ids_of, all_given}
+use Rattle.scq_files.specs.Reading.{IsRead}
+use Rattle.scq_worker.specs.Bells.{RingsOn, rings-along}
+use Rattle.scq_worker.specs.Passing.{parts_in}
+use Rattle.scq_worker.specs.Reading.{IsAt, IsOver, IsWorking, HasPassedAllOn}
+use Rattle.scq_worker.specs.Working.{IsAtWork}
+use Rattle.scq_files.specs.declared.own_file.OwnFile.{OwnFile}
+use Rattle.scq_files.proofs.Lists.{written-back}
+use Rattle.scq_worker.proofs.Gathered.{open-none, gathered-none}
+use Rattle.scq_worker.proofs.Produced.{vain-first}
+use Rattle.scq_worker.proofs.RunLemmas.{suits-first, work-first}
+use Rattle.scq_worker.proofs.desk.pass_all_on.Goals as goal
+use Rattle.scq_worker.proofs.desk.pass_all_on.Goals.{After-read_files}
+
+pub read_files-requires-clause-ready : goal.read_files-requires-clause-ready
+read_files-requires-clause-ready g c κs within =
+    let its = c.requires in
+    let worker = c.args.desk.now.worker.worker in
+    let job = c.args.job.now in (
+      suits-first c.args.queue.now (length job.topics) worker.pass.number worker.pass its.rings its.fresh.pass,
+      ap (λ (p : PassStanding _). p.retired) its.fresh.pass,
+      its.room,
+      its.bell,
+      open-none job.most (length job.topics + 1) worker.open.items its.fresh.members.1,
+    )
+
+pub read_files-requires-clause-takes : goal.read_files-requires-clause-takes
+read_files-requires-clause-takes g c κs within m topic short = (topic, short)
+
+-- nothing was passed on before
+begun : (g : _) (c : After-read_files g) → IsAt c.args.queue.now c.args.job.now.topics c.args.job.now.size c.args.job.now.most [] c.args.desk.now.worker.worker
+begun g c =
+    let worker = c.args.desk.now.worker.worker in
+    let job = c.args.job.now in
+    let new = c.requires.fresh.members in (
+      work-first job.topics job.most c.args.queue.now worker.pass.number worker.pass worker.open.items worker.members worker.starved
+          c.requires.fresh.pass new.0 new.1,
+      vain-first c.args.queue.now (length job.topics + 1) _ worker.pass.number worker.pass c.requires.fresh.pass,
+    )
+
+-- the files on the desk are those that were read
+whole : (g : _) (c : After-read_files g)
+    → take c.args.desk.now.files.len (c.read_files.new.files ++ drop (length c.read_files.new.files) c.args.desk.now.files.items) ≡ c.read_files.new.files
+whole g c =
+    let old = c.args.desk.now.files.items in
+    let new = c.read_files.new.files in
+    let is = c.as_mut_slice-files.ensures.value in
+    let long : length new ≡ length old = c.read_files.auto.files ∙ ap length is in
+    let len : c.args.desk.now.files.len ≡ length old = sym (c.as_mut_slice-files.ensures.len) ∙ ap length is in
+    written-back c.args.desk.now.files.len new old (omega (arith, long, len))
