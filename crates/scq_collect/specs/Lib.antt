@@ -7,6 +7,7 @@ pub mod Pieces
 pub mod Coding
 pub mod PartViews
 pub mod GivenAnswers
+pub mod Ways
 pub mod InBlocks
 pub mod Spots
 pub mod Spans
