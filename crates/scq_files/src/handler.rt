@@ -24,6 +24,9 @@ pub trait Handler<C, T> {
     /// Whether it wanted memory.
     ghost wanted: { Self → Bool };
 
+    /// Whether it has put nothing off.
+    ghost rested: { Self → Type 0 };
+
     /// Handles a message.
     fn handle(&mut self, with: &C, beside: &mut T, message: &Message) -> Result<(), Self::Stop>
         requires ready { ready with.now beside.old self.old }
@@ -33,9 +36,10 @@ pub trait Handler<C, T> {
         ensures stopped { IfErr result
             (stopped with.now (message.now ∷ []) beside.old self.old beside.new self.new) };
 
-    /// Does what it would put off, before it may have to wait for a message. It handles none.
+    /// Does what it has put off, since it may have to wait for its next message. It handles none.
     fn pause(&mut self, with: &C, beside: &mut T) -> Result<(), Self::Stop>
         requires { ready with.now beside.old self.old }
+        ensures rested { OnOk result (rested self.new) }
         ensures handled { OnOk result
             (handled with.now [] beside.old self.old beside.new self.new) }
         ensures stopped { IfErr result

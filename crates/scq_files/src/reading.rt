@@ -1,5 +1,5 @@
 //! How files are read: message by message, which a handler gets.
-ghost use Rattle.std.specs.Prelude.{◌≡◌, ◌≤◌, [], ◌∷◌, true, false, length, IfOk, IfErr, OnOk, All};
+ghost use Rattle.std.specs.Prelude.{◌≡◌, ◌≤◌, [], ◌∷◌, true, false, length, IfOk, IfErr, IsTrue, OnOk, All};
 ghost use Rattle.scq_frames.specs.declared.message.Message.{Message as TheMessage};
 ghost use Rattle.scq_files.specs.Given.{given_in};
 ghost use Rattle.scq_files.specs.Handling.{TellsOfWant, WantsAtLast};
@@ -32,6 +32,7 @@ fn handle_one<C, T, H: Handler<C, T>>(
         (H.handled with.now (message.now ∷ []) beside.old handler.old beside.new handler.new) }
     ensures stopped { IfErr result
         (H.stopped with.now (message.now ∷ []) beside.old handler.old beside.new handler.new) }
+    ensures rested { IsTrue may_wait → OnOk result (H.rested handler.new) }
 {
     handler.handle(with, beside, message)?;
     if may_wait {

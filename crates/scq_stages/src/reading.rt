@@ -37,6 +37,8 @@ impl<'a> Handler<Calls<'a>, ()> for Worker<Frame> {
 
     ghost wanted = { λ w. w.starved };
 
+    ghost rested = { λ _. Unit {0} };
+
     /// Sends a message to first in a buffer that nobody holds, or, where there is none, does both
     /// stages to it itself and helps.
     fn handle(

@@ -9,6 +9,7 @@ use Rattle.scq_worker.specs.declared.worker.Worker.{Worker}
 abbrev pub Seated : Type 0 → Type 0
 Seated B = Seat (Worker B) B
 
--- it is to begin: it has a new pass, an empty list, and keeps no value
+-- it is to begin: it has a new pass, an empty list, nothing open, and keeps no value
 abbrev pub IsFresh : {B : Type 0} → Identity B → Seated B → Type 0
-IsFresh shared s = seats.IsFresh (λ w. w.pass) (λ w. w.members ≡ []) shared s
+IsFresh shared s =
+    seats.IsFresh (λ w. w.pass) (λ w. (w.members ≡ []) × (w.open.items ≡ [])) shared s

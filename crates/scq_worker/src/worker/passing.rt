@@ -1,9 +1,10 @@
 //! What a worker does with each message of its files: it gathers its parts, and passes them on,
 //! several in one value where they fit.
 ghost use Rattle.std.specs.Prelude.{◌≡◌, ◌≤◌, ◌<◌, ◌+◌, ◌++◌, ◌∷◌, ◌==◌, ℕ, List, true, false, []};
-ghost use Rattle.std.specs.Prelude.{length, max, None, IfErr, OnOk, All, if◌then◌else◌};
+ghost use Rattle.std.specs.Prelude.{count_by, length, max, None, IfErr, OnOk, All, if◌then◌else◌};
 ghost use Rattle.scq_frames.specs.Parts.{Part as ThePart, IsNumbered, all_parts};
 ghost use Rattle.scq_frames.specs.Parts.{parts_of as the_parts_of, part_of};
+ghost use Rattle.scq_passes.specs.Records.{is_take};
 ghost use Rattle.scq_passes.specs.Waiting.{HelpsInVain, TookInVain};
 ghost use Rattle.scq_passes.specs.Calls.{Suits, HasTaken, HasLeft};
 ghost use Rattle.scq_worker.specs.Bells.{RingsOn};
@@ -35,6 +36,10 @@ impl<B: BufferMut> Worker<B> {
         requires suits { Suits queue.now (length job.now.topics) self.old.pass }
         requires topic { topic ≤ length job.now.topics }
         ensures taken { OnOk result (HasTaken self.old.pass self.new.pass) }
+        ensures one { OnOk result ((t : ℕ)
+            → count_by (is_take t) self.new.pass.calls
+            ≡ count_by (is_take t) self.old.pass.calls
+            + (if topic == t then takes_behind job.now.most else 0)) }
         ensures answered { OnOk result (self.new.starved ≡ false
             → HasAnswered job.now.topics self.old.pass self.new.pass self.old.members
             self.new.members) }

@@ -26,7 +26,7 @@ impl<'a, G: Gate, T, W: Bell<T>> Handler<Calls<'a, G, W>, T> for Worker<Frame> {
     ghost use Rattle.std.proofs.Common.{refl, sym, ◌∙◌, subst};
     ghost use Rattle.scq_desk.specs.GoingOn.{gone-none, gone-along, gone-stopped};
     ghost use Rattle.scq_worker.specs.Bells.{RingsOn, rings-along};
-    ghost use Rattle.scq_worker.specs.Opening.{AreOpen};
+    ghost use Rattle.scq_worker.specs.Opening.{AreOpen, NoneIsOpen};
     ghost use Rattle.scq_worker.specs.Reading.{IsAt, IsOver, HasGoneOn, HasStoppedAt};
 
     type Stop = AtLimit<Frame>;
@@ -51,6 +51,8 @@ impl<'a, G: Gate, T, W: Bell<T>> Handler<Calls<'a, G, W>, T> for Worker<Frame> {
         × (W.kept s ≡ W.kept t) };
 
     ghost wanted = { λ w. w.starved };
+
+    ghost rested = { λ w. NoneIsOpen w.open.items };
 
     /// Passes a message on.
     fn handle(
