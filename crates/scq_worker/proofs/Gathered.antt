@@ -12,7 +12,8 @@ use Rattle.scq_frames.specs.Encoded.{IsEncodable, message_bytes}
 use Rattle.scq_frames.specs.Batches.{batch_bytes}
 use Rattle.scq_frames.proofs.BatchLemmas.{length-message_bytes}
 use Rattle.scq_worker.specs.Opening.{open_on, IsOpen, AreOpen, NoneIsOpen, AreGathered}
-use Rattle.scq_worker.specs.Passing.{IsBatch, parts_among, parts_on, AreBatchesOf}
+use Rattle.scq_worker.specs.Members.{IsBatch}
+use Rattle.scq_worker.specs.Passing.{parts_among, parts_on, AreBatchesOf}
 
 -- those on their topic are all of them, and on another there are none
 on-own : (t : ℕ) (b : List Part) → All (λ p. p.topic ≡ t) b → parts_on t b ≡ b

@@ -1,6 +1,7 @@
 -- A worker's list of answers, against what its pass did. `topics` has the names and kinds of the
 -- declared topics.
-use Rattle.std.specs.Prelude.{◌≡◌, ℕ, ◌+◌, ◌≤◌, Bool, true, false, not, nat_le, if◌then◌else◌}
+use Rattle.std.specs.Prelude.{◌≡◌, ◌⊎◌, ℕ, ◌+◌, ◌<◌, ◌≤◌, Bool, true, false, not, nat_le}
+use Rattle.std.specs.Prelude.{if◌then◌else◌}
 use Rattle.std.specs.Prelude.{List, [], ◌∷◌, ◌++◌, length, filter, flat_map}
 use Rattle.std.specs.List.{All, AllZip}
 use Rattle.scq_topics.specs.declared.kind.Kind.{Kind}
@@ -73,18 +74,29 @@ answers_to_takes topics takes = flat_map (answers_to_take topics) takes
 abbrev pub AnswersSoFar : List (List ℕ × Kind) → List Placed → List Answered → Type 0
 AnswersSoFar topics takes members = members ≡ answers_to_takes topics takes
 
--- a take got one or more parts, each on a known topic
-pub record GotParts (topics : List (List ℕ × Kind)) (take : Placed) : Type 0 where
+-- these parts may go in one value: they are of one file and topic, and where they are several they
+-- have together at most `most` bytes
+pub record IsBatch (most : ℕ) (batch : List Part) : Type 0 where
+  pub some : 0 < length batch
+  pub file : ℕ
+  pub of_file : All (λ p. p.file ≡ file) batch
+  pub topic : ℕ
+  pub on_topic : All (λ p. p.topic ≡ topic) batch
+  pub fits : (length batch ≡ 1) ⊎ (length (batch_bytes batch) ≤ most)
+
+-- a take got parts that may go in one value, on its topic, which is a known one
+pub record GotParts (topics : List (List ℕ × Kind)) (most : ℕ) (take : Placed) : Type 0 where
   pub parts : List Part
   pub carries : Carries take.bytes parts
-  pub some : parts ≡ [] → ⊥
-  pub known : All (λ p. p.topic ≤ length topics) parts
+  pub batch : IsBatch most parts
+  pub on_topic : All (λ p. p.topic ≡ take.topic) parts
+  pub known : take.topic ≤ length topics
 
 -- in order, the Taken members of a list are the answers to the parts that the takes of a pass got,
 -- and none of these is passed over
-pub record AnswersItsTakes (topics : List (List ℕ × Kind)) (takes : List Placed)
+pub record AnswersItsTakes (topics : List (List ℕ × Kind)) (most : ℕ) (takes : List Placed)
     (members : List Answered) : Type 0 where
-  pub got : All (GotParts topics) takes
+  pub got : All (GotParts topics most) takes
   pub answers : AnswersSoFar topics takes (filter is_taken members)
 
 -- members answer the parts of one value directly, where no buffer was free: one or more, with this

@@ -5,7 +5,8 @@ use Rattle.std.specs.Prelude.{if◌then◌else◌, slice_index_or, All}
 use Rattle.scq_frames.specs.Parts.{Part}
 use Rattle.scq_frames.specs.Encoded.{IsEncodable}
 use Rattle.scq_frames.specs.Batches.{batch_bytes}
-use Rattle.scq_worker.specs.Passing.{IsBatch, parts_among, parts_on}
+use Rattle.scq_worker.specs.Members.{IsBatch}
+use Rattle.scq_worker.specs.Passing.{parts_among, parts_on}
 
 -- how many bytes the parts of a value may have together where they are several: none go together
 -- unless there are batches

@@ -1,32 +1,21 @@
 -- What becomes of the parts of the messages of a worker's files: they go on in batches, each of
 -- which is sent, or answered directly.
-use Rattle.std.specs.Prelude.{◌≡◌, ◌==◌, ◌⊎◌, ◌<◌, ◌≤◌, ℕ, suc, List, [], ◌∷◌, ◌++◌, filter, map}
-use Rattle.std.specs.Prelude.{flat_map, length, None, All}
+use Rattle.std.specs.Prelude.{◌≡◌, ◌==◌, ℕ, suc, List, [], ◌∷◌, ◌++◌, filter, map}
+use Rattle.std.specs.Prelude.{flat_map, None, All}
 use Rattle.scq_core.specs.declared.ended.Ended.{Ended}
 use Rattle.scq_core.specs.declared.ended.Ended.TheVariants.{Done, Nothing}
 use Rattle.scq_topics.specs.declared.kind.Kind.{Kind}
 use Rattle.scq_frames.specs.declared.message.Message.{Message}
 use Rattle.scq_frames.specs.Parts.{Part, all_parts}
-use Rattle.scq_frames.specs.Batches.{batch_bytes}
 use Rattle.scq_collect.specs.declared.answered.Answered.{Answered}
 use Rattle.scq_collect.specs.declared.answered.Way.TheVariants.{Direct}
 use Rattle.scq_queue.specs.Lists.{Placed, sent_by, was_full}
 use Rattle.scq_passes.specs.PassedOn as passed
-use Rattle.scq_worker.specs.Members.{answered, Carries}
+use Rattle.scq_worker.specs.Members.{answered, Carries, IsBatch}
 
 -- all parts of messages, in order, where a part has at most so many bytes
 abbrev pub parts_in : ℕ → List Message → List Part
 parts_in size messages = flat_map (all_parts size) messages
-
--- these parts may go in one value: they are of one file and topic, and where they are several they
--- have together at most `most` bytes
-pub record IsBatch (most : ℕ) (batch : List Part) : Type 0 where
-  pub some : 0 < length batch
-  pub file : ℕ
-  pub of_file : All (λ p. p.file ≡ file) batch
-  pub topic : ℕ
-  pub on_topic : All (λ p. p.topic ≡ topic) batch
-  pub fits : (length batch ≡ 1) ⊎ (length (batch_bytes batch) ≤ most)
 
 -- all parts of batches, one batch behind the other
 abbrev pub parts_among : List (List Part) → List Part
