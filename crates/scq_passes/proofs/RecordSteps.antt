@@ -128,9 +128,10 @@ pub helps-behind : {By : Puts} (topics : ℕ) (xs block : List Ended) (from ring
 helps-behind topics xs block from ring place over bytes are once =
     let got : List Ended = Got 0 from over ∷ [] in
     let put : List Ended = Done ring place bytes ∷ [] in
+    let none = takes-no_full block are in
     subst (HelpsOnceAfterEachFull topics) (sym (ap (λ l. l ++ block) (append_assoc xs got put) ∙ append_assoc xs (got ++ put) block))
     (after-led (TakesOnce topics) xs (Done ring place bytes ∷ block) (Got 0 from over) once refl
-    (λ front after is. absurd (no-full (Got 0 from over ∷ Done ring place bytes ∷ block) front after (takes-no_full block are) is)))
+    (λ front after is. absurd (no-full (Got 0 from over ∷ Done ring place bytes ∷ block) front after (omega (arith, none)) is)))
 
 pub alone-sent : (xs : List Ended) (from ring place : ℕ) (over bytes : List ℕ) → HoldsNothingAtEachFull xs
     → HoldsNothingAtEachFull ((xs ++ Got 0 from over ∷ []) ++ Done ring place bytes ∷ [])
