@@ -1,60 +1,115 @@
--- Once the queue is closed: the answers of all workers are those to all parts of all messages, each once.
-use Rattle.std.proofs.Common.{◌≡◌, sym, ◌∙◌, ap, ℕ, ◌≤◌, List, [], ◌++◌, length, map, Some}
-use Rattle.std.specs.Prelude.{unwrap_or}
-use Rattle.std.specs.List.{AllZip, Contains}
+-- Once the queue is closed: a worker's parts, answered, are its sends as they are read and its direct answers; and what it took of such sends are the
+-- answers to the parts in them.
+use Rattle.std.proofs.Common.{◌≡◌, refl, sym, ◌∙◌, ap, subst, zero, suc, arith, ℕ, ◌+◌, ◌<◌, ◌≤◌, List, [], ◌∷◌, ◌++◌, length, map, get_or}
+use Rattle.std.specs.Prelude.{filter, flat_map, nat_le}
+use Rattle.std.specs.List.{All, AllByRecursion, Contains}
 use Rattle.std.specs.List.Sorted.{IsPermutation}
+use Rattle.std.proofs.lemmas.Bool.{le-leb}
+use Rattle.std.proofs.lemmas.Grind.{flat_map-append}
+use Rattle.std.proofs.lemmas.List.{map-append}
+use Rattle.std.proofs.lemmas.List.Elements.{All-contains, Contains-get_or, recursion_from_All}
+use Rattle.std.proofs.lemmas.List.Folds.{flat_map-map}
+use Rattle.std.proofs.lemmas.List.Sorted.{All-permutation, IsPermutation-map, IsPermutation-trans}
 use Rattle.scq_topics.specs.declared.kind.Kind.{Kind}
 use Rattle.scq_frames.specs.Parts.{Part}
-use Rattle.scq_frames.specs.Encoded.{part_at, IsEncodable, BeginsWith}
-use Rattle.scq_frames.proofs.EncodedLemmas.{part_at-again}
+use Rattle.scq_frames.specs.Batches.{parts_at}
 use Rattle.scq_collect.specs.Joined.{PartAnswer, part_answer, without_way}
 use Rattle.scq_collect.specs.declared.answered.Answered.{Answered}
-use Rattle.scq_queue.specs.Lists.{Placed}
-use Rattle.scq_worker.specs.Members.{AnswersTake, AnswersSoFar, IsPassedOver}
-use Rattle.scq_worker.specs.Passing.{ArePassedOn, Sends}
-use Rattle.scq_passes.proofs.PassedOn.{passed-results}
-use Rattle.scq_passes.proofs.Becoming.{so-far-all, so-far-results}
+use Rattle.scq_collect.specs.declared.answered.Way.{Way}
+use Rattle.scq_collect.specs.declared.answered.Way.TheVariants.{Taken}
+use Rattle.scq_files.proofs.Lists.{map-map}
+use Rattle.scq_queue.specs.Lists.{Placed, sends_of, takes_of}
+use Rattle.scq_queue.specs.Passes.{PassStanding}
+use Rattle.scq_passes.proofs.ManyLists.{flat-map, found-at, in-all}
+use Rattle.scq_passes.proofs.PassedOn.{passed-results, passed-send}
+use Rattle.scq_worker.specs.Members.{answered, answers_from, answers_to_take, answers_to_takes, is_direct, AnswersSoFar, Carries, GotParts}
+use Rattle.scq_worker.specs.Passing.{AnswersDirectly, AreBatchesOf, ArePassedOn, IsBatch, Sends, parts_among}
+use Rattle.scq_worker.specs.Working.{HasListed, HasListedAll}
+use Rattle.scq_work.proofs.SameParts.{batches-hold}
+use Rattle.scq_work.proofs.FlatLists.{flat-permutation}
 
--- a part that stands where there is none
-abbrev pub no_part : Part
-no_part = record { file = 0; line = 0; topic = 0; part = 0; parts = 0; payload = [] }
+-- the answers to the parts in a value
+abbrev pub answers_at : List (List ℕ × Kind) → Placed → List PartAnswer
+answers_at topics v = map (part_answer topics) (parts_at v.bytes)
 
--- the answer to the part that bytes begin with; where there is none, to one without bytes
-abbrev pub answer_at : List (List ℕ × Kind) → Placed → PartAnswer
-answer_at topics m = part_answer topics (unwrap_or (part_at m.bytes) no_part)
+module _ (topics : List (List ℕ × Kind)) where
+  -- the parts of batches, answered, are those in the sends and the direct answers
+  passed-answers : (batches : List (List Part)) (sends : List Placed) (groups : List (List Answered)) → ArePassedOn topics batches sends groups
+      → IsPermutation (map (part_answer topics) (parts_among batches))
+      (flat_map (answers_at topics) sends ++ map without_way (flat_map (λ group. group) groups))
+  passed-answers batches sends groups passed =
+      let result : List Part → List PartAnswer = map (part_answer topics) in
+      let plain : List Answered → List PartAnswer = map without_way in
+      let each = passed-results result (answers_at topics) plain (λ b s is. ap result is.carries.all)
+      (λ b group is. ap plain is.answers ∙ map-map without_way (answered topics _) b) batches sends groups passed in
+      let all = flat-permutation (λ (l : List PartAnswer). l) (map result batches) (map (answers_at topics) sends ++ map plain groups) each in
+      rw (
+        sym (flat-map (part_answer topics) (λ (b : List Part). b) batches),
+        sym (flat-map without_way (λ (g : List Answered). g) groups),
+      ) (rw (
+        flat_map-append (λ (l : List PartAnswer). l) (map (answers_at topics) sends) (map plain groups),
+        flat_map-map (λ (l : List PartAnswer). l) result batches,
+        flat_map-map (λ (l : List PartAnswer). l) (answers_at topics) sends,
+        flat_map-map (λ (l : List PartAnswer). l) plain groups,
+      ) at all)
 
--- the bytes of a sent part are read as the part
-sent-answer : (topics : List (List ℕ × Kind)) (m : Part) (send : Placed) → Sends m send → answer_at topics send ≡ part_answer topics m
-sent-answer topics m send sends =
-    let is : part_at send.bytes ≡ Some m = ap part_at sends.bytes.1 ∙ part_at-again m sends.bytes.0 sends.fits in
-    ap (λ o. part_answer topics (unwrap_or o no_part)) is
+  -- so a worker's parts, answered, are those in its sends and its direct answers
+  pub work-answers : {B : Type 0} (most : ℕ) (p : PassStanding B) (parts : List Part) (members : List Answered)
+      → HasListedAll topics most parts p members
+      → IsPermutation (map (part_answer topics) parts)
+      (flat_map (answers_at topics) (sends_of p.calls) ++ map without_way (filter is_direct members))
+  work-answers most p parts members all =
+      let listed = all.listed in
+      let sent = flat_map (answers_at topics) (sends_of p.calls) in
+      let held = IsPermutation-map (part_answer topics) parts (parts_among all.batches) (batches-hold most parts all.batches all.are) in
+      let passed = passed-answers all.batches (sends_of p.calls) listed.groups listed.passed in
+      IsPermutation-trans (map (part_answer topics) parts) (map (part_answer topics) (parts_among all.batches))
+      (sent ++ map without_way (filter is_direct members)) held
+      (subst (λ (l : List Answered). IsPermutation (map (part_answer topics) (parts_among all.batches)) (sent ++ map without_way l))
+      (sym listed.directs) passed)
 
--- a worker's parts, answered, are its sends as they are read and its direct answers
-pub passed-answers : (topics : List (List ℕ × Kind)) (messages : List Part) (sends : List Placed) (directs : List Answered)
-    → ArePassedOn topics messages sends directs
-    → IsPermutation (map (part_answer topics) messages) (map (answer_at topics) sends ++ map without_way directs)
-passed-answers topics messages sends directs passed =
-    passed-results (part_answer topics) (answer_at topics) without_way (λ m send is. sent-answer topics m send is) (λ m a is. ap without_way is.answer)
-    messages sends directs passed
+  -- and each of its sends is a value of one or more parts on known topics, where all its parts are on these
+  pub send-parts : {B : Type 0} (most : ℕ) (p : PassStanding B) (parts : List Part) (members : List Answered)
+      → HasListedAll topics most parts p members → All (λ m. m.topic ≤ length topics) parts
+      → (s : Placed) → Contains (sends_of p.calls) s → GotParts topics s
+  send-parts most p parts members all known s has =
+      let Known : Part → Type 0 = λ m. m.topic ≤ length topics in
+      let its = passed-send all.batches (sends_of p.calls) all.listed.groups all.listed.passed s has in
+      let batch = its.0 in
+      let is : IsBatch most batch = All-contains (IsBatch most) all.batches batch all.are.each its.1 in
+      let each : All Known (parts_among all.batches) =
+      All-permutation Known parts (parts_among all.batches) (batches-hold most parts all.batches all.are) known in
+      let at = found-at all.batches batch its.1 in
+      record {
+        parts = batch;
+        carries = its.2.carries;
+        some = λ none. omega (arith, is.some, ap length none);
+        known = λ k d less. All-contains Known (parts_among all.batches) (get_or batch k d) each
+            (in-all (λ (b : List Part). b) all.batches at.0 batch (get_or batch k d) at.1 (Contains-get_or batch k d less));
+      }
 
--- a take is that of a part on a known topic
-pub record IsPart (known : ℕ) (take : Placed) : Type 0 where
-  pub part : Part
-  pub fits : IsEncodable part
-  pub begins : BeginsWith take.bytes part
-  pub low : part.topic ≤ known
+  -- the answers to parts on known topics, whatever their ways
+  without-ways : (way : Way) (number : ℕ) (parts : List Part) → AllByRecursion (λ (m : Part). m.topic ≤ length topics) parts
+      → map without_way (answers_from topics way number parts) ≡ map (part_answer topics) parts
+  without-ways way number [] known = refl
+  without-ways way number (p ∷ ps) known =
+      rw (le-leb p.topic (length topics) known.0)
+      (ap (λ (l : List PartAnswer). part_answer topics p ∷ l) (without-ways way (number + 1) ps known.1))
 
--- where each take is, none is passed over, and the Taken members are the answers as the takes are read
-pub taken-answers : (topics : List (List ℕ × Kind)) (takes : List Placed) (members : List Answered) → AnswersSoFar topics takes members
-    → ((t : Placed) → Contains takes t → IsPart (length topics) t)
-    → AllZip (AnswersTake topics) takes members × (map without_way members ≡ map (answer_at topics) takes)
-taken-answers topics takes members so_far each =
-    let never : (t : Placed) → Contains takes t → IsPassedOver topics t → ⊥ = λ t has over.
-    let its = each t has in
-    over its.part its.fits its.begins its.low in
-    let alike : (t : Placed) (a : Answered) → Contains takes t → AnswersTake topics t a → without_way a ≡ answer_at topics t = λ t a has is.
-    let its = each t has in
-    let same : is.part ≡ its.part = is.decodes.only its.part its.fits its.begins in
-    let read : part_at t.bytes ≡ Some its.part = ap part_at its.begins.1 ∙ part_at-again its.part its.begins.0 its.fits in
-    ap without_way is.answer ∙ ap (part_answer topics) same ∙ sym (ap (λ o. part_answer topics (unwrap_or o no_part)) read) in
-    (so-far-all takes members so_far never, so-far-results (answer_at topics) without_way takes members so_far never alike)
+  takes-answers : (takes : List Placed) → AllByRecursion (GotParts topics) takes
+      → map without_way (answers_to_takes topics takes) ≡ flat_map (answers_at topics) takes
+  takes-answers [] each = refl
+  takes-answers (t ∷ ts) each =
+      let Known : Part → Type 0 = λ m. m.topic ≤ length topics in
+      let parts = parts_at t.bytes in
+      let known = recursion_from_All Known parts (subst (λ (l : List Part). All Known l) (sym each.0.carries.all) each.0.known) in
+      let here : map without_way (answers_to_take topics t) ≡ answers_at topics t = without-ways (Taken t.place 0) 0 parts known in
+      map-append without_way (answers_to_take topics t) (answers_to_takes topics ts)
+      ∙ ap (λ (l : List PartAnswer). l ++ map without_way (answers_to_takes topics ts)) here
+      ∙ ap (λ (l : List PartAnswer). answers_at topics t ++ l) (takes-answers ts each.1)
+
+  -- where each take got such parts, what was taken is the answers to all of them
+  pub taken-answers : (takes : List Placed) (members : List Answered) → AnswersSoFar topics takes members → All (GotParts topics) takes
+      → map without_way members ≡ flat_map (answers_at topics) takes
+  taken-answers takes members so_far each =
+      ap (map without_way) so_far ∙ takes-answers takes (recursion_from_All (GotParts topics) takes each)

@@ -45,12 +45,12 @@ parts-spread size (m ∷ ms) some =
 
 module _ {B S : Type 0} where
   -- the workers of a queue have left: each had its own of the files, and did what `HasRun` says, however the reading of these ended
-  pub record AllRan (c : Setup) (shared : Identity B) (topics : List (List ℕ × Kind)) (size longest : ℕ) (src : SourceOf S)
+  pub record AllRan (c : Setup) (shared : Identity B) (topics : List (List ℕ × Kind)) (size most longest : ℕ) (src : SourceOf S)
       (sources : List S) (desks : List (Desk (Seated B) S)) : Type 0 where
     pub some : 0 < length desks
     pub few : length sources ≤ 64
     pub dealt : AreDealt 1 sources desks
-    pub run : All (λ d. HasRun shared topics size longest src d.files.items d.worker.worker.pass d.worker.worker.members
+    pub run : All (λ d. HasRun shared topics size most longest src d.files.items d.worker.worker.pass d.worker.worker.members
         d.worker.worker.starved d.worker.kept) desks
     pub setup : shared.setup ≡ c
     pub numbers : (w : ℕ) (d : Desk (Seated B) S) → w < length desks → (slice_index_or desks w d).worker.worker.pass.number ≡ w
@@ -60,8 +60,8 @@ module _ {B S : Type 0} where
     pub limit : c.limit ≡ 2 ^ 60
     pub some_size : 0 < size
 
-  module _ (c : Setup) (shared : Identity B) (topics : List (List ℕ × Kind)) (size longest : ℕ) (src : SourceOf S) (sources : List S)
-      (desks : List (Desk (Seated B) S)) (ran : AllRan c shared topics size longest src sources desks) where
+  module _ (c : Setup) (shared : Identity B) (topics : List (List ℕ × Kind)) (size most longest : ℕ) (src : SourceOf S) (sources : List S)
+      (desks : List (Desk (Seated B) S)) (ran : AllRan c shared topics size most longest src sources desks) where
     pub all-read : AllRead topics longest src sources desks
     all-read = record { some = ran.some; few = ran.few; dealt = ran.dealt; read = λ k d less. (ran.run k d less).read }
 

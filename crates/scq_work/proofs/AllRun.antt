@@ -22,19 +22,19 @@ use Rattle.scq_collect.specs.Merging.{members_of}
 use Rattle.scq_band.specs.Standing.{Identity}
 use Rattle.scq_band.proofs.ClosedCounts.{sum_by-map}
 use Rattle.scq_queue.specs.Closing.{EachTakeIsASend, NoPlaceIsTakenTwice, NoneIsKeptWithinTheLimit}
-use Rattle.scq_queue.specs.Lists.{sends_of, takes_of}
+use Rattle.scq_queue.specs.Lists.{takes_of}
 use Rattle.scq_queue.specs.Passes.{PassStanding, HeldStanding}
 use Rattle.scq_passes.specs.AllPasses.{HaveShared}
 use Rattle.scq_work.specs.AllWorkers.{HaveAnswered, HasHelped, OfEachWorker}
 use Rattle.scq_files.specs.Ends.{AreGiven}
 use Rattle.scq_files.specs.Files.{own_of}
-use Rattle.scq_worker.specs.Members.{AnswersItsTakes, AnswersItsFulls}
-use Rattle.scq_worker.specs.Passing.{parts_in, HasPassedOn, FollowsCalls}
+use Rattle.scq_worker.specs.Members.{AnswersItsTakes}
+use Rattle.scq_worker.specs.Passing.{parts_in}
 use Rattle.scq_files.specs.Reading.{IsRead, SourceOf}
 use Rattle.scq_passes.specs.Records.{HoldsNothingAtEachFull, MeetsNoSpent}
 use Rattle.scq_passes.specs.Together.{SendsAreTakes, NoneSpent, IsBounded, HasSwept}
 use Rattle.scq_passes.specs.Calls.{HasFewCalls, index_of}
-use Rattle.scq_worker.specs.Working.{HasListed}
+use Rattle.scq_worker.specs.Working.{HasListedAll}
 use Rattle.scq_files.specs.declared.desk.Desk.{Desk}
 use Rattle.scq_worker.specs.Seats.{Seated}
 use Rattle.scq_files.specs.declared.own_file.OwnFile.{OwnFile}
@@ -86,14 +86,14 @@ module _ {B S : Type 0} where
         let its_list : d.worker.worker.members ≡ list = cc in
         subst (λ q. P w q list) its_pass (subst (λ (l : List Answered). P w d.worker.worker.pass l) its_list (each w d is))
 
-  module _ (c : Setup) (shared : Identity B) (topics : List (List ℕ × Kind)) (size longest : ℕ) (src : SourceOf S) (sources : List S)
-      (desks : List (Desk (Seated B) S)) (ran : AllRan c shared topics size longest src sources desks) where
+  module _ (c : Setup) (shared : Identity B) (topics : List (List ℕ × Kind)) (size most longest : ℕ) (src : SourceOf S) (sources : List S)
+      (desks : List (Desk (Seated B) S)) (ran : AllRan c shared topics size most longest src sources desks) where
     -- what `AllGave` says of these desks, by short names
     abbrev messages_given : List (List Message)
-    messages_given = given c shared topics size longest src sources desks ran
+    messages_given = given c shared topics size most longest src sources desks ran
 
     own-gave : (w : ℕ) (d : Desk (Seated B) S) → slice_get desks w ≡ Some d → worker_messages d ≡ own_of (length desks) w 1 messages_given
-    own-gave = own-given c shared topics size longest src sources desks ran
+    own-gave = own-given c shared topics size most longest src sources desks ran
 
     abbrev works : List (ℕ × PassStanding B)
     works = map (counted size) desks
@@ -104,7 +104,7 @@ module _ {B S : Type 0} where
     few-messages : messages_of works ≤ 2 ^ 36
     few-messages =
         let counts = sum_by-map (λ (w : ℕ × PassStanding B). w.0) (counted size) desks in
-        let few = few-in-all c shared topics size longest src sources desks ran in
+        let few = few-in-all c shared topics size most longest src sources desks ran in
         omega arith
 
     all-few : All (λ (w : ℕ × PassStanding B). HasFewCalls 1 w.0 w.1) works
@@ -199,21 +199,22 @@ module _ {B S : Type 0} where
       -- where each file was read to its end and no worker wanted memory
       module _ (whole : AllWhole desks) (fed : All (λ d. d.worker.worker.starved ≡ false) desks) where
         gave : AreGiven topics longest src.left 1 sources messages_given
-        gave = is-given c shared topics size longest src sources desks ran whole
+        gave = is-given c shared topics size most longest src sources desks ran whole
 
         listed : (k : ℕ) (d : Desk (Seated B) S) → k < length desks
-            → HasListed topics (parts_in size (worker_messages (get_or desks k d))) (get_or desks k d).worker.worker.pass (get_or desks k d).worker.worker.members
+            → HasListedAll topics most (parts_in size (worker_messages (get_or desks k d))) (get_or desks k d).worker.worker.pass
+            (get_or desks k d).worker.worker.members
         listed k d less = (ran.run k d less).listed (spent-none k d less) (fed k d less)
 
         listed-at : (w : ℕ) (d : Desk (Seated B) S) → slice_get desks w ≡ Some d
-            → HasListed topics (parts_in size (worker_messages d)) d.worker.worker.pass d.worker.worker.members
+            → HasListedAll topics most (parts_in size (worker_messages d)) d.worker.worker.pass d.worker.worker.members
         listed-at w d is =
-            subst (λ (e : Desk (Seated B) S). HasListed topics (parts_in size (worker_messages e)) e.worker.worker.pass e.worker.worker.members)
+            subst (λ (e : Desk (Seated B) S). HasListedAll topics most (parts_in size (worker_messages e)) e.worker.worker.pass e.worker.worker.members)
             (get_or_from_slice_get desks w d d is)
             (listed w d (slice_get_within desks w d is))
 
-        all-works : All (IsWork topics) (map (work_of size) desks)
-        all-works = All-map (IsWork topics) (work_of size) desks (λ k d less. record {
+        all-works : All (IsWork topics most) (map (work_of size) desks)
+        all-works = All-map (IsWork topics most) (work_of size) desks (λ k d less. record {
           listed = listed k d less;
           known = known-parts size (length topics) (worker_messages (get_or desks k d)) (messages-known k d less);
         })
@@ -223,7 +224,7 @@ module _ {B S : Type 0} where
 
         once : IsPermutation (map without_way (members_of (lists_at desks))) (part_answers topics size (flat_map (λ own. own) messages_given))
         once =
-            let all = all-answered topics (map (work_of size) desks) all-works
+            let all = all-answered topics most (map (work_of size) desks) all-works
             (subst (λ (ps : List (PassStanding B)). EachTakeIsASend ps) (sym work-passes) closed.takes)
             (subst (λ (ps : List (PassStanding B)). SendsAreTakes ps) (sym work-passes) same) in
             let members : members_among (map (work_of size) desks) ≡ members_of (lists_at desks) =
@@ -235,12 +236,12 @@ module _ {B S : Type 0} where
             let given_parts : List Part = parts_in size (flat_map (λ own. own) messages_given) in
             let back : IsPermutation (map (part_answer topics) passed) (map (part_answer topics) given_parts) =
             IsPermutation-map (part_answer topics) passed given_parts
-            (IsPermutation-sym given_parts passed (all-parts-passed c shared topics size longest src sources desks ran)) in
+            (IsPermutation-sym given_parts passed (all-parts-passed c shared topics size most longest src sources desks ran)) in
             IsPermutation-trans (map without_way (members_of (lists_at desks))) (map (part_answer topics) passed) (map (part_answer topics) given_parts)
             (subst (IsPermutation (map without_way (members_of (lists_at desks)))) (ap (map (part_answer topics)) parts)
             (subst (λ l. IsPermutation (map without_way l) (map (part_answer topics) (messages_in (map (work_of size) desks)))) members all)) back
 
-        pub have-answered : HaveAnswered topics size (length desks) messages_given (passes_at desks) (lists_at desks)
+        pub have-answered : HaveAnswered topics size most (length desks) messages_given (passes_at desks) (lists_at desks)
         have-answered = record {
           each_pass = length-map desks (λ (d : Desk (Seated B) S). d.worker.worker.pass);
           each_list = length-map desks (λ (d : Desk (Seated B) S). d.worker.worker.members);
@@ -250,13 +251,10 @@ module _ {B S : Type 0} where
               (given-known topics longest src.left 1 sources messages_given gave);
           short = members-short topics size (flat_map (λ own. own) messages_given) (members_of (lists_at desks)) once;
           takes = of-each (λ w p list. AnswersItsTakes topics (takes_of p.calls) list) desks (λ w d is.
-              (all-taken topics (map (work_of size) desks) all-works (subst (λ (ps : List (PassStanding B)). EachTakeIsASend ps) (sym work-passes) closed.takes)
-              (work_of size d)
-              (stands-at (map (work_of size) desks) (work_of size d) w (slice_get-map (work_of size) desks w ∙ ap (option_map (work_of size)) is))).0);
-          fulls = of-each (λ w p list. AnswersItsFulls p.fulls list) desks (λ w d is. (listed-at w d is).fulls);
-          passed = of-each (λ w p list. HasPassedOn topics (parts_in size (own_of (length desks) w 1 messages_given)) (sends_of p.calls) list) desks (λ w d is.
-              subst (λ ms. HasPassedOn topics ms (sends_of d.worker.worker.pass.calls) d.worker.worker.members) (ap (parts_in size) (own-gave w d is))
-              (listed-at w d is).passed);
-          follows = of-each (λ w p list. FollowsCalls (parts_in size (own_of (length desks) w 1 messages_given)) p.calls) desks (λ w d is.
-              subst (λ ms. FollowsCalls ms d.worker.worker.pass.calls) (ap (parts_in size) (own-gave w d is)) (listed-at w d is).follows);
+              all-taken topics most (map (work_of size) desks) all-works
+              (subst (λ (ps : List (PassStanding B)). EachTakeIsASend ps) (sym work-passes) closed.takes) (work_of size d)
+              (stands-at (map (work_of size) desks) (work_of size d) w (slice_get-map (work_of size) desks w ∙ ap (option_map (work_of size)) is)));
+          listed = of-each (λ w p list. HasListedAll topics most (parts_in size (own_of (length desks) w 1 messages_given)) p list) desks (λ w d is.
+              subst (λ ms. HasListedAll topics most ms d.worker.worker.pass d.worker.worker.members) (ap (parts_in size) (own-gave w d is))
+              (listed-at w d is));
         }

@@ -1,3 +1,5 @@
+mod FlatLists
+mod SameParts
 mod AllAnswered
 mod Conclusion
 mod Told

@@ -8,8 +8,8 @@ use Rattle.scq_work.specs.AllWorkers.{HasWorked}
 use Rattle.scq_work.specs.declared.worked.Worked.{Worked}
 
 -- where the bytes of all files are visible, the work is done on their contents
-pub told-worked : (topics : List (List ℕ × Kind)) (size workers : ℕ) (given : List (List Message)) (w : Worked) (o : Option (List (List ℕ)))
-    → IfSome o (λ contents. given ≡ messages_in topics 1 contents) → HasWorked topics size workers given w
-    → IfSome o (λ contents. HasWorked topics size workers (messages_in topics 1 contents) w)
-told-worked topics size workers given w None is has = tt
-told-worked topics size workers given w (Some contents) is has = subst (λ g. HasWorked topics size workers g w) is has
+pub told-worked : (topics : List (List ℕ × Kind)) (size most workers : ℕ) (given : List (List Message)) (w : Worked) (o : Option (List (List ℕ)))
+    → IfSome o (λ contents. given ≡ messages_in topics 1 contents) → HasWorked topics size most workers given w
+    → IfSome o (λ contents. HasWorked topics size most workers (messages_in topics 1 contents) w)
+told-worked topics size most workers given w None is has = tt
+told-worked topics size most workers given w (Some contents) is has = subst (λ g. HasWorked topics size most workers g w) is has

@@ -11,12 +11,13 @@ use Rattle.scq_collect.specs.declared.answered.Answered.{Answered}
 use Rattle.scq_word.specs.declared.setup.Setup.{Setup}
 use Rattle.scq_block.specs.declared.frame.Frame.{Frame}
 use Rattle.scq_block.specs.Frames.{IsSame, bytes_of}
-use Rattle.scq_queue.specs.Lists.{sends_of, takes_of}
+use Rattle.scq_queue.specs.Lists.{takes_of}
 use Rattle.scq_queue.specs.Passes.{PassStanding}
 use Rattle.scq_files.specs.Files.{own_of}
 use Rattle.scq_work.specs.declared.worked.Worked.{Worked}
-use Rattle.scq_worker.specs.Members.{AnswersItsTakes, AnswersItsFulls}
-use Rattle.scq_worker.specs.Passing.{parts_in, HasPassedOn, FollowsCalls}
+use Rattle.scq_worker.specs.Members.{AnswersItsTakes}
+use Rattle.scq_worker.specs.Passing.{parts_in}
+use Rattle.scq_worker.specs.Working.{HasListedAll}
 use Rattle.scq_passes.specs.Records.{HelpsAfterEachFull, HelpsOnceAfterEachFull}
 use Rattle.scq_passes.specs.Together.{HasRetired}
 use Rattle.scq_passes.specs.AllPasses.{IsSetup, HaveShared, lengths_of}
@@ -30,8 +31,8 @@ module _ {B : Type 0} where
       → slice_get lists w ≡ Some list → P w p list
 
   -- the workers' lists, against the messages of files and the workers' passes, where a part has at
-  -- most `size` bytes
-  pub record HaveAnswered (topics : List (List ℕ × Kind)) (size workers : ℕ)
+  -- most `size` bytes, and parts go together where these have at most `most`
+  pub record HaveAnswered (topics : List (List ℕ × Kind)) (size most workers : ℕ)
       (given : List (List Message)) (passes : List (PassStanding B))
       (lists : List (List Answered)) : Type 0 where
     pub each_pass : length passes ≡ workers
@@ -45,19 +46,14 @@ module _ {B : Type 0} where
     pub whole : AreWhole (members_of lists)
     pub known : All (λ a. a.topic ≤ length topics) (members_of lists)
     pub short : All (λ a. a.bytes ≤ size) (members_of lists)
-    -- one by one and in order, the Taken members of a worker's list are its takes, and the Direct
-    -- ones its Full replies
+    -- in order, the Taken members of a worker's list are the answers to the parts in its takes
     pub takes : OfEachWorker (λ w p list.
         AnswersItsTakes topics (takes_of p.calls) list) passes lists
-    pub fulls : OfEachWorker (λ w p list. AnswersItsFulls p.fulls list) passes lists
-    -- the parts of the messages of a worker's files, in order of file, line and part, are each its
-    -- next send or its next Direct member, and there are no others
-    pub passed : OfEachWorker (λ w p list.
-        HasPassedOn topics (parts_in size (own_of workers w 1 given))
-        (sends_of p.calls) list) passes lists
-    -- and they stand so in its record: each is its next send or its next Full
-    pub follows : OfEachWorker (λ w p list.
-        FollowsCalls (parts_in size (own_of workers w 1 given)) p.calls) passes lists
+    -- the parts of the messages of a worker's files go on in batches, on each topic in order of
+    -- file, line and part. Each batch is its next send or its next Full, also in its record, and
+    -- there are no others; its Direct members are the answers to the parts of those that met a Full
+    pub listed : OfEachWorker (λ w p list.
+        HasListedAll topics most (parts_in size (own_of workers w 1 given)) p list) passes lists
 
   -- a pass has helped: after each Full, before the next lend, comes one take of each topic. And it
   -- has retired; up to there it took just once from each topic after each Full
@@ -77,7 +73,7 @@ pub record NothingIsStranded (order topics workers : ℕ) (passes : List (PassSt
 
 -- so many workers answered files that gave these messages: what they answered, by their passes, and
 -- the lengths of the passes' lists
-pub record HasWorked (topics : List (List ℕ × Kind)) (size workers : ℕ)
+pub record HasWorked (topics : List (List ℕ × Kind)) (size most workers : ℕ)
     (given : List (List Message)) (w : Worked) : Type 0 where
-  pub answered : HaveAnswered topics size workers given w.passes.value.items w.answered.items
+  pub answered : HaveAnswered topics size most workers given w.passes.value.items w.answered.items
   pub counts : w.counts.items ≡ map lengths_of w.passes.value.items

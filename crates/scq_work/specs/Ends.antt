@@ -36,10 +36,10 @@ pub record EndsWork {S : Type 0} (j : Job) (src : SourceOf S) (sources : List S)
   -- taken: of contents that are visible, and of every source
   pub told : IfOk end.result (λ w.
       IfSome (all_left src.left sources) (λ contents.
-      HasWorked j.topics j.size j.workers (messages_in j.topics 1 contents) w))
+      HasWorked j.topics j.size j.most j.workers (messages_in j.topics 1 contents) w))
   pub worked : IfOk end.result (λ w.
       (given : List (List Message)) × AreGiven j.topics j.longest src.left 1 sources given
-      × HasWorked j.topics j.size j.workers given w)
+      × HasWorked j.topics j.size j.most j.workers given w)
   -- whatever the answer is, the queue was closed with each buffer free: each pass has retired, and
   -- what was sent was taken. Only where there was no memory for a queue there was none
   pub none_stranded : IfSome end.left (λ l. IsSomeAnd end.passes (λ p. IsSomeAnd end.frames (λ f.

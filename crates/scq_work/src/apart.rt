@@ -39,8 +39,8 @@ pub fn run_apart<R: Threads + Sync, S: Source, G: Gate + Sync>(
         → (slice_index_or result.items w d).worker.worker.pass.number
         ≡ (slice_index_or desks.items w d).worker.worker.pass.number }
     ensures run { All (λ d.
-        HasRun queue.now job.now.topics job.now.size job.now.longest S.Source d.files.items
-        d.worker.worker.pass d.worker.worker.members d.worker.worker.starved d.worker.kept)
+        HasRun queue.now job.now.topics job.now.size job.now.most job.now.longest S.Source
+        d.files.items d.worker.worker.pass d.worker.worker.members d.worker.worker.starved d.worker.kept)
         result.items }
     ensures behind { All (λ d. d.worker.worker.pass.spent ≡ None
         → HasLeftSwept bytes_of IsReturn (length job.now.topics
@@ -52,8 +52,8 @@ pub fn run_apart<R: Threads + Sync, S: Source, G: Gate + Sync>(
             × IsFresh queue.now desk.now.worker × All IsNew desk.now.files.items }
         ensures { (ids_of desk.exit.now.files.items ≡ ids_of desk.entry.now.files.items)
             × (desk.exit.now.worker.worker.pass.number ≡ desk.entry.now.worker.worker.pass.number)
-            × HasRun queue.entry.now job.entry.now.topics job.entry.now.size job.entry.now.longest
-            S.Source desk.exit.now.files.items desk.exit.now.worker.worker.pass
+            × HasRun queue.entry.now job.entry.now.topics job.entry.now.size job.entry.now.most
+            job.entry.now.longest S.Source desk.exit.now.files.items desk.exit.now.worker.worker.pass
             desk.exit.now.worker.worker.members desk.exit.now.worker.worker.starved
             desk.exit.now.worker.kept
             × (desk.exit.now.worker.worker.pass.spent ≡ None

@@ -9,6 +9,7 @@ ghost use Rattle.scq_desk.specs.Rooms.{IsRoomFor};
 ghost use Rattle.scq_park.specs.Crews.{first_posts};
 ghost use Rattle.scq_rest.specs.Resting.{HasRoom};
 ghost use Rattle.scq_rest.specs.Waiting.{HaveWaited};
+ghost use Rattle.scq_worker.specs.Opening.{takes_behind};
 
 use crate::WorkEnd;
 use crate::winding::wind_up;
@@ -116,7 +117,7 @@ pub fn work_waiting<R: Threads + Wait + Sync, S: Source, G: Gate + Sync>(
     // in vain no more often than one does that rests after each sweep that took nothing.
     ensures waited { IfSome result.waited (λ waited. IsSomeAnd result.end.passes (λ passes.
         HaveWaited (length job.now.topics
-        + 1) job.now.workers passes.value.items waited.saw.items waited.rested.items)) }
+        + 1) (takes_behind job.now.most) job.now.workers passes.value.items waited.saw.items waited.rested.items)) }
     ensures unwaited { result.waited ≡ None → IsErrOf result.end.result EndFault.NoMemory }
     ensures both { OnSome result.waited (IsSome result.end.left) }
 {
@@ -157,7 +158,7 @@ fn wait_in<R: Threads + Wait + Sync, S: Source, G: Gate + Sync>(
     ensures end { EndsWork job.now S.Source sources.items result.end }
     ensures waited { IfSome result.waited (λ waited. IsSomeAnd result.end.passes (λ passes.
         HaveWaited (length job.now.topics
-        + 1) job.now.workers passes.value.items waited.saw.items waited.rested.items)) }
+        + 1) (takes_behind job.now.most) job.now.workers passes.value.items waited.saw.items waited.rested.items)) }
     ensures there { IsSome result.waited }
     ensures closed { IsSome result.end.left }
 {

@@ -37,8 +37,8 @@ pub(crate) fn wind_up<S: Source>(
     requires numbers { (w : ℕ) (d : _) → w < length desks.items
         → (slice_index_or desks.items w d).worker.worker.pass.number ≡ w }
     requires run { All (λ d.
-        HasRun queue job.now.topics job.now.size job.now.longest S.Source d.files.items
-        d.worker.worker.pass d.worker.worker.members d.worker.worker.starved d.worker.kept)
+        HasRun queue job.now.topics job.now.size job.now.most job.now.longest S.Source
+        d.files.items d.worker.worker.pass d.worker.worker.members d.worker.worker.starved d.worker.kept)
         desks.items }
     ensures end { EndsWork job.now S.Source laid.was.value.items result.0 }
     ensures passes { IfSome result.0.passes (λ passes.

@@ -6,7 +6,7 @@ use scq_queue::{Counts, Pass};
 use std::snapshot::Snapshot;
 
 /// What workers answered, part by part: each list is that of one worker, in the order of their
-/// numbers. And how many parts each sent, took and answered directly.
+/// numbers. And how many buffers each sent, took and found none for.
 ///
 /// For contracts alone it has the workers' passes as they were when the queue was closed: they have
 /// no bytes when the program runs.

@@ -10,6 +10,7 @@ use Rattle.scq_work.specs.Ends.{EndsWork}
 use Rattle.scq_rest.specs.Resting.{AreSettled}
 use Rattle.scq_rest.specs.Waiting.{HaveWaited}
 use Rattle.scq_files.specs.declared.desk.Desk.{Desk}
+use Rattle.scq_worker.specs.Opening.{takes_behind}
 use Rattle.scq_worker.specs.Seats.{Seated}
 use Rattle.scq_files.proofs.DeskLemmas.{still-dealt}
 use Rattle.scq_desk.proofs.Settled.{some-and, some-of}
@@ -33,6 +34,7 @@ returns-clause-waited g c =
     let S = g.row.S.Denot in
     let job = c.args.job.now in
     let topics = length job.topics + 1 in
+    let behind = takes_behind job.most in
     let ran = c.run_resting-desks.result.0.items in
     let stands = c.run_resting-desks.result.1.items in
     let end = c.wind_up-end.result.0 in
@@ -47,8 +49,8 @@ returns-clause-waited g c =
     ap length its.holds ∙ length-map ran (λ (d : Desk (Seated Frame) S). d.worker.worker.pass) ∙ c.run_resting-desks.ensures.count ∙ c.lay_out-laid.ensures.count in
     let saw : c.wind_up-end.result.1.items ≡ map (λ (p : PassStanding Frame). was_told p.gate) passes =
     subst (λ o. IfSome o (λ ps. c.wind_up-end.result.1.items ≡ map (λ (p : PassStanding Frame). was_told p.gate) ps.value.items)) its.same c.wind_up-end.ensures.saw in
-    let settled : AreSettled c.args.crew topics stands passes =
-    subst (λ (ps : List (PassStanding Frame)). AreSettled c.args.crew topics stands ps) (sym its.holds) c.run_resting-desks.ensures.settled in
-    subst (λ o. IsSomeAnd o (λ ps. HaveWaited topics job.workers ps.value.items c.wind_up-end.result.1.items c.close-rested.result.items)) (sym its.same)
-    (have-waited topics job.workers c.args.crew stands passes c.wind_up-end.result.1.items c.close-rested.result.items settled closed.holds.shared.unspent seats saw
+    let settled : AreSettled c.args.crew topics behind stands passes =
+    subst (λ (ps : List (PassStanding Frame)). AreSettled c.args.crew topics behind stands ps) (sym its.holds) c.run_resting-desks.ensures.settled in
+    subst (λ o. IsSomeAnd o (λ ps. HaveWaited topics behind job.workers ps.value.items c.wind_up-end.result.1.items c.close-rested.result.items)) (sym its.same)
+    (have-waited topics behind job.workers c.args.crew stands passes c.wind_up-end.result.1.items c.close-rested.result.items settled closed.holds.shared.unspent seats saw
     c.close-rested.ensures.counts c.close-rested.ensures.woken)

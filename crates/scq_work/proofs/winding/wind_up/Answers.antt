@@ -37,7 +37,7 @@ pub wind_up_desks-sources-requires-clause-own : goal.wind_up_desks-sources-requi
 wind_up_desks-sources-requires-clause-own g c κs within k d less = let ran = c.requires.run k d less in (ran.queue, ran.held, ran.its)
 
 -- what the workers did
-ran : (g : _) (c : After-conclude g) → AllRan c.args.queue.setup c.args.queue c.args.job.now.topics c.args.job.now.size c.args.job.now.longest
+ran : (g : _) (c : After-conclude g) → AllRan c.args.queue.setup c.args.queue c.args.job.now.topics c.args.job.now.size c.args.job.now.most c.args.job.now.longest
     g.S.Source c.args.laid.was.value.items c.args.desks.items
 ran g c =
     let valid = c.args.job.now.valid in
@@ -61,6 +61,7 @@ pub returns-clause-end : goal.returns-clause-end
 returns-clause-end g c =
     let topics = c.args.job.now.topics in
     let size = c.args.job.now.size in
+    let most = c.args.job.now.most in
     let longest = c.args.job.now.longest in
     let src = g.S.Source in
     let queue = c.args.queue in
@@ -73,20 +74,20 @@ returns-clause-end g c =
     let ok = c.conclude.ensures.ok in
     let f = ran g (goal.at.returns-clause-end g c).After-conclude in
     let setup = c.requires.setup in
-    let shared = all-shared queue.setup queue topics size longest src sources desks f left_in said.closed in
+    let shared = all-shared queue.setup queue topics size most longest src sources desks f left_in said.closed in
     let ended : AllEnded longest src desks = λ w d less e o inside. ((c.requires.run w d less).read e o inside).ends in
     let gathered = said.gathered longest ended in
     let Of : Worked → Type 0 = λ w. (given : List (List Message)) × AreGiven topics longest src.left 1 sources given
-    × HasWorked topics size c.args.job.now.workers given w in
+    × HasWorked topics size most c.args.job.now.workers given w in
     let worked : IfOk result Of = ok-more result _ Of ok (λ w is.
     let whole = said.whole is.2 in
-    let answered = have-answered queue.setup queue topics size longest src sources desks f left_in said.closed whole (said.fed is.1) in
+    let answered = have-answered queue.setup queue topics size most longest src sources desks f left_in said.closed whole (said.fed is.1) in
     let its_passes : wound.passes.value.items ≡ passes_at desks = said.passes.0 in
-    let gave = given queue.setup queue topics size longest src sources desks f in
-    let Are : List (PassStanding Frame) → List (List Answered) → ℕ → Type 0 = λ ps ls n. HaveAnswered topics size n gave ps ls in
+    let gave = given queue.setup queue topics size most longest src sources desks f in
+    let Are : List (PassStanding Frame) → List (List Answered) → ℕ → Type 0 = λ ps ls n. HaveAnswered topics size most n gave ps ls in
     subst Of (sym is.0) (
       gave,
-      is-given queue.setup queue topics size longest src sources desks f whole,
+      is-given queue.setup queue topics size most longest src sources desks f whole,
       record {
         answered = subst (λ (ps : List (PassStanding Frame)). Are ps wound.lists.items c.args.job.now.workers) (sym its_passes)
             (subst (λ (ls : List (List Answered)). Are (passes_at desks) ls c.args.job.now.workers) (sym said.lists)
@@ -103,7 +104,7 @@ returns-clause-end g c =
       whole = ok-on result _ _ ok (λ w why. gathered.sound why.2);
       answers = ok-more result Of _ worked
           (λ w has. members-told topics size longest src.left sources has.0 (members_of w.answered.items) has.1 has.2.answered.once);
-      told = ok-more result Of _ worked (λ w has. told-worked topics size c.args.job.now.workers has.0 w (all_left src.left sources)
+      told = ok-more result Of _ worked (λ w has. told-worked topics size most c.args.job.now.workers has.0 w (all_left src.left sources)
           (given-told topics longest src.left 1 sources has.0 has.1) has.2);
       worked = worked;
       none_stranded = record {
