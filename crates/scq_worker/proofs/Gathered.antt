@@ -2,7 +2,7 @@
 use Rattle.std.proofs.Common.{◌≡◌, refl, sym, ◌∙◌, ap, subst, arith, zero, suc, ℕ, ◌+◌, ◌<◌, ◌≤◌, List, [], ◌∷◌, ◌++◌, length, map, append_assoc, ⊎_elim, inl, inr}
 use Rattle.std.specs.Prelude.{count_by, filter, flat_map, ◌==◌, if◌then◌else◌}
 use Rattle.std.specs.List.{All}
-use Rattle.std.proofs.lemmas.Bool.{ne_eqb, eq-eqb, cases_eq}
+use Rattle.std.proofs.lemmas.Bool.{ne_eqb, eq-eqb, cases_eq, cases_lt}
 use Rattle.std.proofs.lemmas.Grind.{flat_map-append}
 use Rattle.std.proofs.lemmas.List.{append-nil, length-append, map-append}
 use Rattle.std.proofs.lemmas.List.Elements.{filter-append, All-nil, All-push}
@@ -214,7 +214,7 @@ pub gathered-first : (most : ℕ) → AreGathered most [] [] []
 gathered-first most = record { each = All-nil (IsBatch most); same = λ u. sym (nil-at u); alone = λ none. refl }
 
 -- how many are on the first so many topics
-on-first : ℕ → List Part → ℕ
+abbrev on-first : ℕ → List Part → ℕ
 on-first zero xs = 0
 on-first (suc n) xs = on-first n xs + count_by (λ (p : Part). p.topic == n) xs
 
@@ -227,13 +227,16 @@ first-out (suc n) x xs past =
 first-in : (n : ℕ) (x : Part) (xs : List Part) → x.topic < n → on-first n (x ∷ xs) ≡ on-first n xs + 1
 first-in zero x xs low = absurd (omega arith)
 first-in (suc n) x xs low =
+    let test : Part → _ = λ (p : Part). p.topic == n in
+    let all : count_by test (x ∷ xs) ≡ count_by test (x ∷ []) + count_by test xs = sum_by-append _ (x ∷ []) xs in
     ⊎_elim (λ (own : x.topic ≡ n).
+    let one : count_by test (x ∷ []) ≡ 1 = rw (eq-eqb x.topic n own) refl in
     let before = first-out n x xs (omega (arith, own)) in
-    rw (eq-eqb x.topic n own) (omega (arith, before)))
+    omega (arith, before, all, one))
     (λ (apart : x.topic ≡ n → ⊥).
-    let lower : x.topic < n = below-of x.topic n low apart in
-    let before = first-in n x xs lower in
-    rw (ne_eqb x.topic n apart) (omega (arith, before)))
+    let none : count_by test (x ∷ []) ≡ 0 = rw (ne_eqb x.topic n apart) refl in
+    let before = first-in n x xs (below-of x.topic n low apart) in
+    omega (arith, before, all, none))
     (cases_eq x.topic n)
   where
     below-of : (a b : ℕ) → a < suc b → (a ≡ b → ⊥) → a < b
@@ -245,13 +248,10 @@ first-few n [] = first-nil n where
   first-nil zero = omega arith
   first-nil (suc n) = let before = first-nil n in omega (arith, before)
 first-few n (x ∷ xs) = ⊎_elim (λ (low : x.topic < n). omega (arith, first-in n x xs low, first-few n xs))
-    (λ (past : n ≤ x.topic). omega (arith, first-out n x xs past, first-few n xs)) (apart x.topic n)
-  where
-    apart : (a b : ℕ) → (a < b) ⊎ (b ≤ a)
-    apart a b = decide arith
+    (λ (past : n ≤ x.topic). omega (arith, first-out n x xs past, first-few n xs)) (cases_lt x.topic n)
 
 -- a number above all topics
-above : List Part → ℕ
+abbrev above : List Part → ℕ
 above [] = 0
 above (p ∷ ps) = suc (p.topic + above ps)
 
@@ -288,7 +288,6 @@ counted : (most : ℕ) (parts : List Part) (bs opens : List (List Part)) (more :
 counted most parts bs opens more was few =
     let all = more-in-all parts (parts_among bs ++ more) (λ u.
     let test : Part → _ = λ (p : Part). p.topic == u in
-    let both = sum_by-append _ (parts_among bs) more in
     let left = ap length (was.same u) ∙ length-append (parts_on u (parts_among bs)) (open_on u opens) in
     omega (
       arith,
