@@ -22,11 +22,15 @@ use Rattle.scq_queue.specs.Lists.{Placed, sends_of, takes_of}
 use Rattle.scq_queue.specs.Passes.{PassStanding}
 use Rattle.scq_passes.proofs.ManyLists.{flat-map, found-at, in-all}
 use Rattle.scq_passes.proofs.PassedOn.{passed-results, passed-send}
-use Rattle.scq_worker.specs.Members.{answered, answers_from, answers_to_take, answers_to_takes, is_direct, AnswersSoFar, Carries, GotParts}
-use Rattle.scq_worker.specs.Passing.{AnswersDirectly, AreBatchesOf, ArePassedOn, IsBatch, Sends, parts_among}
+use Rattle.scq_worker.specs.Members.{answered, answers_from, answers_to_take, answers_to_takes, is_direct, AnswersSoFar, GotParts, IsBatch}
+use Rattle.scq_worker.specs.Passing.{ArePassedOn, parts_among}
 use Rattle.scq_worker.specs.Working.{HasListed, HasListedAll}
 use Rattle.scq_work.proofs.SameParts.{batches-hold}
 use Rattle.scq_work.proofs.FlatLists.{flat-permutation}
+
+-- some part, to read past a list
+no_part : Part
+no_part = record { file = 0; line = 0; topic = 0; part = 0; parts = 0; payload = [] }
 
 -- the answers to the parts in a value
 abbrev pub answers_at : List (List ℕ × Kind) → Placed → List PartAnswer
@@ -68,10 +72,10 @@ module _ (topics : List (List ℕ × Kind)) where
       (subst (λ (l : List Answered). IsPermutation (map (part_answer topics) (parts_among all.batches)) (sent ++ map without_way l))
       (sym listed.directs) passed)
 
-  -- and each of its sends is a value of one or more parts on known topics, where all its parts are on these
+  -- and each of its sends is a value of parts that may go together, on a known topic where all its parts are on these
   pub send-parts : {B : Type 0} (most : ℕ) (p : PassStanding B) (parts : List Part) (members : List Answered)
       → HasListedAll topics most parts p members → All (λ m. m.topic ≤ length topics) parts
-      → (s : Placed) → Contains (sends_of p.calls) s → GotParts topics s
+      → (s : Placed) → Contains (sends_of p.calls) s → GotParts topics most s
   send-parts most p parts members all known s has =
       let Known : Part → Type 0 = λ m. m.topic ≤ length topics in
       let its = passed-send all.batches (sends_of p.calls) all.listed.groups all.listed.passed s has in
@@ -80,12 +84,15 @@ module _ (topics : List (List ℕ × Kind)) where
       let each : All Known (parts_among all.batches) =
       All-permutation Known parts (parts_among all.batches) (batches-hold most parts all.batches all.are) known in
       let at = found-at all.batches batch its.1 in
+      let first = get_or batch 0 no_part in
+      let low : Known first = All-contains Known (parts_among all.batches) first each
+      (in-all (λ (b : List Part). b) all.batches at.0 batch first at.1 (Contains-get_or batch 0 no_part is.some)) in
       record {
         parts = batch;
         carries = its.2.carries;
-        some = λ none. omega (arith, is.some, ap length none);
-        known = λ k d less. All-contains Known (parts_among all.batches) (get_or batch k d) each
-            (in-all (λ (b : List Part). b) all.batches at.0 batch (get_or batch k d) at.1 (Contains-get_or batch k d less));
+        batch = is;
+        on_topic = its.2.topic;
+        known = subst (λ t. t ≤ length topics) (its.2.topic 0 no_part is.some) low;
       }
 
   -- the answers to parts on known topics, whatever their ways
@@ -96,20 +103,22 @@ module _ (topics : List (List ℕ × Kind)) where
       rw (le-leb p.topic (length topics) known.0)
       (ap (λ (l : List PartAnswer). part_answer topics p ∷ l) (without-ways way (number + 1) ps known.1))
 
-  takes-answers : (takes : List Placed) → AllByRecursion (GotParts topics) takes
+  takes-answers : (most : ℕ) (takes : List Placed) → AllByRecursion (GotParts topics most) takes
       → map without_way (answers_to_takes topics takes) ≡ flat_map (answers_at topics) takes
-  takes-answers [] each = refl
-  takes-answers (t ∷ ts) each =
+  takes-answers most [] each = refl
+  takes-answers most (t ∷ ts) each =
       let Known : Part → Type 0 = λ m. m.topic ≤ length topics in
       let parts = parts_at t.bytes in
-      let known = recursion_from_All Known parts (subst (λ (l : List Part). All Known l) (sym each.0.carries.all) each.0.known) in
+      let got = each.0 in
+      let low : All Known got.parts = λ k d less. subst (λ n. n ≤ length topics) (sym (got.on_topic k d less)) got.known in
+      let known = recursion_from_All Known parts (subst (λ (l : List Part). All Known l) (sym got.carries.all) low) in
       let here : map without_way (answers_to_take topics t) ≡ answers_at topics t = without-ways (Taken t.place 0) 0 parts known in
       map-append without_way (answers_to_take topics t) (answers_to_takes topics ts)
       ∙ ap (λ (l : List PartAnswer). l ++ map without_way (answers_to_takes topics ts)) here
-      ∙ ap (λ (l : List PartAnswer). answers_at topics t ++ l) (takes-answers ts each.1)
+      ∙ ap (λ (l : List PartAnswer). answers_at topics t ++ l) (takes-answers most ts each.1)
 
   -- where each take got such parts, what was taken is the answers to all of them
-  pub taken-answers : (takes : List Placed) (members : List Answered) → AnswersSoFar topics takes members → All (GotParts topics) takes
+  pub taken-answers : (most : ℕ) (takes : List Placed) (members : List Answered) → AnswersSoFar topics takes members → All (GotParts topics most) takes
       → map without_way members ≡ flat_map (answers_at topics) takes
-  taken-answers takes members so_far each =
-      ap (map without_way) so_far ∙ takes-answers takes (recursion_from_All (GotParts topics) takes each)
+  taken-answers most takes members so_far each =
+      ap (map without_way) so_far ∙ takes-answers most takes (recursion_from_All (GotParts topics most) takes each)

@@ -250,7 +250,7 @@ module _ {B S : Type 0} where
           known = members-known topics size (flat_map (λ own. own) messages_given) (members_of (lists_at desks)) once
               (given-known topics longest src.left 1 sources messages_given gave);
           short = members-short topics size (flat_map (λ own. own) messages_given) (members_of (lists_at desks)) once;
-          takes = of-each (λ w p list. AnswersItsTakes topics (takes_of p.calls) list) desks (λ w d is.
+          takes = of-each (λ w p list. AnswersItsTakes topics most (takes_of p.calls) list) desks (λ w d is.
               all-taken topics most (map (work_of size) desks) all-works
               (subst (λ (ps : List (PassStanding B)). EachTakeIsASend ps) (sym work-passes) closed.takes) (work_of size d)
               (stands-at (map (work_of size) desks) (work_of size d) w (slice_get-map (work_of size) desks w ∙ ap (option_map (work_of size)) is)));

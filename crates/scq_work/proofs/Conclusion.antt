@@ -53,7 +53,7 @@ module _ {B : Type 0} where
 
   -- each take is that of parts on known topics
   take-parts : (topics : List (List ℕ × Kind)) (most : ℕ) (works : List (Work B)) → All (IsWork topics most) works → EachTakeIsASend (passes_in works)
-      → (t : Placed) → Contains (all_takes (passes_in works)) t → GotParts topics t
+      → (t : Placed) → Contains (all_takes (passes_in works)) t → GotParts topics most t
   take-parts topics most works each sent t has =
       let was = subst (λ (l : List Placed). Contains l t) (flat_map-map (λ (p : PassStanding B). sends_of p.calls) (λ (w : Work B). w.pass) works)
       (take-was-sent (passes_in works) sent t has) in
@@ -63,7 +63,7 @@ module _ {B : Type 0} where
 
   -- so of each worker: its Taken members are the answers to the parts in its takes
   pub all-taken : (topics : List (List ℕ × Kind)) (most : ℕ) (works : List (Work B)) → All (IsWork topics most) works → EachTakeIsASend (passes_in works)
-      → (w : Work B) → Contains works w → AnswersItsTakes topics (takes_of w.pass.calls) w.members
+      → (w : Work B) → Contains works w → AnswersItsTakes topics most (takes_of w.pass.calls) w.members
   all-taken topics most works each sent w has =
       let its = All-contains (IsWork topics most) works w each has in
       let at = found-at works w has in
@@ -86,7 +86,7 @@ module _ {B : Type 0} where
       (IsPermutation-filter_both is_taken is_direct (λ a. refl) w.members) in
       let split = map-append without_way (filter is_taken w.members) (filter is_direct w.members) in
       let taken = all-taken topics most works each sent w has in
-      let reads = taken-answers topics (takes_of w.pass.calls) (filter is_taken w.members) taken.answers taken.got in
+      let reads = taken-answers topics most (takes_of w.pass.calls) (filter is_taken w.members) taken.answers taken.got in
       subst (λ (l : List PartAnswer). IsPermutation (map without_way w.members) (l ++ map without_way (filter is_direct w.members))) reads
       (subst (IsPermutation (map without_way w.members)) split both)
 

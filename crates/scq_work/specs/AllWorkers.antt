@@ -48,7 +48,7 @@ module _ {B : Type 0} where
     pub short : All (λ a. a.bytes ≤ size) (members_of lists)
     -- in order, the Taken members of a worker's list are the answers to the parts in its takes
     pub takes : OfEachWorker (λ w p list.
-        AnswersItsTakes topics (takes_of p.calls) list) passes lists
+        AnswersItsTakes topics most (takes_of p.calls) list) passes lists
     -- the parts of the messages of a worker's files go on in batches, on each topic in order of
     -- file, line and part. Each batch is its next send or its next Full, also in its record, and
     -- there are no others; its Direct members are the answers to the parts of those that met a Full
