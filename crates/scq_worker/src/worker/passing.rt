@@ -50,7 +50,7 @@ impl<B: BufferMut> Worker<B> {
             → HasLeft parts parts self.old.pass self.new.pass l.held) }
         ensures starved { self.new.starved ≡ false → self.old.starved ≡ false }
         ensures number { self.new.number ≡ self.old.number }
-        ensures open { self.new.open ≡ self.old.open }
+        ensures opens { self.new.open ≡ self.old.open }
     {
         if job.most > 0 {
             self.take_one(alloc, job, queue, gate, topic)?;
@@ -95,7 +95,7 @@ impl<B: BufferMut> Worker<B> {
         ensures starved { self.new.starved ≡ false → self.old.starved ≡ false }
         ensures number { (self.new.number ≡ self.old.number)
             × (self.new.pass.number ≡ self.old.pass.number) }
-        ensures open { self.new.open ≡ self.old.open }
+        ensures opens { self.new.open ≡ self.old.open }
     {
         match queue.lend(&mut self.pass) {
             Ok(held) => {
@@ -142,10 +142,10 @@ impl<B: BufferMut> Worker<B> {
         requires topic { topic ≤ length job.now.topics }
         requires room { All (λ b. job.now.size + 24 ≤ length (B.contents b)) queue.now.given }
         requires bell { W.fits bell.now (W.kept stand.old) job.now.workers }
-        requires open { AreOpen job.now.most (length job.now.topics + 1) self.old.open.items }
+        requires opens { AreOpen job.now.most (length job.now.topics + 1) self.old.open.items }
         ensures suits { OnOk result (Suits queue.now (length job.now.topics) self.new.pass) }
         ensures stays { OnOk result (self.new.pass.retired ≡ None) }
-        ensures open { OnOk result
+        ensures opens { OnOk result
             (AreOpen job.now.most (length job.now.topics + 1) self.new.open.items) }
         ensures closed { OnOk result ((t : ℕ) → open_on t self.new.open.items
             ≡ if t == topic then [] else open_on t self.old.open.items) }
@@ -190,10 +190,10 @@ impl<B: BufferMut> Worker<B> {
         requires stays { self.old.pass.retired ≡ None }
         requires room { All (λ b. job.now.size + 24 ≤ length (B.contents b)) queue.now.given }
         requires bell { W.fits bell.now (W.kept stand.old) job.now.workers }
-        requires open { AreOpen job.now.most (length job.now.topics + 1) self.old.open.items }
+        requires opens { AreOpen job.now.most (length job.now.topics + 1) self.old.open.items }
         ensures suits { OnOk result (Suits queue.now (length job.now.topics) self.new.pass) }
         ensures stays { OnOk result (self.new.pass.retired ≡ None) }
-        ensures open { OnOk result
+        ensures opens { OnOk result
             (AreOpen job.now.most (length job.now.topics + 1) self.new.open.items) }
         ensures closed { OnOk result (NoneIsOpen self.new.open.items) }
         ensures work { OnOk result ((parts : List ThePart)
@@ -222,7 +222,7 @@ impl<B: BufferMut> Worker<B> {
     fn begin_up_to(&mut self, alloc: Global, topic: u32) -> bool
         ensures long { result ≡ true → topic < length self.new.open.items }
         ensures few { length self.new.open.items ≤ max (length self.old.open.items) (topic + 1) }
-        ensures open { (t : ℕ) → open_on t self.new.open.items ≡ open_on t self.old.open.items }
+        ensures opens { (t : ℕ) → open_on t self.new.open.items ≡ open_on t self.old.open.items }
         ensures same { (self.new.pass ≡ self.old.pass) × (self.new.members ≡ self.old.members)
             × (self.new.starved ≡ self.old.starved) × (self.new.number ≡ self.old.number) }
     {
@@ -240,8 +240,8 @@ impl<B: BufferMut> Worker<B> {
         requires topic { message.now.topic ≤ length job.now.topics }
         requires short { length message.now.payload ≤ job.now.longest }
         requires numbered { IsNumbered part (the_parts_of job.now.size message.now.payload) }
-        requires open { AreOpen job.now.most (length job.now.topics + 1) self.old.open.items }
-        ensures open { AreOpen job.now.most (length job.now.topics + 1) self.new.open.items }
+        requires opens { AreOpen job.now.most (length job.now.topics + 1) self.old.open.items }
+        ensures opens { AreOpen job.now.most (length job.now.topics + 1) self.new.open.items }
         ensures added { result ≡ true → (t : ℕ) → open_on t self.new.open.items
             ≡ open_on t self.old.open.items
             ++ (if t == message.now.topic then part_of job.now.size message.now part ∷ [] else []) }
@@ -281,10 +281,10 @@ impl<B: BufferMut> Worker<B> {
         requires numbered { IsNumbered part (the_parts_of job.now.size message.now.payload) }
         requires room { All (λ b. job.now.size + 24 ≤ length (B.contents b)) queue.now.given }
         requires bell { W.fits bell.now (W.kept stand.old) job.now.workers }
-        requires open { AreOpen job.now.most (length job.now.topics + 1) self.old.open.items }
+        requires opens { AreOpen job.now.most (length job.now.topics + 1) self.old.open.items }
         ensures suits { OnOk result (Suits queue.now (length job.now.topics) self.new.pass) }
         ensures stays { OnOk result (self.new.pass.retired ≡ None) }
-        ensures open { OnOk result
+        ensures opens { OnOk result
             (AreOpen job.now.most (length job.now.topics + 1) self.new.open.items) }
         ensures work { OnOk result ((parts : List ThePart)
             → IsWorking job.now.topics job.now.most parts self.old
@@ -334,10 +334,10 @@ impl<B: BufferMut> Worker<B> {
         requires short { length message.now.payload ≤ job.now.longest }
         requires room { All (λ b. job.now.size + 24 ≤ length (B.contents b)) queue.now.given }
         requires bell { W.fits bell.now (W.kept stand.old) job.now.workers }
-        requires open { AreOpen job.now.most (length job.now.topics + 1) self.old.open.items }
+        requires opens { AreOpen job.now.most (length job.now.topics + 1) self.old.open.items }
         ensures suits { OnOk result (Suits queue.now (length job.now.topics) self.new.pass) }
         ensures stays { OnOk result (self.new.pass.retired ≡ None) }
-        ensures open { OnOk result
+        ensures opens { OnOk result
             (AreOpen job.now.most (length job.now.topics + 1) self.new.open.items) }
         ensures work { OnOk result ((parts : List ThePart)
             → IsWorking job.now.topics job.now.most parts self.old

@@ -6,7 +6,7 @@ use Rattle.scq_worker.proofs.worker.Worker.begin_up_to.Given as goal
 abbrev pub invariant-topics : goal.invariant-topics
 invariant-topics g l = record {
   few : length l.self.open.items ≤ max (length l.fn.self.open.items) (l.topic + 1);
-  open : (t : ℕ) → open_on t l.self.open.items ≡ open_on t l.fn.self.open.items;
+  opens : (t : ℕ) → open_on t l.self.open.items ≡ open_on t l.fn.self.open.items;
   pass : l.self.pass ≡ l.fn.self.pass;
   members : l.self.members ≡ l.fn.self.members;
   starved : l.self.starved ≡ l.fn.self.starved;

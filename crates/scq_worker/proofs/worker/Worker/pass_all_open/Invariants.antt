@@ -12,7 +12,7 @@ abbrev pub invariant-topics : goal.invariant-topics
 invariant-topics g l = record {
   suits : Suits l.queue (length l.job.topics) l.self.pass;
   stays : l.self.pass.retired ≡ None;
-  open : AreOpen l.job.most (length l.job.topics + 1) l.self.open.items;
+  opens : AreOpen l.job.most (length l.job.topics + 1) l.self.open.items;
   closed : (t : ℕ) → t < l.topic → open_on t l.self.open.items ≡ [];
   work : (parts : List Part) → IsWorking l.job.topics l.job.most parts l.fn.self → IsWorking l.job.topics l.job.most parts l.self;
   vain : HelpsInVain (length l.job.topics + 1) (takes_behind l.job.most) l.fn.self.pass

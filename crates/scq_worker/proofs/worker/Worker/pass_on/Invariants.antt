@@ -13,7 +13,7 @@ abbrev pub invariant-parts : goal.invariant-parts
 invariant-parts g l = record {
   suits : Suits l.queue (length l.job.topics) l.self.pass;
   stays : l.self.pass.retired ≡ None;
-  open : AreOpen l.job.most (length l.job.topics + 1) l.self.open.items;
+  opens : AreOpen l.job.most (length l.job.topics + 1) l.self.open.items;
   work : (parts : List Part) → IsWorking l.job.topics l.job.most parts l.fn.self
       → IsWorking l.job.topics l.job.most (parts ++ map (part_of l.job.size l.message) (range_with_len 1 l.before)) l.self;
   vain : HelpsInVain (length l.job.topics + 1) (takes_behind l.job.most) l.fn.self.pass
