@@ -9,7 +9,7 @@ ghost use Rattle.scq_passes.specs.Waiting.{HelpsInVain, TookInVain};
 ghost use Rattle.scq_passes.specs.Calls.{Suits, HasTaken, HasLeft};
 ghost use Rattle.scq_worker.specs.Bells.{RingsOn};
 ghost use Rattle.scq_worker.specs.Loads.{parts_of_load, IsLoad};
-ghost use Rattle.scq_worker.specs.Opening.{AreOpen, NoneIsOpen, open_on, takes_behind};
+ghost use Rattle.scq_worker.specs.Opening.{AreOpen, IsOpen, NoneIsOpen, open_on, takes_behind};
 ghost use Rattle.scq_worker.specs.Reading.{IsWorking};
 ghost use Rattle.scq_worker.specs.Working.{HasAnswered, HasPassed, HasStopped};
 
@@ -22,6 +22,22 @@ use scq_queue::{LendRefusal, Queue};
 use scq_word::BufferMut;
 use std::alloc::Global;
 use std::mem;
+
+/// Adds a part of a message to those that are open on its topic, where it is of the same file and
+/// fits behind them: whether it did.
+fn add_to(batch: &mut Batch, job: &Job, message: &Message, part: u32) -> bool
+    requires short { length message.now.payload ≤ job.now.longest }
+    requires numbered { IsNumbered part (the_parts_of job.now.size message.now.payload) }
+    requires opens { IsOpen job.now.most message.now.topic batch.old }
+    ensures opens { IsOpen job.now.most message.now.topic batch.new }
+    ensures added { result ≡ true
+        → batch.new ≡ batch.old ++ part_of job.now.size message.now part ∷ [] }
+    ensures none { result ≡ false → batch.new ≡ batch.old }
+{
+    let view = view_of(message, job.size, part);
+    batch.has_room(view.file, view.payload.len(), job.most as usize)
+        && batch.push(message, job.size, part).is_ok()
+}
 
 impl<B: BufferMut> Worker<B> {
     /// Behind a send on a topic takes once from it, where parts go together.
@@ -251,13 +267,10 @@ impl<B: BufferMut> Worker<B> {
         ensures same { (self.new.pass ≡ self.old.pass) × (self.new.members ≡ self.old.members)
             × (self.new.starved ≡ self.old.starved) × (self.new.number ≡ self.old.number) }
     {
-        let len = view_of(message, job.size, part).payload.len();
         if job.most == 0 || !self.begin_up_to(alloc, message.topic) {
             return false;
         }
-        let batch = &mut self.open[message.topic as usize];
-        batch.has_room(message.file, len, job.most as usize)
-            && batch.push(message, job.size, part).is_ok()
+        add_to(&mut self.open[message.topic as usize], job, message, part)
     }
 
     /// Passes a part of a message on: gathers it with those that are open on its topic, or, where it

@@ -1,4 +1,4 @@
-use Rattle.std.proofs.Common.{◌≡◌, ◌≤◌, ◌+◌, ℕ, length, max}
+use Rattle.std.proofs.Common.{◌≡◌, ◌≤◌, ◌+◌, ◌-◌, ℕ, length, max}
 use Rattle.scq_worker.specs.Opening.{open_on}
 use Rattle.scq_worker.proofs.worker.Worker.begin_up_to.Given as goal
 
@@ -12,3 +12,6 @@ invariant-topics g l = record {
   starved : l.self.starved ≡ l.fn.self.starved;
   number : l.self.number ≡ l.fn.self.number;
 }
+
+abbrev pub decreases-topics : goal.decreases-topics
+decreases-topics g l = l.topic + 1 - length l.self.open.items
