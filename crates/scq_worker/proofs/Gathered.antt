@@ -1,10 +1,10 @@
 -- Parts that are gathered and passed on in batches: what is open on each topic, and how many batches there are.
-use Rattle.std.proofs.Common.{◌≡◌, refl, sym, ◌∙◌, ap, subst, arith, zero, suc, ℕ, ◌+◌, ◌<◌, ◌≤◌, List, [], ◌∷◌, ◌++◌, length, map, append_assoc, ⊎_elim, inl, inr}
+use Rattle.std.proofs.Common.{◌≡◌, refl, sym, ◌∙◌, ap, subst, arith, zero, suc, ℕ, ◌+◌, ◌<◌, ◌≤◌, List, [], ◌∷◌, ◌++◌, length, map, append_assoc, set, ⊎_elim, inl, inr}
 use Rattle.std.specs.Prelude.{count_by, filter, flat_map, ◌==◌, if◌then◌else◌}
 use Rattle.std.specs.List.{All}
 use Rattle.std.proofs.lemmas.Bool.{ne_eqb, eq-eqb, cases_eq, cases_lt}
 use Rattle.std.proofs.lemmas.Grind.{flat_map-append}
-use Rattle.std.proofs.lemmas.List.{append-nil, length-append, map-append}
+use Rattle.std.proofs.lemmas.List.{append-nil, length-append, map-append, length-set, get_or-set_same, get_or-set_other}
 use Rattle.std.proofs.lemmas.List.Elements.{filter-append, All-nil, All-push}
 use Rattle.std.proofs.lemmas.List.Sums.{length-filter, sum_by-append}
 use Rattle.scq_frames.specs.Parts.{Part}
@@ -315,3 +315,24 @@ few-with most t parts bs opens was its some_ =
     (λ (apart : u ≡ t → ⊥). omega (arith, ap length (on-other t u (open_on t opens) its.on_topic (λ e. apart (sym e)))))
     (cases_eq u t)) in
     omega (arith, all, some_)
+
+-- the batch of a topic is taken out, and put back with nothing in it
+pub set-closed : (opens : List (List Part)) (t : ℕ) (mid b : List Part) → t < length opens → b ≡ [] → (u : ℕ)
+    → open_on u (set (set opens t mid) t b) ≡ if u == t then [] else open_on u opens
+set-closed opens t mid b within none u =
+    ⊎_elim (λ (own : u ≡ t).
+    ap (λ k. open_on k (set (set opens t mid) t b)) own
+    ∙ get_or-set_same (set opens t mid) t b [] (omega (arith, within, length-set opens t mid)) ∙ none
+    ∙ sym (rw (eq-eqb u t own) refl))
+    (λ (apart : u ≡ t → ⊥).
+    get_or-set_other (set opens t mid) t u b [] apart ∙ get_or-set_other opens t u mid [] apart ∙ sym (rw (ne_eqb u t apart) refl))
+    (cases_eq u t)
+
+pub set-few : (opens : List (List Part)) (t n : ℕ) (mid b : List Part) → length opens ≤ n → length (set (set opens t mid) t b) ≤ n
+set-few opens t n mid b few = omega (arith, few, length-set (set opens t mid) t b, length-set opens t mid)
+
+-- past all that are begun nothing is open
+pub none-past : (opens : List (List Part)) (t : ℕ) → length opens ≤ t → open_on t opens ≡ []
+none-past [] t past = nil-at t
+none-past (b ∷ opens) zero past = absurd (omega (arith, past))
+none-past (b ∷ opens) (suc t) past = none-past opens t (omega (arith, past))

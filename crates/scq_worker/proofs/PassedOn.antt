@@ -11,10 +11,13 @@ use Rattle.scq_queue.specs.Passes.{PassStanding, HeldStanding, WasLent, after_sp
 use Rattle.scq_passes.specs.Records.{is_take}
 use Rattle.scq_worker.specs.Members.{answered}
 use Rattle.scq_passes.specs.Calls.{Suits, HasTaken, HasFoundFull, HasLeft, HasFewCalls, index_of}
-use Rattle.scq_worker.specs.Passing.{Sends}
+use Rattle.scq_worker.specs.Opening.{open_on}
+use Rattle.scq_worker.specs.Reading.{IsWorking}
+use Rattle.scq_worker.specs.declared.worker.Worker.{Worker}
 use Rattle.scq_worker.specs.Working.{HasSent, HasAnswered, HasListed, HasPassed, HasStopped}
 use Rattle.scq_passes.proofs.LeftLemmas.{left-at-send}
 use Rattle.scq_passes.proofs.Kept.{few_calls-full, few_calls-taken}
+use Rattle.scq_worker.proofs.Gathered.{gathered-same}
 use Rattle.scq_worker.proofs.WorkerSteps.{producing-behind, producing-helped, few_calls-sent, listed-sent, listed-full, listed-taken}
 
 module _ {B : Type 0} where
@@ -127,3 +130,21 @@ module _ {B : Type 0} where
         held = left.held ∙ ap (λ l. l ++ index_of kept) was.producing.between.none;
         its = subst (λ (x : Identity B). IfSome kept (λ h. h.queue ≡ x)) queue left.its;
       }
+
+  -- the same pass and the same list
+  pub passed-as : (topics : List (List ℕ × Kind)) (batches : List (List Part)) (p q : PassStanding B) (was is : List Answered) (before after : Bool)
+      → q ≡ p → is ≡ was → after ≡ before → HasPassed topics batches p was before → HasPassed topics batches q is after
+  passed-as topics batches p q was is before after pass list starved passed =
+      subst (λ (x : PassStanding B). HasPassed topics batches x is after) (sym pass)
+      (subst (λ (l : List Answered). HasPassed topics batches p l after) (sym list)
+      (subst (λ (s : Bool). HasPassed topics batches p was s) (sym starved) passed))
+
+  -- and as much open
+  pub working-as : (topics : List (List ℕ × Kind)) (most : ℕ) (parts : List Part) (w v : Worker B)
+      → ((t : ℕ) → open_on t v.open.items ≡ open_on t w.open.items) → v.pass ≡ w.pass → v.members ≡ w.members → v.starved ≡ w.starved
+      → IsWorking topics most parts w → IsWorking topics most parts v
+  working-as topics most parts w v opens pass list starved was = record {
+    batches = was.batches;
+    gathered = gathered-same most parts was.batches w.open.items was.gathered v.open.items opens;
+    passed = passed-as topics was.batches w.pass v.pass w.members v.members w.starved v.starved pass list starved was.passed;
+  }

@@ -50,8 +50,8 @@ returns-clause-handled g c =
       more.2,
       at.2,
     ))
-    (on-both r (λ (both : Fits × Stays) (open : Opens). (both.0, both.1, open))
-    (on-both r (λ (suits : Fits) (stays : Stays). (suits, stays)) its.suits its.stays) its.open)
+    (on-both r (λ (both : Fits × Stays) (opens : Opens). (both.0, both.1, opens))
+    (on-both r (λ (suits : Fits) (stays : Stays). (suits, stays)) its.suits its.stays) its.opens)
     (on-both r (λ (both : Works × Helps) (rung : Rings). (both.0, both.1, rung))
     (on-both r (λ (work : Works) (vain : Helps). (work, vain)) its.work its.vain) its.rung)
 
