@@ -199,60 +199,29 @@ pinned() {
     env LD_PRELOAD="$folder/threads.so" PIN="$list" "$@"
 }
 
-# The crate that a text of bench/proved/ says in its first line how to lay out, with those that it stands on, as a
-# repository in this folder. In the text a line `== FILE` begins a file of the crate, or with names behind it one for
-# each, with the name in place of each @; `<< FILE` stands for the lines of this file of proved/, and `~~ WORD LINE`
-# for a line of what $WORD is from there on; $crate is the name of the crate.
+# A crate and those that it stands on, as a repository in this folder, by what bench/proved/ has of this name: it says
+# the crate's line of crates.txt, and then each of its files.
 laid_out() {
-    local text=$bench/proved/$1.txt line below it part
-    line=$(sed -n '1s/^crate //p' "$text")
-    crate=${line%%:*}
-    # shellcheck disable=SC2086
-    mapfile -t below < <(crates_of ${line#*:})
     git init -q .
+    cp "$top/HANDLES" .
+    # shellcheck disable=SC1090
+    . "$bench/proved/$1.bash"
+}
+crate_over() {
+    local it below
+    crate=${1%%:*}
+    # shellcheck disable=SC2086
+    mapfile -t below < <(crates_of ${1#*:})
     for it in "${below[@]}"; do
         mkdir -p "crates/$it"
-        for part in src specs proofs; do
-            rm -rf "crates/$it/$part"
-            cp -r "$top/crates/$it/$part" "crates/$it/$part"
-        done
+        rm -rf "crates/$it"/{src,specs,proofs}
+        cp -r "$top/crates/$it"/{src,specs,proofs} "crates/$it"
     done
-    { lines_of "${below[@]}" && echo "$line"; } >crates.txt
-    cp "$top/HANDLES" .
-    awk -v crate="$crate" -v folder="$bench/proved/" '
-        BEGIN { stands["crate"] = crate }
-        NR > 1 { put($0) }
-        function put(line,    word, i, from) {
-            for (word in stands) gsub("[$]" word, stands[word], line)
-            if (line ~ /^<< /) {
-                from = folder substr(line, 4)
-                while ((getline line <from) > 0) put(line)
-            } else if (line ~ /^~~ /) {
-                split(line, part, " ")
-                word = part[2]
-                sub(/^~~ [^ ]* ?/, "", line)
-                gsub(/&/, "\\\\&", line)
-                stands[word] = stands[word] (stands[word] ? "\n" : "") line
-            } else if (line ~ /^== /) {
-                count = split(line, name, " ")
-                if (count == 2) name[++count] = "@"
-                for (i = 3; i <= count; i++) {
-                    path[i] = "crates/" crate "/" name[2]
-                    gsub(/@/, name[i], path[i])
-                    from = path[i]
-                    sub(/[^\/]*$/, "", from)
-                    system("mkdir -p " from)
-                    printf "" >path[i]
-                }
-            } else {
-                for (i = 3; i <= count; i++) {
-                    word = line
-                    gsub(/@/, name[i], word)
-                    print word >path[i]
-                }
-            }
-        }
-    ' "$text"
+    { lines_of "${below[@]}" && echo "$1"; } >crates.txt
+}
+crate_file() {
+    mkdir -p "$(dirname "crates/$crate/$1")"
+    cat >"crates/$crate/$1"
 }
 
 # Proves and compiles such a crate, and runs it with these words. Sets `ours`, its program.

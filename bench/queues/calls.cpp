@@ -3,24 +3,23 @@
 //     calls ROLES ORDER MANY
 //
 // ROLES has a letter for each thread: p puts, g gets, b does both in turn, and e gets from an empty
-// queue; or it is one of these words:
+// queue; or all threads have one of these:
 //
-// busy   the time of a put and the get behind it in each of four threads that do nothing else
-// calm   the same with two threads that pause for about ten such times in between
-// stop   two threads put and get in turn, and one of them is stopped for 50 ms, MANY times
-// order  four threads put and get in turn; each message is seen once, and each thread's in order
+// t   the time of a put and the get behind it in threads that do nothing else
+// c   the same in threads that pause for about ten such times in between
+// s   two threads put and get in turn, and one of them is stopped for 50 ms, MANY times
+// o   all put and get in turn; each message is seen once, and each thread's in order
 //
 // MANY is how many each thread makes. Ends with 1 where what was got isn't what was put. Prints the
-// nanoseconds that all took, and the sum of the values that were got; for busy and calm the
-// nanoseconds which 50, 99 and 99.9 percent of the pairs took at most; for stop in how many stops
-// the other thread was held up for more than 20 ms, and its longest wait in nanoseconds.
+// nanoseconds that all took, and the sum of the values that were got; for t and c the nanoseconds
+// which 50, 99 and 99.9 percent of the pairs took at most; for s in how many stops the other thread
+// was held up for more than 20 ms, and its longest wait in nanoseconds.
 #include "loops.hpp"
 #include QUEUE
 #include <algorithm>
 #include <chrono>
 #include <csignal>
 #include <functional>
-#include <map>
 #include <string>
 #include <thread>
 #include <unistd.h>
@@ -29,17 +28,19 @@ using Clock = std::chrono::steady_clock;
 using Work = std::function<void(size_t number, Port &port, Seen &mine)>;
 
 static uint64_t nanos_since(Clock::time_point start) {
-    return static_cast<uint64_t>(std::chrono::nanoseconds(Clock::now() - start).count());
+    return uint64_t(std::chrono::nanoseconds(Clock::now() - start).count());
 }
 
 struct Run {
-    uint64_t many;
+    const std::string roles;
+    const uint64_t many;
     Queue queue;
     std::vector<std::unique_ptr<Port>> ports;
     std::vector<Seen> seen;
 
-    Run(uint32_t order, uint64_t many, size_t threads)
-        : many(many), queue(order, threads), ports(threads), seen(threads) {}
+    Run(const std::string &roles, uint32_t order, uint64_t many)
+        : roles(roles), many(many), queue(order, roles.size()), ports(roles.size()),
+          seen(roles.size()) {}
 
     // Has each thread do the work with a port of its own, the first in this one, and tells how long
     // it took. Nobody begins before all are there.
@@ -47,14 +48,12 @@ struct Run {
         std::atomic<size_t> waiting{ports.size()};
         Clock::time_point start;
         const auto begin = [&](size_t number) {
-            auto port = std::make_unique<Port>(queue, number);
-            Port &its = *port;
+            Port &port = *(ports[number] = std::make_unique<Port>(queue, number));
             Seen mine = {};
-            ports[number] = std::move(port);
             waiting--;
             while (waiting) std::this_thread::yield();
             if (number == 0) start = Clock::now();
-            work(number, its, mine);
+            work(number, port, mine);
             seen[number] = mine;
         };
         std::vector<std::thread> others;
@@ -64,15 +63,8 @@ struct Run {
         return nanos_since(start);
     }
 
-    int say(const std::string &figures, bool is_right) {
-        std::printf("%s\n", figures.c_str());
-        std::fflush(stdout);
-        if (!is_right) std::fprintf(stderr, "what was got isn't what was put\n");
-        return !is_right;
-    }
-
-    // Gets what is left, and tells whether as much was got as put.
-    bool is_complete() {
+    // What all put and got, with what is left, which is got here.
+    Seen total() {
         Seen all = {};
         for (auto &port : ports) {
             port->flush();
@@ -80,17 +72,18 @@ struct Run {
                 ;
         }
         for (const Seen &one : seen) {
-            all.puts += one.puts;
-            all.put_sum += one.put_sum;
-            all.gets += one.gets;
-            all.got_sum += one.got_sum;
+            all.puts += one.puts, all.put_sum += one.put_sum;
+            all.gets += one.gets, all.got_sum += one.got_sum;
         }
+        return all;
+    }
+    static bool is_complete(const Seen &all) {
         return all.puts == all.gets && (bare || all.put_sum == all.got_sum);
     }
 
-    // The roles of threads: they put, get, do both in turn, or find nothing.
-    int pairs(const std::string &roles) {
-        std::atomic<int> putting{static_cast<int>(std::count(roles.begin(), roles.end(), 'p'))};
+    // They put, get, do both in turn, or find nothing.
+    bool pairs() {
+        std::atomic<int> putting{int(std::count(roles.begin(), roles.end(), 'p'))};
         const uint64_t took = in_threads([&](size_t number, Port &port, Seen &mine) {
             switch (roles[number]) {
             case 'p':
@@ -102,14 +95,14 @@ struct Run {
             default: get_none(port, many, mine);
             }
         });
-        uint64_t sum = 0;
-        for (const Seen &one : seen) sum += one.got_sum;
-        return say(std::to_string(took) + " " + std::to_string(sum), roles == "e" || is_complete());
+        const Seen all = total();
+        std::printf("%zu %zu\n", took, all.got_sum);
+        return roles == "e" || is_complete(all);
     }
 
     // Ends when the first thread is through: what that one keeps, where messages go packed, others
     // would wait for.
-    int latency(bool pauses) {
+    bool times(bool pauses) {
         std::vector<std::vector<uint32_t>> times(ports.size());
         std::atomic<bool> is_over{false};
         const auto until_over = [&](auto call) {
@@ -119,39 +112,36 @@ struct Run {
             }
             return true;
         };
+        for (auto &its : times) its.reserve(many);
         const uint64_t first = __builtin_ia32_rdtsc();
         const auto begun = Clock::now();
-        for (auto &its : times) its.reserve(many);
         in_threads([&](size_t number, Port &port, Seen &mine) {
             uint64_t last = 0;
             while (mine.puts < many && !is_over) {
-                for (uint64_t until = __builtin_ia32_rdtsc() + 10 * last;
+                for (uint64_t until = __builtin_ia32_rdtsc() + 10 * std::min(last, uint64_t(10000));
                      pauses && __builtin_ia32_rdtsc() < until;)
                     __builtin_ia32_pause();
                 const uint64_t start = __builtin_ia32_rdtsc();
                 if (!until_over([&] { return mine.put(port); })) break;
                 if (!until_over([&] { return mine.get(port); })) break;
-                last = std::min(uint64_t(__builtin_ia32_rdtsc() - start), uint64_t(UINT32_MAX));
-                times[number].push_back(static_cast<uint32_t>(last));
-                last = std::min(last, uint64_t(10000));
+                last = __builtin_ia32_rdtsc() - start;
+                times[number].push_back(uint32_t(std::min(last, uint64_t(UINT32_MAX))));
             }
             is_over = true;
         });
-        const double nanos = static_cast<double>(nanos_since(begun)) /
-                             static_cast<double>(__builtin_ia32_rdtsc() - first);
+        const double nanos = double(nanos_since(begun)) / double(__builtin_ia32_rdtsc() - first);
         std::vector<uint32_t> all;
         for (const auto &its : times) all.insert(all.end(), its.begin(), its.end());
-        std::string figures;
         for (const double part : {0.5, 0.99, 0.999}) {
-            const auto at = all.begin() + static_cast<long>(part * static_cast<double>(all.size()));
+            const auto at = all.begin() + long(part * double(all.size()));
             std::nth_element(all.begin(), at, all.end());
-            figures += (figures.empty() ? "" : " ") + std::to_string(uint64_t(*at * nanos));
+            std::printf("%zu ", uint64_t(*at * nanos));
         }
-        return say(figures, is_complete());
+        return is_complete(total());
     }
 
-    // The third thread stops the second, wherever it is, and looks how long the first waits.
-    int stops() {
+    // Another thread stops the second, wherever it is, and looks how long the first waits.
+    bool stops() {
         std::atomic<bool> is_over{false};
         std::atomic<uint64_t> longest{0};
         std::atomic<pthread_t> victim{};
@@ -160,7 +150,7 @@ struct Run {
         std::thread stopper([&] {
             while (!victim.load()) std::this_thread::yield();
             for (uint64_t stop = 0; stop < many; stop++) {
-                usleep(10000 + static_cast<unsigned>(stop * 7919 % 1000));
+                usleep(10000 + unsigned(stop * 7919 % 1000));
                 longest = 0;
                 pthread_kill(victim, SIGUSR1);
                 usleep(70000);
@@ -181,13 +171,15 @@ struct Run {
             }
         });
         stopper.join();
-        return say(std::to_string(held) + " " + std::to_string(most), is_complete());
+        std::printf("%zu %zu\n", held, most);
+        return is_complete(total());
     }
 
     // A value is its thread and its number. No thread may get a thread's values but in their order,
     // and all have to be got just once.
-    int in_order() {
+    bool in_order() {
         constexpr int BITS = 40;
+        const auto by_thread = [](uint64_t a, uint64_t b) { return a >> BITS < b >> BITS; };
         std::vector<std::vector<uint64_t>> got(ports.size());
         std::vector<uint64_t> put, all;
         bool is_right = true;
@@ -199,31 +191,28 @@ struct Run {
             }
         });
         for (size_t number = 0; number < ports.size(); number++) {
-            std::vector<uint64_t> next(ports.size());
-            for (const uint64_t value : got[number]) {
-                is_right &= value >= next.at(value >> BITS);
-                next[value >> BITS] = value + 1;
-            }
+            auto &mine = got[number];
+            std::stable_sort(mine.begin(), mine.end(), by_thread);
+            is_right &= std::is_sorted(mine.begin(), mine.end());
             for (uint64_t i = 0; i < seen[number].puts; i++) put.push_back(number << BITS | i);
             ports[number]->flush();
-            for (uint64_t value; ports[number]->get(value);) got[number].push_back(value);
-            all.insert(all.end(), got[number].begin(), got[number].end());
+            for (uint64_t value; ports[number]->get(value);) mine.push_back(value);
+            all.insert(all.end(), mine.begin(), mine.end());
         }
         std::sort(all.begin(), all.end());
-        return say(std::to_string(all.size()), is_right && all == put);
+        return is_right && all == put;
     }
 };
 
 int main(int argc, char **argv) {
     if (argc != 4) return 2;
-    const std::string roles = argv[1];
-    const std::map<std::string, size_t> words = {
-        {"busy", 4}, {"calm", 2}, {"stop", 2}, {"order", 4}};
-    const auto word = words.find(roles);
-    Run run(static_cast<uint32_t>(std::atoi(argv[2])), std::strtoull(argv[3], nullptr, 10),
-            word == words.end() ? roles.size() : word->second);
-    std::_Exit(roles == "stop"       ? run.stops()
-               : roles == "order"    ? run.in_order()
-               : word == words.end() ? run.pairs(roles)
-                                     : run.latency(roles == "calm"));
+    const char kind = *argv[1];
+    Run run(argv[1], uint32_t(std::atoi(argv[2])), std::strtoull(argv[3], nullptr, 10));
+    const bool is_right = kind == 's'                  ? run.stops()
+                          : kind == 'o'                ? run.in_order()
+                          : kind == 't' || kind == 'c' ? run.times(kind == 'c')
+                                                       : run.pairs();
+    std::fflush(stdout);
+    if (!is_right) std::fprintf(stderr, "what was got isn't what was put\n");
+    std::_Exit(!is_right);
 }

@@ -1,5 +1,6 @@
-crate make_one: scq_queue scq_band scq_word anyhow
-== src/main.rt
+# shellcheck shell=bash
+crate_over 'make_one: scq_queue scq_band scq_word anyhow'
+crate_file src/main.rt <<'END'
 //! Makes a band or a queue over buffers that it has marked, closes it, and says what came of it. Of standard input the first byte says
 //! which, the second of which order, and for each other one an allocation is made before.
 #![tactic(auto)]
@@ -77,3 +78,4 @@ fn main(rt: HostRuntime) -> Result<()> {
     println!(rt; "{came}, {}", said(buffers, count))?;
     Ok(())
 }
+END
