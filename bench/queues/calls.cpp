@@ -63,8 +63,8 @@ struct Run {
         return nanos_since(start);
     }
 
-    // What all put and got, with what is left, which is got here.
-    Seen total() {
+    // Gets what is left, and tells whether as much was got as put.
+    bool is_complete() {
         Seen all = {};
         for (auto &port : ports) {
             port->flush();
@@ -75,9 +75,6 @@ struct Run {
             all.puts += one.puts, all.put_sum += one.put_sum;
             all.gets += one.gets, all.got_sum += one.got_sum;
         }
-        return all;
-    }
-    static bool is_complete(const Seen &all) {
         return all.puts == all.gets && (bare || all.put_sum == all.got_sum);
     }
 
@@ -95,9 +92,10 @@ struct Run {
             default: get_none(port, many, mine);
             }
         });
-        const Seen all = total();
-        std::printf("%zu %zu\n", took, all.got_sum);
-        return roles == "e" || is_complete(all);
+        uint64_t sum = 0;
+        for (const Seen &one : seen) sum += one.got_sum;
+        std::printf("%zu %zu\n", took, sum);
+        return roles == "e" || is_complete();
     }
 
     // Ends when the first thread is through: what that one keeps, where messages go packed, others
@@ -137,7 +135,7 @@ struct Run {
             std::nth_element(all.begin(), at, all.end());
             std::printf("%zu ", uint64_t(*at * nanos));
         }
-        return is_complete(total());
+        return is_complete();
     }
 
     // Another thread stops the second, wherever it is, and looks how long the first waits.
@@ -172,7 +170,7 @@ struct Run {
         });
         stopper.join();
         std::printf("%zu %zu\n", held, most);
-        return is_complete(total());
+        return is_complete();
     }
 
     // A value is its thread and its number. No thread may get a thread's values but in their order,
