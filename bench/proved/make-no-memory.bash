@@ -1,8 +1,8 @@
 # shellcheck shell=bash
 crate_over 'make_one: scq_queue scq_band scq_word anyhow'
 crate_file src/main.rt <<'END'
-//! Makes a band or a queue over buffers that it has marked, closes it, and says what came of it. Of standard input the first byte says
-//! which, the second of which order, and for each other one an allocation is made before.
+//! Makes bands and queues over buffers that it has marked, closes each, and has a letter for it: m made, w wants memory, b no buffers, or x
+//! where not all buffers came back, in order. For each byte of standard input an allocation is made before.
 #![tactic(auto)]
 
 use anyhow::Result;
@@ -23,59 +23,60 @@ fn marked(alloc: Global, count: u32) -> Result<Vec<HeapBuffer>, NoMemory> {
     Ok(buffers)
 }
 
-/// What is said of buffers that came back.
-fn said(buffers: Vec<HeapBuffer>, count: u32) -> &'static str {
-    if buffers.len() != count as usize {
-        return "not all buffers";
-    }
+/// Whether all buffers came back, in order.
+fn are_all(buffers: Vec<HeapBuffer>, count: u32) -> bool {
     for (number, buffer) in buffers.iter().enumerate() {
         let bytes = buffer.bytes();
         if bytes.len() != 8 + number % 8 || bytes.iter().any(|byte| *byte as usize != number % 256) {
-            return "buffers out of order";
+            return false;
         }
     }
-    "all buffers in order"
+    buffers.len() == count as usize
 }
 
-fn band_of(alloc: Global, setup: Setup, buffers: Vec<HeapBuffer>) -> (&'static str, Vec<HeapBuffer>) {
+fn band_of(alloc: Global, setup: Setup, buffers: Vec<HeapBuffer>) -> (bool, Vec<HeapBuffer>) {
     match Band::make(alloc, setup, buffers) {
         Ok((band, seats)) => {
             let BandClosed { buffers, .. } = band.close(seats, Vec::<(u32, HeapBuffer)>::new(alloc));
-            ("made", buffers)
+            (true, buffers)
         }
-        Err((buffers, NoMemory)) => ("no memory", buffers),
+        Err((buffers, NoMemory)) => (false, buffers),
     }
 }
 
-fn queue_of(alloc: Global, setup: Setup, buffers: Vec<HeapBuffer>) -> (&'static str, Vec<HeapBuffer>) {
+fn queue_of(alloc: Global, setup: Setup, buffers: Vec<HeapBuffer>) -> (bool, Vec<HeapBuffer>) {
     match Queue::make(alloc, setup, buffers) {
         Ok((queue, passes)) => {
             let Closed { buffers, .. } = queue.close(passes, Vec::<Held<HeapBuffer>>::new(alloc));
-            ("made", buffers)
+            (true, buffers)
         }
-        Err((buffers, NoMemory)) => ("no memory", buffers),
+        Err((buffers, NoMemory)) => (false, buffers),
     }
 }
 
 fn main(rt: HostRuntime) -> Result<()> {
     let alloc = rt.alloc();
     let mut asked = [0u8; 256];
-    let len = rt.stdin().read(&mut asked)?;
-    for _ in 2..len {
+    for _ in 0..rt.stdin().read(&mut asked)? {
         if Vec::<u8>::with_capacity(alloc, 1).is_err() {
             println!(rt; "failed too early")?;
         }
     }
-    let (order, seats) = if asked[1] == b'1' { (1, 2) } else { (3, 4) };
-    let setup = Setup::new(order, 3, seats, 1 << 60)?;
-    let count = setup.shape().n();
-    let Ok(buffers) = marked(alloc, count) else {
-        println!(rt; "no buffers")?;
-        return Ok(());
-    };
-    let (came, buffers) =
-        if asked[0] == b'b' { band_of(alloc, setup, buffers) } else { queue_of(alloc, setup, buffers) };
-    println!(rt; "{came}, {}", said(buffers, count))?;
+    for (order, seats, is_band) in [(1, 2, true), (1, 2, false), (3, 4, true), (3, 4, false)] {
+        let setup = Setup::new(order, 3, seats, 1 << 60)?;
+        let count = setup.shape().n();
+        let Ok(buffers) = marked(alloc, count) else {
+            println!(rt; "b")?;
+            return Ok(());
+        };
+        let (is_made, buffers) =
+            if is_band { band_of(alloc, setup, buffers) } else { queue_of(alloc, setup, buffers) };
+        print!(rt; "{}", if !are_all(buffers, count) { "x" } else if is_made { "m" } else { "w" })?;
+        if !is_made {
+            break;
+        }
+    }
+    println!(rt; "")?;
     Ok(())
 }
 END
