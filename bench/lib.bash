@@ -141,34 +141,21 @@ spent_by() {
     done
 }
 
-# Whether a file of dist/ is of these sources, and is what dist/RECORD says.
-is_fresh() { ! "$top/dist/make" --fresh 2>&1 | grep -q "^dist/make: dist/x86_64-linux/$1 "; }
-
-# The program scq or scq_wait, to the variable of this name: that of dist/, or where it is of other sources the one
-# that its launcher proves and builds.
-program() {
-    local crate=$1 path=$top/dist/x86_64-linux/$1
-    is_fresh "$1" || {
-        [ "$1" != scq ] || crate=scq_main
-        "$top/$1" run /dev/null >"$folder/built" || stop "$1 can't be built"
-        path=$top/crates/$crate/out/$crate
-    }
-    printf -v "$1" %s "$path"
-    echo "$1 is $(named "$path")"
-}
-
-# libscq.a, to `archive`: the one that ARCHIVE names, or that of dist/, or what dist/make makes in a copy.
-archive() {
-    archive=${ARCHIVE:-$top/dist/x86_64-linux/libscq.a}
-    [ -n "${ARCHIVE-}" ] || is_fresh libscq.a || {
-        command -v rt >/dev/null || stop 'dist/x86_64-linux/libscq.a is of other sources'
+# A program of dist/, to the variable of its name, and libscq.a, or what ARCHIVE names, to `archive`.
+program() { shipped "$1" "$1"; }
+archive() { shipped libscq.a archive "${ARCHIVE-}"; }
+# A file of dist/, or what dist/make makes in a copy where that is of other sources.
+shipped() {
+    local file=dist/x86_64-linux/$1 path
+    path=${3:-$top/$file}
+    if [ -z "${3-}" ] && "$top/dist/make" --fresh 2>&1 | grep -q "^dist/make: $file "; then
         copied "$folder/tree"
-        "$folder/tree/dist/make" || stop "libscq.a can't be made"
-        archive=$folder/tree/dist/x86_64-linux/libscq.a
-    }
-    [ -f "$archive" ] || stop "no archive $archive"
-    archive=$(readlink -f "$archive")
-    echo "libscq.a is $(named "$archive")"
+        "$folder/tree/dist/make" >"$folder/made" 2>&1 || stop "$1 can't be made: $(tail -n 1 "$folder/made")"
+        path=$folder/tree/$file
+    fi
+    [ -f "$path" ] || stop "no file $path"
+    printf -v "$2" %s "$(readlink -f "$path")"
+    echo "$1 is $(named "${!2}")"
 }
 
 # How a file of the repository, or another, is told in a result.
@@ -237,13 +224,11 @@ proved() {
 
 # Compiles a C++ file as the kit compiles its programs: by its clang, with g++'s headers.
 by_kit() {
-    local program=$1 clang headers including=() it
+    local program=$1 clang headers
     shift
     clang=$(dirname "$(rt doc)")/toolchain/bin/clang
-    mapfile -t headers < <(g++ -E -x c++ -v /dev/null 2>&1 | sed -n '/^#include </,/^End/s/^ //p')
-    for it in "${headers[@]}"; do including+=(-isystem "$it"); done
-    "$clang" -x c++ -std=c++17 -O3 -march=x86-64-v2 -Wall -Wextra -Werror -nostdinc "${including[@]}" \
-        "$@" -c -o "$program.o"
+    mapfile -t headers < <(g++ -E -x c++ -v /dev/null 2>&1 | sed -n '/^#include </,/^End/s/^ /-isystem/p')
+    "$clang" -x c++ -std=c++17 -O3 -march=x86-64-v2 -Wall -Wextra -Werror -nostdinc "${headers[@]}" "$@" -c -o "$program.o"
     g++ -pthread -o "$program" "$program.o"
 }
 
@@ -277,7 +262,7 @@ cargo_of_debian() {
 # Has what is said from here on written to a result too, below the date, the machine and versions.
 result() {
     [ -n "$results" ] || return 0
-    read -r was_busy was_stolen was_all was_own < <(ticks)
+    read -r _ _ _ _ _ _ _ _ stolen _ </proc/stat
     exec {screen}>&1 > >(tee "$scratch/said" >&"$screen")
     tee=$!
     at_end=write_result
@@ -298,22 +283,10 @@ versions() {
     done
 }
 
-# Ticks since the machine started, of all processors: busy, stolen, all; and this script's own.
-ticks() {
-    awk 'FILENAME == "/proc/stat" && /^cpu / {
-            busy = $2 + $3 + $4 + $7 + $8
-            printf "%d %d %d ", busy, $9, busy + $5 + $6 + $9
-        }
-        FILENAME != "/proc/stat" { sub(/.*\) /, ""); print $12 + $13 + $14 + $15 }' /proc/stat "/proc/$$/stat"
-}
-
 write_result() {
-    local now_busy now_stolen now_all now_own spent
-    read -r now_busy now_stolen now_all now_own < <(ticks)
-    spent=$((now_all - was_all > 0 ? now_all - was_all : 1))
-    echo "load at the end: $(cut -d ' ' -f 1-3 /proc/loadavg); of the processors' time meanwhile others had" \
-        "$((100 * (now_busy - was_busy - now_own + was_own) / spent)) %, and" \
-        "$((100 * (now_stolen - was_stolen) / spent)) % was stolen"
+    local before=$stolen
+    read -r _ _ _ _ _ _ _ _ stolen _ </proc/stat
+    echo "load at the end: $(cut -d ' ' -f 1-3 /proc/loadavg); ticks of processors stolen meanwhile: $((stolen - before))"
     exec >&"$screen"
     wait "$tee"
     mkdir -p "$results" && cp "$scratch/said" "$results/$script.txt"

@@ -24,31 +24,28 @@ inline void must(bool is, const char *what) {
     std::exit(2);
 }
 
-namespace Stopped {
+inline std::string task_of(pid_t pid) { return "/proc/" + std::to_string(pid) + "/task/"; }
 
 // The threads of a program but its first, the oldest first, once there are so many.
 inline std::vector<pid_t> others_of(pid_t pid, size_t many) {
-    const std::string tasks = "/proc/" + std::to_string(pid) + "/task";
-    for (int i = 0; i < 2000; i++) {
-        std::vector<pid_t> ids;
-        for (const auto &it : std::filesystem::directory_iterator(tasks))
+    std::vector<pid_t> ids;
+    do {
+        usleep(1000);
+        ids.clear();
+        for (const auto &it : std::filesystem::directory_iterator(task_of(pid)))
             ids.push_back(std::stoi(it.path().filename()));
         ids.erase(std::remove(ids.begin(), ids.end(), pid), ids.end());
-        std::sort(ids.begin(), ids.end());
-        if (ids.size() >= many) return ids;
-        usleep(1000);
-    }
-    must(false, "threads");
-    return {};
+    } while (ids.size() < many);
+    std::sort(ids.begin(), ids.end());
+    return ids;
 }
 
 // Whether a thread neither sleeps nor has ended.
 inline bool is_at_work(pid_t pid, pid_t id) {
-    std::ifstream file("/proc/" + std::to_string(pid) + "/task/" + std::to_string(id) + "/stat");
+    std::ifstream file(task_of(pid) + std::to_string(id) + "/stat");
     std::string text;
     std::getline(file, text);
-    const size_t end = text.rfind(')');
-    return end != std::string::npos && end + 2 < text.size() && text[end + 2] != 'S';
+    return text.find(") ") != std::string::npos && text.find(") S") == std::string::npos;
 }
 
 inline void tell(__ptrace_request what, pid_t id) { must(!ptrace(what, id, 0, 0), "ptrace"); }
@@ -116,21 +113,21 @@ inline int hold(pid_t pid, bool goes, char kind, uint64_t number, size_t threads
         if (it.kind == kind && it.from < 0x700000000000) found++, at = it.from;
     }
     must(found == number, "no such instruction was met");
-    const auto start = std::chrono::steady_clock::now();
-    std::chrono::duration<double> took{0};
     // No call sleeps: who sleeps is done, and waits for the end of another.
     const auto works = [&](pid_t it) {
         if (it == id || !is_at_work(pid, it)) return false;
         usleep(50000);
         return is_at_work(pid, it);
     };
-    for (bool all_done = false; !all_done && took.count() < 120;) {
+    const auto start = std::chrono::steady_clock::now();
+    std::chrono::duration<double> took{0};
+    for (bool all_done = false; !all_done;) {
         usleep(20000);
         const std::vector<pid_t> now = others_of(pid, 0);
         all_done = std::none_of(now.begin(), now.end(), works);
         took = std::chrono::steady_clock::now() - start;
+        must(took.count() < 120, "others did not come to their end");
     }
-    must(took.count() < 120, "others did not come to their end");
     std::printf("held behind %c at ..%03zx: the others came to their end in %.1f s; %s\n", kind,
                 at & 0xfff, took.count(), goes ? "let go" : "killed");
     std::fflush(stdout);
@@ -141,5 +138,3 @@ inline int hold(pid_t pid, bool goes, char kind, uint64_t number, size_t threads
         ;
     return WIFEXITED(status) ? WEXITSTATUS(status) : 1;
 }
-
-} // namespace Stopped

@@ -15,11 +15,8 @@ using Message = std::array<uint64_t, 4>;
 // A message is told by its sender, its topic and its number, and says so four times in different
 // words.
 static Message message(uint64_t name) {
-    uint64_t mix = name + 0x9e3779b97f4a7c15;
-    mix = (mix ^ mix >> 30) * 0xbf58476d1ce4e5b9;
-    mix = (mix ^ mix >> 27) * 0x94d049bb133111eb;
-    mix ^= mix >> 31;
-    return {name, mix, ~name, (mix << 32 | mix >> 32) ^ name};
+    const uint64_t mix = name * 0x9e3779b97f4a7c15;
+    return {name, mix, ~name, mix << 32 | mix >> 32};
 }
 
 constexpr uint64_t ENDLESS = uint64_t(1) << 50;
@@ -36,8 +33,7 @@ struct alignas(128) Thread {
         scq_held held;
         uint64_t place;
         const uint32_t answer = scq_lend(port, &held);
-        full += answer == SCQ_FULL;
-        if (answer == SCQ_FULL) return;
+        if (answer == SCQ_FULL) return void(full++);
         must(answer == SCQ_OK, "lend");
         const Message it = message(sent++ << 8 | sender << 1 | topic);
         std::memcpy(held.at, &it, sizeof it);
@@ -48,8 +44,7 @@ struct alignas(128) Thread {
         scq_held held;
         Message it;
         const uint32_t answer = scq_take(port, topic, &held);
-        empty += answer == SCQ_EMPTY;
-        if (answer == SCQ_EMPTY) return false;
+        if (answer == SCQ_EMPTY) return empty++, false;
         must(answer == SCQ_OK, "take");
         std::memcpy(&it, held.at, sizeof it);
         torn += it != message(it[0]) || (it[0] & 1) != topic;
@@ -136,25 +131,25 @@ static int counted(pid_t pid, uint32_t order, size_t threads, uint64_t rounds, u
         return uint32_t(seed * below >> 32);
     };
     uint64_t calls = 0, most = 0, locked = 0;
-    std::vector<pid_t> ids = Stopped::others_of(pid, threads);
-    for (const pid_t id : ids) Stopped::tell(PTRACE_SEIZE, id);
+    std::vector<pid_t> ids = others_of(pid, threads);
+    for (const pid_t id : ids) tell(PTRACE_SEIZE, id);
     for (uint64_t round = 0; round < rounds; round++) {
         usleep(drawn(2000));
-        for (const pid_t id : ids) Stopped::tell(PTRACE_INTERRUPT, id);
-        for (const pid_t id : ids) Stopped::wait(id);
+        for (const pid_t id : ids) tell(PTRACE_INTERRUPT, id);
+        for (const pid_t id : ids) wait(id);
         for (size_t i = 0; i < ids.size(); i++) {
             const pid_t id = ids[drawn(ids.size())];
             uint64_t here = 0;
             for (int more = 6; more > 0;) {
-                const Stopped::Step it = Stopped::step(pid, id);
+                const Step it = step(pid, id);
                 here += it.kind != 0;
                 if (std::count(std::begin(begins), std::end(begins), it.to) == 0) continue;
                 most = std::max(most, here);
                 locked += here, here = 0, calls++, more--;
             }
-            for (uint32_t more = drawn(120); more > 0; more--) Stopped::step(pid, id);
+            for (uint32_t more = drawn(120); more > 0; more--) step(pid, id);
         }
-        for (const pid_t id : ids) Stopped::tell(PTRACE_CONT, id);
+        for (const pid_t id : ids) tell(PTRACE_CONT, id);
     }
     const uint64_t n = uint64_t(1) << order, k = threads, reset = 2 * n - 1 + std::max(n, k);
     const uint64_t b = 6 * (reset + n + k), alone = 10 * n + 3 * k + 3;
@@ -171,8 +166,8 @@ int main(int words, char **word) {
     const std::string mode = words > 4 ? word[1] : "";
     const uint32_t order = uint32_t(number(2));
     const size_t threads = number(3);
-    const pid_t pid = mode == "run" ? 0 : Stopped::started();
+    const pid_t pid = mode == "run" ? 0 : started();
     if (!pid) return run(order, threads, mode == "count" ? ENDLESS : number(4));
     if (mode == "count") return counted(pid, order, threads, number(4), uint32_t(number(5)));
-    return Stopped::hold(pid, mode == "go", *word[5], number(6), threads / 2);
+    return hold(pid, mode == "go", *word[5], number(6), threads / 2);
 }
