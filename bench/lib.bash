@@ -89,12 +89,8 @@ ratio() {
 }
 
 middle() {
-    sort -g | awk -v spread="${1-}" '
-        { it[NR] = $1 }
-        END {
-            at = NR ? it[int((NR + 1) / 2)] : "-"
-            print spread && NR ? at " (" it[1] "-" it[NR] ")" : at
-        }'
+    sort -g | awk -v spread="${1-}" '{ it[NR] = $1 }
+        END { print (NR ? it[int((NR + 1) / 2)] : "-") (spread && NR ? " (" it[1] "-" it[NR] ")" : "") }'
 }
 
 # What awk makes of a formula, with two digits behind the point.
@@ -115,8 +111,7 @@ miss() {
 # The end of a script: how many verdicts were missed, and a status that says whether any was.
 finish() {
     echo "$script: $missed went wrong"
-    [ "$missed" = 0 ]
-    exit
+    exit $((missed != 0))
 }
 
 # Runs a command once. Its seconds of the processor and by the clock, and the most memory that it held in KB, are
@@ -176,14 +171,13 @@ preload() {
 # Runs a program with its threads each on a processor of its own, so many and the last ones; where
 # there are more threads than processors, wherever the kernel lays them.
 pinned() {
-    local threads=$1 cores at list=''
+    local threads=$1 cores
     shift
     [ -e threads.so ] || preload threads
     mapfile -t cores < <(taskset -cp $$ | sed 's/.*: //; s/,/\n/g' |
         while IFS=- read -r first last; do seq "$first" "${last:-$first}"; done)
-    at=$((${#cores[@]} - threads))
-    [ "$at" -lt 0 ] || list=${cores[*]:at}
-    env LD_PRELOAD="$folder/threads.so" PIN="$list" "$@"
+    # Of fewer than that this is none.
+    env LD_PRELOAD="$folder/threads.so" PIN="${cores[*]: -threads}" "$@"
 }
 
 # A crate and those that it stands on, as a repository in this folder, by what bench/proved/ has of this name: it says
@@ -259,7 +253,8 @@ cargo_of_debian() {
         >"$name/Cargo.toml"
 }
 
-# Has what is said from here on written to a result too, below the date, the machine and versions.
+# Has what is said from here on written to a result too, below the date, the machine, and versions of the kit and of
+# these commands.
 result() {
     [ -n "$results" ] || return 0
     read -r _ _ _ _ _ _ _ _ stolen _ </proc/stat
@@ -270,17 +265,10 @@ result() {
         git -C "$top" diff --quiet HEAD -- crates dist bench bindings || echo ' and changes')"
     echo "machine: $(sed -n 's/^model name.*: //p' /proc/cpuinfo | head -n 1), $(nproc) processors," \
         "$(awk '/^MemTotal/ { printf "%.0f GB", $2 / 1e6 }' /proc/meminfo), $(uname -sr)"
-    echo "versions: $(versions "$@")"
-    echo "load at the start: $(cut -d ' ' -f 1-3 /proc/loadavg)"
-}
-
-# The kit's version, and those of these commands.
-versions() {
-    local it
-    recorded kit
-    for it; do
+    echo "versions: $(recorded kit && for it; do
         { "$it" --version || "$it" -W version || echo "no $it"; } 2>/dev/null | sed '/^$/d' | head -n 1
-    done
+    done)"
+    echo "load at the start: $(cut -d ' ' -f 1-3 /proc/loadavg)"
 }
 
 write_result() {
