@@ -1,8 +1,8 @@
 # shellcheck shell=bash disable=SC2034
 # What the scripts of bench/ have in common, who read this file first: a folder of their own, which is removed at
-# their end; rounds in turn, medians, ratios and verdicts; the program that is measured; threads that keep to a
-# processor each; drivers in Rattle, which are proved first; and results as text. The script goes on in its folder,
-# with `top` and `bench` as the names of the repository and of bench/.
+# their end; rounds in turn, medians, ratios and verdicts; the program that is measured; drivers in Rattle, which are
+# proved first; and results as text. The script goes on in its folder, with `top` and `bench` as the names of the
+# repository and of bench/.
 #
 # From the environment, for each script:
 #   SHORT=1   a short run, to see that it works: one round, and a fiftieth of each size
@@ -26,11 +26,10 @@ cd "$folder"
 # shellcheck source=../dist/sources.bash
 . "$top/dist/sources.bash"
 
-# What has to be done at the end, before the folder is removed.
-at_end=:
+# What is done at the end.
 end() {
     local status=$?
-    $at_end
+    [ -z "${tee-}" ] || write_result
     cd / && rm -rf "$scratch"
     exit "$status"
 }
@@ -168,18 +167,6 @@ preload() {
     cc -std=gnu11 -O2 -Wall -Wextra -Werror -shared -fPIC "$bench/preload/$1.c" -o "$1.so" -ldl
 }
 
-# Runs a program with its threads each on a processor of its own, so many and the last ones; where
-# there are more threads than processors, wherever the kernel lays them.
-pinned() {
-    local threads=$1 cores
-    shift
-    [ -e threads.so ] || preload threads
-    mapfile -t cores < <(taskset -cp $$ | sed 's/.*: //; s/,/\n/g' |
-        while IFS=- read -r first last; do seq "$first" "${last:-$first}"; done)
-    # Of fewer than that this is none.
-    env LD_PRELOAD="$folder/threads.so" PIN="${cores[*]: -threads}" "$@"
-}
-
 # A crate and those that it stands on, as a repository in this folder, by what bench/proved/ has of this name: it says
 # the crate's line of crates.txt, and then each of its files.
 laid_out() {
@@ -260,7 +247,6 @@ result() {
     read -r _ _ _ _ _ _ _ _ stolen _ </proc/stat
     exec {screen}>&1 > >(tee "$scratch/said" >&"$screen")
     tee=$!
-    at_end=write_result
     echo "bench/$script, $(date -u '+%F %R') UTC, of commit $(git -C "$top" rev-parse --short=12 HEAD)$(
         git -C "$top" diff --quiet HEAD -- crates dist bench bindings || echo ' and changes')"
     echo "machine: $(sed -n 's/^model name.*: //p' /proc/cpuinfo | head -n 1), $(nproc) processors," \

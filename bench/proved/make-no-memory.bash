@@ -6,8 +6,8 @@ crate_file src/main.rt <<'END'
 #![tactic(auto)]
 
 use anyhow::Result;
-use scq_band::{Band, BandClosed};
-use scq_queue::{Closed, HeapBuffer, Held, Queue};
+use scq_band::Band;
+use scq_queue::{HeapBuffer, Held, Queue};
 use scq_word::{Buffer, BufferMut, NoMemory, Setup};
 use std::alloc::Global;
 use std::io::Read;
@@ -34,26 +34,6 @@ fn are_all(buffers: Vec<HeapBuffer>, count: u32) -> bool {
     buffers.len() == count as usize
 }
 
-fn band_of(alloc: Global, setup: Setup, buffers: Vec<HeapBuffer>) -> (bool, Vec<HeapBuffer>) {
-    match Band::make(alloc, setup, buffers) {
-        Ok((band, seats)) => {
-            let BandClosed { buffers, .. } = band.close(seats, Vec::<(u32, HeapBuffer)>::new(alloc));
-            (true, buffers)
-        }
-        Err((buffers, NoMemory)) => (false, buffers),
-    }
-}
-
-fn queue_of(alloc: Global, setup: Setup, buffers: Vec<HeapBuffer>) -> (bool, Vec<HeapBuffer>) {
-    match Queue::make(alloc, setup, buffers) {
-        Ok((queue, passes)) => {
-            let Closed { buffers, .. } = queue.close(passes, Vec::<Held<HeapBuffer>>::new(alloc));
-            (true, buffers)
-        }
-        Err((buffers, NoMemory)) => (false, buffers),
-    }
-}
-
 fn main(rt: HostRuntime) -> Result<()> {
     let alloc = rt.alloc();
     let mut asked = [0u8; 256];
@@ -69,8 +49,17 @@ fn main(rt: HostRuntime) -> Result<()> {
             println!(rt; "b")?;
             return Ok(());
         };
-        let (is_made, buffers) =
-            if is_band { band_of(alloc, setup, buffers) } else { queue_of(alloc, setup, buffers) };
+        let (is_made, buffers) = if is_band {
+            match Band::make(alloc, setup, buffers) {
+                Ok((band, seats)) => (true, band.close(seats, Vec::<(u32, HeapBuffer)>::new(alloc)).buffers),
+                Err((buffers, NoMemory)) => (false, buffers),
+            }
+        } else {
+            match Queue::make(alloc, setup, buffers) {
+                Ok((queue, passes)) => (true, queue.close(passes, Vec::<Held<HeapBuffer>>::new(alloc)).buffers),
+                Err((buffers, NoMemory)) => (false, buffers),
+            }
+        };
         print!(rt; "{}", if !are_all(buffers, count) { "x" } else if is_made { "m" } else { "w" })?;
         if !is_made {
             break;

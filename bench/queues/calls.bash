@@ -8,6 +8,7 @@
 # From the environment: PAIRS, how many pairs of calls one thread makes in a run (4000000; other runs in
 # proportion); LIMIT, in how many seconds a run has to end (50).
 kept_in "$@"
+preload threads
 # shellcheck source=over.bash
 . "$bench/queues/over.bash"
 turns=$(rounds 9)
@@ -36,11 +37,7 @@ ours_and_plain() {
 }
 
 # Those of these programs that were built.
-built() {
-    local it found=()
-    for it; do [ ! -x "$it" ] || found+=("$it"); done
-    echo "${found[*]}"
-}
+built() { for it; do [ ! -x "$it" ] || printf '%s ' "$it"; done; }
 
 # The aim that a program's speed in a mode is at each order so many times that of another in it.
 aim() {
@@ -54,10 +51,12 @@ aim() {
 # Runs a program once, PROGRAM.MODE.ORDER, and notes what it says under this key: million pairs a second, or
 # how many stops were felt and the longest wait.
 run_once() {
-    local key=$1 program mode order figures status=0
+    local key=$1 program mode order figures it status=0
     IFS=. read -r program mode order <<<"$key"
     local each=${each_of[$mode]} roles=${roles_of[$mode]}
-    pinned "${#roles}" timeout "$limit" "./$program" "$roles" "$order" "$each" >answer || status=$?
+    # Who stops a thread has a processor too.
+    [ "$mode" = stop ] && it=3 || it=${#roles}
+    timeout "$limit" env LD_PRELOAD=./threads.so PIN="$it" "./$program" "$roles" "$order" "$each" >answer || status=$?
     read -ra figures <answer || true
     case $status-$mode in
         0-order) ;;
