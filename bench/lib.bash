@@ -16,12 +16,10 @@ top=$(dirname "$bench")
 script=$(basename "$0")
 scratch=$(mktemp -d)
 folder=$scratch
-missed=0
-round=1
+missed=0 round=1
 # What functions below find: programs, and the name of a crate.
 scq='' scq_wait='' archive='' ours='' crate=''
-results=${RESULTS-}
-[ -n "${RESULTS-}${SHORT-}${ROUNDS-}" ] || results=$bench/results
+results=${RESULTS-$([ -n "${SHORT-}${ROUNDS-}" ] || echo "$bench/results")}
 cd "$folder"
 # shellcheck source=../dist/sources.bash
 . "$top/dist/sources.bash"
@@ -140,8 +138,7 @@ program() { shipped "$1" "$1"; }
 archive() { shipped libscq.a archive "${ARCHIVE-}"; }
 # A file of dist/, or what dist/make makes in a copy where that is of other sources.
 shipped() {
-    local file=dist/x86_64-linux/$1 path
-    path=${3:-$top/$file}
+    local file=dist/x86_64-linux/$1 path=${3:-$top/dist/x86_64-linux/$1}
     if [ -z "${3-}" ] && "$top/dist/make" --fresh 2>&1 | grep -q "^dist/make: $file "; then
         copied "$folder/tree"
         "$folder/tree/dist/make" >"$folder/made" 2>&1 || stop "$1 can't be made: $(tail -n 1 "$folder/made")"

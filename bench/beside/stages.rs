@@ -1,4 +1,4 @@
-use std::io::{BufWriter, Read, Write};
+use std::io::{BufWriter, Write};
 
 // The bytes with `#` for each digit, and one space for each run of spaces.
 fn both(payload: &[u8], into: &mut Vec<u8>) {
@@ -13,9 +13,7 @@ fn both(payload: &[u8], into: &mut Vec<u8>) {
 }
 
 fn main() -> std::io::Result<()> {
-    let name = std::env::args().nth(1).expect("a file");
-    let mut bytes = Vec::new();
-    std::fs::File::open(name)?.read_to_end(&mut bytes)?;
+    let bytes = std::fs::read(std::env::args().nth(1).expect("a file"))?;
     let mut out = BufWriter::with_capacity(1 << 16, std::io::stdout().lock());
     let (mut count, mut sum) = (0u64, 0u64);
     let mut left = Vec::new();

@@ -7,8 +7,8 @@ struct Queue : Two<Ring> {
     unsigned bulk;
 
     Queue(uint32_t order, size_t threads)
-        : Two(order, threads), bulk(std::clamp(unsigned(buffers.size() / (4 * threads)), 1u, 32u)) {
-    }
+        : Two(order, threads),
+          bulk(unsigned(std::clamp<size_t>(buffers.size() / 4 / threads, 1, 32))) {}
 };
 
 // Buffers that go to a ring together, or came from it together, in their order.

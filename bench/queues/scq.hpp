@@ -6,8 +6,7 @@ struct Queue {
     std::vector<scq_port> ports;
 
     Queue(uint32_t order, size_t threads) : ports(threads, scq_port SCQ_NONE) {
-        if (scq_open(order, 1, 64, 1, SCQ_MAX_LIMIT, ports.data(), threads) != SCQ_OK)
-            fail("scq_open");
+        if (scq_open(order, 1, 64, 1, SCQ_MAX_LIMIT, ports.data(), threads) != SCQ_OK) fail("open");
     }
 };
 

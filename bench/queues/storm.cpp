@@ -256,7 +256,7 @@ static int counted(pid_t pid, uint32_t order, size_t threads, uint64_t rounds, u
         seed = seed * 1664525 + 1013904223;
         return uint32_t(seed * below >> 32);
     };
-    uint64_t calls = 0, most = 0, locked = 0;
+    uint64_t calls = 0, most = 0;
     std::vector<pid_t> ids = others_of(pid, threads);
     for (const pid_t id : ids) tell(PTRACE_SEIZE, id);
     for (uint64_t round = 0; round < rounds; round++) {
@@ -271,7 +271,7 @@ static int counted(pid_t pid, uint32_t order, size_t threads, uint64_t rounds, u
                 here += it.kind != 0;
                 if (std::count(std::begin(begins), std::end(begins), it.to) == 0) continue;
                 most = std::max(most, here);
-                locked += here, here = 0, calls++, more--;
+                here = 0, calls++, more--;
             }
             for (uint32_t more = drawn(120); more > 0; more--) step(pid, id);
         }
@@ -280,8 +280,8 @@ static int counted(pid_t pid, uint32_t order, size_t threads, uint64_t rounds, u
     const uint64_t n = uint64_t(1) << order, k = threads, reset = 2 * n - 1 + std::max(n, k);
     const uint64_t b = 6 * (reset + n + k), alone = 10 * n + 3 * k + 3;
     std::printf("order %u, %zu threads: %zu calls alone, all others stopped: at most %zu locked "
-                "instructions a call, %.1f on average; b is %zu, alone %zu\n",
-                order, threads, calls, most, double(locked) / double(calls), b, alone);
+                "instructions a call; b is %zu, alone %zu\n",
+                order, threads, calls, most, b, alone);
     return most > std::min(b, alone);
 }
 
