@@ -1,8 +1,8 @@
 # shellcheck shell=bash disable=SC2034
 # What the scripts of bench/ have in common, who read this file first: a folder of their own, which is removed at
-# their end; rounds in turn, medians, ratios and verdicts; the program that is measured; threads that keep to a
-# processor each; drivers in Rattle, which are proved first; and results as text. The script goes on in its folder,
-# with `top` and `bench` as the names of the repository and of bench/.
+# their end; rounds in turn, medians, ratios and verdicts; the program that is measured; drivers in Rattle, which are
+# proved first; and results as text. The script goes on in its folder, with `top` and `bench` as the names of the
+# repository and of bench/.
 #
 # From the environment, for each script:
 #   SHORT=1   a short run, to see that it works: one round, and a fiftieth of each size
@@ -16,21 +16,18 @@ top=$(dirname "$bench")
 script=$(basename "$0")
 scratch=$(mktemp -d)
 folder=$scratch
-missed=0
-round=1
+missed=0 round=1
 # What functions below find: programs, and the name of a crate.
 scq='' scq_wait='' archive='' ours='' crate=''
-results=${RESULTS-}
-[ -n "${RESULTS-}${SHORT-}${ROUNDS-}" ] || results=$bench/results
+results=${RESULTS-$([ -n "${SHORT-}${ROUNDS-}" ] || echo "$bench/results")}
 cd "$folder"
 # shellcheck source=../dist/sources.bash
 . "$top/dist/sources.bash"
 
-# What has to be done at the end, before the folder is removed.
-at_end=:
+# What is done at the end.
 end() {
     local status=$?
-    $at_end
+    [ -z "${tee-}" ] || write_result
     cd / && rm -rf "$scratch"
     exit "$status"
 }
@@ -89,12 +86,8 @@ ratio() {
 }
 
 middle() {
-    sort -g | awk -v spread="${1-}" '
-        { it[NR] = $1 }
-        END {
-            at = NR ? it[int((NR + 1) / 2)] : "-"
-            print spread && NR ? at " (" it[1] "-" it[NR] ")" : at
-        }'
+    sort -g | awk -v spread="${1-}" '{ it[NR] = $1 }
+        END { print (NR ? it[int((NR + 1) / 2)] : "-") (spread && NR ? " (" it[1] "-" it[NR] ")" : "") }'
 }
 
 # What awk makes of a formula, with two digits behind the point.
@@ -115,8 +108,7 @@ miss() {
 # The end of a script: how many verdicts were missed, and a status that says whether any was.
 finish() {
     echo "$script: $missed went wrong"
-    [ "$missed" = 0 ]
-    exit
+    exit $((missed != 0))
 }
 
 # Runs a command once. Its seconds of the processor and by the clock, and the most memory that it held in KB, are
@@ -141,34 +133,20 @@ spent_by() {
     done
 }
 
-# Whether a file of dist/ is of these sources, and is what dist/RECORD says.
-is_fresh() { ! "$top/dist/make" --fresh 2>&1 | grep -q "^dist/make: dist/x86_64-linux/$1 "; }
-
-# The program scq or scq_wait, to the variable of this name: that of dist/, or where it is of other sources the one
-# that its launcher proves and builds.
-program() {
-    local crate=$1 path=$top/dist/x86_64-linux/$1
-    is_fresh "$1" || {
-        [ "$1" != scq ] || crate=scq_main
-        "$top/$1" run /dev/null >"$folder/built" || stop "$1 can't be built"
-        path=$top/crates/$crate/out/$crate
-    }
-    printf -v "$1" %s "$path"
-    echo "$1 is $(named "$path")"
-}
-
-# libscq.a, to `archive`: the one that ARCHIVE names, or that of dist/, or what dist/make makes in a copy.
-archive() {
-    archive=${ARCHIVE:-$top/dist/x86_64-linux/libscq.a}
-    [ -n "${ARCHIVE-}" ] || is_fresh libscq.a || {
-        command -v rt >/dev/null || stop 'dist/x86_64-linux/libscq.a is of other sources'
+# A program of dist/, to the variable of its name, and libscq.a, or what ARCHIVE names, to `archive`.
+program() { shipped "$1" "$1"; }
+archive() { shipped libscq.a archive "${ARCHIVE-}"; }
+# A file of dist/, or what dist/make makes in a copy where that is of other sources.
+shipped() {
+    local file=dist/x86_64-linux/$1 path=${3:-$top/dist/x86_64-linux/$1}
+    if [ -z "${3-}" ] && "$top/dist/make" --fresh 2>&1 | grep -q "^dist/make: $file "; then
         copied "$folder/tree"
-        "$folder/tree/dist/make" || stop "libscq.a can't be made"
-        archive=$folder/tree/dist/x86_64-linux/libscq.a
-    }
-    [ -f "$archive" ] || stop "no archive $archive"
-    archive=$(readlink -f "$archive")
-    echo "libscq.a is $(named "$archive")"
+        "$folder/tree/dist/make" >"$folder/made" 2>&1 || stop "$1 can't be made: $(tail -n 1 "$folder/made")"
+        path=$folder/tree/$file
+    fi
+    [ -f "$path" ] || stop "no file $path"
+    printf -v "$2" %s "$(readlink -f "$path")"
+    echo "$1 is $(named "${!2}")"
 }
 
 # How a file of the repository, or another, is told in a result.
@@ -186,73 +164,29 @@ preload() {
     cc -std=gnu11 -O2 -Wall -Wextra -Werror -shared -fPIC "$bench/preload/$1.c" -o "$1.so" -ldl
 }
 
-# Runs a program with its threads each on a processor of its own, so many and the last ones; where
-# there are more threads than processors, wherever the kernel lays them.
-pinned() {
-    local threads=$1 cores at list=''
-    shift
-    [ -e threads.so ] || preload threads
-    mapfile -t cores < <(taskset -cp $$ | sed 's/.*: //; s/,/\n/g' |
-        while IFS=- read -r first last; do seq "$first" "${last:-$first}"; done)
-    at=$((${#cores[@]} - threads))
-    [ "$at" -lt 0 ] || list=${cores[*]:at}
-    env LD_PRELOAD="$folder/threads.so" PIN="$list" "$@"
-}
-
-# The crate that a text of bench/proved/ says in its first line how to lay out, with those that it stands on, as a
-# repository in this folder. In the text a line `== FILE` begins a file of the crate, or with names behind it one for
-# each, with the name in place of each @; `<< FILE` stands for the lines of this file of proved/, and `~~ WORD LINE`
-# for a line of what $WORD is from there on; $crate is the name of the crate.
+# A crate and those that it stands on, as a repository in this folder, by what bench/proved/ has of this name: it says
+# the crate's line of crates.txt, and then each of its files.
 laid_out() {
-    local text=$bench/proved/$1.txt line below it part
-    line=$(sed -n '1s/^crate //p' "$text")
-    crate=${line%%:*}
-    # shellcheck disable=SC2086
-    mapfile -t below < <(crates_of ${line#*:})
     git init -q .
+    cp "$top/HANDLES" .
+    # shellcheck disable=SC1090
+    . "$bench/proved/$1.bash"
+}
+crate_over() {
+    local it below
+    crate=${1%%:*}
+    # shellcheck disable=SC2086
+    mapfile -t below < <(crates_of ${1#*:})
     for it in "${below[@]}"; do
         mkdir -p "crates/$it"
-        for part in src specs proofs; do
-            rm -rf "crates/$it/$part"
-            cp -r "$top/crates/$it/$part" "crates/$it/$part"
-        done
+        rm -rf "crates/$it"/{src,specs,proofs}
+        cp -r "$top/crates/$it"/{src,specs,proofs} "crates/$it"
     done
-    { lines_of "${below[@]}" && echo "$line"; } >crates.txt
-    cp "$top/HANDLES" .
-    awk -v crate="$crate" -v folder="$bench/proved/" '
-        BEGIN { stands["crate"] = crate }
-        NR > 1 { put($0) }
-        function put(line,    word, i, from) {
-            for (word in stands) gsub("[$]" word, stands[word], line)
-            if (line ~ /^<< /) {
-                from = folder substr(line, 4)
-                while ((getline line <from) > 0) put(line)
-            } else if (line ~ /^~~ /) {
-                split(line, part, " ")
-                word = part[2]
-                sub(/^~~ [^ ]* ?/, "", line)
-                gsub(/&/, "\\\\&", line)
-                stands[word] = stands[word] (stands[word] ? "\n" : "") line
-            } else if (line ~ /^== /) {
-                count = split(line, name, " ")
-                if (count == 2) name[++count] = "@"
-                for (i = 3; i <= count; i++) {
-                    path[i] = "crates/" crate "/" name[2]
-                    gsub(/@/, name[i], path[i])
-                    from = path[i]
-                    sub(/[^\/]*$/, "", from)
-                    system("mkdir -p " from)
-                    printf "" >path[i]
-                }
-            } else {
-                for (i = 3; i <= count; i++) {
-                    word = line
-                    gsub(/@/, name[i], word)
-                    print word >path[i]
-                }
-            }
-        }
-    ' "$text"
+    { lines_of "${below[@]}" && echo "$1"; } >crates.txt
+}
+crate_file() {
+    mkdir -p "$(dirname "crates/$crate/$1")"
+    cat >"crates/$crate/$1"
 }
 
 # Proves and compiles such a crate, and runs it with these words. Sets `ours`, its program.
@@ -268,13 +202,11 @@ proved() {
 
 # Compiles a C++ file as the kit compiles its programs: by its clang, with g++'s headers.
 by_kit() {
-    local program=$1 clang headers including=() it
+    local program=$1 clang headers
     shift
     clang=$(dirname "$(rt doc)")/toolchain/bin/clang
-    mapfile -t headers < <(g++ -E -x c++ -v /dev/null 2>&1 | sed -n '/^#include </,/^End/s/^ //p')
-    for it in "${headers[@]}"; do including+=(-isystem "$it"); done
-    "$clang" -x c++ -std=c++17 -O3 -march=x86-64-v2 -Wall -Wextra -Werror -nostdinc "${including[@]}" \
-        "$@" -c -o "$program.o"
+    mapfile -t headers < <(g++ -E -x c++ -v /dev/null 2>&1 | sed -n '/^#include </,/^End/s/^ /-isystem/p')
+    "$clang" -x c++ -std=c++17 -O3 -march=x86-64-v2 -Wall -Wextra -Werror -nostdinc "${headers[@]}" "$@" -c -o "$program.o"
     g++ -pthread -o "$program" "$program.o"
 }
 
@@ -305,46 +237,27 @@ cargo_of_debian() {
         >"$name/Cargo.toml"
 }
 
-# Has what is said from here on written to a result too, below the date, the machine and versions.
+# Has what is said from here on written to a result too, below the date, the machine, and versions of the kit and of
+# these commands.
 result() {
     [ -n "$results" ] || return 0
-    read -r was_busy was_stolen was_all was_own < <(ticks)
+    read -r _ _ _ _ _ _ _ _ stolen _ </proc/stat
     exec {screen}>&1 > >(tee "$scratch/said" >&"$screen")
     tee=$!
-    at_end=write_result
     echo "bench/$script, $(date -u '+%F %R') UTC, of commit $(git -C "$top" rev-parse --short=12 HEAD)$(
         git -C "$top" diff --quiet HEAD -- crates dist bench bindings || echo ' and changes')"
     echo "machine: $(sed -n 's/^model name.*: //p' /proc/cpuinfo | head -n 1), $(nproc) processors," \
         "$(awk '/^MemTotal/ { printf "%.0f GB", $2 / 1e6 }' /proc/meminfo), $(uname -sr)"
-    echo "versions: $(versions "$@")"
+    echo "versions: $(recorded kit && for it; do
+        { "$it" --version || "$it" -W version || echo "no $it"; } 2>/dev/null | sed '/^$/d' | head -n 1
+    done)"
     echo "load at the start: $(cut -d ' ' -f 1-3 /proc/loadavg)"
 }
 
-# The kit's version, and those of these commands.
-versions() {
-    local it
-    recorded kit
-    for it; do
-        { "$it" --version || "$it" -W version || echo "no $it"; } 2>/dev/null | sed '/^$/d' | head -n 1
-    done
-}
-
-# Ticks since the machine started, of all processors: busy, stolen, all; and this script's own.
-ticks() {
-    awk 'FILENAME == "/proc/stat" && /^cpu / {
-            busy = $2 + $3 + $4 + $7 + $8
-            printf "%d %d %d ", busy, $9, busy + $5 + $6 + $9
-        }
-        FILENAME != "/proc/stat" { sub(/.*\) /, ""); print $12 + $13 + $14 + $15 }' /proc/stat "/proc/$$/stat"
-}
-
 write_result() {
-    local now_busy now_stolen now_all now_own spent
-    read -r now_busy now_stolen now_all now_own < <(ticks)
-    spent=$((now_all - was_all > 0 ? now_all - was_all : 1))
-    echo "load at the end: $(cut -d ' ' -f 1-3 /proc/loadavg); of the processors' time meanwhile others had" \
-        "$((100 * (now_busy - was_busy - now_own + was_own) / spent)) %, and" \
-        "$((100 * (now_stolen - was_stolen) / spent)) % was stolen"
+    local before=$stolen
+    read -r _ _ _ _ _ _ _ _ stolen _ </proc/stat
+    echo "load at the end: $(cut -d ' ' -f 1-3 /proc/loadavg); ticks of processors stolen meanwhile: $((stolen - before))"
     exec >&"$screen"
     wait "$tee"
     mkdir -p "$results" && cp "$scratch/said" "$results/$script.txt"

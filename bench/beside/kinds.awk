@@ -1,6 +1,6 @@
 # What `scq run` writes with these four topics, for any files.
 BEGIN {
-    n = split("get words err echo put len tick sum", declared, " ")
+    n = split("get words err echo put len tick sum -", declared, " ")
     for (i = 1; i < n; i += 2) kind[declared[i]] = declared[i + 1]
 }
 FNR == 1 { file++ }
@@ -20,6 +20,5 @@ length($0) {
     bytes[topic] += length(payload)
 }
 END {
-    declared[n + 1] = "-"
     for (i = 1; topic = declared[i]; i += 2) printf "total %s %d %d\n", topic, count[topic], bytes[topic]
 }

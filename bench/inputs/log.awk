@@ -1,6 +1,5 @@
-# A log-like file of about 40 bytes a line, and 2.5 million lines if `lines` isn't said.
+# A log-like file of so many lines of about 40 bytes.
 BEGIN {
-    if (!lines) lines = 2500000
     srand(1)
     for (i = 0; i < lines; i++) {
         n = int(rand() * 1000000)

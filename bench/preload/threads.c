@@ -1,7 +1,6 @@
-// Keeps the threads of a program each to a processor of its own, by the list PIN: the first thread
-// to the first of them, each that is started to the next one; where PIN is empty nothing is kept.
-// Refuses start number N, from 0, where bit N of REFUSE is set, and tells it by a byte on
-// descriptor 9.
+// Keeps the threads of a program each to a processor of its own, the last PIN ones of those that it
+// has, in their order, where there are so many. Refuses start number N, from 0, where bit N of
+// REFUSE is set, and tells it by a byte on descriptor 9.
 #define _GNU_SOURCE
 #include <dlfcn.h>
 #include <errno.h>
@@ -10,23 +9,24 @@
 #include <stdlib.h>
 #include <unistd.h>
 
-static int processors[64], count;
+static cpu_set_t all;
+static int count;
 
 static void keep(pthread_t thread, int number) {
-    cpu_set_t set;
+    cpu_set_t one;
+    int at = -1;
     if (number >= count) return;
-    CPU_ZERO(&set);
-    CPU_SET(processors[number], &set);
-    pthread_setaffinity_np(thread, sizeof set, &set);
+    for (int before = CPU_COUNT(&all) - count + number; before >= 0; at++)
+        if (CPU_ISSET(at + 1, &all)) before--;
+    CPU_ZERO(&one);
+    CPU_SET(at, &one);
+    pthread_setaffinity_np(thread, sizeof one, &one);
 }
 
 __attribute__((constructor)) static void begin(void) {
-    char *at = getenv("PIN"), *next;
-    for (; at && count < 64; at = next) {
-        processors[count] = (int)strtol(at, &next, 10);
-        if (next == at) break;
-        count++;
-    }
+    const char *pin = getenv("PIN");
+    sched_getaffinity(0, sizeof all, &all);
+    if (pin && atoi(pin) <= CPU_COUNT(&all)) count = atoi(pin);
     keep(pthread_self(), 0);
 }
 

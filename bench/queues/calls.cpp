@@ -3,43 +3,40 @@
 //     calls ROLES ORDER MANY
 //
 // ROLES has a letter for each thread: p puts, g gets, b does both in turn, and e gets from an empty
-// queue; or it is one of these words:
+// queue; or all threads have one of these:
 //
-// busy   the time of a put and the get behind it in each of four threads that do nothing else
-// calm   the same with two threads that pause for about ten such times in between
-// stop   two threads put and get in turn, and one of them is stopped for 50 ms, MANY times
-// order  four threads put and get in turn; each message is seen once, and each thread's in order
+// s   two threads put and get in turn, and one of them is stopped for 50 ms, MANY times
+// o   all put and get in turn; each message is seen once, and each thread's in order
 //
 // MANY is how many each thread makes. Ends with 1 where what was got isn't what was put. Prints the
-// nanoseconds that all took, and the sum of the values that were got; for busy and calm the
-// nanoseconds which 50, 99 and 99.9 percent of the pairs took at most; for stop in how many stops
-// the other thread was held up for more than 20 ms, and its longest wait in nanoseconds.
+// nanoseconds that all took, and the sum of the values that were got; for s in how many stops the
+// other thread was held up for more than 20 ms, and its longest wait in nanoseconds.
 #include "loops.hpp"
 #include QUEUE
 #include <algorithm>
 #include <chrono>
 #include <csignal>
 #include <functional>
-#include <map>
 #include <string>
 #include <thread>
 #include <unistd.h>
 
+using namespace std::chrono_literals;
 using Clock = std::chrono::steady_clock;
 using Work = std::function<void(size_t number, Port &port, Seen &mine)>;
 
-static uint64_t nanos_since(Clock::time_point start) {
-    return static_cast<uint64_t>(std::chrono::nanoseconds(Clock::now() - start).count());
-}
+static uint64_t nanos_since(Clock::time_point start) { return (Clock::now() - start) / 1ns; }
 
 struct Run {
-    uint64_t many;
+    const std::string roles;
+    const uint64_t many;
     Queue queue;
     std::vector<std::unique_ptr<Port>> ports;
     std::vector<Seen> seen;
 
-    Run(uint32_t order, uint64_t many, size_t threads)
-        : many(many), queue(order, threads), ports(threads), seen(threads) {}
+    Run(const std::string &roles, uint32_t order, uint64_t many)
+        : roles(roles), many(many), queue(order, roles.size()), ports(roles.size()),
+          seen(roles.size()) {}
 
     // Has each thread do the work with a port of its own, the first in this one, and tells how long
     // it took. Nobody begins before all are there.
@@ -47,14 +44,12 @@ struct Run {
         std::atomic<size_t> waiting{ports.size()};
         Clock::time_point start;
         const auto begin = [&](size_t number) {
-            auto port = std::make_unique<Port>(queue, number);
-            Port &its = *port;
+            Port &port = *(ports[number] = std::make_unique<Port>(queue, number));
             Seen mine = {};
-            ports[number] = std::move(port);
             waiting--;
             while (waiting) std::this_thread::yield();
             if (number == 0) start = Clock::now();
-            work(number, its, mine);
+            work(number, port, mine);
             seen[number] = mine;
         };
         std::vector<std::thread> others;
@@ -62,13 +57,6 @@ struct Run {
         begin(0);
         for (std::thread &other : others) other.join();
         return nanos_since(start);
-    }
-
-    int say(const std::string &figures, bool is_right) {
-        std::printf("%s\n", figures.c_str());
-        std::fflush(stdout);
-        if (!is_right) std::fprintf(stderr, "what was got isn't what was put\n");
-        return !is_right;
     }
 
     // Gets what is left, and tells whether as much was got as put.
@@ -80,17 +68,15 @@ struct Run {
                 ;
         }
         for (const Seen &one : seen) {
-            all.puts += one.puts;
-            all.put_sum += one.put_sum;
-            all.gets += one.gets;
-            all.got_sum += one.got_sum;
+            all.puts += one.puts, all.put_sum += one.put_sum;
+            all.gets += one.gets, all.got_sum += one.got_sum;
         }
         return all.puts == all.gets && (bare || all.put_sum == all.got_sum);
     }
 
-    // The roles of threads: they put, get, do both in turn, or find nothing.
-    int pairs(const std::string &roles) {
-        std::atomic<int> putting{static_cast<int>(std::count(roles.begin(), roles.end(), 'p'))};
+    // They put, get, do both in turn, or find nothing.
+    bool pairs() {
+        std::atomic<int> putting{int(std::count(roles.begin(), roles.end(), 'p'))};
         const uint64_t took = in_threads([&](size_t number, Port &port, Seen &mine) {
             switch (roles[number]) {
             case 'p':
@@ -104,54 +90,12 @@ struct Run {
         });
         uint64_t sum = 0;
         for (const Seen &one : seen) sum += one.got_sum;
-        return say(std::to_string(took) + " " + std::to_string(sum), roles == "e" || is_complete());
+        std::printf("%zu %zu\n", took, sum);
+        return roles == "e" || is_complete();
     }
 
-    // Ends when the first thread is through: what that one keeps, where messages go packed, others
-    // would wait for.
-    int latency(bool pauses) {
-        std::vector<std::vector<uint32_t>> times(ports.size());
-        std::atomic<bool> is_over{false};
-        const auto until_over = [&](auto call) {
-            while (!call()) {
-                if (is_over) return false;
-                __builtin_ia32_pause();
-            }
-            return true;
-        };
-        const uint64_t first = __builtin_ia32_rdtsc();
-        const auto begun = Clock::now();
-        for (auto &its : times) its.reserve(many);
-        in_threads([&](size_t number, Port &port, Seen &mine) {
-            uint64_t last = 0;
-            while (mine.puts < many && !is_over) {
-                for (uint64_t until = __builtin_ia32_rdtsc() + 10 * last;
-                     pauses && __builtin_ia32_rdtsc() < until;)
-                    __builtin_ia32_pause();
-                const uint64_t start = __builtin_ia32_rdtsc();
-                if (!until_over([&] { return mine.put(port); })) break;
-                if (!until_over([&] { return mine.get(port); })) break;
-                last = std::min(uint64_t(__builtin_ia32_rdtsc() - start), uint64_t(UINT32_MAX));
-                times[number].push_back(static_cast<uint32_t>(last));
-                last = std::min(last, uint64_t(10000));
-            }
-            is_over = true;
-        });
-        const double nanos = static_cast<double>(nanos_since(begun)) /
-                             static_cast<double>(__builtin_ia32_rdtsc() - first);
-        std::vector<uint32_t> all;
-        for (const auto &its : times) all.insert(all.end(), its.begin(), its.end());
-        std::string figures;
-        for (const double part : {0.5, 0.99, 0.999}) {
-            const auto at = all.begin() + static_cast<long>(part * static_cast<double>(all.size()));
-            std::nth_element(all.begin(), at, all.end());
-            figures += (figures.empty() ? "" : " ") + std::to_string(uint64_t(*at * nanos));
-        }
-        return say(figures, is_complete());
-    }
-
-    // The third thread stops the second, wherever it is, and looks how long the first waits.
-    int stops() {
+    // Another thread stops the second, wherever it is, and looks how long the first waits.
+    bool stops() {
         std::atomic<bool> is_over{false};
         std::atomic<uint64_t> longest{0};
         std::atomic<pthread_t> victim{};
@@ -160,7 +104,7 @@ struct Run {
         std::thread stopper([&] {
             while (!victim.load()) std::this_thread::yield();
             for (uint64_t stop = 0; stop < many; stop++) {
-                usleep(10000 + static_cast<unsigned>(stop * 7919 % 1000));
+                usleep(10000 + unsigned(stop * 7919 % 1000));
                 longest = 0;
                 pthread_kill(victim, SIGUSR1);
                 usleep(70000);
@@ -181,12 +125,13 @@ struct Run {
             }
         });
         stopper.join();
-        return say(std::to_string(held) + " " + std::to_string(most), is_complete());
+        std::printf("%zu %zu\n", held, most);
+        return is_complete();
     }
 
     // A value is its thread and its number. No thread may get a thread's values but in their order,
     // and all have to be got just once.
-    int in_order() {
+    bool in_order() {
         constexpr int BITS = 40;
         std::vector<std::vector<uint64_t>> got(ports.size());
         std::vector<uint64_t> put, all;
@@ -199,31 +144,28 @@ struct Run {
             }
         });
         for (size_t number = 0; number < ports.size(); number++) {
+            auto &mine = got[number];
             std::vector<uint64_t> next(ports.size());
-            for (const uint64_t value : got[number]) {
+            for (const uint64_t value : mine) {
                 is_right &= value >= next.at(value >> BITS);
                 next[value >> BITS] = value + 1;
             }
             for (uint64_t i = 0; i < seen[number].puts; i++) put.push_back(number << BITS | i);
             ports[number]->flush();
-            for (uint64_t value; ports[number]->get(value);) got[number].push_back(value);
-            all.insert(all.end(), got[number].begin(), got[number].end());
+            for (uint64_t value; ports[number]->get(value);) mine.push_back(value);
+            all.insert(all.end(), mine.begin(), mine.end());
         }
         std::sort(all.begin(), all.end());
-        return say(std::to_string(all.size()), is_right && all == put);
+        return is_right && all == put;
     }
 };
 
 int main(int argc, char **argv) {
     if (argc != 4) return 2;
-    const std::string roles = argv[1];
-    const std::map<std::string, size_t> words = {
-        {"busy", 4}, {"calm", 2}, {"stop", 2}, {"order", 4}};
-    const auto word = words.find(roles);
-    Run run(static_cast<uint32_t>(std::atoi(argv[2])), std::strtoull(argv[3], nullptr, 10),
-            word == words.end() ? roles.size() : word->second);
-    std::_Exit(roles == "stop"       ? run.stops()
-               : roles == "order"    ? run.in_order()
-               : word == words.end() ? run.pairs(roles)
-                                     : run.latency(roles == "calm"));
+    const char kind = *argv[1];
+    Run run(argv[1], uint32_t(std::atoi(argv[2])), std::strtoull(argv[3], nullptr, 10));
+    const bool is_right = kind == 's' ? run.stops() : kind == 'o' ? run.in_order() : run.pairs();
+    std::fflush(stdout);
+    if (!is_right) std::fprintf(stderr, "what was got isn't what was put\n");
+    std::_Exit(!is_right);
 }

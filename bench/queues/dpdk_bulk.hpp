@@ -7,62 +7,54 @@ struct Queue : Two<Ring> {
     unsigned bulk;
 
     Queue(uint32_t order, size_t threads)
-        : Two(order, threads), bulk(std::clamp(unsigned(buffers.size() / (4 * threads)), 1u, 32u)) {
-    }
+        : Two(order, threads),
+          bulk(unsigned(std::clamp<size_t>(buffers.size() / 4 / threads, 1, 32))) {}
 };
 
-// Buffers that go to a ring together, or came from it together.
+// Buffers that go to a ring together, or came from it together, in their order.
 struct Bulk {
+    rte_ring *ring;
+    unsigned bulk, count = 0, next = 0;
     void *at[32];
-    unsigned count = 0;
 
-    void put_all(Ring &ring) {
-        if (count && rte_ring_mp_enqueue_bulk(ring.ring, at, count, nullptr) != count)
+    Bulk(const Ring &ring, unsigned bulk) : ring(ring.ring), bulk(bulk) {}
+    INLINE void put(void *buffer) {
+        at[count++] = buffer;
+        if (count == bulk) put_all();
+    }
+    void put_all() {
+        if (count && rte_ring_mp_enqueue_bulk(ring, at, count, nullptr) != count)
             fail("no room for a bulk");
         count = 0;
     }
-    INLINE void put(Ring &ring, void *buffer, unsigned bulk) {
-        at[count++] = buffer;
-        if (count == bulk) put_all(ring);
-    }
-};
-
-// Those that came, in their order.
-struct Come : Bulk {
-    unsigned next = 0;
-
-    INLINE void *get(Ring &ring, unsigned bulk) {
-        if (next == count) {
-            next = 0;
-            count = rte_ring_mc_dequeue_burst(ring.ring, at, bulk, nullptr);
-            if (count == 0) return nullptr;
-        }
-        return at[next++];
+    INLINE void *get() {
+        if (next == count) next = 0, count = rte_ring_mc_dequeue_burst(ring, at, bulk, nullptr);
+        return count ? at[next++] : nullptr;
     }
 };
 
 struct Port {
-    Queue &queue;
-    Come free, in;
-    Bulk out, back;
+    Bulk free, out, in, back;
 
-    Port(Queue &queue, size_t) : queue(queue) {}
+    Port(Queue &queue, size_t)
+        : free(queue.free, queue.bulk), out(queue.sent, queue.bulk), in(queue.sent, queue.bulk),
+          back(queue.free, queue.bulk) {}
     INLINE bool put(uint64_t value) {
-        void *buffer = free.get(queue.free, queue.bulk);
+        void *buffer = free.get();
         if (!buffer) return flush(), false;
         write_in(buffer, value);
-        out.put(queue.sent, buffer, queue.bulk);
+        out.put(buffer);
         return true;
     }
     INLINE bool get(uint64_t &value) {
-        void *buffer = in.get(queue.sent, queue.bulk);
+        void *buffer = in.get();
         if (!buffer) return flush(), false;
         value = read_in(buffer);
-        back.put(queue.free, buffer, queue.bulk);
+        back.put(buffer);
         return true;
     }
     void flush() {
-        out.put_all(queue.sent);
-        back.put_all(queue.free);
+        out.put_all();
+        back.put_all();
     }
 };

@@ -17,8 +17,7 @@ struct alignas(128) Ring {
     INLINE bool pop(Buffer *&buffer) {
         std::lock_guard<std::mutex> lock(mutex);
         if (deque.empty()) return false;
-        buffer = deque.front();
-        deque.pop_front();
+        buffer = deque.front(), deque.pop_front();
         return true;
     }
 };

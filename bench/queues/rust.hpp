@@ -1,11 +1,10 @@
 // A queue of Rust, by the library that rust/lib.rs makes: its own loops, and its calls one by one.
 #include "loops.hpp"
 
-struct RustPort;
+struct alignas(128) RustPort {};
 struct Port;
 extern "C" {
 const RustPort *rust_make(uint32_t order, size_t threads);
-const RustPort *rust_port(const RustPort *ports, size_t number);
 bool rust_put(const RustPort *port, uint64_t value);
 bool rust_get(const RustPort *port, uint64_t *value);
 void put_many(Port &port, uint64_t many, Seen &seen);
@@ -23,7 +22,7 @@ struct Queue {
 struct Port {
     const RustPort *port;
 
-    Port(Queue &queue, size_t number) : port(rust_port(queue.ports, number)) {}
+    Port(Queue &queue, size_t number) : port(&queue.ports[number]) {}
     bool put(uint64_t value) { return rust_put(port, value); }
     bool get(uint64_t &value) { return rust_get(port, &value); }
     void flush() {}

@@ -1,12 +1,7 @@
 // The step table of the rings in plain C++, over the layout of words of `scq_band`.
 #pragma once
 
-#ifdef SEATED
-constexpr bool seated = true;
-#else
-constexpr bool seated = false;
-#endif
-
+constexpr bool seated = SEATED;
 using Word = std::atomic<uint64_t>;
 
 constexpr uint64_t ZERO_LEVEL = uint64_t(1) << 32;
@@ -122,8 +117,8 @@ static INLINE Got deq(const Ring r, uint64_t &place, uint32_t &index) {
     }
 }
 
-// What a thread puts and gets by. With -DSEATED it keeps the indices in its hand, and what it knows
-// of each ring, as the seats of `scq_band` do.
+// What a thread puts and gets by. With -DSEATED=true it keeps the indices in its hand, and what it
+// knows of each ring, as the seats of `scq_band` do.
 struct Seat {
     struct Known {
         uint64_t finished, seen, head;
@@ -135,9 +130,7 @@ struct Seat {
     explicit Seat(Rings &rings) : rings(rings), known(2, Known{0, 0, 0}) {
         hand.reserve(size_t(1) << rings.order);
     }
-    static void raise(uint64_t &a, uint64_t b) {
-        if (a < b) a = b;
-    }
+    static void raise(uint64_t &a, uint64_t b) { a = a < b ? b : a; }
     INLINE Got get_from(uint32_t ring, uint32_t &index) {
         uint64_t place;
         const Got got = deq(rings.ring(ring), place, index);

@@ -4,7 +4,7 @@ use crate::Calls;
 use crossbeam_queue::ArrayQueue;
 
 #[repr(align(64))]
-pub struct Buffer([u8; 64]);
+pub struct Buffer([u64; 8]);
 
 pub struct Two {
     free: ArrayQueue<Box<Buffer>>,
@@ -18,7 +18,7 @@ impl Calls for Port {
     fn put(&self, value: u64) -> bool {
         let Some(mut buffer) = self.free.pop() else { return false };
         if !cfg!(feature = "bare") {
-            buffer.0[..8].copy_from_slice(&value.to_le_bytes());
+            buffer.0[0] = value;
         }
         self.sent.push(buffer).is_ok() || panic!("no room to send")
     }
@@ -26,7 +26,7 @@ impl Calls for Port {
     #[inline(always)]
     fn get(&self) -> Option<u64> {
         let buffer = self.sent.pop()?;
-        let value = u64::from_le_bytes(buffer.0[..8].try_into().unwrap());
+        let value = buffer.0[0];
         assert!(self.free.push(buffer).is_ok(), "no room to give back");
         Some(value)
     }
@@ -36,9 +36,7 @@ pub fn make(order: u32, threads: usize) -> Vec<Port> {
     let n = 1 << order;
     let two = Two { free: ArrayQueue::new(n), sent: ArrayQueue::new(n) };
     for number in 0..n as u64 {
-        let mut buffer = Box::new(Buffer([0; 64]));
-        buffer.0[..8].copy_from_slice(&number.to_le_bytes());
-        assert!(two.free.push(buffer).is_ok());
+        assert!(two.free.push(Box::new(Buffer([number; 8]))).is_ok());
     }
     vec![Box::leak(Box::new(two)); threads]
 }

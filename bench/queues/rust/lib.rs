@@ -25,18 +25,32 @@ pub struct Seen {
     got_sum: u64,
 }
 
-#[repr(align(128))]
+impl Seen {
+    #[inline(always)]
+    fn put(&mut self, port: &Apart) -> bool {
+        if !port.0.put(self.puts) {
+            return false;
+        }
+        self.put_sum += self.puts;
+        self.puts += 1;
+        true
+    }
+    #[inline(always)]
+    fn get(&mut self, port: &Apart) -> bool {
+        let Some(value) = port.0.get() else { return false };
+        self.gets += 1;
+        self.got_sum += value;
+        true
+    }
+}
+
+#[repr(C, align(128))]
 pub struct Apart(Port);
 
 #[no_mangle]
 pub extern "C" fn rust_make(order: u32, threads: usize) -> *const Apart {
     let ports: Vec<_> = queue::make(order, threads).into_iter().map(Apart).collect();
     ports.leak().as_ptr()
-}
-
-#[no_mangle]
-pub unsafe extern "C" fn rust_port(ports: *const Apart, number: usize) -> *const Apart {
-    ports.add(number)
 }
 
 #[no_mangle]
@@ -52,10 +66,7 @@ pub extern "C" fn rust_get(port: &Apart, value: &mut u64) -> bool {
 #[no_mangle]
 pub extern "C" fn put_many(port: &&Apart, many: u64, seen: &mut Seen) {
     while seen.puts < many {
-        if port.0.put(seen.puts) {
-            seen.put_sum += seen.puts;
-            seen.puts += 1;
-        } else {
+        if !seen.put(port) {
             spin_loop();
         }
     }
@@ -63,31 +74,19 @@ pub extern "C" fn put_many(port: &&Apart, many: u64, seen: &mut Seen) {
 
 #[no_mangle]
 pub extern "C" fn get_all(port: &&Apart, putting: &AtomicI32, seen: &mut Seen) {
-    let mut is_last = false;
-    loop {
-        if let Some(value) = port.0.get() {
-            seen.gets += 1;
-            seen.got_sum += value;
-        } else if is_last {
-            break;
-        } else {
-            is_last = putting.load(SeqCst) == 0;
-            spin_loop();
-        }
-    }
+    let are_putting = || {
+        spin_loop();
+        putting.load(SeqCst) != 0
+    };
+    while seen.get(port) || are_putting() {}
+    while seen.get(port) {}
 }
 
 #[no_mangle]
 pub extern "C" fn both_many(port: &&Apart, many: u64, seen: &mut Seen) {
     while seen.gets < many {
-        if port.0.put(seen.puts) {
-            seen.put_sum += seen.puts;
-            seen.puts += 1;
-        }
-        if let Some(value) = port.0.get() {
-            seen.gets += 1;
-            seen.got_sum += value;
-        }
+        seen.put(port);
+        seen.get(port);
     }
 }
 
