@@ -48,7 +48,7 @@ over_peer() {
     local loose=(-Wl,--allow-shlib-undefined "-Wl,-rpath,$libraries" -Wl,--disable-new-dtags)
     local headers=(-isystem "$include" -isystem "$include/dpdk" -isystem "$include/x86_64-linux-gnu/dpdk")
     case $1 in
-        scq) calls_over scq scq "$archive" ;;
+        scq | scq_packed) calls_over "$1" "$1" "$archive" ;;
         scq_rust) rust_over scq scq_rust ;;
         array) rust_over array array ;;
         mutex) calls_over mutex mutex ;;

@@ -6,7 +6,7 @@
 //     port.put(value)         a free buffer is got, the value written into its first eight bytes,
 //                             and it is sent; whether one was free
 //     port.get(value)         one is taken, its value read, and it is given back; whether one was
-//     port.flush()            sends and gives back what the port keeps, where they go in bulk
+//     port.flush()            sends and gives back what the port keeps, where messages go packed
 //
 // With -DBARE no byte is written, and the value that is got is the number of the buffer.
 #pragma once

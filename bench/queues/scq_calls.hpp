@@ -1,0 +1,39 @@
+// What scq.hpp and scq_packed.hpp have in common: the opened ports, and the port of a thread.
+#pragma once
+#include "scq.h"
+
+// The ports of a queue, until their threads fetch them.
+struct Ports {
+    std::vector<scq_port> ports;
+
+    Ports(uint32_t order, size_t threads, uint32_t size, uint32_t hold)
+        : ports(threads, scq_port SCQ_NONE) {
+        const uint64_t limit = SCQ_MAX_LIMIT;
+        if (scq_open(order, 1, size, hold, limit, ports.data(), threads) != SCQ_OK)
+            fail("scq_open");
+    }
+};
+
+// A port that was fetched, on a line of its own.
+struct alignas(128) Fetched {
+    scq_port port = SCQ_NONE;
+
+    Fetched(Ports &all, size_t number) { std::swap(port, all.ports[number]); }
+    Fetched(const Fetched &) = delete;
+    ~Fetched() { scq_close(&port); }
+
+    // Whether the answer was SCQ_OK, where it may be this other one too.
+    static INLINE bool is_ok(uint32_t answer, uint32_t other) {
+        if (answer != SCQ_OK && answer != other) fail(scq_text(answer));
+        return answer == SCQ_OK;
+    }
+    INLINE bool lend(scq_held &held) { return is_ok(scq_lend(&port, &held), SCQ_FULL); }
+    INLINE bool take(scq_held &held) { return is_ok(scq_take(&port, 0, &held), SCQ_EMPTY); }
+    INLINE bool send(const scq_held &held) {
+        uint64_t place;
+        return is_ok(scq_send(&port, held.index, 0, &place), SCQ_OK);
+    }
+    INLINE bool give_back(const scq_held &held) {
+        return is_ok(scq_give_back(&port, held.index), SCQ_OK);
+    }
+};
