@@ -24,6 +24,8 @@ pair pairs/4 pg one to one
 two pairs/8 pgpg two to two
 four pairs/16 bbbb four threads
 many pairs/64 bbbbbbbbbbbbbbbb sixteen threads
+busy pairs/80 tttt four threads
+calm pairs/200 cc two threads that pause
 order pairs/160 oooo order
 stop $(many 150) ss one of two threads stopped 150 times for 50 ms"
 
@@ -32,8 +34,8 @@ stop $(many 150) ss one of two threads stopped 150 times for 50 ms"
 ours_and_plain() {
     proved "$1" b 3 1
     cp "$ours" ours
-    by_kit plain -I "$bench/queues" -DBARE -DQUEUE="\"$2.hpp\"" -DSEATED=false "$bench/queues/calls.cpp"
-    by_kit seated -I "$bench/queues" -DBARE -DQUEUE="\"$2.hpp\"" -DSEATED=true "$bench/queues/calls.cpp"
+    by_kit plain -I "$bench/queues" -DBARE -DQUEUE="\"$2.hpp\"" "$bench/queues/calls.cpp"
+    by_kit seated -I "$bench/queues" -DBARE -DQUEUE="\"$2.hpp\"" -DSEATED "$bench/queues/calls.cpp"
 }
 
 # Those of these programs that were built.
@@ -48,8 +50,8 @@ aim() {
     done
 }
 
-# Runs a program once, PROGRAM.MODE.ORDER, and notes what it says under this key: million pairs a second, or
-# how many stops were felt and the longest wait.
+# Runs a program once, PROGRAM.MODE.ORDER, and notes what it says under this key: million pairs a second;
+# of the time of a pair the parts in nanoseconds; of stops how many were felt and the longest wait.
 run_once() {
     local key=$1 program mode order figures it status=0
     IFS=. read -r program mode order <<<"$key"
@@ -60,6 +62,7 @@ run_once() {
     read -ra figures <answer || true
     case $status-$mode in
         0-order) ;;
+        0-busy | 0-calm) for it in 50.0 99.1 999.2; do note "$key.${it%.*}" "${figures[${it#*.}]}"; done ;;
         0-stop)
             note "$key.held" "${figures[0]}"
             note "$key.longest" "$((figures[1] / 1000000))"
@@ -76,6 +79,14 @@ run_once() {
     esac
 }
 
+# Runs the programs in turn, in a mode at an order, so many rounds, and begins a table of what it said.
+in_rounds() {
+    local last=$1 mode=$2 order=$3 unit=$4
+    shift 4
+    in_turn "$last" run_once "${@/%/.$mode.$order}"
+    echo "${title[$mode]}, order $order$unit"
+}
+
 # Says how fast the programs are in each mode at each order: medians, and in brackets the lowest and the
 # highest; and how many times as fast as the first, by rounds.
 measure() {
@@ -83,8 +94,7 @@ measure() {
     read -ra names <<<"$3"
     for mode in $1; do
         for order in $2; do
-            in_turn "$turns" run_once "${names[@]/%/.$mode.$order}"
-            echo "${title[$mode]}, order $order, million a second, and times of ${names[0]}"
+            in_rounds "$turns" "$mode" "$order" ", million a second, and times of ${names[0]}" "${names[@]}"
             for it in "${names[@]}"; do
                 key=$it.$mode.$order endless=$(numbers "$it.$mode.$order.endless" | wc -l)
                 printf '  %-16s %-27s %s%s\n' "$it" "$(spread "$key")" \

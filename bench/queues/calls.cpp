@@ -5,12 +5,15 @@
 // ROLES has a letter for each thread: p puts, g gets, b does both in turn, and e gets from an empty
 // queue; or all threads have one of these:
 //
+// t   the time of a put and the get behind it in threads that do nothing else
+// c   the same in threads that pause for about ten such times in between
 // s   two threads put and get in turn, and one of them is stopped for 50 ms, MANY times
 // o   all put and get in turn; each message is seen once, and each thread's in order
 //
 // MANY is how many each thread makes. Ends with 1 where what was got isn't what was put. Prints the
-// nanoseconds that all took, and the sum of the values that were got; for s in how many stops the
-// other thread was held up for more than 20 ms, and its longest wait in nanoseconds.
+// nanoseconds that all took, and the sum of the values that were got; for t and c the nanoseconds
+// which 50, 99 and 99.9 percent of the pairs took at most; for s in how many stops the other thread
+// was held up for more than 20 ms, and its longest wait in nanoseconds.
 #include "loops.hpp"
 #include QUEUE
 #include <algorithm>
@@ -94,6 +97,46 @@ struct Run {
         return roles == "e" || is_complete();
     }
 
+    // Ends when the first thread is through: what that one keeps, where messages go packed, others
+    // would wait for.
+    bool times(bool pauses) {
+        std::vector<std::vector<uint32_t>> times(ports.size());
+        std::atomic<bool> is_over{false};
+        const auto until_over = [&](auto call) {
+            while (!call()) {
+                if (is_over) return false;
+                __builtin_ia32_pause();
+            }
+            return true;
+        };
+        for (auto &its : times) its.reserve(many);
+        const uint64_t first = __builtin_ia32_rdtsc();
+        const auto begun = Clock::now();
+        in_threads([&](size_t number, Port &port, Seen &mine) {
+            uint64_t last = 0;
+            while (mine.puts < many && !is_over) {
+                for (uint64_t until = __builtin_ia32_rdtsc() + 10 * std::min(last, uint64_t(10000));
+                     pauses && __builtin_ia32_rdtsc() < until;)
+                    __builtin_ia32_pause();
+                const uint64_t start = __builtin_ia32_rdtsc();
+                if (!until_over([&] { return mine.put(port); })) break;
+                if (!until_over([&] { return mine.get(port); })) break;
+                last = __builtin_ia32_rdtsc() - start;
+                times[number].push_back(uint32_t(std::min(last, uint64_t(UINT32_MAX))));
+            }
+            is_over = true;
+        });
+        const double nanos = double(nanos_since(begun)) / double(__builtin_ia32_rdtsc() - first);
+        std::vector<uint32_t> all;
+        for (const auto &its : times) all.insert(all.end(), its.begin(), its.end());
+        for (const double part : {0.5, 0.99, 0.999}) {
+            const auto at = all.begin() + long(part * double(all.size()));
+            std::nth_element(all.begin(), at, all.end());
+            std::printf("%zu ", uint64_t(*at * nanos));
+        }
+        return is_complete();
+    }
+
     // Another thread stops the second, wherever it is, and looks how long the first waits.
     bool stops() {
         std::atomic<bool> is_over{false};
@@ -133,6 +176,7 @@ struct Run {
     // and all have to be got just once.
     bool in_order() {
         constexpr int BITS = 40;
+        const auto by_thread = [](uint64_t a, uint64_t b) { return a >> BITS < b >> BITS; };
         std::vector<std::vector<uint64_t>> got(ports.size());
         std::vector<uint64_t> put, all;
         bool is_right = true;
@@ -145,11 +189,8 @@ struct Run {
         });
         for (size_t number = 0; number < ports.size(); number++) {
             auto &mine = got[number];
-            std::vector<uint64_t> next(ports.size());
-            for (const uint64_t value : mine) {
-                is_right &= value >= next.at(value >> BITS);
-                next[value >> BITS] = value + 1;
-            }
+            std::stable_sort(mine.begin(), mine.end(), by_thread);
+            is_right &= std::is_sorted(mine.begin(), mine.end());
             for (uint64_t i = 0; i < seen[number].puts; i++) put.push_back(number << BITS | i);
             ports[number]->flush();
             for (uint64_t value; ports[number]->get(value);) mine.push_back(value);
@@ -164,7 +205,10 @@ int main(int argc, char **argv) {
     if (argc != 4) return 2;
     const char kind = *argv[1];
     Run run(argv[1], uint32_t(std::atoi(argv[2])), std::strtoull(argv[3], nullptr, 10));
-    const bool is_right = kind == 's' ? run.stops() : kind == 'o' ? run.in_order() : run.pairs();
+    const bool is_right = kind == 's'                  ? run.stops()
+                          : kind == 'o'                ? run.in_order()
+                          : kind == 't' || kind == 'c' ? run.times(kind == 'c')
+                                                       : run.pairs();
     std::fflush(stdout);
     if (!is_right) std::fprintf(stderr, "what was got isn't what was put\n");
     std::_Exit(!is_right);

@@ -1,6 +1,6 @@
 // The queue in plain C++: the step table over its rings, and buffers that are moved out of their
-// slots and back. With -DSEATED=true each thread keeps its indices, what it knows of each ring, and
-// its counts.
+// slots and back. With -DSEATED each thread keeps its indices, what it knows of each ring, and its
+// counts.
 #include "steps.hpp"
 
 struct Moved {
@@ -32,17 +32,20 @@ struct Port : Seat {
     INLINE bool put(uint64_t value) {
         uint32_t index;
         Moved buffer;
-        if (!take_out(0, index, buffer)) return full += seated, false;
+        if (!take_out(0, index, buffer)) {
+            if (seated) full++;
+            return false;
+        }
         write_in(buffer.bytes, value);
         lay_in(1, index, buffer);
-        sent += seated;
+        if (seated) sent++;
         return true;
     }
     INLINE bool get(uint64_t &value) {
         uint32_t index;
         Moved buffer;
         if (!take_out(1, index, buffer)) return false;
-        taken += seated;
+        if (seated) taken++;
         value = bare ? index : read_in(buffer.bytes);
         lay_in(0, index, buffer);
         return true;

@@ -1,7 +1,12 @@
 // The step table of the rings in plain C++, over the layout of words of `scq_band`.
 #pragma once
 
-constexpr bool seated = SEATED;
+#ifdef SEATED
+constexpr bool seated = true;
+#else
+constexpr bool seated = false;
+#endif
+
 using Word = std::atomic<uint64_t>;
 
 constexpr uint64_t ZERO_LEVEL = uint64_t(1) << 32;
@@ -117,8 +122,8 @@ static INLINE Got deq(const Ring r, uint64_t &place, uint32_t &index) {
     }
 }
 
-// What a thread puts and gets by. With -DSEATED=true it keeps the indices in its hand, and what it
-// knows of each ring, as the seats of `scq_band` do.
+// What a thread puts and gets by. With -DSEATED it keeps the indices in its hand, and what it knows
+// of each ring, as the seats of `scq_band` do.
 struct Seat {
     struct Known {
         uint64_t finished, seen, head;
@@ -130,7 +135,9 @@ struct Seat {
     explicit Seat(Rings &rings) : rings(rings), known(2, Known{0, 0, 0}) {
         hand.reserve(size_t(1) << rings.order);
     }
-    static void raise(uint64_t &a, uint64_t b) { a = a < b ? b : a; }
+    static void raise(uint64_t &a, uint64_t b) {
+        if (a < b) a = b;
+    }
     INLINE Got get_from(uint32_t ring, uint32_t &index) {
         uint64_t place;
         const Got got = deq(rings.ring(ring), place, index);
