@@ -32,8 +32,8 @@ EachWaited topics behind stands passes =
 -- nothing, rested as often as sweeps before its last took nothing, and left after a sweep before
 -- which it was told that all had retired. A count of rests stands still at the last value of 64
 -- bits
-pub record HaveWaited (topics behind workers : ℕ) (passes : List (PassStanding Frame)) (saw : List Bool)
-    (rested : List Rested) : Type 0 where
+pub record HaveWaited (topics behind workers : ℕ) (passes : List (PassStanding Frame))
+    (saw : List Bool) (rested : List Rested) : Type 0 where
   pub each_saw : length saw ≡ workers
   pub each_rested : length rested ≡ workers
   pub told : saw ≡ map (λ (p : PassStanding Frame). was_told p.gate) passes

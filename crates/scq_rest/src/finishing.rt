@@ -26,9 +26,9 @@ pub fn finish<S: Source, G: Gate, R: Wait>(
     crew: &Crew,
     stand: &mut Stand,
 )
-    requires produced { HasProduced queue.now job.now.topics job.now.size job.now.most job.now.longest S.Source
-        desk.old.files.items desk.old.worker.worker.pass desk.old.worker.worker.members
-        desk.old.worker.worker.starved desk.old.worker.kept }
+    requires produced { HasProduced queue.now job.now.topics job.now.size job.now.most
+        job.now.longest S.Source desk.old.files.items desk.old.worker.worker.pass
+        desk.old.worker.worker.members desk.old.worker.worker.starved desk.old.worker.kept }
     requires stand { (stand.old.crew ≡ crew.now) × (stand.old.rests ≡ 0) }
     ensures same { desk.new.files.items ≡ desk.old.files.items }
     ensures run { HasRun queue.now job.now.topics job.now.size job.now.most job.now.longest S.Source
@@ -57,9 +57,9 @@ fn rest_out<S: Source, G: Gate, R: Wait>(
     crew: &Crew,
     stand: &mut Stand,
 )
-    requires sweep { IsToSweep queue.now job.now.topics job.now.size job.now.most job.now.longest S.Source
-        desk.old.files.items desk.old.worker.worker.pass desk.old.worker.worker.members
-        desk.old.worker.worker.starved desk.old.worker.kept }
+    requires sweep { IsToSweep queue.now job.now.topics job.now.size job.now.most
+        job.now.longest S.Source desk.old.files.items desk.old.worker.worker.pass
+        desk.old.worker.worker.members desk.old.worker.worker.starved desk.old.worker.kept }
     requires stand { (stand.old.crew ≡ crew.now) × (stand.old.rests ≡ 0) }
     ensures same { desk.new.files.items ≡ desk.old.files.items }
     ensures run { HasRun queue.now job.now.topics job.now.size job.now.most job.now.longest S.Source

@@ -87,11 +87,12 @@ pub fn run_resting<R: Threads + Wait + Sync, S: Source, G: Gate + Sync>(
         → (slice_index_or result.0.items w d).worker.worker.pass.number
         ≡ (slice_index_or desks.items w d).worker.worker.pass.number }
     ensures run { All (λ d.
-        HasRun queue.now job.now.topics job.now.size job.now.most job.now.longest S.Source d.files.items
-        d.worker.worker.pass d.worker.worker.members d.worker.worker.starved d.worker.kept)
-        result.0.items }
+        HasRun queue.now job.now.topics job.now.size job.now.most job.now.longest S.Source
+        d.files.items d.worker.worker.pass d.worker.worker.members d.worker.worker.starved
+        d.worker.kept) result.0.items }
     ensures settled { AreSettled crew.now (length job.now.topics
-        + 1) (takes_behind job.now.most) result.1.items (map (λ d. d.worker.worker.pass) result.0.items) }
+        + 1) (takes_behind job.now.most) result.1.items
+        (map (λ d. d.worker.worker.pass) result.0.items) }
 {
     let RestingRoom {
         flags,

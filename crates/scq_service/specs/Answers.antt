@@ -19,10 +19,11 @@ use Rattle.scq_stages.specs.Output as stage_output
 use Rattle.scq_stages.specs.declared.job.StageJob.{StageJob}
 use Rattle.scq_stages.specs.declared.staged.Staged.{Staged}
 use Rattle.scq_topics.specs.declared.kind.Kind.{Kind}
-use Rattle.scq_words.specs.Asked.{Asked}
+use Rattle.scq_words.specs.Asked.{Asked, RunAsked}
 use Rattle.scq_words.specs.Asked as asks
 use Rattle.scq_words.specs.declared.fault.WordsFault.{WordsFault}
 use Rattle.scq_work.specs.AllWorkers.{HasWorked, NothingIsStranded}
+use Rattle.scq_worker.specs.Opening.{most_bytes, takes_behind}
 use Rattle.scq_worker.specs.declared.job.Job.{Job}
 use Rattle.scq_files.specs.Ends.{AreGiven, all_left, messages_in}
 use Rattle.scq_files.specs.Reading as reading
@@ -58,12 +59,12 @@ WorkedAt (Some WriteFault) worked = IsSome worked
 WorkedAt (Some fault) worked = worked ≡ None
 
 -- the workers answered by so many: the contents, where each source told its own when it was got
-abbrev pub IsWorkOf : {S : Type 0} → List (List ℕ × Kind) → ℕ → ℕ → (S → Option (List ℕ)) → List S
-    → Option Worked → Type 0
-IsWorkOf topics size workers left got worked =
+abbrev pub IsWorkOf : {S : Type 0} → List (List ℕ × Kind) → ℕ → ℕ → ℕ → (S → Option (List ℕ))
+    → List S → Option Worked → Type 0
+IsWorkOf topics size most workers left got worked =
     IfSome worked (λ w.
     IfTold left got (λ contents.
-    HasWorked topics size workers (messages_in topics 1 contents) w))
+    HasWorked topics size most workers (messages_in topics 1 contents) w))
 
 -- messages that the sources may have given, a list for each: each was read to its end since it was
 -- got, with no fault counted, and where it told its content had just these messages
@@ -76,12 +77,12 @@ pub record HaveGiven {S : Type 0} (topics : List (List ℕ × Kind)) (size : ℕ
 
 -- so many workers answered such messages, with payloads of at most `longest` bytes in parts of at
 -- most `size`, which are those of the contents where these were told
-abbrev pub IsWork : {S : Type 0} → List (List ℕ × Kind) → ℕ → ℕ → ℕ → SourceOf S → List S → Inputs S
-    → Option Worked → Type 0
-IsWork topics size longest workers src got r worked =
+abbrev pub IsWork : {S : Type 0} → List (List ℕ × Kind) → ℕ → ℕ → ℕ → ℕ → SourceOf S → List S
+    → Inputs S → Option Worked → Type 0
+IsWork topics size most longest workers src got r worked =
     IfSome worked (λ w.
     (given : List (List Message)) × HaveGiven topics longest src got r given
-    × HasWorked topics size workers given w)
+    × HasWorked topics size most workers given w)
 
 -- the answers in all lists are those to all parts of the messages of the contents, each once, where
 -- these were told
@@ -92,17 +93,21 @@ AreOfParts topics size left got worked =
     IsPermutation (map without_way (members_of w.answered.items))
     (part_answers topics size (messages_to topics 1 contents))))
 
+-- how many bytes the parts of a value may have together in a run that is asked for this
+abbrev pub most_of : RunAsked → ℕ
+most_of a = most_bytes a.size a.batch
+
 -- what workers answered in a run that is asked for this; another run has no workers. Parts of a
--- generated file have at most 2^16 bytes.
+-- generated file have at most 2^16 bytes, and none go together.
 abbrev pub WorkedAs : {S : Type 0} → SourceOf S → Result Asked WordsFault → List S → Inputs S
     → Option Fault → Option Worked → Type 0
 WorkedAs src (Ok (asks.run a)) got r end worked =
-    WorkedAt end worked × IsWorkOf a.topics a.size a.workers src.left got worked
-    × IsWork a.topics a.size most_payload a.workers src got r worked
+    WorkedAt end worked × IsWorkOf a.topics a.size (most_of a) a.workers src.left got worked
+    × IsWork a.topics a.size (most_of a) most_payload a.workers src got r worked
 WorkedAs src (Ok (asks.generated a)) got r end worked =
     WorkedAt end worked
     × IfSome worked (λ w.
-    HasWorked self_topics (2 ^ 16) a.workers
+    HasWorked self_topics (2 ^ 16) 0 a.workers
     (messages_in self_topics 1 (generated a.seed a.lines ∷ [])) w)
 WorkedAs src asked got r end worked = worked ≡ None
 
@@ -149,8 +154,8 @@ pub record TellsWork {S : Type 0} (j : Job) (src : SourceOf S) (names : List (Li
   pub known : IfSome o.worked (λ w.
       All (λ a. a.topic ≤ length j.topics) (members_of w.answered.items))
   pub answers : AreOfParts j.topics j.size src.left o.got.items o.worked
-  pub told : IsWorkOf j.topics j.size j.workers src.left o.got.items o.worked
-  pub work : IsWork j.topics j.size j.longest j.workers src o.got.items r o.worked
+  pub told : IsWorkOf j.topics j.size j.most j.workers src.left o.got.items o.worked
+  pub work : IsWork j.topics j.size j.most j.longest j.workers src o.got.items r o.worked
   -- whatever the end is, nothing is stranded in their queue. It is seen unless the run ended for
   -- want of memory, and where they made anything, by the passes that come with it
   pub none_stranded : IfSome o.left (λ l. IsSomeAnd o.passes (λ p. IsSomeAnd o.frames (λ f.
@@ -207,5 +212,5 @@ IsSeenAt asked end seen = seen ≡ false
 abbrev pub WaitedAs : Result Asked WordsFault → List (PassStanding Frame) → List Bool → List Rested
     → Type 0
 WaitedAs (Ok (asks.run a)) passes saw rested =
-    HaveWaited (length a.topics + 1) a.workers passes saw rested
+    HaveWaited (length a.topics + 1) (takes_behind (most_of a)) a.workers passes saw rested
 WaitedAs asked passes saw rested = ⊥

@@ -4,6 +4,7 @@ ghost use Rattle.std.specs.Prelude.{vec_len, vec_capacity, IfSome, IsErrOf, IsNo
 ghost use Rattle.std.specs.Prelude.{IsSomeAnd, OnSome};
 ghost use Rattle.scq_work.specs.Ends.{EndsWork};
 ghost use Rattle.scq_rest.specs.Waiting.{HaveWaited};
+ghost use Rattle.scq_worker.specs.Opening.{takes_behind};
 ghost use Rattle.scq_service.specs.Answers.{HaveCome, HaveAllCome, TellsWork};
 ghost use Rattle.scq_service.specs.Ends.{ReadsOver, inputs_of};
 
@@ -87,7 +88,7 @@ pub fn run_work_waiting<R: Threads + Wait + Sync, F: Files, G: Gate + Sync>(
         (inputs_of F.Files files.old files.new result.sources.items result.read) result.fault }
     ensures waited { IfSome result.waited (λ waited. IsSomeAnd result.passes (λ passes.
         HaveWaited (length job.now.topics
-        + 1) job.now.workers passes.value.items waited.saw.items waited.rested.items)) }
+        + 1) (takes_behind job.now.most) job.now.workers passes.value.items waited.saw.items waited.rested.items)) }
     ensures waits { IsNone result.waited → result.fault ≡ Some Fault.NoMemory }
     ensures attended { OnSome result.worked (IsSome result.waited) }
     ensures both { OnSome result.waited (IsSome result.left) }

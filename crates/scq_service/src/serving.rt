@@ -178,7 +178,13 @@ fn run<R: Threads + Sync, F: Files, K: Sink, G: Gate + Sync>(
 {
     match read_words(alloc, words) {
         Ok(Request::Run(asked)) => {
-            let job = job_of(asked.order, asked.size, asked.workers, asked.topics);
+            let job = job_of(
+                asked.order,
+                asked.size,
+                asked.workers,
+                asked.topics,
+                asked.batch,
+            );
             let names = asked.files.as_slice();
             Ran {
                 outcome: run_files(rt, alloc, &job, names, files, out, gate),

@@ -145,7 +145,13 @@ fn run_waiting<R: Threads + Wait + Sync, F: Files, K: Sink, G: Gate + Sync>(
 {
     match read_run_words(alloc, words) {
         Ok(asked) => {
-            let job = job_of(asked.order, asked.size, asked.workers, asked.topics);
+            let job = job_of(
+                asked.order,
+                asked.size,
+                asked.workers,
+                asked.topics,
+                asked.batch,
+            );
             let names = asked.files.as_slice();
             Ran {
                 outcome: run_files_waiting(rt, alloc, &job, names, files, out, gate),

@@ -1,12 +1,14 @@
 ghost use Rattle.std.specs.Prelude.{◌≡◌, ◌⊎◌, ◌≤◌, ◌++◌, decimal, sum_by, OnOk, OnErr};
 ghost use Rattle.scq_outside.specs.Counts.{Rose};
-ghost use Rattle.scq_service.specs.Reports.{counts_line, report_lines, reported, worker_line};
+ghost use Rattle.scq_service.specs.Reports.{counts_line, directs_in, report_lines, reported};
+ghost use Rattle.scq_service.specs.Reports.{worker_line};
 ghost use Rattle.scq_service.specs.Writing.{written_with, WrotePart};
 
 use crate::Fault;
 use crate::reporting::report;
 use crate::writing::write_all;
 use itoa::Buffer;
+use scq_collect::Answers;
 use scq_outside::{Failed, Sink};
 use scq_queue::Counts;
 use scq_work::Worked;
@@ -16,24 +18,28 @@ use scq_work::Worked;
 struct Sums {
     sent: u128,
     taken: u128,
-    full: u128,
 }
 
 /// Writes what each worker sent, took and answered directly, and what all did together: a line for
 /// each worker, numbered from 1, and one for all. It takes no memory.
-pub fn report_workers<K: Sink>(sink: &mut K, counts: &[Counts]) -> Result<(), Failed>
+pub fn report_workers<K: Sink>(
+    sink: &mut K,
+    counts: &[Counts],
+    lists: &[Answers],
+) -> Result<(), Failed>
     ensures whole { OnOk result (K.written sink.new
-        ≡ written_with (K.written sink.old) (report_lines counts.now)) }
-    ensures part { WrotePart (K.written sink.old) (K.written sink.new) (report_lines counts.now) }
+        ≡ written_with (K.written sink.old) (report_lines counts.now lists.now)) }
+    ensures part { WrotePart (K.written sink.old) (K.written sink.new)
+        (report_lines counts.now lists.now) }
     ensures kept { OnOk result (K.faults sink.new ≡ K.faults sink.old) }
     ensures rose { OnErr result (Rose (K.faults sink.old) (K.faults sink.new)) }
 {
-    'workers: for (at, worker) in counts.iter().enumerate() {
-        write_worker(sink, at as u64 + 1, worker)?;
+    'workers: for at in 0..counts.len().min(lists.len()) {
+        write_worker(sink, at as u64 + 1, &counts[at], &lists[at])?;
     }
     write_all(sink, b"all")?;
     let sums = sums_of(counts);
-    write_counts(sink, sums.sent, sums.taken, sums.full)
+    write_counts(sink, sums.sent, sums.taken, directs_of(lists))
 }
 
 /// Reports how a run ended: its fault, where it has one, or else what the workers did, where that
@@ -52,26 +58,32 @@ pub fn report_run<K: Sink>(sink: &mut K, fault: &Option<Fault>, worked: &Option<
     if let Some(worked) = worked
         && asks
     {
-        let _ = report_workers(sink, worked.counts.as_slice());
+        let lists = worked.answered.as_slice();
+        let _ = report_workers(sink, worked.counts.as_slice(), lists);
     }
 }
 
 fn sums_of(counts: &[Counts]) -> Sums
     ensures sent { result.sent ≡ sum_by (λ c. c.sent) counts.now }
     ensures taken { result.taken ≡ sum_by (λ c. c.taken) counts.now }
-    ensures full { result.full ≡ sum_by (λ c. c.full) counts.now }
 {
-    let mut sums = Sums {
-        sent: 0,
-        taken: 0,
-        full: 0,
-    };
+    let mut sums = Sums { sent: 0, taken: 0 };
     'workers: for worker in counts {
         sums.sent += wide(worker.sent);
         sums.taken += wide(worker.taken);
-        sums.full += wide(worker.full);
     }
     sums
+}
+
+/// How many parts all workers answered directly.
+fn directs_of(lists: &[Answers]) -> u128
+    ensures { result ≡ sum_by directs_in lists.now }
+{
+    let mut sum = 0;
+    'lists: for list in lists {
+        sum += wide(list.direct() as u64);
+    }
+    sum
 }
 
 fn wide(number: u64) -> u128
@@ -81,11 +93,16 @@ fn wide(number: u64) -> u128
     u128::from(number)
 }
 
-fn write_worker<K: Sink>(sink: &mut K, number: u64, counts: &Counts) -> Result<(), Failed>
+fn write_worker<K: Sink>(
+    sink: &mut K,
+    number: u64,
+    counts: &Counts,
+    list: &Answers,
+) -> Result<(), Failed>
     ensures whole { OnOk result (K.written sink.new
-        ≡ written_with (K.written sink.old) (worker_line number counts.now)) }
+        ≡ written_with (K.written sink.old) (worker_line number (counts.now, list.now))) }
     ensures part { WrotePart (K.written sink.old) (K.written sink.new)
-        (worker_line number counts.now) }
+        (worker_line number (counts.now, list.now)) }
     ensures kept { OnOk result (K.faults sink.new ≡ K.faults sink.old) }
     ensures rose { OnErr result (Rose (K.faults sink.old) (K.faults sink.new)) }
 {
@@ -94,7 +111,7 @@ fn write_worker<K: Sink>(sink: &mut K, number: u64, counts: &Counts) -> Result<(
         sink,
         wide(counts.sent),
         wide(counts.taken),
-        wide(counts.full),
+        wide(list.direct() as u64),
     )
 }
 

@@ -3,7 +3,6 @@ pub mod WorkerSteps
 mod MemberLemmas
 pub mod MessageParts
 mod PassedOn
-pub mod OpenLemmas
 pub mod Gathered
 mod Loading
 mod RunLemmas

@@ -1,6 +1,6 @@
 -- A worker's list when the parts of a value are answered.
 use Rattle.std.proofs.Common.{◌≡◌, refl, sym, ◌∙◌, ap, Bool, true, false, ◌+◌, ◌≤◌, List, [], ◌∷◌, ◌++◌, length, ℕ, map}
-use Rattle.std.specs.Prelude.{filter, flat_map, nat_le}
+use Rattle.std.specs.Prelude.{filter, nat_le}
 use Rattle.std.specs.List.{All, AllByRecursion}
 use Rattle.std.proofs.lemmas.Bool.{le-leb}
 use Rattle.std.proofs.lemmas.Grind.{flat_map-append}

@@ -7,6 +7,7 @@ ghost use Rattle.scq_collect.specs.Joined.{part_answers, without_way};
 ghost use Rattle.scq_collect.specs.Merging.{members_of};
 ghost use Rattle.scq_collect.specs.Output.{one_thread_output};
 ghost use Rattle.scq_rest.specs.Waiting.{HaveWaited};
+ghost use Rattle.scq_worker.specs.Opening.{takes_behind};
 ghost use Rattle.scq_service.specs.Answers.{TellsWork};
 ghost use Rattle.scq_service.specs.Ends.{EndsOver, inputs_of, wrote_of};
 
@@ -73,7 +74,7 @@ pub fn run_files_waiting<R: Threads + Wait + Sync, F: Files, K: Sink, G: Gate + 
         (wrote_of K.Sink out.old out.new) result.fault }
     ensures waited { IfSome result.waited (λ waited. IsSomeAnd result.passes (λ passes.
         HaveWaited (length job.now.topics
-        + 1) job.now.workers passes.value.items waited.saw.items waited.rested.items)) }
+        + 1) (takes_behind job.now.most) job.now.workers passes.value.items waited.saw.items waited.rested.items)) }
     ensures waits { IsNone result.waited → result.fault ≡ Some Fault.NoMemory }
     ensures both { OnSome result.waited (IsSome result.left) }
 {

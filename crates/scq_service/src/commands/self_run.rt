@@ -56,7 +56,7 @@ pub fn run_self<R: Threads + Sync, S: Drop, K: Sink, G: Gate + Sync>(
     ensures worked { WorkedAt result.fault result.worked }
     ensures unstaged { result.staged ≡ None }
     ensures told { IfSome result.worked (λ w.
-        HasWorked the_topics (2 ^ 16) workers
+        HasWorked the_topics (2 ^ 16) 0 workers
         (messages_in the_topics 1 (the_file seed lines ∷ [])) w) }
     ensures left { IfSome result.left (λ left.
         IsSomeAnd result.passes (λ passes. IsSomeAnd result.frames (λ frames.
@@ -117,7 +117,7 @@ fn answer_file<R: Threads + Sync, G: Gate + Sync>(
         IsPermutation (map without_way (members_of a.worked.answered.items))
         (part_answers the_topics (2 ^ 16) (messages_to the_topics 1 (the_file seed lines ∷ [])))) }
     ensures told { IfOk result (λ a.
-        HasWorked the_topics (2 ^ 16) workers
+        HasWorked the_topics (2 ^ 16) 0 workers
         (messages_in the_topics 1 (the_file seed lines ∷ [])) a.worked) }
     ensures left { IfOk result (λ a.
         IfSome a.left (λ left. IsSomeAnd a.passes (λ passes. IsSomeAnd a.frames (λ frames.
@@ -127,7 +127,7 @@ fn answer_file<R: Threads + Sync, G: Gate + Sync>(
     ensures same { IfOk result (λ a.
         IsSomeAnd a.passes (λ passes. passes.value.items ≡ a.worked.passes.value.items)) }
 {
-    let job = job_of(ORDER, SIZE, workers, self_topics());
+    let job = job_of(ORDER, SIZE, workers, self_topics(), false);
     let source = PlainSource::new(generate(alloc, seed, lines)?);
     let mut sources = Vec::with_capacity(alloc, 1)?;
     sources.push_reserved(source);

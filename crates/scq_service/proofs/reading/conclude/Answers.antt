@@ -36,7 +36,7 @@ returns-then-all-clause-tells g c =
     let whole = subst W c.in-Ok.is did.end.whole in
     let G : Result Worked EndFault → Type 0 =
     λ r. IfOk r (λ w. (given : List (List Message)) × AreGiven job.topics job.longest src.left 1 olds given
-    × HasWorked job.topics job.size job.workers given w) in
+    × HasWorked job.topics job.size job.most job.workers given w) in
     let gave = subst G c.in-Ok.is did.end.worked in
     let M : Result Worked EndFault → Type 0 =
     λ r. IfOk r (λ w. IsSomeAnd c.args.end.passes (λ passes. passes.value.items ≡ w.passes.value.items)) in

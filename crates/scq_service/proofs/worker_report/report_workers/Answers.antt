@@ -1,38 +1,96 @@
-use Rattle.std.proofs.Common.{◌≡◌, ◌∙◌, ℕ, ◌+◌, List, arith, subst, codes}
-use Rattle.std.specs.Prelude.{sum_by}
-use Rattle.scq_service.specs.Reports.{all_line, counts_line, worker_lines}
-use Rattle.scq_service.specs.Writing.{WrotePart}
+use Rattle.std.proofs.Common.{◌≡◌, ◌∙◌, ℕ, ◌+◌, ◌<◌, List, ◌++◌, append_assoc, arith, ap, sym, subst, codes, length, get_or, Option, Result, Ok, Err}
+use Rattle.std.specs.Prelude.{OnOk, sum_by}
+use Rattle.std.specs.List.{zip}
+use Rattle.std.proofs.lemmas.Slice.Zip.{get_or-zip, length-zip}
+use Rattle.scq_collect.specs.declared.answered.Answered.{Answered}
+use Rattle.scq_queue.specs.declared.counts.Counts.{Counts}
+use Rattle.scq_service.specs.Reports.{all_line, counts_line, directs_in, worker_line, worker_lines}
+use Rattle.scq_service.specs.Writing.{written_with, WrotePart}
 use Rattle.scq_service.proofs.ReportLines.{part-worker, whole-worker, whole-workers}
-use Rattle.scq_service.proofs.Writings.{part-first, part-second}
+use Rattle.scq_service.proofs.Writings.{part-first, part-second, written-then}
 use Rattle.scq_service.proofs.worker_report.report_workers.Goals as goal
+
+-- each worker's counts and list
+abbrev no_counts : Counts
+no_counts = record { sent = 0; taken = 0; full = 0 }
+
+pair-at : (counts : List Counts) (lists : List (List Answered)) (at : ℕ) (list : List Answered) → at < length counts → at < length lists
+    → list ≡ get_or lists at list → (get_or counts at no_counts, list) ≡ get_or (zip counts lists) at (no_counts, list)
+pair-at counts lists at list here there is =
+    ap (λ (l : List Answered). (get_or counts at no_counts, l)) is ∙ sym (get_or-zip counts lists at (no_counts, list) here there)
+
+-- what is so of a call that went well
+on-ok : {X E : Type 0} (r : Result X E) (P Q : Type 0) → (P → Q) → OnOk r P → OnOk r Q
+on-ok (Ok x) P Q more p = more p
+on-ok (Err e) P Q more p = tt
 
 pub returns-in_err-write_worker-clause-part : goal.returns-in_err-write_worker-clause-part
 returns-in_err-write_worker-clause-part g c =
-    part-worker _ _ _ c.args.counts.now c.workers.at (c.workers.at + 1) _ c.workers-test.true (omega arith) c.workers.invariant.lines
-    c.write_worker.ensures.part
+    let counts = c.args.counts.now in
+    let lists = c.args.lists.now in
+    let at = c.workers.at in
+    let list = c.index-lists-at.result in
+    let is = pair-at counts lists at list (omega (arith, c.workers-test.true, c.min-at-end.ensures)) (omega (arith, c.workers-test.true, c.min-at-end.ensures))
+    c.index-lists-at.is in
+    part-worker _ _ _ (all_line counts lists) (zip counts lists) at (at + 1) (no_counts, list)
+    (omega (arith, c.workers-test.true, c.min-at-end.ensures, length-zip counts lists)) (omega arith) c.workers.invariant.lines
+    (subst (λ w. WrotePart (g.K.Sink.written c.workers.sink) (g.K.Sink.written c.write_worker.new.sink) (worker_line (at + 1) w)) is
+    c.write_worker.ensures.part)
 
 pub workers-preserved : goal.workers-preserved
-workers-preserved g c = record {
-  lines = whole-worker _ _ _ c.args.counts.now c.workers.at (c.workers.at + 1) _ c.workers-test.true (omega arith) c.workers.invariant.lines
-      c.in_ok-write_worker.ensures.whole;
-  kept = c.in_ok-write_worker.ensures.kept ∙ c.workers.invariant.kept;
-}
+workers-preserved g c =
+    let counts = c.args.counts.now in
+    let lists = c.args.lists.now in
+    let at = c.workers.at in
+    let list = c.index-lists-at.result in
+    let is = pair-at counts lists at list (omega (arith, c.workers-test.true, c.min-at-end.ensures)) (omega (arith, c.workers-test.true, c.min-at-end.ensures))
+    c.index-lists-at.is in
+    record {
+      lines = whole-worker _ _ _ (zip counts lists) at (at + 1) (no_counts, list)
+          (omega (arith, c.workers-test.true, c.min-at-end.ensures, length-zip counts lists)) (omega arith) c.workers.invariant.lines
+          (subst (λ w. g.K.Sink.written c.write_worker.new.sink ≡ written_with (g.K.Sink.written c.workers.sink) (worker_line (at + 1) w)) is
+          c.in_ok-write_worker.ensures.whole);
+      kept = c.in_ok-write_worker.ensures.kept ∙ c.workers.invariant.kept;
+    }
 
 pub returns-in_err-write_all-clause-part : goal.returns-in_err-write_all-clause-part
 returns-in_err-write_all-clause-part g c =
     let counts = c.args.counts.now in
-    let line = counts_line (sum_by (λ c. c.sent) counts) (sum_by (λ c. c.taken) counts) (sum_by (λ c. c.full) counts) in
-    let lines = whole-workers _ _ counts c.workers.at (omega (arith, c.workers-test.false)) c.workers.invariant.lines in
-    part-second _ _ _ (worker_lines 1 counts) (all_line counts) lines (part-first _ _ (codes "all") line c.write_all.ensures.part)
+    let lists = c.args.lists.now in
+    let line = counts_line (sum_by (λ c. c.sent) counts) (sum_by (λ c. c.taken) counts) (sum_by directs_in lists) in
+    let written = whole-workers _ _ (zip counts lists) c.workers.at
+    (omega (arith, c.workers-test.false, c.min-at-end.ensures, length-zip counts lists)) c.workers.invariant.lines in
+    part-second _ _ _ (worker_lines 1 (zip counts lists)) (all_line counts lists) written (part-first _ _ (codes "all") line c.write_all.ensures.part)
+
+pub returns-clause-whole : goal.returns-clause-whole
+returns-clause-whole g c =
+    let counts = c.args.counts.now in
+    let lists = c.args.lists.now in
+    let said = c.sums_of-sums.ensures in
+    let old = g.K.Sink.written c.args.sink.now in
+    let lines = worker_lines 1 (zip counts lists) in
+    let line = counts_line (sum_by (λ c. c.sent) counts) (sum_by (λ c. c.taken) counts) (sum_by directs_in lists) in
+    let same : counts_line c.sums_of-sums.result.sent c.sums_of-sums.result.taken c.directs_of.result ≡ line =
+    λ i. counts_line (said.sent i) (said.taken i) (c.directs_of.ensures i) in
+    let written = whole-workers _ _ (zip counts lists) c.workers.at
+    (omega (arith, c.workers-test.false, c.min-at-end.ensures, length-zip counts lists)) c.workers.invariant.lines in
+    on-ok c.write_counts.result _ _ (λ is.
+    is ∙ ap (written_with (g.K.Sink.written c.write_all.new.sink)) same
+    ∙ ap (λ (w : Option (List ℕ)). written_with w line)
+    (c.in_ok-write_all.ensures.whole ∙ ap (λ (w : Option (List ℕ)). written_with w (codes "all")) written
+    ∙ written-then old lines (codes "all"))
+    ∙ written-then old (lines ++ codes "all") line ∙ ap (written_with old) (append_assoc lines (codes "all") line)) c.write_counts.ensures.whole
 
 pub returns-clause-part : goal.returns-clause-part
 returns-clause-part g c =
     let counts = c.args.counts.now in
-    let sums = c.sums_of-sums.result in
+    let lists = c.args.lists.now in
     let said = c.sums_of-sums.ensures in
-    let line = counts_line (sum_by (λ c. c.sent) counts) (sum_by (λ c. c.taken) counts) (sum_by (λ c. c.full) counts) in
-    let same : counts_line sums.sent sums.taken sums.full ≡ line = λ i. counts_line (said.sent i) (said.taken i) (said.full i) in
+    let line = counts_line (sum_by (λ c. c.sent) counts) (sum_by (λ c. c.taken) counts) (sum_by directs_in lists) in
+    let same : counts_line c.sums_of-sums.result.sent c.sums_of-sums.result.taken c.directs_of.result ≡ line =
+    λ i. counts_line (said.sent i) (said.taken i) (c.directs_of.ensures i) in
     let Q : List ℕ → Type 0 = λ bytes. WrotePart (g.K.Sink.written c.write_all.new.sink) (g.K.Sink.written c.write_counts.new.sink) bytes in
-    let lines = whole-workers _ _ counts c.workers.at (omega (arith, c.workers-test.false)) c.workers.invariant.lines in
-    part-second _ _ _ (worker_lines 1 counts) (all_line counts) lines
+    let written = whole-workers _ _ (zip counts lists) c.workers.at
+    (omega (arith, c.workers-test.false, c.min-at-end.ensures, length-zip counts lists)) c.workers.invariant.lines in
+    part-second _ _ _ (worker_lines 1 (zip counts lists)) (all_line counts lists) written
     (part-second _ _ _ (codes "all") line c.in_ok-write_all.ensures.whole (subst Q same c.write_counts.ensures.part))

@@ -1,4 +1,5 @@
 use Rattle.std.proofs.Common.{◌≡◌, take}
+use Rattle.std.specs.List.{zip}
 use Rattle.scq_service.specs.Reports.{worker_lines}
 use Rattle.scq_service.specs.Writing.{written_with}
 use Rattle.scq_service.proofs.worker_report.report_workers.Given as goal
@@ -6,6 +7,6 @@ use Rattle.scq_service.proofs.worker_report.report_workers.Given as goal
 -- the lines of the workers so far are written
 abbrev pub invariant-workers : goal.invariant-workers
 invariant-workers g l = record {
-  lines : g.K.Sink.written l.sink ≡ written_with (g.K.Sink.written l.fn.sink) (worker_lines 1 (take l.at l.counts));
+  lines : g.K.Sink.written l.sink ≡ written_with (g.K.Sink.written l.fn.sink) (worker_lines 1 (take l.at (zip l.counts l.lists)));
   kept : g.K.Sink.faults l.sink ≡ g.K.Sink.faults l.fn.sink;
 }

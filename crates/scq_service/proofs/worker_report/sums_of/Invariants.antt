@@ -7,8 +7,6 @@ abbrev pub invariant-workers : goal.invariant-workers
 invariant-workers l = record {
   sent : l.sums.sent ≡ sum_by (λ c. c.sent) (take l.worker-index l.counts);
   taken : l.sums.taken ≡ sum_by (λ c. c.taken) (take l.worker-index l.counts);
-  full : l.sums.full ≡ sum_by (λ c. c.full) (take l.worker-index l.counts);
   sent_small : l.sums.sent ≤ l.worker-index * 18446744073709551615;
   taken_small : l.sums.taken ≤ l.worker-index * 18446744073709551615;
-  full_small : l.sums.full ≤ l.worker-index * 18446744073709551615;
 }

@@ -1,15 +1,9 @@
 use Rattle.std.proofs.Common.{rules, ◌≡◌, ◌+◌, ◌∙◌, ap, sym, subst, arith, [], ◌++◌, List, length, take, drop, Err, Result}
 use Rattle.std.specs.Prelude.{IfErr}
-use Rattle.std.specs.List.{All}
-use Rattle.scq_frames.specs.declared.message.Message.{Message}
 use Rattle.scq_queue.specs.Passes.{PassStanding}
-use Rattle.scq_files.specs.Given.{given_in}
-use Rattle.scq_files.specs.OwnFiles.{StopsAtAFault, ids_of, all_given}
-use Rattle.scq_files.specs.Reading.{IsRead}
-use Rattle.scq_worker.specs.Bells.{RingsOn, rings-along}
+use Rattle.scq_files.specs.OwnFiles.{StopsAtAFault, all_given}
 use Rattle.scq_worker.specs.Passing.{parts_in}
-use Rattle.scq_worker.specs.Reading.{IsAt, IsOver, IsWorking, HasPassedAllOn}
-use Rattle.scq_worker.specs.Working.{IsAtWork}
+use Rattle.scq_worker.specs.Reading.{IsAt, IsOver, HasPassedAllOn}
 use Rattle.scq_files.specs.declared.own_file.OwnFile.{OwnFile}
 use Rattle.scq_files.proofs.Lists.{written-back}
 use Rattle.scq_worker.proofs.Gathered.{open-none, gathered-none}

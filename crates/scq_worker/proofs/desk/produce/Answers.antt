@@ -1,4 +1,4 @@
-use Rattle.std.proofs.Common.{◌≡◌, ◌+◌, ◌∙◌, ap, sym, subst, [], length}
+use Rattle.std.proofs.Common.{◌∙◌, ap, sym, subst}
 use Rattle.scq_queue.specs.Passes.{PassStanding}
 use Rattle.scq_worker.specs.declared.worker.Worker.{Worker}
 use Rattle.scq_worker.proofs.Produced.{none-or, produced-awake, produced-stopped}

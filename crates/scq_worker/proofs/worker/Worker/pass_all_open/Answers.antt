@@ -1,4 +1,4 @@
-use Rattle.std.proofs.Common.{rules, ◌≡◌, ◌∙◌, ◌+◌, ◌<◌, ◌≤◌, ap, sym, subst, arith, refl, ℕ, List, [], length, ⊎_elim, Err, Result}
+use Rattle.std.proofs.Common.{rules, ◌≡◌, ◌∙◌, ◌+◌, ◌<◌, sym, subst, arith, refl, ℕ, List, length, ⊎_elim, Err, Result}
 use Rattle.std.specs.Prelude.{IfErr}
 use Rattle.std.proofs.lemmas.Bool.{cases_eq}
 use Rattle.scq_frames.specs.Parts.{Part}
@@ -6,7 +6,7 @@ use Rattle.scq_worker.specs.Bells.{rings-along}
 use Rattle.scq_worker.specs.Opening.{open_on}
 use Rattle.scq_worker.specs.Reading.{IsWorking}
 use Rattle.scq_worker.specs.Working.{HasStopped}
-use Rattle.scq_worker.proofs.Gathered.{closed-at, closed-still, none-past}
+use Rattle.scq_worker.proofs.Gathered.{closed-at, closed-still}
 use Rattle.scq_worker.proofs.worker.Worker.pass_all_open.Goals as goal
 
 -- below a bound, or at it

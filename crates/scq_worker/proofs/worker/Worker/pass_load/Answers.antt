@@ -1,5 +1,5 @@
-use Rattle.std.proofs.Common.{rules, ◌≡◌, ◌≤◌, ◌<◌, ◌+◌, ◌++◌, ◌∷◌, ◌∙◌, refl, ap, sym, subst, arith, suc, List, [], length, None, Err, Result}
-use Rattle.std.specs.Prelude.{IfErr, count_by, Bool}
+use Rattle.std.proofs.Common.{rules, ◌≡◌, ◌≤◌, ◌<◌, ◌+◌, ◌∙◌, refl, ap, sym, subst, arith, suc, List, length, None, Err, Result}
+use Rattle.std.specs.Prelude.{IfErr, count_by}
 use Rattle.scq_collect.specs.declared.answered.Answered.{Answered}
 use Rattle.scq_passes.specs.Records.{is_take}
 use Rattle.scq_frames.specs.Parts.{Part}

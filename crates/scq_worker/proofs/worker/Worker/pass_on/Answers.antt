@@ -6,7 +6,7 @@ use Rattle.std.proofs.lemmas.List.{append-nil, append_assoc, length-append}
 use Rattle.std.proofs.lemmas.List.FromFn.{length-map-range_with_len, map-range_with_len_more}
 use Rattle.scq_frames.specs.declared.message.Message.{Message}
 use Rattle.scq_frames.specs.Parts.{Part, part_of, parts_of, all_parts}
-use Rattle.scq_worker.specs.Bells.{RingsOn, rings-along}
+use Rattle.scq_worker.specs.Bells.{rings-along}
 use Rattle.scq_worker.specs.Reading.{IsWorking}
 use Rattle.scq_worker.specs.Working.{HasStopped}
 use Rattle.scq_worker.proofs.PassedOn.{stopped-more}

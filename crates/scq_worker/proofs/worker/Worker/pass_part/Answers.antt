@@ -1,4 +1,4 @@
-use Rattle.std.proofs.Common.{rules, ◌≡◌, ◌≤◌, ◌+◌, ◌∙◌, refl, ap, sym, subst, arith, List, [], ◌++◌, ◌∷◌, length, Err, Result}
+use Rattle.std.proofs.Common.{rules, ◌≡◌, ◌+◌, ◌∙◌, refl, ap, sym, subst, arith, List, [], ◌++◌, ◌∷◌, length, Err, Result}
 use Rattle.std.specs.Prelude.{IfErr}
 use Rattle.std.proofs.lemmas.List.{length-append}
 use Rattle.scq_frames.specs.Parts.{Part, part_of}

@@ -1,4 +1,3 @@
-use Rattle.std.proofs.Common.{◌≡◌}
 use Rattle.scq_passes.proofs.PassLemmas.{taken-nothing}
 use Rattle.scq_worker.proofs.worker.Worker.take_behind.Goals as goal
 use Rattle.scq_worker.proofs.worker.Worker.take_behind.Goals.{then-job-gt0+in_ok-take_one, else-job-gt0}

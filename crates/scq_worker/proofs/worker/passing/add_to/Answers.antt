@@ -1,7 +1,6 @@
-use Rattle.std.proofs.Common.{rules, ◌≡◌, ◌⊎◌, inl, inr, ⊎_elim, ◌+◌, ◌^◌, ◌<◌, ◌≤◌, ◌++◌, ◌∷◌, ap, sym, subst, refl, arith, ℕ, List, [], length, Ok, Err, Result}
+use Rattle.std.proofs.Common.{◌≡◌, ◌⊎◌, inl, inr, ⊎_elim, ◌^◌, ◌<◌, ◌++◌, ◌∷◌, ap, sym, subst, refl, arith, ℕ, List, [], length, Ok, Err, Result}
 use Rattle.std.specs.Prelude.{OnOk, OnErr}
 use Rattle.std.specs.List.{All}
-use Rattle.scq_frames.specs.Batches.{batch_bytes}
 use Rattle.scq_frames.specs.Encoded.{IsEncodable}
 use Rattle.scq_frames.specs.Parts.{Part, part_of}
 use Rattle.scq_frames.proofs.BatchLemmas.{encodable-view}

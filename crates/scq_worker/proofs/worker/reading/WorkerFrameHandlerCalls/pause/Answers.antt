@@ -1,4 +1,4 @@
-use Rattle.std.proofs.Common.{◌≡◌, ◌+◌, sym, subst, List, [], ◌++◌, length, None}
+use Rattle.std.proofs.Common.{◌≡◌, ◌+◌, sym, subst, List, [], length, None}
 use Rattle.std.proofs.lemmas.List.{append-nil}
 use Rattle.scq_frames.specs.Parts.{Part}
 use Rattle.scq_frames.specs.declared.message.Message.{Message}
