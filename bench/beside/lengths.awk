@@ -1,8 +1,9 @@
-# What `scq run` writes without topics, for one file.
+# What `scq run` writes without topics.
+FNR == 1 { file++ }
 length($0) {
     space = index($0, " ")
     size = space ? length($0) - space : 0
-    print "1:" NR " - " size
+    print file ":" FNR " - " size
     count++
     bytes += size
 }
