@@ -33,7 +33,7 @@ fn push_part(alloc: Global, topics: &Topics, given: &str, to: &mut Answers) -> R
     ensure!(answer.topic <= topics.len(), "a topic");
     let place = long(given, 7)?;
     let way = match field(given, 6) {
-        "taken" => Way::Taken { place },
+        "taken" => Way::Taken { place, number: 0 },
         _ => Way::Direct { head: place },
     };
     to.push(Given { answer, way })?;
