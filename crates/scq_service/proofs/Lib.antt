@@ -1,5 +1,6 @@
 pub mod Coming
 pub mod Completeness
+pub mod Directs
 pub mod Files
 pub mod Merging
 pub mod OneFile

@@ -2,13 +2,13 @@
 use Rattle.std.specs.Prelude.{ℕ, ◌+◌, Bool, true, false, List, [], ◌∷◌, ◌++◌, Option, Some, None}
 use Rattle.std.specs.Prelude.{Result, Ok, codes, decimal, filter, length, sum_by}
 use Rattle.std.specs.List.{zip}
-use Rattle.scq_collect.specs.Ways.{is_direct}
 use Rattle.scq_collect.specs.declared.answered.Answered.{Answered}
 use Rattle.scq_queue.specs.declared.counts.Counts.{Counts}
 use Rattle.scq_words.specs.Asked.{Asked}
 use Rattle.scq_words.specs.Asked as asks
 use Rattle.scq_words.specs.declared.fault.WordsFault.{WordsFault}
 use Rattle.scq_work.specs.declared.worked.Worked.{Worked}
+use Rattle.scq_worker.specs.Members.{is_direct}
 use Rattle.scq_service.specs.Faults.{fault_line}
 use Rattle.scq_service.specs.declared.fault.Fault.{Fault}
 

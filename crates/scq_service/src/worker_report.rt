@@ -81,9 +81,17 @@ fn directs_of(lists: &[Answers]) -> u128
 {
     let mut sum = 0;
     'lists: for list in lists {
-        sum += wide(list.direct() as u64);
+        sum += direct_in(list);
     }
     sum
+}
+
+/// How many parts were answered directly in a worker's list.
+fn direct_in(list: &Answers) -> u128
+    ensures same { result ≡ directs_in list.now }
+    ensures small { result ≤ 18446744073709551615 }
+{
+    wide(list.direct() as u64)
 }
 
 fn wide(number: u64) -> u128
@@ -107,12 +115,7 @@ fn write_worker<K: Sink>(
     ensures rose { OnErr result (Rose (K.faults sink.old) (K.faults sink.new)) }
 {
     write_named(sink, b"worker ", wide(number))?;
-    write_counts(
-        sink,
-        wide(counts.sent),
-        wide(counts.taken),
-        wide(list.direct() as u64),
-    )
+    write_counts(sink, wide(counts.sent), wide(counts.taken), direct_in(list))
 }
 
 fn write_counts<K: Sink>(sink: &mut K, sent: u128, taken: u128, direct: u128) -> Result<(), Failed>
