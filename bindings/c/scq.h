@@ -6,13 +6,14 @@
  * and gives it back. No call takes a lock or waits for another thread's; lends, takes, sends and
  * give-backs are lock-free, with a bound (docs/QUEUE.md). Only scq_open and scq_open_over take
  * memory. What the library does is proved: docs/QUEUE.md says what that means, and docs/PROMISES.md
- * has the promise of each call.
+ * has the promise of each call. What stands whole in this file is tested.
  *
  * The library passes numbers of buffers from port to port. The bytes are the caller's: it is given
  * no pointer that it follows to them, and reads and writes none of them. Where the bytes of a
  * number lie is worked out by the functions that stand whole in this file.
  *
- * Compile with this file, C99 or C++, and link with libscq.a and nothing else.
+ * Compile with this file, C99 or C++, and link with libscq, the archive or the shared object, and
+ * nothing else.
  *
  * What the caller has to uphold. Nothing of it is tested; where it is broken anything may happen,
  * as where C's own rules are.
@@ -26,8 +27,9 @@
  *    `n` counts at `counts`, and `n` slots at `out` or `held` of a call of several; also where n is
  *    0, none is null.
  * 3. One call at a time is made with a port, by whichever thread has it, also where a signal
- *    handler makes one. Calls with different ports may meet in any way. A call that has begun is
- *    let end: no thread is cancelled asynchronously in it, and no signal handler jumps out of it.
+ *    handler makes one, which neither opens nor closes any. Calls with different ports may meet in
+ *    any way. A call that has begun is let end: no thread is cancelled asynchronously in it, and no
+ *    signal handler jumps out of it.
  *    (Where two threads call with one port, one of them is often told that the port is closed.)
  * 4. Who hands a port to another thread does so by what orders memory: starting or joining the
  *    thread, a lock, an atomic that is released and acquired. So with a buffer's address, if
@@ -475,7 +477,7 @@ static inline void scq_locate(const scq_port *port, uint32_t answer, scq_held *o
 }
 
 /* Lends a buffer that nobody holds: writes to `out` where it lies, with whatever bytes its last
- * user left.
+ * user left. What that thread did before it gave the buffer back is seen.
  *
  * Tested: that the port is open, and holds fewer buffers than it may.
  * Answers: SCQ_OK; SCQ_CLOSED; SCQ_NO_ROOM; SCQ_FULL where no buffer was free, and out->place is
@@ -489,7 +491,7 @@ static inline SCQ_ANSWERED uint32_t scq_lend(scq_port *port, scq_held *out) {
 }
 
 /* Takes a buffer off a topic: writes to `out` where it lies, and the place at which it was sent.
- * Its bytes are those that were sent.
+ * Its bytes are those that were sent, and what its sender did before the send is seen.
  *
  * Tested: that the port is open, the topic, and that the port holds fewer buffers than it may.
  * Answers: SCQ_OK; SCQ_CLOSED; SCQ_NO_TOPIC; SCQ_NO_ROOM; SCQ_EMPTY where nothing was on the topic,

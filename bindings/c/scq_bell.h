@@ -11,7 +11,7 @@
  *    scq_bell_free when no thread uses it and none will. It is of one queue and of one process.
  * 2. Where somebody waits for a topic, who sends on it does so by scq_bell_send; where somebody
  *    waits for a buffer, who gives one back or closes a port does so by scq_bell_give_back and
- *    scq_bell_close. Or he makes the call of scq.h, and then scq_bell_ring.
+ *    scq_bell_close. Or he makes the call of scq.h, and then scq_bell_ring, once for each buffer.
  * 3. A thread isn't cancelled, and isn't left by longjmp, while it waits. A signal handler doesn't
  *    wait.
  *

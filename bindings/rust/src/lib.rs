@@ -44,23 +44,25 @@
 //! finds those of a number.
 //!
 //! - Where [`Port::end`] says that a port was the last, this is proved of all calls that were made
-//!   with all ports: a take gave a buffer that was sent on this topic, at the place of that send;
-//!   none was taken twice; no buffer overtook one whose send had ended before its own send began; and
-//!   each topic's calls, but those refused as tickets ran out, stand in one order in which every
-//!   answer is a plain queue's. That the last port is told so is tested. A taken buffer has the bytes
-//!   that were sent, as only who holds it writes it.
+//!   with all ports, but those refused by a test or by a ticket that a port keeps: a take gave a
+//!   buffer that was sent on this topic, at the place of that send; none was taken twice; no buffer
+//!   overtook one whose send had ended before its own send began; and each topic's calls, but those
+//!   refused as tickets ran out, stand in one order in which every answer is a plain queue's. That
+//!   the last port is told so is tested, and that a taken buffer has the bytes that were sent, as
+//!   only who holds it writes it.
 //! - [`TakeError::Empty`] and [`LendError::Full`] come only where they are right at a moment inside
-//!   the call.
-//! - No call takes a lock or waits for another thread's, and only [`Queue::new`] and [`Ring::new`]
-//!   take memory: for the buffers one block of zeros, of which no byte is touched before it is
-//!   used.
+//!   the call, of a run with all that the port has seen.
+//! - No lend, take, send, give-back, push or pop takes a lock or memory, or waits for another
+//!   thread's; [`Ring::handle`] takes a lock, and a [`Bell`]'s wait a lock and memory. A queue's
+//!   buffers are one block of zeros, of which no byte is touched before it is used.
 //! - The calls are lock-free, with a bound: for n buffers, k ports and b = 6 (2n - 1 + max(n, k) +
-//!   n + k), among any k b + 1 atomic steps on topics and free buffers one ends a
-//!   call, whichever threads make them. What delays a call is what others finish on its topic (of a lend or a
-//!   give-back: on the free buffers), a send or give-back by at most b steps, a take or lend by 6; a
-//!   thread that stopped delays none.
-//! - A buffer stays where it is, and is in one pair of hands at a time: the library gives it to
-//!   one port alone, and in that port the borrow checker sees to it.
+//!   n + k), among any k b + 1 atomic steps on topics and free buffers one ends a call, whichever
+//!   threads make them (of the run of all calls: where `end` says last). A call makes at most b
+//!   steps, and for what others finish meanwhile on its topic (of a lend or give-back: on the free
+//!   buffers) b more for each send or give-back, 6 for each take or lend; a thread that stopped
+//!   delays none.
+//! - A buffer stays where it is, and is in one pair of hands at a time: the library gives it to one
+//!   port alone, and in that port the borrow checker sees to it.
 //! - A buffer whose guard was forgotten (`std::mem::forget`) is given back when its port is
 //!   dropped.
 //!
