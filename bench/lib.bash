@@ -203,10 +203,10 @@ proved() {
 # Compiles a C++ file as the kit compiles its programs: by its clang, with g++'s headers.
 by_kit() {
     local program=$1 clang headers
-    shift
     clang=$(dirname "$(rt doc)")/toolchain/bin/clang
     mapfile -t headers < <(g++ -E -x c++ -v /dev/null 2>&1 | sed -n '/^#include </,/^End/s/^ /-isystem/p')
-    "$clang" -x c++ -std=c++17 -O3 -march=x86-64-v2 -Wall -Wextra -Werror -nostdinc "${headers[@]}" "$@" -c -o "$program.o"
+    "$clang" -x c++ -std=c++17 -O3 -march=x86-64-v2 -Wall -Wextra -Werror -Wno-deprecated-declarations -nostdinc \
+        "${headers[@]}" "${@:2}" -c -o "$program.o"
     g++ -pthread -o "$program" "$program.o"
 }
 

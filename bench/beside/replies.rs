@@ -4,15 +4,11 @@ use std::time::Instant;
 const PASSES: usize = 9;
 
 fn words(payload: &[u8]) -> u64 {
-    let (mut count, mut in_word) = (0, false);
-    for &byte in payload {
-        let blank = byte == b' ' || byte == b'\t';
-        if !blank && !in_word {
-            count += 1;
-        }
-        in_word = !blank;
-    }
-    count
+    let mut behind_blank = true;
+    payload
+        .iter()
+        .map(|byte| u64::from(std::mem::replace(&mut behind_blank, matches!(byte, b' ' | b'\t')) && !behind_blank))
+        .sum()
 }
 
 fn sum(payload: &[u8]) -> Option<u64> {
@@ -71,9 +67,7 @@ fn main() {
     for size in [24, 4096] {
         measure("len", &text, size, |payload| decimal(payload.len() as u64));
         measure("words", &text, size, |payload| decimal(words(payload)));
-        measure("sum", &sums, size, |payload| {
-            sum(payload).map_or_else(|| b"bad".to_vec(), decimal)
-        });
+        measure("sum", &sums, size, |payload| sum(payload).map_or_else(|| b"bad".to_vec(), decimal));
         measure("sha256", &text, size, digest);
         measure("echo", &text, size, <[u8]>::to_vec);
     }

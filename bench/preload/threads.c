@@ -30,15 +30,12 @@ __attribute__((constructor)) static void begin(void) {
     keep(pthread_self(), 0);
 }
 
-int pthread_create(pthread_t *thread, const pthread_attr_t *how, void *(*call)(void *),
-                   void *with) {
+int pthread_create(pthread_t *thread, const pthread_attr_t *how, void *(*call)(void *), void *with) {
     static int started;
-    int (*start)(pthread_t *, const pthread_attr_t *, void *(*)(void *), void *) =
-        dlsym(RTLD_NEXT, "pthread_create");
+    int (*start)(pthread_t *, const pthread_attr_t *, void *(*)(void *), void *) = dlsym(RTLD_NEXT, "pthread_create");
     const int number = __atomic_add_fetch(&started, 1, __ATOMIC_SEQ_CST);
     const char *refused = getenv("REFUSE");
-    if (refused && strtoul(refused, NULL, 10) >> (number - 1) & 1 && write(9, "x", 1) == 1)
-        return EAGAIN;
+    if (refused && strtoul(refused, NULL, 10) >> (number - 1) & 1 && write(9, "x", 1) == 1) return EAGAIN;
     const int answer = start(thread, how, call, with);
     if (answer == 0) keep(*thread, number);
     return answer;

@@ -1,12 +1,11 @@
 # shellcheck shell=bash
 crate_over 'make_one: scq_queue scq_band scq_word anyhow'
 crate_file src/main.rt <<'END'
-//! Makes bands and queues over buffers that it has marked, closes each, and has a letter for it: m made, w wants memory, b no buffers, or x
-//! where not all buffers came back, in order. For each byte of standard input an allocation is made before.
+//! Makes queues over buffers that it has marked, closes each, and has a letter for it: m made, w wants memory, b no
+//! buffers, or x where not all buffers came back, in order. For each byte of standard input an allocation is made before.
 #![tactic(auto)]
 
 use anyhow::Result;
-use scq_band::Band;
 use scq_queue::{HeapBuffer, Held, Queue};
 use scq_word::{Buffer, BufferMut, NoMemory, Setup};
 use std::alloc::Global;
@@ -42,23 +41,16 @@ fn main(rt: HostRuntime) -> Result<()> {
             println!(rt; "failed too early")?;
         }
     }
-    for (order, seats, is_band) in [(1, 2, true), (1, 2, false), (3, 4, true), (3, 4, false)] {
+    for (order, seats) in [(1, 2), (3, 4)] {
         let setup = Setup::new(order, 3, seats, 1 << 60)?;
         let count = setup.shape().n();
         let Ok(buffers) = marked(alloc, count) else {
             println!(rt; "b")?;
             return Ok(());
         };
-        let (is_made, buffers) = if is_band {
-            match Band::make(alloc, setup, buffers) {
-                Ok((band, seats)) => (true, band.close(seats, Vec::<(u32, HeapBuffer)>::new(alloc)).buffers),
-                Err((buffers, NoMemory)) => (false, buffers),
-            }
-        } else {
-            match Queue::make(alloc, setup, buffers) {
-                Ok((queue, passes)) => (true, queue.close(passes, Vec::<Held<HeapBuffer>>::new(alloc)).buffers),
-                Err((buffers, NoMemory)) => (false, buffers),
-            }
+        let (is_made, buffers) = match Queue::make(alloc, setup, buffers) {
+            Ok((queue, passes)) => (true, queue.close(passes, Vec::<Held<HeapBuffer>>::new(alloc)).buffers),
+            Err((buffers, NoMemory)) => (false, buffers),
         };
         print!(rt; "{}", if !are_all(buffers, count) { "x" } else if is_made { "m" } else { "w" })?;
         if !is_made {

@@ -1,5 +1,4 @@
-// atomic_queue::AtomicQueueB. Whoever finds the place of its turn empty fills it, also of a later
-// round.
+// atomic_queue::AtomicQueueB. Whoever finds the place of its turn empty fills it, also of a later round.
 #include <atomic_queue/atomic_queue.h>
 
 struct Ring {

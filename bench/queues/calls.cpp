@@ -38,8 +38,7 @@ struct Run {
     std::vector<Seen> seen;
 
     Run(const std::string &roles, uint32_t order, uint64_t many)
-        : roles(roles), many(many), queue(order, roles.size()), ports(roles.size()),
-          seen(roles.size()) {}
+        : roles(roles), many(many), queue(order, roles.size()), ports(roles.size()), seen(roles.size()) {}
 
     // Has each thread do the work with a port of its own, the first in this one, and tells how long
     // it took. Nobody begins before all are there.
@@ -97,8 +96,7 @@ struct Run {
         return roles == "e" || is_complete();
     }
 
-    // Ends when the first thread is through: what that one keeps, where messages go packed, others
-    // would wait for.
+    // Ends when the first thread is through: what that one keeps, where messages go packed, others would wait for.
     bool times(bool pauses) {
         std::vector<std::vector<uint32_t>> times(ports.size());
         std::atomic<bool> is_over{false};

@@ -7,8 +7,7 @@ struct Queue : Two<Ring> {
     unsigned bulk;
 
     Queue(uint32_t order, size_t threads)
-        : Two(order, threads),
-          bulk(unsigned(std::clamp<size_t>(buffers.size() / 4 / threads, 1, 32))) {}
+        : Two(order, threads), bulk(unsigned(std::clamp<size_t>(buffers.size() / 4 / threads, 1, 32))) {}
 };
 
 // Buffers that go to a ring together, or came from it together, in their order.
@@ -23,8 +22,7 @@ struct Bulk {
         if (count == bulk) put_all();
     }
     void put_all() {
-        if (count && rte_ring_mp_enqueue_bulk(ring, at, count, nullptr) != count)
-            fail("no room for a bulk");
+        if (count && rte_ring_mp_enqueue_bulk(ring, at, count, nullptr) != count) fail("no room for a bulk");
         count = 0;
     }
     INLINE void *get() {

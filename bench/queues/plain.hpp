@@ -1,6 +1,5 @@
-// The queue in plain C++: the step table over its rings, and buffers that are moved out of their
-// slots and back. With -DSEATED each thread keeps its indices, what it knows of each ring, and its
-// counts.
+// The queue in plain C++: the step table over its rings, and buffers that are moved out of their slots and back. With
+// -DSEATED each thread keeps its indices, what it knows of each ring, and its counts.
 #include "steps.hpp"
 
 struct Moved {
@@ -18,8 +17,7 @@ struct Queue {
     std::vector<Slot> slots;
 
     Queue(uint32_t order, size_t) : rings(order, 2, 4), slots(size_t(1) << order) {
-        for (Slot &slot : slots)
-            slot = Slot{true, Moved{static_cast<unsigned char *>(calloc(64, 1)), 64, 64}};
+        for (Slot &slot : slots) slot = Slot{true, Moved{static_cast<unsigned char *>(calloc(64, 1)), 64, 64}};
     }
 };
 

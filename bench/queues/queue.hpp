@@ -50,8 +50,7 @@ template <class Ring> struct Two {
     Ring free, sent;
     std::vector<Buffer> buffers;
 
-    Two(uint32_t order, size_t)
-        : free(size_t(1) << order), sent(size_t(1) << order), buffers(size_t(1) << order) {
+    Two(uint32_t order, size_t) : free(size_t(1) << order), sent(size_t(1) << order), buffers(size_t(1) << order) {
         for (uint64_t i = 0; i < buffers.size(); i++) {
             std::memcpy(&buffers[i], &i, 8);
             if (!free.push(&buffers[i])) fail("no room for a free buffer");

@@ -2,9 +2,8 @@
 //
 //     recorded FOLDER CALLS [counter]
 //
-// Each makes so many steps, of two puts for one get and the other way round in turn, so that the
-// queue of 64 buffers is full and empty now and then. By the processor's clock, or the counter; the
-// files are FOLDER/1.log to 4.log.
+// Each makes so many steps, of two puts for one get and the other way round in turn, so that the queue of 64 buffers
+// is full and empty now and then. By the processor's clock, or the counter; the files are FOLDER/1.log to 4.log.
 #include "recorder.h"
 #include "queue.hpp"
 #include QUEUE
@@ -56,8 +55,7 @@ int main(int argc, char **argv) {
         });
     for (auto &thread : threads) thread.join();
     for (uint32_t number = 0; number < THREADS; number++)
-        if (!scq_seat_write(&seats[number],
-                            (folder + "/" + std::to_string(number + 1) + ".log").c_str()))
+        if (!scq_seat_write(&seats[number], (folder + "/" + std::to_string(number + 1) + ".log").c_str()))
             fail("not written");
     std::_Exit(0);
 }

@@ -6,11 +6,9 @@
 struct Ports {
     std::vector<scq_port> ports;
 
-    Ports(uint32_t order, size_t threads, uint32_t size, uint32_t hold)
-        : ports(threads, scq_port SCQ_NONE) {
+    Ports(uint32_t order, size_t threads, uint32_t size, uint32_t hold) : ports(threads, scq_port SCQ_NONE) {
         const uint64_t limit = SCQ_MAX_LIMIT;
-        if (scq_open(order, 1, size, hold, limit, ports.data(), threads) != SCQ_OK)
-            fail("scq_open");
+        if (scq_open(order, 1, size, hold, limit, ports.data(), threads) != SCQ_OK) fail("scq_open");
     }
 };
 
@@ -33,7 +31,5 @@ struct alignas(128) Fetched {
         uint64_t place;
         return is_ok(scq_send(&port, held.index, 0, &place), SCQ_OK);
     }
-    INLINE bool give_back(const scq_held &held) {
-        return is_ok(scq_give_back(&port, held.index), SCQ_OK);
-    }
+    INLINE bool give_back(const scq_held &held) { return is_ok(scq_give_back(&port, held.index), SCQ_OK); }
 };

@@ -14,8 +14,7 @@ constexpr uint64_t ZERO_LEVEL = uint64_t(1) << 32;
 // How many words the gate, Tail, Head and Threshold stand apart, as in `scq_band`.
 constexpr size_t DISTANCE = 16;
 
-// A ring: its Tail, Head and Threshold, behind which the entries stand by slot, and what a call
-// needs of the setup.
+// A ring: its Tail, Head and Threshold, behind which the entries stand by slot, and what a call needs of the setup.
 struct Ring {
     Word *tail, *head, *threshold;
     uint32_t order;
@@ -27,9 +26,7 @@ struct Ring {
     uint64_t cycle_in(uint64_t entry) const { return entry >> (order + 2); }
     bool is_safe(uint64_t entry) const { return entry & slots(); }
     bool has_index(uint64_t entry) const { return (entry & mark()) != mark(); }
-    uint64_t packed(uint64_t cycle, uint64_t safe, uint64_t index) const {
-        return cycle << (order + 2) | safe | index;
-    }
+    uint64_t packed(uint64_t cycle, uint64_t safe, uint64_t index) const { return cycle << (order + 2) | safe | index; }
     uint64_t slot(uint64_t ticket) const {
         const uint64_t rest = ticket & mark();
         return order < 3 ? rest : (rest & (slots() / 8 - 1)) * 8 + (rest >> (order - 2));
@@ -102,9 +99,8 @@ static INLINE Got deq(const Ring r, uint64_t &place, uint32_t &index) {
                 return Got::Index;
             }
             if (r.cycle_in(found) > r.cycle(ticket)) break;
-            const uint64_t left = r.has_index(found)
-                                      ? found & ~r.slots()
-                                      : r.packed(r.cycle(ticket), found & r.slots(), r.mark());
+            const uint64_t left =
+                r.has_index(found) ? found & ~r.slots() : r.packed(r.cycle(ticket), found & r.slots(), r.mark());
             if (entry.compare_exchange_strong(found, left)) break;
         }
         uint64_t tail = r.tail->load();
@@ -132,9 +128,7 @@ struct Seat {
     std::vector<uint32_t> hand;
     std::vector<Known> known;
 
-    explicit Seat(Rings &rings) : rings(rings), known(2, Known{0, 0, 0}) {
-        hand.reserve(size_t(1) << rings.order);
-    }
+    explicit Seat(Rings &rings) : rings(rings), known(2, Known{0, 0, 0}) { hand.reserve(size_t(1) << rings.order); }
     static void raise(uint64_t &a, uint64_t b) {
         if (a < b) a = b;
     }

@@ -92,11 +92,10 @@ static Step step(pid_t pid, pid_t id) {
     return {kind_of(code), from, regs.rip};
 }
 
-// Holds a thread of a program in the middle of a call, right behind the atomic instruction of this
-// number and kind that it comes to, until all others are done, of whom there have to be so many. A
-// compare_exchange may be a fetch_or, which is compiled as one; a load has no instruction of its
-// own. Then the program is killed, or the thread goes on, and the program runs to its end, whose
-// status this is.
+// Holds a thread of a program in the middle of a call, right behind the atomic instruction of this number and kind
+// that it comes to, until all others are done, of whom there have to be so many. A compare_exchange may be a
+// fetch_or, which is compiled as one; a load has no instruction of its own. Then the program is killed, or the thread
+// goes on, and the program runs to its end, whose status this is.
 static int hold(pid_t pid, bool goes, char kind, uint64_t number, size_t threads) {
     const std::vector<pid_t> ids = others_of(pid, threads);
     usleep(5000 + 1000 * unsigned(number));
@@ -127,8 +126,8 @@ static int hold(pid_t pid, bool goes, char kind, uint64_t number, size_t threads
         took = std::chrono::steady_clock::now() - start;
         must(took.count() < 120, "others did not come to their end");
     }
-    std::printf("held behind %c at ..%03zx: the others came to their end in %.1f s; %s\n", kind,
-                at & 0xfff, took.count(), goes ? "let go" : "killed");
+    std::printf("held behind %c at ..%03zx: the others came to their end in %.1f s; %s\n", kind, at & 0xfff,
+                took.count(), goes ? "let go" : "killed");
     std::fflush(stdout);
     if (!goes) return 0;
     int status = 0;
@@ -140,8 +139,7 @@ static int hold(pid_t pid, bool goes, char kind, uint64_t number, size_t threads
 
 using Message = std::array<uint64_t, 4>;
 
-// A message is told by its sender, its topic and its number, and says so four times in different
-// words.
+// A message is told by its sender, its topic and its number, and says so four times in different words.
 static Message message(uint64_t name) {
     const uint64_t mix = name * 0x9e3779b97f4a7c15;
     return {name, mix, ~name, mix << 32 | mix >> 32};
@@ -149,8 +147,7 @@ static Message message(uint64_t name) {
 
 constexpr uint64_t ENDLESS = uint64_t(1) << 50;
 
-// A thread, what it counted, and the names that it took, in their order. It has no atomics of its
-// own.
+// A thread, what it counted, and the names that it took, in their order. It has no atomics of its own.
 struct alignas(128) Thread {
     scq_port *port;
     uint64_t sender, many;
@@ -220,8 +217,7 @@ static int run(uint32_t order, size_t threads, uint64_t many) {
     }
     std::sort(names.begin(), names.end());
     bool is_right = torn == 0 && late == 0 && names.size() == every;
-    for (uint64_t i = 0; i < names.size(); i++)
-        is_right &= names[i] == (i / threads << 7 | i % threads);
+    for (uint64_t i = 0; i < names.size(); i++) is_right &= names[i] == (i / threads << 7 | i % threads);
 
     scq_held held;
     std::set<uint32_t> free;
@@ -236,22 +232,19 @@ static int run(uint32_t order, size_t threads, uint64_t many) {
     scq_free(last.port);
     scq_counts sum = {0, 0, 0};
     for (const auto &it : counts) sum.sent += it.sent, sum.taken += it.taken, sum.full += it.full;
-    std::printf(
-        "order %u, %zu threads: %zu messages, %zu taken; full %zu, empty %zu; torn %zu, late "
-        "%zu; %zu buffers free; the ports' counts are %zu, %zu and %zu\n",
-        order, threads, every, names.size(), full, empty, torn, late, free.size(), sum.sent,
-        sum.taken, sum.full);
-    return !is_right || free.size() != n || sum.sent != every || sum.taken != every ||
-           sum.full != full;
+    std::printf("order %u, %zu threads: %zu messages, %zu taken; full %zu, empty %zu; torn %zu, late "
+                "%zu; %zu buffers free; the ports' counts are %zu, %zu and %zu\n",
+                order, threads, every, names.size(), full, empty, torn, late, free.size(), sum.sent, sum.taken,
+                sum.full);
+    return !is_right || free.size() != n || sum.sent != every || sum.taken != every || sum.full != full;
 }
 
-// Of a program whose threads make calls without an end: all are stopped at once, wherever they are,
-// and one after the other goes on alone, to its call's end, through a few more and into the next;
-// then all run on for a while. Ends with 1 where a call had more locked instructions than it may
-// make steps.
+// Of a program whose threads make calls without an end: all are stopped at once, wherever they are, and one after the
+// other goes on alone, to its call's end, through a few more and into the next; then all run on for a while. Ends
+// with 1 where a call had more locked instructions than it may make steps.
 static int counted(pid_t pid, uint32_t order, size_t threads, uint64_t rounds, uint32_t seed) {
-    const uintptr_t begins[] = {uintptr_t(scq_lend_index), uintptr_t(scq_send),
-                                uintptr_t(scq_take_index), uintptr_t(scq_give_back)};
+    const uintptr_t begins[] = {uintptr_t(scq_lend_index), uintptr_t(scq_send), uintptr_t(scq_take_index),
+                                uintptr_t(scq_give_back)};
     const auto drawn = [&seed](uint64_t below) {
         seed = seed * 1664525 + 1013904223;
         return uint32_t(seed * below >> 32);
@@ -286,9 +279,7 @@ static int counted(pid_t pid, uint32_t order, size_t threads, uint64_t rounds, u
 }
 
 int main(int words, char **word) {
-    const auto number = [&](int at) {
-        return std::strtoull(at < words ? word[at] : "0", nullptr, 10);
-    };
+    const auto number = [&](int at) { return std::strtoull(at < words ? word[at] : "0", nullptr, 10); };
     const std::string mode = words > 4 ? word[1] : "";
     const uint32_t order = uint32_t(number(2));
     const size_t threads = number(3);
