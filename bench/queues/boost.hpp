@@ -8,6 +8,3 @@ struct Ring {
     INLINE bool push(Buffer *buffer) { return queue.bounded_push(buffer); }
     INLINE bool pop(Buffer *&buffer) { return queue.pop(buffer); }
 };
-
-using Queue = Two<Ring>;
-using Port = PortOfTwo<Ring>;

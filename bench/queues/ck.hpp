@@ -12,6 +12,3 @@ struct Ring {
     INLINE bool push(Buffer *buffer) { return ring_push(ring, cells, buffer); }
     INLINE bool pop(Buffer *&buffer) { return ring_pop(ring, cells, &buffer); }
 };
-
-using Queue = Two<Ring>;
-using Port = PortOfTwo<Ring>;

@@ -1,6 +1,6 @@
 // rte_ring, up to 32 buffers at a time, as programs over DPDK do. Each thread keeps up to four
 // times as many, so that with few buffers they are fewer.
-#include "dpdk_calls.hpp"
+#include "dpdk.hpp"
 #include <algorithm>
 
 struct Queue : Two<Ring> {

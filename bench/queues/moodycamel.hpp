@@ -9,6 +9,3 @@ struct Ring {
     INLINE bool push(Buffer *buffer) { return queue.enqueue(buffer); }
     INLINE bool pop(Buffer *&buffer) { return queue.try_dequeue(buffer); }
 };
-
-using Queue = Two<Ring>;
-using Port = PortOfTwo<Ring>;

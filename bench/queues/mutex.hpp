@@ -21,6 +21,3 @@ struct alignas(128) Ring {
         return true;
     }
 };
-
-using Queue = Two<Ring>;
-using Port = PortOfTwo<Ring>;

@@ -3,12 +3,13 @@
 # others measure by, or what `driver` names. Read behind lib.bash. `archive` is libscq.a.
 driver=calls.cpp
 
-# Compiles the driver over this queue, with these flags behind it.
+# Compiles the driver over this queue, with these flags behind it. A file without a Queue has the Ring of one.
 calls_over() {
-    local queue=$1 program=$2
+    local queue=(-DQUEUE="\"$1.hpp\"") program=$2
+    grep -q '^struct Queue' "$bench/queues/$1.hpp" || queue=(-DQUEUE='"two.hpp"' -DRING="\"$1.hpp\"")
     shift 2
     g++ -std=c++17 -O3 -march=x86-64-v2 -pthread -Wall -Wextra -Werror -I "$bench/queues" \
-        -I "$top/bindings/c" -I "$top/recorders" -DQUEUE="\"$queue.hpp\"" "$bench/queues/$driver" \
+        -I "$top/bindings/c" -I "$top/recorders" "${queue[@]}" "$bench/queues/$driver" \
         "$@" -o "$program"
 }
 

@@ -8,6 +8,3 @@ struct Ring {
     INLINE bool push(Buffer *buffer) { return queue.try_push(buffer); }
     INLINE bool pop(Buffer *&buffer) { return queue.try_pop(buffer); }
 };
-
-using Queue = Two<Ring>;
-using Port = PortOfTwo<Ring>;

@@ -1,0 +1,5 @@
+// A queue of two rings, whose file is named to the compiler too, -DRING='"boost.hpp"'.
+#include RING
+
+using Queue = Two<Ring>;
+using Port = PortOfTwo<Ring>;
