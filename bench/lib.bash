@@ -251,7 +251,7 @@ result() {
     echo "versions: $(recorded kit && for it; do
         { "$it" --version || "$it" -W version || echo "no $it"; } 2>/dev/null | sed '/^$/d' | head -n 1
     done)"
-    echo "load at the start: $(cut -d ' ' -f 1-3 /proc/loadavg)"
+    echo "load at the start: $(cut -d ' ' -f 1-3 /proc/loadavg)${ROUNDS:+; in $ROUNDS rounds}"
 }
 
 write_result() {
