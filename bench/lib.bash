@@ -50,7 +50,7 @@ kept_in() {
         *) stop "not understood; bench/$script [build FOLDER | run FOLDER]" ;;
     esac
     folder=$(mkdir -p "$2" && cd "$2" && pwd)
-    cd "$folder"
+    cd "$folder" && rm -f samples
 }
 
 # So many, or in a short run a fiftieth, and in one of rounds one.
@@ -245,7 +245,7 @@ result() {
     exec {screen}>&1 > >(tee "$scratch/said" >&"$screen")
     tee=$!
     echo "bench/$script, $(date -u '+%F %R') UTC, of commit $(git -C "$top" rev-parse --short=12 HEAD)$(
-        git -C "$top" diff --quiet HEAD -- crates dist bench bindings || echo ' and changes')"
+        git -C "$top" diff --quiet HEAD -- crates dist bench bindings ':!bench/results' || echo ' and changes')"
     echo "machine: $(sed -n 's/^model name.*: //p' /proc/cpuinfo | head -n 1), $(nproc) processors," \
         "$(awk '/^MemTotal/ { printf "%.0f GB", $2 / 1e6 }' /proc/meminfo), $(uname -sr)"
     echo "versions: $(recorded kit && for it; do
