@@ -1,8 +1,6 @@
 # shellcheck shell=bash disable=SC2034
-# What the scripts of bench/ have in common, who read this file first: a folder of their own, which is removed at
-# their end; rounds in turn, medians, ratios and verdicts; the program that is measured; drivers in Rattle, which are
-# proved first; and results as text. The script goes on in its folder, with `top` and `bench` as the names of the
-# repository and of bench/.
+# What the scripts of bench/ have in common, who read this file first. The script goes on in a folder of its own, which
+# is removed at its end, with `top` and `bench` as the names of the repository and of bench/.
 #
 # From the environment, for each script:
 #   SHORT=1   a short run, to see that it works: one round, and a fiftieth of each size
@@ -21,10 +19,8 @@ missed=0 round=1
 scq='' scq_wait='' archive='' ours='' crate=''
 results=${RESULTS-$([ -n "${SHORT-}${ROUNDS-}" ] || echo "$bench/results")}
 cd "$folder"
-# shellcheck source=../dist/sources.bash
 . "$top/dist/sources.bash"
 
-# What is done at the end.
 end() {
     local status=$?
     [ -z "${tee-}" ] || write_result
@@ -33,14 +29,13 @@ end() {
 }
 trap end EXIT
 
-# Why a script ends with 2: it can't do its work here.
+# The end of a script that can't do its work here.
 stop() {
     echo "$script: $1" >&2
     exit 2
 }
 
-# A script whose builds are kept: without words it builds and measures, with `build FOLDER` and with
-# `run FOLDER` it does one of them there. Sets `builds` and `runs`.
+# A script whose builds are kept: without words it builds and measures, else one of them. Sets `builds` and `runs`.
 kept_in() {
     builds=yes runs=yes
     case $#-${1-} in
@@ -57,7 +52,7 @@ kept_in() {
 many() { [ -z "${SHORT-}" ] && echo "$1" || echo $(($1 < 50 ? 1 : $1 / 50)); }
 rounds() { echo "${ROUNDS:-$([ -z "${SHORT-}" ] && echo "$1" || echo 1)}"; }
 
-# Calls a command with each of these names, so many times; who was first is last in the next round.
+# Calls a command with each of these names, so many times.
 in_turn() {
     local last=$1 command=$2 name
     shift 2
@@ -75,44 +70,36 @@ numbers() { awk -v key="$1" '$1 == key { print $3 }' "$folder/samples"; }
 median() { numbers "$1" | middle; }
 spread() { numbers "$1" | middle spread; }
 most() { numbers "$1" | sort -g | tail -n 1; }
-
 # The median of the rounds' ratios of a key to another, and with `spread` the lowest and the highest.
 ratio() {
-    awk -v key="$1" -v other="$2" '
-        $1 == key { mine[$2] = $3 }
-        $1 == other { its[$2] = $3 }
-        END { for (r in mine) if (its[r] > 0) printf "%.2f\n", mine[r] / its[r] }' "$folder/samples" |
-        middle "${3-}"
+    awk -v key="$1" -v other="$2" '$1 == key { mine[$2] = $3 } $1 == other { its[$2] = $3 }
+        END { for (r in mine) if (its[r] > 0) printf "%.2f\n", mine[r] / its[r] }' "$folder/samples" | middle "${3-}"
 }
-
 middle() {
     sort -g | awk -v spread="${1-}" '{ it[NR] = $1 }
         END { print (NR ? it[int((NR + 1) / 2)] : "-") (spread && NR ? " (" it[1] "-" it[NR] ")" : "") }'
 }
 
-# What awk makes of a formula, with two digits behind the point.
 calc() { awk "BEGIN { printf \"%.2f\", $1 }"; }
 
-# Whether a number is in this sense what is aimed at: >=, <=, < or ==.
+# Whether a number is in this sense what is aimed at.
 verdict() {
     local said="$1: $2, wanted $3 $4"
     if awk "BEGIN { exit !(\"$2\" + 0 $3 $4) }"; then echo "met: $said"; else miss "$said"; fi
 }
 
-# A case that went wrong.
+# A case that went wrong, and the end of a script: how many did.
 miss() {
     echo "missed: $1"
     missed=$((missed + 1))
 }
-
-# The end of a script: how many verdicts were missed, and a status that says whether any was.
 finish() {
     echo "$script: $missed went wrong"
     exit $((missed != 0))
 }
 
 # Runs a command once. Its seconds of the processor and by the clock, and the most memory that it held in KB, are
-# notes KEY.time, KEY.wall and KEY.memory; what it writes is the file KEY.out.
+# notes KEY.time, KEY.wall and KEY.memory; what it writes is KEY.out.
 once() {
     local key=$1 user system memory wall
     shift
@@ -123,7 +110,7 @@ once() {
     note "$key.wall" "$wall"
 }
 
-# A line for each of these keys of `once`: medians by the clock and of the processor, and the most memory.
+# A line for each of these keys of `once`.
 spent_by() {
     local key
     printf '%-26s %10s %10s %11s\n' '' clock processor memory
@@ -133,10 +120,10 @@ spent_by() {
     done
 }
 
-# A program of dist/, to the variable of its name, and libscq.a, or what ARCHIVE names, to `archive`.
+# A program of dist/, to the variable of its name, and libscq.a, or what ARCHIVE names, to `archive`; or what dist/make
+# makes in a copy where that is of other sources.
 program() { shipped "$1" "$1"; }
 archive() { shipped libscq.a archive "${ARCHIVE-}"; }
-# A file of dist/, or what dist/make makes in a copy where that is of other sources.
 shipped() {
     local file=dist/x86_64-linux/$1 path=${3:-$top/dist/x86_64-linux/$1}
     if [ -z "${3-}" ] && "$top/dist/make" --fresh 2>&1 | grep -q "^dist/make: $file "; then
@@ -146,11 +133,8 @@ shipped() {
     fi
     [ -f "$path" ] || stop "no file $path"
     printf -v "$2" %s "$(readlink -f "$path")"
-    echo "$1 is $(named "${!2}")"
+    echo "$1 is ${!2#"$top"/}, $(sum_of_file "${!2}" | cut -c 1-12)"
 }
-
-# How a file of the repository, or another, is told in a result.
-named() { echo "${1#"$top"/}, $(sum_of_file "$1" | cut -c 1-12)"; }
 
 # Copies the repository as it stands, but what git ignores.
 copied() {
@@ -159,13 +143,12 @@ copied() {
         xargs -0 cp --parents -t "$1" 2>/dev/null) || true
 }
 
-# A file of a library in C that is loaded before a program.
+# A library in C that is loaded before a program.
 preload() {
     cc -std=gnu11 -O2 -Wall -Wextra -Werror -shared -fPIC "$bench/preload/$1.c" -o "$1.so" -ldl
 }
 
-# A crate and those that it stands on, as a repository in this folder, by what bench/proved/ has of this name: it says
-# the crate's line of crates.txt, and then each of its files.
+# A crate and those that it stands on, as a repository in this folder, by what bench/proved/ has of this name.
 laid_out() {
     git init -q .
     cp "$top/HANDLES" .
@@ -210,35 +193,28 @@ by_kit() {
     g++ -pthread -o "$program" "$program.o"
 }
 
-# Unpacks packages of Debian to the folder `packages`; nothing is installed. Fails where one isn't to be
-# had. `registry` is where their crates are, or where those of installed packages are.
+# Unpacks packages of Debian to the folder `packages`; `registry` is where their crates are, or those of installed ones.
+registry=/usr/share/cargo/registry
 packages() {
     local it
     mkdir -p packages
     for it; do
-        [ ! -e "packages/$it.there" ] || continue
+        ! compgen -G "packages/${it}_*.deb" >/dev/null || continue
         (cd packages && apt-get download -q "$it" && dpkg -x "$it"_*.deb .) >packages.log 2>&1 || return 1
-        ls packages/"$it"_*.deb >"packages/$it.there"
     done
     registry=$folder/packages/usr/share/cargo/registry
 }
-registry=/usr/share/cargo/registry
 
-# Makes of a folder with src/ a crate of this name, over crates of Debian's packages, which need no
-# network; the lines of Cargo.toml from the dependencies on.
+# Makes of a folder with src/ a crate of this name, over crates of Debian's packages: the lines of its dependencies.
 cargo_of_debian() {
-    local name=$1
-    shift
-    mkdir -p "$name/.cargo"
+    mkdir -p "$1/.cargo"
     printf '[source.crates-io]\nreplace-with = "debian"\n[source.debian]\ndirectory = "%s"\n' \
-        "$registry" >"$name/.cargo/config.toml"
-    printf '%s\n' '[package]' "name = \"$name\"" 'version = "0.0.0"' 'edition = "2021"' \
-        '[dependencies]' "$@" '[profile.release]' 'lto = true' 'codegen-units = 1' 'panic = "abort"' \
-        >"$name/Cargo.toml"
+        "$registry" >"$1/.cargo/config.toml"
+    printf '%s\n' '[package]' "name = \"$1\"" 'version = "0.0.0"' 'edition = "2021"' '[dependencies]' "${@:2}" \
+        '[profile.release]' 'lto = true' 'codegen-units = 1' 'panic = "abort"' >"$1/Cargo.toml"
 }
 
-# Has what is said from here on written to a result too, below the date, the machine, and versions of the kit and of
-# these commands.
+# Has what is said from here on written to a result too, below the date, the machine, and versions of these commands.
 result() {
     [ -n "$results" ] || return 0
     read -r _ _ _ _ _ _ _ _ stolen _ </proc/stat

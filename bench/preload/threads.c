@@ -1,6 +1,5 @@
-// Keeps the threads of a program each to a processor of its own, the last PIN ones of those that it
-// has, in their order, where there are so many. Refuses start number N, from 0, where bit N of
-// REFUSE is set, and tells it by a byte on descriptor 9.
+// Keeps the threads of a program each to a processor of its own, the last PIN ones, where there are so many. Refuses
+// start number N, from 0, where bit N of REFUSE is set, and tells it by a byte on descriptor 9.
 #define _GNU_SOURCE
 #include <dlfcn.h>
 #include <errno.h>

@@ -1,9 +1,8 @@
 # shellcheck shell=bash disable=SC2034,SC2154
-# What bench/rings, bench/queue, bench/c and bench/peers have in common, who read this file behind lib.bash:
-# programs that make calls on a queue (calls.cpp, or a driver that takes the same words), run in turn, nine
-# times, at orders 6 and 12, each thread on a processor of its own; medians count. A pair is lend, send, take and
-# give_back, in the first three with no byte written. The loops that are timed are functions that aren't inlined,
-# and take the queue by reference. What one thread saw is compared.
+# What bench/rings, bench/queue, bench/c and bench/peers have in common: programs that make calls on a queue (calls.cpp,
+# or a driver that takes the same words), run in turn, nine times, at orders 6 and 12, each thread on a processor of
+# its own; medians count. A pair is lend, send, take and give_back, in the first three with no byte written. The loops
+# that are timed are functions that aren't inlined, and take the queue by reference. What one thread saw is compared.
 #
 # From the environment: PAIRS, how many pairs of calls one thread makes in a run (4000000; other runs in
 # proportion); LIMIT, in how many seconds a run has to end (50).
@@ -26,19 +25,16 @@ four pairs/16 bbbb four threads
 many pairs/64 bbbbbbbbbbbbbbbb sixteen threads
 busy pairs/80 tttt four threads
 calm pairs/200 cc two threads that pause
-order pairs/160 oooo order
 stop $(many 150) ss one of two threads stopped 150 times for 50 ms"
 
-# `ours`, the driver in Rattle of this name, and the plain C++ of the step table over this header, by the
-# kit's compiler too: `plain`, and `seated`, of which each thread keeps what it knows.
+# `ours`, the driver in Rattle of this name, and `plain`, the C++ of the step table over this header, by the kit's
+# compiler too.
 ours_and_plain() {
     proved "$1" b 3 1
     cp "$ours" ours
     by_kit plain -I "$bench/queues" -DBARE -DQUEUE="\"$2.hpp\"" "$bench/queues/calls.cpp"
-    by_kit seated -I "$bench/queues" -DBARE -DQUEUE="\"$2.hpp\"" -DSEATED "$bench/queues/calls.cpp"
 }
 
-# Those of these programs that were built.
 built() { for it; do [ ! -x "$it" ] || printf '%s ' "$it"; done; }
 
 # The aim that a program's speed in a mode is at each order so many times that of another in it.
@@ -50,8 +46,7 @@ aim() {
     done
 }
 
-# Runs a program once, PROGRAM.MODE.ORDER, and notes what it says under this key: million pairs a second;
-# of the time of a pair the parts in nanoseconds; of stops how many were felt and the longest wait.
+# Runs a program once, PROGRAM.MODE.ORDER, and notes what it says under this key, or million pairs a second.
 run_once() {
     local key=$1 program mode order figures it status=0
     IFS=. read -r program mode order <<<"$key"
@@ -61,12 +56,8 @@ run_once() {
     timeout "$limit" env LD_PRELOAD=./threads.so PIN="$it" "./$program" "$roles" "$order" "$each" >answer || status=$?
     read -ra figures <answer || true
     case $status-$mode in
-        0-order) ;;
         0-busy | 0-calm) for it in 50.0 99.1 999.2; do note "$key.${it%.*}" "${figures[${it#*.}]}"; done ;;
-        0-stop)
-            note "$key.held" "${figures[0]}"
-            note "$key.longest" "$((figures[1] / 1000000))"
-            ;;
+        0-stop) for it in held.0 longest.1; do note "$key.${it%.*}" "${figures[${it#*.}]}"; done ;;
         0-*)
             [[ $roles != pg* ]] || each=$((each / 2))
             note "$key" "$(calc "${#roles} * $each * 1000 / ${figures[0]}")"
@@ -87,8 +78,7 @@ in_rounds() {
     echo "${title[$mode]}, order $order$unit"
 }
 
-# Says how fast the programs are in each mode at each order: medians, and in brackets the lowest and the
-# highest; and how many times as fast as the first, by rounds.
+# Says how fast the programs are in each mode at each order, and how many times as fast as the first, by rounds.
 measure() {
     local names mode order it key endless
     read -ra names <<<"$3"

@@ -2,18 +2,16 @@
 //
 //     calls ROLES ORDER MANY
 //
-// ROLES has a letter for each thread: p puts, g gets, b does both in turn, and e gets from an empty
-// queue; or all threads have one of these:
+// ROLES has a letter for each thread: p puts, g gets, b does both in turn, and e gets from an empty queue; or all have
 //
 // t   the time of a put and the get behind it in threads that do nothing else
 // c   the same in threads that pause for about ten such times in between
 // s   two threads put and get in turn, and one of them is stopped for 50 ms, MANY times
-// o   all put and get in turn; each message is seen once, and each thread's in order
 //
-// MANY is how many each thread makes. Ends with 1 where what was got isn't what was put. Prints the
-// nanoseconds that all took, and the sum of the values that were got; for t and c the nanoseconds
-// which 50, 99 and 99.9 percent of the pairs took at most; for s in how many stops the other thread
-// was held up for more than 20 ms, and its longest wait in nanoseconds.
+// MANY is how many each thread makes. Ends with 1 where what was got isn't what was put. Prints the nanoseconds that
+// all took, and the sum of the values that were got; for t and c the nanoseconds which 50, 99 and 99.9 percent of the
+// pairs took at most; for s in how many stops the other was held up for more than 20 ms, and its longest wait in
+// milliseconds.
 #include "loops.hpp"
 #include QUEUE
 #include <algorithm>
@@ -40,8 +38,7 @@ struct Run {
     Run(const std::string &roles, uint32_t order, uint64_t many)
         : roles(roles), many(many), queue(order, roles.size()), ports(roles.size()), seen(roles.size()) {}
 
-    // Has each thread do the work with a port of its own, the first in this one, and tells how long
-    // it took. Nobody begins before all are there.
+    // Has each thread do the work with a port of its own, and tells how long it took. All begin together.
     uint64_t in_threads(const Work &work) {
         std::atomic<size_t> waiting{ports.size()};
         Clock::time_point start;
@@ -76,7 +73,6 @@ struct Run {
         return all.puts == all.gets && (bare || all.put_sum == all.got_sum);
     }
 
-    // They put, get, do both in turn, or find nothing.
     bool pairs() {
         std::atomic<int> putting{int(std::count(roles.begin(), roles.end(), 'p'))};
         const uint64_t took = in_threads([&](size_t number, Port &port, Seen &mine) {
@@ -101,11 +97,9 @@ struct Run {
         std::vector<std::vector<uint32_t>> times(ports.size());
         std::atomic<bool> is_over{false};
         const auto until_over = [&](auto call) {
-            while (!call()) {
-                if (is_over) return false;
-                __builtin_ia32_pause();
-            }
-            return true;
+            bool is_done;
+            while (!(is_done = call()) && !is_over) __builtin_ia32_pause();
+            return is_done;
         };
         for (auto &its : times) its.reserve(many);
         const uint64_t first = __builtin_ia32_rdtsc();
@@ -166,36 +160,8 @@ struct Run {
             }
         });
         stopper.join();
-        std::printf("%zu %zu\n", held, most);
+        std::printf("%zu %zu\n", held, most / 1000000);
         return is_complete();
-    }
-
-    // A value is its thread and its number. No thread may get a thread's values but in their order,
-    // and all have to be got just once.
-    bool in_order() {
-        constexpr int BITS = 40;
-        const auto by_thread = [](uint64_t a, uint64_t b) { return a >> BITS < b >> BITS; };
-        std::vector<std::vector<uint64_t>> got(ports.size());
-        std::vector<uint64_t> put, all;
-        bool is_right = true;
-        in_threads([&](size_t number, Port &port, Seen &mine) {
-            uint64_t value;
-            for (uint64_t i = 0; i < 2 * many; i++) {
-                if (port.put(uint64_t(number) << BITS | mine.puts)) mine.puts++;
-                if (port.get(value)) got[number].push_back(value);
-            }
-        });
-        for (size_t number = 0; number < ports.size(); number++) {
-            auto &mine = got[number];
-            std::stable_sort(mine.begin(), mine.end(), by_thread);
-            is_right &= std::is_sorted(mine.begin(), mine.end());
-            for (uint64_t i = 0; i < seen[number].puts; i++) put.push_back(number << BITS | i);
-            ports[number]->flush();
-            for (uint64_t value; ports[number]->get(value);) mine.push_back(value);
-            all.insert(all.end(), mine.begin(), mine.end());
-        }
-        std::sort(all.begin(), all.end());
-        return is_right && all == put;
     }
 };
 
@@ -203,10 +169,7 @@ int main(int argc, char **argv) {
     if (argc != 4) return 2;
     const char kind = *argv[1];
     Run run(argv[1], uint32_t(std::atoi(argv[2])), std::strtoull(argv[3], nullptr, 10));
-    const bool is_right = kind == 's'                  ? run.stops()
-                          : kind == 'o'                ? run.in_order()
-                          : kind == 't' || kind == 'c' ? run.times(kind == 'c')
-                                                       : run.pairs();
+    const bool is_right = kind == 's' ? run.stops() : kind == 't' || kind == 'c' ? run.times(kind == 'c') : run.pairs();
     std::fflush(stdout);
     if (!is_right) std::fprintf(stderr, "what was got isn't what was put\n");
     std::_Exit(!is_right);

@@ -1,5 +1,4 @@
-// ck_ring.h doesn't compile as C++. With -flto these calls stand where they are made. -DIS_CK_TRY
-// takes the call that tells "empty" where another thread was faster.
+// ck_ring.h doesn't compile as C++. With -flto these calls stand where they are made.
 #include <ck_ring.h>
 #include <stdbool.h>
 #include <stdlib.h>
@@ -17,9 +16,5 @@ bool ring_push(ck_ring_t *ring, ck_ring_buffer_t *cells, void *value) {
 }
 
 bool ring_pop(ck_ring_t *ring, ck_ring_buffer_t *cells, void *value) {
-#ifdef IS_CK_TRY
-    return ck_ring_trydequeue_mpmc(ring, cells, value);
-#else
     return ck_ring_dequeue_mpmc(ring, cells, value);
-#endif
 }

@@ -1,5 +1,4 @@
-// rte_ring, up to 32 buffers at a time, as programs over DPDK do. Each thread keeps up to four
-// times as many, so that with few buffers they are fewer.
+// rte_ring, up to 32 buffers at a time. Each thread keeps up to four times as many, so that with few they are fewer.
 #include "dpdk.hpp"
 #include <algorithm>
 
@@ -10,7 +9,7 @@ struct Queue : Two<Ring> {
         : Two(order, threads), bulk(unsigned(std::clamp<size_t>(buffers.size() / 4 / threads, 1, 32))) {}
 };
 
-// Buffers that go to a ring together, or came from it together, in their order.
+// Buffers that go to a ring together, or came from it.
 struct Bulk {
     rte_ring *ring;
     unsigned bulk, count = 0, next = 0;

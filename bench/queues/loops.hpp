@@ -4,7 +4,7 @@
 
 #define LOOP template <class Port> __attribute__((noinline)) static void
 
-// What a thread put and got: how many, and the sums of their values.
+// What a thread put and got, and the sums of the values.
 struct Seen {
     uint64_t puts, put_sum, gets, got_sum;
 

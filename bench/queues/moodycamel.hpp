@@ -1,5 +1,4 @@
-// moodycamel::ConcurrentQueue: a queue for each producer, so that the whole is not one of
-// first in, first out. It has no bound; that is the number of buffers.
+// moodycamel::ConcurrentQueue, which has no bound but the number of buffers.
 #include <concurrentqueue/concurrentqueue.h>
 
 struct Ring {

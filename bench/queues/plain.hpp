@@ -1,5 +1,4 @@
-// The queue in plain C++: the step table over its rings, and buffers that are moved out of their slots and back. With
-// -DSEATED each thread keeps its indices, what it knows of each ring, and its counts.
+// The queue in plain C++: the step table over its rings, and buffers that are moved out of their slots and back.
 #include "steps.hpp"
 
 struct Moved {
@@ -12,38 +11,30 @@ struct Slot {
     Moved buffer;
 };
 
-struct Queue {
-    Rings rings;
+struct Queue : Rings {
     std::vector<Slot> slots;
 
-    Queue(uint32_t order, size_t) : rings(order, 2, 4), slots(size_t(1) << order) {
+    Queue(uint32_t order, size_t) : Rings(order, 2, 4), slots(size_t(1) << order) {
         for (Slot &slot : slots) slot = Slot{true, Moved{static_cast<unsigned char *>(calloc(64, 1)), 64, 64}};
     }
 };
 
-struct Port : Seat {
+struct Port {
     Queue &queue;
-    uint64_t sent = 0, taken = 0, full = 0;
-    bool is_spent = false;
 
-    Port(Queue &queue, size_t) : Seat(queue.rings), queue(queue) {}
+    Port(Queue &queue, size_t) : queue(queue) {}
     INLINE bool put(uint64_t value) {
         uint32_t index;
         Moved buffer;
-        if (!take_out(0, index, buffer)) {
-            if (seated) full++;
-            return false;
-        }
+        if (!take_out(0, index, buffer)) return false;
         write_in(buffer.bytes, value);
         lay_in(1, index, buffer);
-        if (seated) sent++;
         return true;
     }
     INLINE bool get(uint64_t &value) {
         uint32_t index;
         Moved buffer;
         if (!take_out(1, index, buffer)) return false;
-        if (seated) taken++;
         value = bare ? index : read_in(buffer.bytes);
         lay_in(0, index, buffer);
         return true;
@@ -52,8 +43,7 @@ struct Port : Seat {
 
   private:
     INLINE bool take_out(uint32_t ring, uint32_t &index, Moved &buffer) {
-        if (seated && is_spent) abort();
-        const Got got = get_from(ring, index);
+        const Got got = deq(queue.ring(ring), index);
         if (got == Got::Nothing) return false;
         if (got == Got::Spent || !queue.slots[index].is_full) abort();
         Slot &slot = queue.slots[index];
@@ -63,6 +53,6 @@ struct Port : Seat {
     }
     INLINE void lay_in(uint32_t ring, uint32_t index, const Moved &buffer) {
         queue.slots[index] = Slot{true, buffer};
-        if ((seated && is_spent) || !put_to(ring, index)) abort();
+        if (!enq(queue.ring(ring), index)) abort();
     }
 };

@@ -1,6 +1,5 @@
-// Values in a ring behind a mutex, of which every 500th put goes wrong: with -DLOST it writes over
-// the value before it, as two threads do that both read the same end; with -DREORDERED its value
-// waits until the ring is empty; with -DFULL it is refused although half of the places are free.
+// Values in a ring behind a mutex, of which every 500th put goes wrong: with -DLOST it writes over the value before it;
+// with -DREORDERED its value waits until the ring is empty; with -DFULL it is refused although half is free.
 #include <deque>
 #include <mutex>
 
@@ -10,7 +9,6 @@ struct Queue {
     size_t room, puts = 0;
 
     Queue(uint32_t order, size_t) : room(size_t(1) << order) {}
-    bool is_turn() { return puts % 500 == 0; }
 };
 
 struct Port {
@@ -21,13 +19,13 @@ struct Port {
         std::lock_guard<std::mutex> lock(queue.mutex);
         const size_t held = queue.ring.size() + queue.late.size();
         if (held == queue.room) return false;
-        queue.puts++;
+        const bool is_turn = ++queue.puts % 500 == 0;
 #if defined(LOST)
-        if (queue.is_turn() && !queue.ring.empty()) queue.ring.pop_back();
+        if (is_turn && !queue.ring.empty()) queue.ring.pop_back();
 #elif defined(REORDERED)
-        if (queue.is_turn()) return queue.late.push_back(value), true;
+        if (is_turn) return queue.late.push_back(value), true;
 #elif defined(FULL)
-        if (queue.is_turn() && 2 * held <= queue.room) return false;
+        if (is_turn && 2 * held <= queue.room) return false;
 #endif
         queue.ring.push_back(value);
         return true;

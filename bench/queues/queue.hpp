@@ -1,10 +1,9 @@
-// What a queue of this folder offers, to be measured by `calls.cpp` or recorded by a recorder of
-// recorders/. The file of a queue is named to the compiler, -DQUEUE='"boost.hpp"', and has
+// What a queue of this folder offers, to be measured by `calls.cpp` or recorded by `recorded.cpp`. The file of a queue
+// is named to the compiler, -DQUEUE='"scq.hpp"', and has
 //
 //     Queue(order, threads)   2^order buffers of 64 bytes for so many threads
 //     Port(queue, number)     what the thread of this number makes its calls with
-//     port.put(value)         a free buffer is got, the value written into its first eight bytes,
-//                             and it is sent; whether one was free
+//     port.put(value)         a free buffer is got, the value written into it, and it is sent; whether one was free
 //     port.get(value)         one is taken, its value read, and it is given back; whether one was
 //     port.flush()            sends and gives back what the port keeps, where messages go packed
 //
@@ -20,11 +19,10 @@
 
 #define INLINE __attribute__((always_inline)) inline
 
-#ifdef BARE
-constexpr bool bare = true;
-#else
-constexpr bool bare = false;
+#ifndef BARE
+#define BARE 0
 #endif
+constexpr bool bare = BARE;
 
 struct alignas(64) Buffer {
     unsigned char bytes[64];

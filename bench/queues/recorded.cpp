@@ -3,33 +3,26 @@
 //     recorded FOLDER CALLS [counter]
 //
 // Each makes so many steps, of two puts for one get and the other way round in turn, so that the queue of 64 buffers
-// is full and empty now and then. By the processor's clock, or the counter; the files are FOLDER/1.log to 4.log.
+// is full and empty now and then. By the processor's clock, or the counter.
 #include "recorder.h"
 #include "queue.hpp"
 #include QUEUE
 #include <string>
 #include <thread>
 
-constexpr uint32_t ORDER = 6;
-constexpr uint32_t THREADS = 4;
+constexpr uint32_t ORDER = 6, THREADS = 4;
 
 static void run(Port &port, scq_seat &seat, uint64_t calls) {
+    uint64_t value;
     for (uint64_t k = 0; k < calls; k++) {
         const bool fills = k / 512 % 2 == 0;
         if (fills || k % 2) {
-            const uint64_t value = scq_put_start(&seat, 0);
-            if (port.put(value))
-                scq_put_done(&seat);
-            else
-                scq_put_refused(&seat);
+            value = scq_put_start(&seat, 0);
+            port.put(value) ? scq_put_done(&seat) : scq_put_refused(&seat);
         }
         if (!fills || k % 2) {
-            uint64_t value;
             scq_get_start(&seat, 0);
-            if (port.get(value))
-                scq_get_got(&seat, value);
-            else
-                scq_get_nothing(&seat);
+            port.get(value) ? scq_get_got(&seat, value) : scq_get_nothing(&seat);
         }
     }
 }
@@ -45,17 +38,16 @@ int main(int argc, char **argv) {
     std::vector<std::thread> threads;
     std::atomic<uint32_t> waiting{THREADS};
     for (uint32_t number = 0; number < THREADS; number++)
-        if (!scq_seat_init(&seats[number], &recorder, number, 4 * calls)) fail("no memory");
-    for (uint32_t number = 0; number < THREADS; number++)
         threads.emplace_back([&, number] {
             Port port(queue, number);
+            scq_seat &seat = seats[number];
+            if (!scq_seat_init(&seat, &recorder, number, 4 * calls)) fail("no memory");
             waiting--;
             while (waiting) std::this_thread::yield();
-            run(port, seats[number], calls);
+            run(port, seat, calls);
+            if (!scq_seat_write(&seat, (folder + "/" + std::to_string(number + 1) + ".log").c_str()))
+                fail("not written");
         });
     for (auto &thread : threads) thread.join();
-    for (uint32_t number = 0; number < THREADS; number++)
-        if (!scq_seat_write(&seats[number], (folder + "/" + std::to_string(number + 1) + ".log").c_str()))
-            fail("not written");
     std::_Exit(0);
 }

@@ -2,17 +2,14 @@
 #pragma once
 #include "scq.h"
 
-// The ports of a queue, until their threads fetch them.
 struct Ports {
     std::vector<scq_port> ports;
 
     Ports(uint32_t order, size_t threads, uint32_t size, uint32_t hold) : ports(threads, scq_port SCQ_NONE) {
-        const uint64_t limit = SCQ_MAX_LIMIT;
-        if (scq_open(order, 1, size, hold, limit, ports.data(), threads) != SCQ_OK) fail("scq_open");
+        if (scq_open(order, 1, size, hold, SCQ_MAX_LIMIT, ports.data(), threads) != SCQ_OK) fail("scq_open");
     }
 };
 
-// A port that was fetched, on a line of its own.
 struct alignas(128) Fetched {
     scq_port port = SCQ_NONE;
 
@@ -20,7 +17,7 @@ struct alignas(128) Fetched {
     Fetched(const Fetched &) = delete;
     ~Fetched() { scq_close(&port); }
 
-    // Whether the answer was SCQ_OK, where it may be this other one too.
+    // Whether the answer was SCQ_OK, and not this other one that it may be.
     static INLINE bool is_ok(uint32_t answer, uint32_t other) {
         if (answer != SCQ_OK && answer != other) fail(scq_text(answer));
         return answer == SCQ_OK;

@@ -1,5 +1,4 @@
-// The queue of this repository with 32 messages of 64 bytes packed in a buffer: an order from 6 on
-// gives as many messages as elsewhere.
+// The queue of this repository with 32 messages of 64 bytes packed in a buffer, of order 6 or more.
 #include "scq_calls.hpp"
 
 struct Queue : Ports {

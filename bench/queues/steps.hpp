@@ -1,18 +1,10 @@
 // The step table of the rings in plain C++, over the layout of words of `scq_band`.
 #pragma once
 
-#ifdef SEATED
-constexpr bool seated = true;
-#else
-constexpr bool seated = false;
-#endif
-
 using Word = std::atomic<uint64_t>;
 
 constexpr uint64_t ZERO_LEVEL = uint64_t(1) << 32;
-
-// How many words the gate, Tail, Head and Threshold stand apart, as in `scq_band`.
-constexpr size_t DISTANCE = 16;
+constexpr size_t DISTANCE = 16; // of the gate, Tail, Head and Threshold, in words, as in `scq_band`
 
 // A ring: its Tail, Head and Threshold, behind which the entries stand by slot, and what a call needs of the setup.
 struct Ring {
@@ -63,8 +55,8 @@ struct Rings {
     }
 };
 
-// Whether the index was put, at the place.
-static INLINE bool enq(const Ring r, uint32_t index, uint64_t &place) {
+// Whether the index was put.
+static INLINE bool enq(const Ring r, uint32_t index) {
     for (;;) {
         const uint64_t ticket = r.tail->fetch_add(1);
         if (ticket >= r.limit) return false;
@@ -75,7 +67,6 @@ static INLINE bool enq(const Ring r, uint32_t index, uint64_t &place) {
             if (!r.is_safe(found) && r.head->load() > ticket) break;
             if (entry.compare_exchange_strong(found, r.packed(r.cycle(ticket), r.slots(), index))) {
                 if (r.threshold->load() != r.level) r.threshold->store(r.level);
-                place = ticket;
                 return true;
             }
         }
@@ -84,8 +75,7 @@ static INLINE bool enq(const Ring r, uint32_t index, uint64_t &place) {
 
 enum class Got { Index, Nothing, Spent };
 
-// An index, and its place.
-static INLINE Got deq(const Ring r, uint64_t &place, uint32_t &index) {
+static INLINE Got deq(const Ring r, uint32_t &index) {
     if (r.threshold->load() < ZERO_LEVEL) return Got::Nothing;
     for (;;) {
         const uint64_t ticket = r.head->fetch_add(1);
@@ -95,7 +85,6 @@ static INLINE Got deq(const Ring r, uint64_t &place, uint32_t &index) {
             uint64_t found = entry.load();
             if (r.cycle_in(found) == r.cycle(ticket)) {
                 index = uint32_t(entry.fetch_or(r.mark()) & r.mark());
-                place = ticket;
                 return Got::Index;
             }
             if (r.cycle_in(found) > r.cycle(ticket)) break;
@@ -117,45 +106,3 @@ static INLINE Got deq(const Ring r, uint64_t &place, uint32_t &index) {
         if (r.threshold->fetch_sub(1) <= ZERO_LEVEL) return Got::Nothing;
     }
 }
-
-// What a thread puts and gets by. With -DSEATED it keeps the indices in its hand, and what it knows
-// of each ring, as the seats of `scq_band` do.
-struct Seat {
-    struct Known {
-        uint64_t finished, seen, head;
-    };
-    Rings &rings;
-    std::vector<uint32_t> hand;
-    std::vector<Known> known;
-
-    explicit Seat(Rings &rings) : rings(rings), known(2, Known{0, 0, 0}) { hand.reserve(size_t(1) << rings.order); }
-    static void raise(uint64_t &a, uint64_t b) {
-        if (a < b) a = b;
-    }
-    INLINE Got get_from(uint32_t ring, uint32_t &index) {
-        uint64_t place;
-        const Got got = deq(rings.ring(ring), place, index);
-        if (seated && got == Got::Index) {
-            hand.push_back(index);
-            raise(known[ring].head, place + 1);
-            raise(known[ring].seen, place);
-        } else if (seated) {
-            raise(known[ring].head, known[ring].finished + 1);
-        }
-        return got;
-    }
-    INLINE bool put_to(uint32_t ring, uint32_t index) {
-        uint64_t place;
-        if (seated) {
-            size_t at = hand.size() - 1;
-            while (hand[at] != index) at--;
-            hand.erase(hand.begin() + static_cast<long>(at));
-        }
-        if (!enq(rings.ring(ring), index, place)) return false;
-        if (seated) {
-            raise(known[ring].finished, place);
-            raise(known[ring].seen, place);
-        }
-        return true;
-    }
-};

@@ -1,6 +1,5 @@
 //! Two of crossbeam's `ArrayQueue`, one with the free buffers and one with those that were sent.
 
-use crate::Calls;
 use crossbeam_queue::ArrayQueue;
 
 #[repr(align(64))]
@@ -13,23 +12,21 @@ pub struct Two {
 
 pub type Port = &'static Two;
 
-impl Calls for Port {
-    #[inline(always)]
-    fn put(&self, value: u64) -> bool {
-        let Some(mut buffer) = self.free.pop() else { return false };
-        if !cfg!(feature = "bare") {
-            buffer.0[0] = value;
-        }
-        self.sent.push(buffer).is_ok() || panic!("no room to send")
+#[inline(always)]
+pub fn put(port: &Port, value: u64) -> bool {
+    let Some(mut buffer) = port.free.pop() else { return false };
+    if !cfg!(feature = "bare") {
+        buffer.0[0] = value;
     }
+    port.sent.push(buffer).is_ok() || panic!("no room to send")
+}
 
-    #[inline(always)]
-    fn get(&self) -> Option<u64> {
-        let buffer = self.sent.pop()?;
-        let value = buffer.0[0];
-        assert!(self.free.push(buffer).is_ok(), "no room to give back");
-        Some(value)
-    }
+#[inline(always)]
+pub fn get(port: &Port) -> Option<u64> {
+    let buffer = port.sent.pop()?;
+    let value = buffer.0[0];
+    assert!(port.free.push(buffer).is_ok(), "no room to give back");
+    Some(value)
 }
 
 pub fn make(order: u32, threads: usize) -> Vec<Port> {

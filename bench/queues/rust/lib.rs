@@ -1,6 +1,5 @@
-//! A queue for calls.cpp: its loops that are timed, as those of loops.hpp, and its calls one by one. The
-//! feature `array` chooses crossbeam's `ArrayQueue`, else it is the queue of this repository, through its
-//! crate. With the feature `bare` no byte is written, and the value that is got is the buffer's number.
+//! A queue for calls.cpp: its loops that are timed, as those of loops.hpp, and its calls one by one. With the feature
+//! `bare` no byte is written, and the value that is got is the buffer's number.
 
 #[cfg_attr(feature = "array", path = "array.rs")]
 #[cfg_attr(not(feature = "array"), path = "scq.rs")]
@@ -10,13 +9,6 @@ use queue::Port;
 use std::hint::spin_loop;
 use std::sync::atomic::{AtomicI32, Ordering::SeqCst};
 
-/// What a thread makes its calls with: puts a value, gets one.
-pub trait Calls {
-    fn put(&self, value: u64) -> bool;
-    fn get(&self) -> Option<u64>;
-}
-
-/// What a thread put and got.
 #[repr(C)]
 pub struct Seen {
     puts: u64,
@@ -28,7 +20,7 @@ pub struct Seen {
 impl Seen {
     #[inline(always)]
     fn put(&mut self, port: &Apart) -> bool {
-        if !port.0.put(self.puts) {
+        if !queue::put(&port.0, self.puts) {
             return false;
         }
         self.put_sum += self.puts;
@@ -37,7 +29,7 @@ impl Seen {
     }
     #[inline(always)]
     fn get(&mut self, port: &Apart) -> bool {
-        let Some(value) = port.0.get() else { return false };
+        let Some(value) = queue::get(&port.0) else { return false };
         self.gets += 1;
         self.got_sum += value;
         true
@@ -55,12 +47,12 @@ pub extern "C" fn rust_make(order: u32, threads: usize) -> *const Apart {
 
 #[no_mangle]
 pub extern "C" fn rust_put(port: &Apart, value: u64) -> bool {
-    port.0.put(value)
+    queue::put(&port.0, value)
 }
 
 #[no_mangle]
 pub extern "C" fn rust_get(port: &Apart, value: &mut u64) -> bool {
-    port.0.get().map(|got| *value = got).is_some()
+    queue::get(&port.0).map(|got| *value = got).is_some()
 }
 
 #[no_mangle]
@@ -92,5 +84,5 @@ pub extern "C" fn both_many(port: &&Apart, many: u64, seen: &mut Seen) {
 
 #[no_mangle]
 pub extern "C" fn get_none(port: &&Apart, many: u64, seen: &mut Seen) {
-    seen.got_sum = (0..many).map(|_| u64::from(port.0.get().is_none())).sum();
+    seen.got_sum = (0..many).map(|_| u64::from(queue::get(&port.0).is_none())).sum();
 }

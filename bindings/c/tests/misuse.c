@@ -411,7 +411,7 @@ static const struct {
     A(moved_port),
     A(closed_with_messages),
     A(header_of_other_version),
-    /* bench/bindings compiles it. */
+    /* dropped.c */
     RULE(COMPILER, ignored_answers),
 };
 

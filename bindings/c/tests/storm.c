@@ -1,27 +1,25 @@
 /* storm THREADS ORDER MESSAGES: so many threads share 2^ORDER buffers and send each other so many
  * messages on three topics. Each has to come once, whole and on its topic, and those of one sender
- * on one topic in order. A thread that has sent its share takes until all are taken. */
+ * on one topic in order; at the end all buffers have to be free. A thread is done when it has sent
+ * its share; what is left then the first takes. None waits for another, and only calls have
+ * atomics, so that bench/storm can hold one behind these. */
 #include "scq.h"
 
 #include "check.h"
 
 #include <pthread.h>
 #include <sched.h>
-#include <stdatomic.h>
 #include <string.h>
 
 enum { TOPICS = 3, WORDS = 16, MOST = 64 };
 
 static uint64_t messages, each;
-static atomic_uint_fast64_t taken;
-
-/* A bit for each message that came. */
-static atomic_uint_fast64_t *seen;
 
 struct job {
     scq_port port;
     pthread_t thread;
     uint64_t next, end;
+    uint64_t *seen; /* a bit for each message that came */
     uint64_t last[MOST]
                  [TOPICS]; /* of each sender and topic one more than the message that came last */
 };
@@ -59,23 +57,37 @@ static int take_one(struct job *job, uint32_t topic) {
         memcpy(&word, held.at + 8 * at, 8);
         CHECK(word == word_of(number, at));
     }
-    CHECK((atomic_fetch_or(&seen[number / 64], UINT64_C(1) << number % 64) >> number % 64 & 1) ==
-          0);
+    CHECK((job->seen[number / 64] >> number % 64 & 1) == 0);
+    job->seen[number / 64] |= UINT64_C(1) << number % 64;
     CHECK(number >= job->last[number / each][topic]);
     job->last[number / each][topic] = number + 1;
     CHECK(scq_give_back(&job->port, held.index) == SCQ_OK);
-    atomic_fetch_add(&taken, 1);
     return 1;
 }
 
 static void *work(void *handed) {
     struct job *job = handed;
-    for (uint32_t turn = 0; job->next < job->end || atomic_load(&taken) < messages; turn++) {
-        const int sent = job->next < job->end && send_next(job);
+    for (uint32_t turn = 0; job->next < job->end; turn++) {
+        const int sent = send_next(job);
         if (!take_one(job, turn % TOPICS) && !sent) sched_yield();
+        /* Now and then a topic is emptied, so that SCQ_EMPTY comes. */
+        while (turn % 64 == 0 && take_one(job, turn / 64 % TOPICS)) continue;
     }
-    CHECK(scq_close(&job->port) == SCQ_OK);
     return NULL;
+}
+
+/* What is left is taken, and each buffer is free. */
+static void take_rest(struct job *job, uint32_t buffers) {
+    scq_held held;
+    uint64_t free_ones = 0;
+    for (uint32_t topic = 0; topic < TOPICS; topic++)
+        while (take_one(job, topic)) continue;
+    for (uint32_t i = 0; i < buffers; i++) {
+        CHECK(scq_lend(&job->port, &held) == SCQ_OK);
+        CHECK(scq_give_back(&job->port, held.index) == SCQ_OK);
+        free_ones |= buffers > 64 ? 0 : UINT64_C(1) << held.index;
+    }
+    CHECK(buffers >= 64 || free_ones == (UINT64_C(1) << buffers) - 1);
 }
 
 int main(int count, char **words) {
@@ -86,24 +98,33 @@ int main(int count, char **words) {
     messages = strtoull(words[3], NULL, 10);
     CHECK(threads >= 1 && threads <= MOST && messages >= threads);
     each = (messages + threads - 1) / threads;
-    seen = calloc(messages / 64 + 1, sizeof *seen);
     struct job *jobs = calloc(threads, sizeof *jobs);
-    CHECK(seen != NULL && jobs != NULL);
+    CHECK(jobs != NULL);
     memset(ports, 0, sizeof ports);
     CHECK(scq_open(order, TOPICS, 8 * WORDS, 1, SCQ_MAX_LIMIT, ports, threads) == SCQ_OK);
     for (uint64_t i = 0; i < threads; i++) {
         jobs[i].port = ports[i];
+        jobs[i].seen = calloc(messages / 64 + 1, sizeof *jobs[i].seen);
+        CHECK(jobs[i].seen != NULL);
         jobs[i].next = i * each < messages ? i * each : messages;
         jobs[i].end = (i + 1) * each < messages ? (i + 1) * each : messages;
     }
     for (uint64_t i = 0; i < threads; i++)
         CHECK(pthread_create(&jobs[i].thread, NULL, work, &jobs[i]) == 0);
     for (uint64_t i = 0; i < threads; i++) CHECK(pthread_join(jobs[i].thread, NULL) == 0);
-    for (uint64_t number = 0; number < messages; number++)
-        CHECK(seen[number / 64] >> number % 64 & 1);
+    take_rest(jobs, 1u << order);
+    for (uint64_t number = 0; number < messages; number++) {
+        uint64_t came = 0;
+        for (uint64_t i = 0; i < threads; i++)
+            came += jobs[i].seen[number / 64] >> number % 64 & 1;
+        CHECK(came == 1);
+    }
+    for (uint64_t i = 0; i < threads; i++) {
+        CHECK(scq_close(&jobs[i].port) == SCQ_OK);
+        free(jobs[i].seen);
+    }
     printf("%llu messages of %llu threads over %u buffers, each whole and once\n",
            (unsigned long long)messages, (unsigned long long)threads, 1u << order);
     free(jobs);
-    free(seen);
     return 0;
 }
