@@ -5,9 +5,9 @@ use Rattle.scq_hist.specs.declared.events.Event.{Event}
 use Rattle.scq_hist.specs.declared.events.Event.TheVariants.{Start, End}
 
 -- the seat whose call starts or ends
-abbrev pub seat_of : Event → ℕ
-seat_of (Start seat _) = seat
-seat_of (End seat _) = seat
+abbrev pub seat_of_call : Event → ℕ
+seat_of_call (Start seat _) = seat
+seat_of_call (End seat _) = seat
 
 -- no call starts on another queue than this
 abbrev pub IsOn : ℕ → Event → Type 0

@@ -11,7 +11,7 @@
 
 ghost use Rattle.std.specs.Prelude.{◌≡◌, IfOk};
 ghost use Rattle.std.specs.List.{All};
-ghost use Rattle.example_judge.specs.Events.{IsOn, seat_of};
+ghost use Rattle.example_judge.specs.Events.{IsOn, seat_of_call};
 
 use anyhow::{Context, Result, anyhow};
 use scq_hist::{Call, Event, PutName, Reply};
@@ -51,7 +51,7 @@ impl Recorded {
 }
 
 fn event_of(alloc: Global, seat: u32, words: &str) -> Result<Event>
-    ensures seat { IfOk result (λ event. seat_of event ≡ seat) }
+    ensures seat { IfOk result (λ event. seat_of_call event ≡ seat) }
     ensures queue { IfOk result (IsOn 0) }
 {
     let (word, rest) = words.split_once(' ').unwrap_or((words, ""));

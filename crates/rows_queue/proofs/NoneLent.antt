@@ -6,7 +6,7 @@ use Rattle.std.proofs.lemmas.List.Sums.{sum_by-cons}
 use Rattle.scq_law.specs.Hands.{times}
 use Rattle.scq_law.proofs.Base.SeatSums.{contains_none}
 use Rattle.std.proofs.lemmas.Bool.{cases_eq}
-use Rattle.scq_band.specs.Standing.{Identity, Standing, without_index, having_seen, after_put, HasTaken, FoundEmpty}
+use Rattle.scq_band.specs.Standing.{Identity, Standing, without_index, having_seen, seat_after_put, SeatHasTaken, SeatFoundEmpty}
 use Rattle.scq_band.specs.Closing.{lifted_of, AreTheLifted}
 
 module _ {B : Type 0} where
@@ -24,15 +24,15 @@ module _ {B : Type 0} where
       ]
   lifted-without ((j, None) ∷ xs) i none = absurd (cc)
 
-  pub lent_after_get : (contents : B → List ℕ) (IsSame : B → B → Type 0) (r p i : ℕ) (s u : Standing B) → HasTaken contents IsSame r p i s u
+  pub lent_after_get : (contents : B → List ℕ) (IsSame : B → B → Type 0) (r p i : ℕ) (s u : Standing B) → SeatHasTaken contents IsSame r p i s u
       → lifted_of s.hand ≡ [] → lifted_of u.hand ≡ []
   lent_after_get contents IsSame r p i s u got none =
       ap (λ (z : Standing B). lifted_of z.hand) got.seat ∙ lifted-come s.hand i got.buffer ∙ none
 
-  pub lent_after_nothing : (r head : ℕ) (s u : Standing B) → FoundEmpty r head s u → lifted_of s.hand ≡ [] → lifted_of u.hand ≡ []
+  pub lent_after_nothing : (r head : ℕ) (s u : Standing B) → SeatFoundEmpty r head s u → lifted_of s.hand ≡ [] → lifted_of u.hand ≡ []
   lent_after_nothing r head s u found none = ap (λ (z : Standing B). lifted_of z.hand) found.seat ∙ none
 
-  pub lent_after_put : (r i p : ℕ) (w : List ℕ) (s u : Standing B) → u ≡ having_seen u.seen (after_put r i p w s) → lifted_of s.hand ≡ []
+  pub lent_after_put : (r i p : ℕ) (w : List ℕ) (s u : Standing B) → u ≡ having_seen u.seen (seat_after_put r i p w s) → lifted_of s.hand ≡ []
       → lifted_of u.hand ≡ []
   lent_after_put r i p w s u put none = ap (λ (z : Standing B). lifted_of z.hand) put ∙ lifted-without s.hand i none
 

@@ -7,7 +7,7 @@ use Rattle.std.proofs.lemmas.List.Sums.{sum_by-cons}
 use mathlib.Core.Option as maybe
 use Rattle.scq_word.specs.declared.setup.Setup.{Setup}
 use Rattle.scq_word.proofs.Counting.{IsApart, meets_all}
-use Rattle.scq_core.specs.Machine.{Part, Machine}
+use Rattle.scq_core.specs.Machine.{SeatPart, Machine}
 use Rattle.scq_core.specs.Laws.{total}
 use Rattle.scq_law.specs.Sums.{sum_to}
 use Rattle.scq_law.proofs.Balance.Sums.{sum_same, sum_change}
@@ -15,7 +15,7 @@ use Rattle.scq_band.specs.Known.{Member}
 use Rattle.scq_band.specs.Shown.{Scene, IsMember, Owns}
 
 -- these members are all the seats of the machine, each once
-pub record AreAll (c : Setup) (m : Machine) (xs : List Member) : Type 0 where
+pub record AreAllSeats (c : Setup) (m : Machine) (xs : List Member) : Type 0 where
   pub count : length xs ≡ c.seats
   pub low : (a : ℕ) (x : Member) → slice_get xs a ≡ Some x → x.number < c.seats
   pub part : (a : ℕ) (x : Member) → slice_get xs a ≡ Some x → m.part x.number ≡ x.part
@@ -48,7 +48,7 @@ module _ {S : Type 0} (Lies : ℕ → S → List ℕ → Type 0) where
 
   -- the members of a view, where there are as many as seats
   pub are_all : (c : Setup) (z : Scene) (homes : List (maybe.Option S)) (id : ℕ) (xs : List Member) → Owns Lies c z homes id xs → length xs ≡ c.seats
-      → AreAll c z.state xs
+      → AreAllSeats c z.state xs
   are_all c z homes id xs owns count =
       record {
         count = count;
@@ -78,13 +78,13 @@ number_of (y ∷ ys) zero x e = let same : y ≡ x = cc in ap (λ (u : Member). 
 number_of (y ∷ ys) (suc a) x e = number_of ys a x e
 
 -- where a seat stands
-pub record StandsAt (xs : List Member) (k : ℕ) : Type 0 where
+pub record SeatStandsAt (xs : List Member) (k : ℕ) : Type 0 where
   pub at : ℕ
   pub member : Member
   pub here : slice_get xs at ≡ Some member
   pub is : member.number ≡ k
 
-pub seat_at : (c : Setup) (m : Machine) (xs : List Member) → AreAll c m xs → (k : ℕ) → k < c.seats → StandsAt xs k
+pub seat_at : (c : Setup) (m : Machine) (xs : List Member) → AreAllSeats c m xs → (k : ℕ) → k < c.seats → SeatStandsAt xs k
 seat_at c m xs all k low =
     let count = all.count in
     let map_is : IsApart c.seats (number_at xs) = record {
@@ -101,7 +101,7 @@ seat_at c m xs all k low =
     record { at = met.from; member = x.0; here = x.1; is = sym (number_of xs met.from x.0 x.1) ∙ met.met }
 
 -- a sum over the machine's seats, taken by number
-by_number : (f : Part → ℕ) (part : ℕ → Part) (n : ℕ) → total f part n ≡ sum_to (λ k. f (part k)) n
+by_number : (f : SeatPart → ℕ) (part : ℕ → SeatPart) (n : ℕ) → total f part n ≡ sum_to (λ k. f (part k)) n
 by_number f part zero = refl
 by_number f part (suc n) = let rest = by_number f part n in omega arith
 
@@ -126,7 +126,7 @@ one_here (y ∷ ys) k (suc a) x e is =
     ]
 
 -- a sum over members, each of another number, taken by number
-sum_of_some : (f : Part → ℕ) (part : ℕ → Part) (n : ℕ) (xs : List Member)
+sum_of_some : (f : SeatPart → ℕ) (part : ℕ → SeatPart) (n : ℕ) (xs : List Member)
     → ((a : ℕ) (x : Member) → slice_get xs a ≡ Some x → (x.number < n) × (part x.number ≡ x.part))
     → ((a b : ℕ) (x y : Member) → slice_get xs a ≡ Some x → slice_get xs b ≡ Some y → x.number ≡ y.number → a ≡ b)
     → sum_by (λ (x : Member). f x.part) xs ≡ sum_to (λ k. if has_number xs k then f (part k) else 0) n
@@ -150,7 +150,7 @@ sum_of_some f part n (x ∷ xs) each apart =
     omega arith
 
 -- a sum over all seats of the machine
-pub total_all : (c : Setup) (m : Machine) (xs : List Member) (f : Part → ℕ) → AreAll c m xs
+pub total_all : (c : Setup) (m : Machine) (xs : List Member) (f : SeatPart → ℕ) → AreAllSeats c m xs
     → total f m.part c.seats ≡ sum_by (λ (x : Member). f x.part) xs
 total_all c m xs f all =
     by_number f m.part c.seats

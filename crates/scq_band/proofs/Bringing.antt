@@ -24,7 +24,7 @@ use Rattle.scq_band.specs.Steps.{my, front_index}
 use Rattle.scq_band.specs.Closing.{indices_of}
 use Rattle.scq_band.specs.Homes.{at_home, MayBring}
 use Rattle.scq_band.proofs.GoingHome.{contained_cases}
-use Rattle.scq_band.proofs.StandingSeats.{set_stands}
+use Rattle.scq_band.proofs.StandingSeats.{seat_apart, set_stands}
 use Rattle.scq_band.proofs.Handles.{has_else, in_hand_alone, hand_or_entry}
 
 -- what stands in a list has its index there
@@ -44,7 +44,7 @@ module _ {S : Type 0} (Lies : ℕ → S → List ℕ → Type 0) where
   owns_beside c z homes id j k i y one low here mine apart [] owns = tt
   owns_beside c z homes id j k i y one low here mine apart (x ∷ xs) owns =
       let x_is = owns.0 in
-      let other : x.number ≢ k = λ e. let both = sym x_is.owner ∙ ap z.owner e ∙ mine in apart (ap (λ (q : ℕ × ℕ). q.0) both) in (
+      let other = seat_apart z.owner x.number k j id x_is.owner mine apart in (
         record {
           low = x_is.low;
           owner = x_is.owner;

@@ -10,7 +10,7 @@ use Rattle.scq_core.specs.declared.ended.Ended.{Ended}
 use Rattle.scq_core.specs.declared.ended.Ended.TheVariants.{Spent}
 use Rattle.scq_core.specs.declared.phase.Phase.{Phase}
 use Rattle.scq_core.specs.declared.phase.Phase.TheVariants.{Idle}
-use Rattle.scq_core.specs.Machine.{Part, Machine}
+use Rattle.scq_core.specs.Machine.{SeatPart, Machine}
 use Rattle.scq_core.specs.Laws.{total}
 use Rattle.scq_core.specs.Reach.{IsReachable}
 use Rattle.scq_law.specs.Bounds.{tally, was_put, is_putting, enqueues}
@@ -22,8 +22,8 @@ use Rattle.scq_law.proofs.Places.HandLaws.{one_hand}
 use Rattle.scq_law.proofs.Tickets.SpentLaws.{spent_kept}
 use Rattle.scq_band.specs.Known.{Member}
 use Rattle.scq_band.specs.Closing.{gets_on, begun_on, IsBalance, IsAllThere, EachSpentIsPastTheBound, EachIsInOneHand}
-use Rattle.scq_band.proofs.AllSeats.{AreAll, total_all}
-use Rattle.scq_band.proofs.ClosedRecords.{map_back, map_on, records_of, AllRest}
+use Rattle.scq_band.proofs.AllSeats.{AreAllSeats, total_all}
+use Rattle.scq_band.proofs.ClosedRecords.{map_back, map_on, member_records, AllRest}
 
 -- a sum over images
 pub sum_by-map : {A B : Type 0} (f : B → ℕ) (h : A → B) (xs : List A) → sum_by f (map h xs) ≡ sum_by (λ x. f (h x)) xs
@@ -76,21 +76,21 @@ sum_list f xs n = go xs n f
         let first = shift h k in
         omega arith
 
-module _ (c : Setup) (m : Machine) (xs : List Member) (reach : IsReachable c m) (all : AreAll c m xs) (rest : AllRest xs) where
+module _ (c : Setup) (m : Machine) (xs : List Member) (reach : IsReachable c m) (all : AreAllSeats c m xs) (rest : AllRest xs) where
   -- a sum over the machine's seats is one over the records
-  by_records : (f : List Ended → ℕ) → sum_by f (records_of xs) ≡ total (λ p. f p.calls) m.part c.seats
-  by_records f = sum_by-map f (λ (x : Member). x.part.calls) xs ∙ sym (total_all c m xs (λ (p : Part). f p.calls) all)
+  by_records : (f : List Ended → ℕ) → sum_by f (member_records xs) ≡ total (λ p. f p.calls) m.part c.seats
+  by_records f = sum_by-map f (λ (x : Member). x.part.calls) xs ∙ sym (total_all c m xs (λ (p : SeatPart). f p.calls) all)
 
   -- where no seat is in the middle of a call, what its phase adds is nothing
   calls_alone : (f : List Ended → ℕ) (h : Phase → ℕ) → h Idle ≡ 0
-      → total (λ p. f p.calls + h p.phase) m.part c.seats ≡ sum_by f (records_of xs)
+      → total (λ p. f p.calls + h p.phase) m.part c.seats ≡ sum_by f (member_records xs)
   calls_alone f h none =
-      total_all c m xs (λ (p : Part). f p.calls + h p.phase) all
+      total_all c m xs (λ (p : SeatPart). f p.calls + h p.phase) all
       ∙ sum_by-same (λ (x : Member). f x.part.calls + h x.part.phase) (λ (x : Member). f x.part.calls) xs
       (λ a x e. let phase : h x.part.phase ≡ 0 = ap h (rest a x e) ∙ none in omega arith)
       ∙ sym (sum_by-map f (λ (x : Member). x.part.calls) xs)
 
-  pub is_balance : (left : List ℕ) → IsLeftOf c m left → IsBalance c (records_of xs) left
+  pub is_balance : (left : List ℕ) → IsLeftOf c m left → IsBalance c (member_records xs) left
   is_balance left is =
       record {
         rings = is.rings;
@@ -98,8 +98,8 @@ module _ (c : Setup) (m : Machine) (xs : List Member) (reach : IsReachable c m) 
             λ r low.
             let here = is.each r low in
             let law = (balanced c m reach).balance r in
-            let gets : gets_on (records_of xs) r ≡ total (gets_of r) m.part c.seats = by_records (tally (was_got r)) in
-            let puts : total (puts_of r) m.part c.seats ≡ sum_by (tally (was_done r)) (records_of xs) =
+            let gets : gets_on (member_records xs) r ≡ total (gets_of r) m.part c.seats = by_records (tally (was_got r)) in
+            let puts : total (puts_of r) m.part c.seats ≡ sum_by (tally (was_done r)) (member_records xs) =
             calls_alone (tally (was_done r)) (has_placed r) refl in
             omega arith;
       }
@@ -109,12 +109,12 @@ module _ (c : Setup) (m : Machine) (xs : List Member) (reach : IsReachable c m) 
       let law = (all_kept c m reach).kept in
       let lefts : sum left ≡ left_below c m.cells c.rings = sum_list (left_in c m.cells) left c.rings is.rings is.each in
       let hands : sum_by length (hands_of xs) ≡ total (λ p. length p.hand) m.part c.seats =
-      sum_by-map length (λ (x : Member). x.part.hand) xs ∙ sym (total_all c m xs (λ (p : Part). length p.hand) all) in
+      sum_by-map length (λ (x : Member). x.part.hand) xs ∙ sym (total_all c m xs (λ (p : SeatPart). length p.hand) all) in
       omega arith
 
-  begun_all : (r : ℕ) → begun_on c (records_of xs) r ≡ enqueues c m r
+  begun_all : (r : ℕ) → begun_on c (member_records xs) r ≡ enqueues c m r
   begun_all r =
-      let puts : total (λ p. tally (was_put r) p.calls + is_putting r p.phase) m.part c.seats ≡ sum_by (tally (was_put r)) (records_of xs) =
+      let puts : total (λ p. tally (was_put r) p.calls + is_putting r p.phase) m.part c.seats ≡ sum_by (tally (was_put r)) (member_records xs) =
       calls_alone (tally (was_put r)) (is_putting r) refl in
       omega arith
 
@@ -122,14 +122,14 @@ module _ (c : Setup) (m : Machine) (xs : List Member) (reach : IsReachable c m) 
   last_call [] e = refl
   last_call (d ∷ before) e = last_call before e
 
-  pub spent_past : EachSpentIsPastTheBound c (records_of xs) (kept_by xs)
+  pub spent_past : EachSpentIsPastTheBound c (member_records xs) (kept_by xs)
   spent_past a t keeps =
       let at = map_back (λ (x : Member). x.part.spent) xs a (Some t) keeps in
       let x = at.0 in
-      let kept : (m.part x.number).spent ≡ Some t = ap (λ (p : Part). p.spent) (all.part a x at.1) ∙ at.2 in
+      let kept : (m.part x.number).spent ≡ Some t = ap (λ (p : SeatPart). p.spent) (all.part a x at.1) ∙ at.2 in
       let law = (spent_kept c m reach).last x.number t kept in
       let ended = law.1 in
-      let calls : x.part.calls ≡ ended.before ++ Spent law.0 t ended.is_put ∷ [] = ap (λ (p : Part). p.calls) (sym (all.part a x at.1)) ∙ ended.calls in
+      let calls : x.part.calls ≡ ended.before ++ Spent law.0 t ended.is_put ∷ [] = ap (λ (p : SeatPart). p.calls) (sym (all.part a x at.1)) ∙ ended.calls in
       record {
         ring = law.0;
         low = law.2;
@@ -156,7 +156,7 @@ module _ (c : Setup) (m : Machine) (xs : List Member) (reach : IsReachable c m) 
       }
     where
       sums : (i : ℕ) → sum_by (times i) (hands_of xs) ≡ total (λ p. times i p.hand) m.part c.seats
-      sums i = sum_by-map (times i) (λ (x : Member). x.part.hand) xs ∙ sym (total_all c m xs (λ (p : Part). times i p.hand) all)
+      sums i = sum_by-map (times i) (λ (x : Member). x.part.hand) xs ∙ sym (total_all c m xs (λ (p : SeatPart). times i p.hand) all)
 
       -- some seat of those below n has it, or none does
       somewhere : (i n : ℕ) → 0 < total (λ p. times i p.hand) m.part n → (k : ℕ) × (0 < times i (m.part k).hand)

@@ -9,7 +9,7 @@ use Rattle.scq_core.specs.declared.ended.Ended.{Ended}
 use Rattle.scq_core.specs.declared.ended.Ended.TheVariants.{Done, Got}
 use Rattle.scq_core.specs.declared.phase.Phase.{Phase}
 use Rattle.scq_core.specs.declared.phase.Phase.TheVariants.{Idle}
-use Rattle.scq_core.specs.Machine.{Part, Machine}
+use Rattle.scq_core.specs.Machine.{SeatPart, Machine}
 use Rattle.scq_core.specs.Table.{ring_slots}
 use Rattle.scq_core.specs.Start.{idle_part}
 use Rattle.scq_core.specs.Reach.{IsReachable}
@@ -20,8 +20,8 @@ use Rattle.scq_law.proofs.Places.PlaceLaws.{places_once, got_below}
 use Rattle.scq_band.specs.declared.numbers.Numbers.{Numbers}
 use Rattle.scq_band.specs.Known.{Member}
 use Rattle.scq_band.specs.Numbers.{known_of}
-use Rattle.scq_band.specs.Closing.{IsCall, HasEnded, WasPut, EachGetHasItsPut, NoneIsPutTwice, NoneIsGotTwice, EachPutPassedIsGot}
-use Rattle.scq_band.proofs.AllSeats.{AreAll, seat_at}
+use Rattle.scq_band.specs.Closing.{CallEndedSo, SomeCallEndedSo, WasPut, EachGetHasItsPut, NoneIsPutTwice, NoneIsGotTwice, EachPutPassedIsGot}
+use Rattle.scq_band.proofs.AllSeats.{AreAllSeats, seat_at}
 
 -- what is read in a list of images
 pub map_back : {A B : Type 0} (f : A → B) (xs : List A) (a : ℕ) (y : B) → slice_get (map f xs) a ≡ Some y → (x : A) × (slice_get xs a ≡ Some x) × (f x ≡ y)
@@ -35,14 +35,14 @@ map_on f (y ∷ ys) zero x e = let same : y ≡ x = cc in ap (λ u. Some (f u)) 
 map_on f (y ∷ ys) (suc a) x e = map_on f ys a x e
 
 -- the records of members
-abbrev pub records_of : List Member → List (List Ended)
-records_of xs = map (λ (x : Member). x.part.calls) xs
+abbrev pub member_records : List Member → List (List Ended)
+member_records xs = map (λ (x : Member). x.part.calls) xs
 
 -- each of them is between two calls
 abbrev pub AllRest : List Member → Type 0
 AllRest xs = (a : ℕ) (x : Member) → slice_get xs a ≡ Some x → x.part.phase ≡ Idle
 
-module _ (c : Setup) (m : Machine) (xs : List Member) (reach : IsReachable c m) (all : AreAll c m xs) (rest : AllRest xs) where
+module _ (c : Setup) (m : Machine) (xs : List Member) (reach : IsReachable c m) (all : AreAllSeats c m xs) (rest : AllRest xs) where
   -- a seat out of range has made no call
   absent : (k : ℕ) → c.seats ≤ k → m.part k ≡ idle_part
   absent k high = let s = has_trace c m reach in (reached c s.time s.ghost m s.trace).absent k high
@@ -52,15 +52,15 @@ module _ (c : Setup) (m : Machine) (xs : List Member) (reach : IsReachable c m) 
       elim (cases_lt k c.seats) [
         | inl low ↦
             let at = seat_at c m xs all k low in
-            ap (λ (j : ℕ). (m.part j).phase) (sym at.is) ∙ ap (λ (p : Part). p.phase) (all.part at.at at.member at.here) ∙ rest at.at at.member at.here
-        | inr high ↦ ap (λ (p : Part). p.phase) (absent k high)
+            ap (λ (j : ℕ). (m.part j).phase) (sym at.is) ∙ ap (λ (p : SeatPart). p.phase) (all.part at.at at.member at.here) ∙ rest at.at at.member at.here
+        | inr high ↦ ap (λ (p : SeatPart). p.phase) (absent k high)
       ]
 
   pub all_idle : AllIdle c m
   all_idle k low = idle k
 
   -- a call of the machine's seat is one of the records'
-  pub ended_call : (k x : ℕ) (e : Ended) → slice_get (m.part k).calls x ≡ Some e → HasEnded (records_of xs) e
+  pub ended_call : (k x : ℕ) (e : Ended) → slice_get (m.part k).calls x ≡ Some e → SomeCallEndedSo (member_records xs) e
   ended_call k x e is =
       elim (cases_lt k c.seats) [
         | inl low ↦
@@ -72,21 +72,21 @@ module _ (c : Setup) (m : Machine) (xs : List Member) (reach : IsReachable c m) 
               is = (
                 at.member.part.calls,
                 map_on (λ (u : Member). u.part.calls) xs at.at at.member at.here,
-                subst (λ (p : Part). slice_get p.calls x ≡ Some e) same is,
+                subst (λ (p : SeatPart). slice_get p.calls x ≡ Some e) same is,
               );
             }
         | inr high ↦
-            let none : slice_get idle_part.calls x ≡ Some e = subst (λ (p : Part). slice_get p.calls x ≡ Some e) (absent k high) is in
+            let none : slice_get idle_part.calls x ≡ Some e = subst (λ (p : SeatPart). slice_get p.calls x ≡ Some e) (absent k high) is in
             absurd (cc)
       ]
 
   -- and the other way round
-  pub call_ended : (a x : ℕ) (e : Ended) → IsCall (records_of xs) a x e
+  pub call_ended : (a x : ℕ) (e : Ended) → CallEndedSo (member_records xs) a x e
       → (u : Member) × (slice_get xs a ≡ Some u) × (slice_get (m.part u.number).calls x ≡ Some e)
   call_ended a x e call =
       let at = map_back (λ (u : Member). u.part.calls) xs a call.0 call.1 in
       let read : slice_get at.0.part.calls x ≡ Some e = subst (λ (l : List Ended). slice_get l x ≡ Some e) (sym at.2) call.2 in
-      (at.0, at.1, subst (λ (p : Part). slice_get p.calls x ≡ Some e) (sym (all.part a at.0 at.1)) read)
+      (at.0, at.1, subst (λ (p : SeatPart). slice_get p.calls x ≡ Some e) (sym (all.part a at.0 at.1)) read)
 
   opening_read : (l : List (List ℕ)) (i : ℕ) → i < length l → slice_get l i ≡ Some (slice_index_or l i [])
   opening_read [] i low = absurd (omega arith)
@@ -94,7 +94,7 @@ module _ (c : Setup) (m : Machine) (xs : List Member) (reach : IsReachable c m) 
   opening_read (w ∷ ws) (suc i) low = opening_read ws i (omega arith)
 
   -- who placed, in the records
-  pub was_put_by : (r p : ℕ) (w : List ℕ) (a : Maker) → length m.opening ≡ n_of c.order → IsPlacedBy c m r p w a → WasPut c m.opening (records_of xs) r p w
+  pub was_put_by : (r p : ℕ) (w : List ℕ) (a : Maker) → length m.opening ≡ n_of c.order → IsPlacedBy c m r p w a → WasPut c m.opening (member_records xs) r p w
   was_put_by r p w a count (at_opening ring first last content) =
       inl (record {
         index = p - ring_slots c;
@@ -112,7 +112,7 @@ module _ (c : Setup) (m : Machine) (xs : List Member) (reach : IsReachable c m) 
   opening_at (v ∷ vs) zero w is = let same : w ≡ v = cc in (omega arith, same)
   opening_at (v ∷ vs) (suc i) w is = let rest = opening_at vs i w is in ((let low = rest.0 in omega arith), rest.1)
 
-  pub placed_if_put : (r p : ℕ) (w : List ℕ) → length m.opening ≡ n_of c.order → WasPut c m.opening (records_of xs) r p w
+  pub placed_if_put : (r p : ℕ) (w : List ℕ) → length m.opening ≡ n_of c.order → WasPut c m.opening (member_records xs) r p w
       → (a : Maker) × IsPlacedBy c m r p w a
   placed_if_put r p w count (inl o) =
       let at = opening_at m.opening o.index w o.bytes in
@@ -124,20 +124,20 @@ module _ (c : Setup) (m : Machine) (xs : List Member) (reach : IsReachable c m) 
       let at = call_ended has.seat has.number (Done r p w) has.is in
       (call_of at.0.number has.number, in_record at.0.number has.number at.2)
 
-  pub gets_have_puts : length m.opening ≡ n_of c.order → EachGetHasItsPut c m.opening (records_of xs)
+  pub gets_have_puts : length m.opening ≡ n_of c.order → EachGetHasItsPut c m.opening (member_records xs)
   gets_have_puts count r p w has =
       let at = call_ended has.seat has.number (Got r p w) has.is in
       let by = (places_once c m reach).fresh r p w at.0.number has.number at.2 in
       was_put_by r p w by.0 count by.1
 
-  pub none_twice : NoneIsGotTwice (records_of xs)
+  pub none_twice : NoneIsGotTwice (member_records xs)
   none_twice r p v w a x b y one other =
       let at = call_ended a x (Got r p v) one in
       let there = call_ended b y (Got r p w) other in
       let same = (places_once c m reach).taken_once r p v w at.0.number x there.0.number y at.2 there.2 in
       (all.apart a b at.0 there.0 at.1 there.1 same.0, same.1)
 
-  pub none_put_twice : length m.opening ≡ n_of c.order → NoneIsPutTwice c m.opening (records_of xs)
+  pub none_put_twice : length m.opening ≡ n_of c.order → NoneIsPutTwice c m.opening (member_records xs)
   unfolding placed_if_put
   none_put_twice count =
       record {
@@ -163,7 +163,7 @@ module _ (c : Setup) (m : Machine) (xs : List Member) (reach : IsReachable c m) 
 
   pub passed_is_got : (known : List (List Numbers)) → length m.opening ≡ n_of c.order
       → ((a : ℕ) (numbers : List Numbers) → slice_get known a ≡ Some numbers → (r : ℕ) (x : Numbers) → slice_get numbers r ≡ Some x → x.head ≤ m.cells.head r)
-      → EachPutPassedIsGot c m.opening (records_of xs) known
+      → EachPutPassedIsGot c m.opening (member_records xs) known
   passed_is_got known count heads r p w put passed =
       let by = placed_if_put r p w count put in
       let head = heads passed.seat passed.numbers passed.its r (known_of passed.numbers r) (known_some passed.numbers r p passed.passed) in

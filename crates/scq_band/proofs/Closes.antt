@@ -14,7 +14,7 @@ use Rattle.scq_word.specs.Sizes.{n_of}
 use Rattle.scq_core.specs.declared.ended.Ended.{Ended}
 use Rattle.scq_core.specs.declared.phase.Phase.TheVariants.{Idle}
 use Rattle.scq_core.specs.declared.step.Step.{Step}
-use Rattle.scq_core.specs.Machine.{Cells, Part, Machine}
+use Rattle.scq_core.specs.Machine.{Cells, SeatPart, Machine}
 use Rattle.scq_core.proofs.Indices.{HasIndices, has_indices}
 use Rattle.scq_law.specs.Kept.{left_in}
 use Rattle.scq_law.specs.RunSteps.{run_of, IsFinishedRun}
@@ -42,8 +42,8 @@ use Rattle.scq_band.specs.Standing.{Identity, Standing, caller_of}
 use Rattle.scq_band.specs.Kept.{identity_of}
 use Rattle.scq_band.specs.Homes.{full_slot, IsBrought, OutOrHome, IsMemberOf, AreMembersOf, HeadsKnown, GatesKnown, HasAll, all_seen}
 use Rattle.scq_band.specs.Closing.{indices_of, IsOneRun, EachGetHasItsPut, NoneIsPutTwice, NoneIsGotTwice, EachPutPassedIsGot, IsBalance, IsAllThere, EachIsInOneHand, EachSpentIsPastTheBound, EachLeftIsItsPut, StandsAtItsPut, IsOneRunToTheEnd, IsLeft, AreTheSame, ComesBackAsItWas, with_laid, laid_of, held_buffers, AllRetiredWhereClosed, EachSeenRetiredHas, all_calls, all_hands, all_known, all_spent, callers_of}
-use Rattle.scq_band.proofs.AllSeats.{AreAll, are_all, member_at, seat_at}
-use Rattle.scq_band.proofs.ClosedRecords.{map_back, map_on, records_of, AllRest, gets_have_puts, none_put_twice, none_twice, passed_is_got}
+use Rattle.scq_band.proofs.AllSeats.{AreAllSeats, are_all, member_at, seat_at}
+use Rattle.scq_band.proofs.ClosedRecords.{map_back, map_on, member_records, AllRest, gets_have_puts, none_put_twice, none_twice, passed_is_got}
 use Rattle.scq_band.proofs.ClosedCounts.{hands_of, kept_by, IsLeftOf, is_balance, all_there, spent_past, each_in_one_hand}
 use Rattle.scq_band.proofs.Unloading.{read_some}
 use Rattle.scq_band.proofs.GoingHome.{contains_behind, contains_none}
@@ -152,7 +152,7 @@ module _ {B : Type 0} (contents : B → List ℕ) (IsSame : B → B → Type 0) 
   owns : Owns (LiesIn contents IsSame given) c sh.scene s.homes id v.seats
   owns = (sh.views id v here).seats
 
-  all : AreAll c m v.seats
+  all : AreAllSeats c m v.seats
   all = are_all (LiesIn contents IsSame given) c sh.scene s.homes id v.seats owns (members_count contents seats v.seats has.members ∙ count)
 
   rest : AllRest v.seats
@@ -164,7 +164,7 @@ module _ {B : Type 0} (contents : B → List ℕ) (IsSame : B → B → Type 0) 
   opened : length m.opening ≡ n_of c.order
   opened = ap length (opens_with sh.leads) ∙ length_images contents given ∙ many
 
-  calls : records_of v.seats ≡ all_calls seats
+  calls : member_records v.seats ≡ all_calls seats
   calls = same_lists contents (λ (x : Member). x.part.calls) (λ (t : Standing B). t.calls) (λ t x is. is.calls) seats v.seats has.members
 
   hands : hands_of v.seats ≡ all_hands seats
@@ -177,7 +177,7 @@ module _ {B : Type 0} (contents : B → List ℕ) (IsSame : B → B → Type 0) 
   all_idle : (k : ℕ) → k < c.seats → (m.part k).phase ≡ Idle
   all_idle k low =
       let at = seat_at c m v.seats all k low in
-      ap (λ (j : ℕ). (m.part j).phase) (sym at.is) ∙ ap (λ (p : Part). p.phase) (all.part at.at at.member at.here) ∙ rest at.at at.member at.here
+      ap (λ (j : ℕ). (m.part j).phase) (sym at.is) ∙ ap (λ (p : SeatPart). p.phase) (all.part at.at at.member at.here) ∙ rest at.at at.member at.here
 
   -- one run has ended in these records
   pub closed_run : (told : Seen) → AllPrefixes told.runs run → told ≡ all_seen seats
@@ -220,7 +220,7 @@ module _ {B : Type 0} (contents : B → List ℕ) (IsSame : B → B → Type 0) 
             let one = seat_member contents seats v.seats has.members a t.0 t.1 in
             subst (λ (z : Caller). (recorded.state.part z.seat).calls ≡ z.calls) t.2
             (ap (λ (n : Machine). (n.part t.0.number).calls) ends ∙ ap (λ (j : ℕ). (m.part j).calls) (sym one.2.number)
-            ∙ ap (λ (p : Part). p.calls) (all.part a one.0 one.1) ∙ one.2.calls);
+            ∙ ap (λ (p : SeatPart). p.calls) (all.part a one.0 one.1) ∙ one.2.calls);
         had_seen =
             λ a x e.
             let t = map_back caller_of seats a x e in
@@ -320,7 +320,7 @@ module _ {B : Type 0} (contents : B → List ℕ) (IsSame : B → B → Type 0) 
   closed_left bytes tells =
       subst (λ (o : List (List ℕ)). EachLeftIsItsPut c o (all_calls seats) (all_hands seats) bytes) (opens_with sh.leads)
       (subst (λ (l : List (List Ended)). EachLeftIsItsPut c m.opening l (all_hands seats) bytes) calls
-      (subst (λ (l : List (List ℕ)). EachLeftIsItsPut c m.opening (records_of v.seats) l bytes) hands
+      (subst (λ (l : List (List ℕ)). EachLeftIsItsPut c m.opening (member_records v.seats) l bytes) hands
       (lefts_at_home (LiesIn contents IsSame given) c m v.seats s.homes bytes (reaches sh.leads) all rest opened sh.stored tells)))
 
   pub closed_stands : (one : IsOneRun c (opening_of contents given) (callers_of seats)) → one.finished.recorded.state ≡ m → (bytes : List (List ℕ))
@@ -347,7 +347,7 @@ module _ {B : Type 0} (contents : B → List ℕ) (IsSame : B → B → Type 0) 
       read_some items i h.value (home i h.value h.here) ∙ ap (λ (o : Option B). Some (record { buffer = o })) h.lies.laid
 
 -- what a closed band's words and slots say, beside the seats
-pub record EndsAs {B : Type 0} (contents : B → List ℕ) (IsSame : B → B → Type 0) (given : List B) (c : Setup) (seats : List (Standing B))
+pub record IsShownClosed {B : Type 0} (contents : B → List ℕ) (IsSame : B → B → Type 0) (given : List B) (c : Setup) (seats : List (Standing B))
     (xs : List Member) (ws : List ℕ) (items : List (Slot B)) : Type 0 where
   pub words : (m : Cells) × ShowsWords c ws m × HasIndices c m
   pub laid : (i : ℕ) → i < n_of c.order → (b : B) × (slice_get items i ≡ Some (full_slot b))
@@ -381,7 +381,7 @@ module _ {B : Type 0} where
   pub ends : (contents : B → List ℕ) (IsSame : B → B → Type 0) (given : List B) (c : Setup) (id : ℕ) (w : Sight) (seats : List (Standing B)) (ws : List ℕ)
       (items : List (Slot B)) → Final (OfView (ShowsRun (LiesIn contents IsSame given) (opening_of contents given) c) id w) ws items
       → HasAll contents c.rings seats w.known → w.seen ≡ all_seen seats
-      → length seats ≡ c.seats → length given ≡ n_of c.order → EndsAs contents IsSame given c seats w.known.seats ws items
+      → length seats ≡ c.seats → length given ≡ n_of c.order → IsShownClosed contents IsSame given c seats w.known.seats ws items
   unfolding closed_run
   ends contents IsSame given c id w seats ws items f has told count many =
       let v = w.known in
@@ -453,8 +453,8 @@ module _ {B : Type 0} where
       → Final (OfView (ShowsRun (LiesIn contents IsSame key.given.value.items) (opening_of contents key.given.value.items) key.setup) id v) ws items
       → HasAll contents key.setup.rings seats v.known → v.seen ≡ all_seen seats → length seats ≡ band.setup.seats
       → length key.given.value.items ≡ n_of key.setup.order
-      → EndsAs contents IsSame band.given band.setup seats v.known.seats ws items
+      → IsShownClosed contents IsSame band.given band.setup seats v.known.seats ws items
   ended contents IsSame table key band id v seats ws items is f has told count many =
       let seats_are : length seats ≡ key.setup.seats = count ∙ ap (λ (b : Identity B). b.setup.seats) (sym is) in
-      subst (λ (b : Identity B). EndsAs contents IsSame b.given b.setup seats v.known.seats ws items) is
+      subst (λ (b : Identity B). IsShownClosed contents IsSame b.given b.setup seats v.known.seats ws items) is
       (ends contents IsSame key.given.value.items key.setup id v seats ws items f has told seats_are many)

@@ -17,7 +17,7 @@ use Rattle.scq_band.specs.Layout.{ring_of_word}
 use Rattle.scq_band.specs.Known.{Known}
 use Rattle.scq_band.specs.Turns.{MayTurn, Turned}
 use Rattle.scq_band.specs.Steps.{my, my_phase, front_index, front_bytes, drawing, draw_turn}
-use Rattle.scq_band.specs.Seats.{IsAlone, IsLooking, IsToDraw, goes_to, spent_at, index_of, content_of, least_of}
+use Rattle.scq_band.specs.Seats.{IsAlone, IsLooking, IsToDraw, goes_to, spent_at, put_index, content_of, least_of}
 use Rattle.scq_band.specs.Rings.{IsRing}
 use Rattle.scq_band.proofs.Layouts.{ring_of_word-at}
 use Rattle.scq_band.proofs.Outcomes.{goes_as, turned_as, alone_at, may_go}
@@ -79,7 +79,7 @@ module _ {S : Type 0} (Lies : ℕ → S → List ℕ → Type 0) (c : Setup) (v0
 
 -- a put that looks at its ticket's slot
 pub looks_as : (v : Known) (r i : ℕ) (w : List ℕ) (t l : ℕ) → my_phase v ≡ AtE2 r i w t l → IsLooking r t (my_phase v)
-looks_as v r i w t l is = subst (λ (p : Phase). p ≡ AtE2 r (index_of p) (content_of p) t (least_of p)) (sym is) refl
+looks_as v r i w t l is = subst (λ (p : Phase). p ≡ AtE2 r (put_index p) (content_of p) t (least_of p)) (sym is) refl
 
 -- the turn of a draw from a ring's Tail, with the slots that stood when the call began
 pub turn_of_draw : {B : Type 0} (contents : B → List ℕ) (c : Setup) (ring : Ring) (me : Me (Slot B) Known) (slots : List (ℕ × Slot B)) (i : ℕ) → IsRing c ring
@@ -98,3 +98,21 @@ pub drew_above : {S : Type 0} (Lies : ℕ → S → List ℕ → Type 0) (c : Se
 drew_above Lies c v0 me later turn x r i w l is went turned known e =
     let u = turned_as Lies c turn (AtE1 r i w l) me later x is turned in
     u.draws known (ap (λ (v : Known). slice_get v.numbers r) went ∙ e)
+
+-- and of the seat: where the ticket is below the limit, and where it is not
+pub record DrewFromTail {S : Type 0} (c : Setup) (v : Known) (slots : List (ℕ × S)) (x r i : ℕ) (w : List ℕ) (later : Me S Known) : Type 0 where
+  pub within : x < c.limit → later.0 ≡ goes_to (AtE2 r i w x 0) v
+  pub past : c.limit ≤ x → later.0 ≡ spent_at r x true v
+  pub kept : later.1 ≡ slots
+  pub above : (known : Numbers) → slice_get v.numbers r ≡ Some known → known.seen < x
+
+pub drew_from_tail : {S : Type 0} (Lies : ℕ → S → List ℕ → Type 0) (c : Setup) (v : Known) (slots : List (ℕ × S)) (me later : Me S Known) (turn : Phase)
+    (x r i : ℕ) (w : List ℕ) (l : ℕ) → turn ≡ AtE1 r i w l → IsAlone v → me.0 ≡ goes_to (my_phase me.0) v → me.1 ≡ slots → Turned Lies c turn me x later
+    → DrewFromTail c v slots x r i w later
+drew_from_tail Lies c v slots me later turn x r i w l is alone went same turned =
+    record {
+      within = λ low. drew Lies c v me later turn x r i w l is alone went low turned;
+      past = λ past. drew_past Lies c v me later turn x r i w l is alone went past turned;
+      kept = (turned_as Lies c turn (AtE1 r i w l) me later x is turned).slots ∙ same;
+      above = drew_above Lies c v me later turn x r i w l is went turned;
+    }

@@ -1,5 +1,5 @@
 -- A get draws tickets: what it knows of Head after the last one is what it knew before, and that one.
-use Rattle.std.proofs.Common.{◌≡◌, ℕ, zero, suc, ◌+◌, ◌<◌, ◌≤◌, false, List, [], ◌∷◌, refl, sym, ◌∙◌, ap, subst, inl, inr, arith, le-leb, leb-true, lt-ltb, ltb-true}
+use Rattle.std.proofs.Common.{◌≡◌, ℕ, zero, suc, ◌+◌, ◌^◌, ◌<◌, ◌≤◌, false, List, [], ◌∷◌, refl, sym, ◌∙◌, ap, subst, inl, inr, arith, le-leb, leb-true, lt-ltb, ltb-true}
 use Rattle.std.specs.Prelude.{Some, None, nat_le, nat_lt, max, slice_get}
 use Rattle.std.proofs.Math.Nat.{max-eq_left}
 use Rattle.std.proofs.lemmas.Bool.{cases_Bool}
@@ -16,7 +16,7 @@ use Rattle.scq_band.specs.Layout.{ring_of_word}
 use Rattle.scq_band.specs.Known.{Known}
 use Rattle.scq_band.specs.Turns.{MayTurn, Takes, Turned}
 use Rattle.scq_band.specs.Steps.{my, my_phase, loading, load_turn}
-use Rattle.scq_band.specs.Seats.{IsAlone, with_part, at_phase, seated, goes_to, nothing_at, got_at, HasGot, HasGotAfter, drew_head, drawn_spent, to_draw}
+use Rattle.scq_band.specs.Seats.{IsAlone, with_part, at_phase, seated, goes_to, nothing_at, got_at, SeatHasGot, drew_head, drawn_spent, to_draw}
 use Rattle.scq_band.proofs.Outcomes.{goes_as, turned_as}
 
 not_at_most : {a b : ℕ} → b < a → nat_le a b ≡ false
@@ -99,12 +99,35 @@ module _ {S : Type 0} (Lies : ℕ → S → List ℕ → Type 0) (c : Setup) (v 
       changed_read (z ∷ zs) (suc q) y n there = changed_read zs q y n there
 
 -- what was got with the last ticket, told of the seat before the call
-pub got_then : {S : Type 0} (Lies : ℕ → S → List ℕ → Type 0) (r h i : ℕ) (v : Known) (slots : List (ℕ × S)) (me later : Me S Known)
-    → me.0 ≡ goes_to (AtD3 r h 0) (drew_head r h v) → me.1 ≡ slots → HasGot Lies r h i me later
-    → HasGotAfter Lies r h i (v, slots) later
-got_then {S = S} Lies r h i v slots me later went same got =
+pub got_then : {S : Type 0} (Lies : ℕ → S → List ℕ → Type 0) (c : Setup) (r h i : ℕ) (v : Known) (slots : List (ℕ × S)) (me later : Me S Known)
+    → me.0 ≡ goes_to (AtD3 r h 0) (drew_head r h v) → me.1 ≡ slots → SeatHasGot Lies c r h i me later
+    → SeatHasGot Lies c r h i (drew_head r h v, slots) later
+got_then {S = S} Lies c r h i v slots me later went same got =
     record {
       content = got.content;
       view = got.view ∙ ap (got_at r h i got.content) went;
       slots = subst (λ (ss : List (ℕ × S)). Takes Lies i got.content ss later.1) same got.slots;
+      low = got.low;
+      fits = got.fits;
+      once = got.once;
+    }
+
+-- what a draw from Head tells: where the ticket is below the limit, and where it is not
+pub record DrewFromHead {S : Type 0} (c : Setup) (v : Known) (slots : List (ℕ × S)) (x r : ℕ) (later : Me S Known) : Type 0 where
+  pub within : x < c.limit → later.0 ≡ goes_to (AtD3 r x 0) (drew_head r x v)
+  pub past : c.limit ≤ x → later.0 ≡ drawn_spent r x v
+  pub kept : later.1 ≡ slots
+  pub above : (known : Numbers) → slice_get v.numbers r ≡ Some known → known.head ≤ x
+  pub short : x + 1 < 2 ^ 64
+
+pub drew_from_head : {S : Type 0} (Lies : ℕ → S → List ℕ → Type 0) (c : Setup) (v : Known) (slots : List (ℕ × S)) (me later : Me S Known) (turn : Phase)
+    (x r l : ℕ) → turn ≡ AtD2 r l → IsAlone me.0 → me.0 ≡ to_draw r l v → me.1 ≡ slots → Turned Lies c turn me x later → DrewFromHead c v slots x r later
+drew_from_head Lies c v slots me later turn x r l is alone here same turned =
+    let u = turned_as Lies c turn (AtD2 r l) me later x is turned in
+    record {
+      within = λ low. drew_one Lies c v me later turn x r l is alone here low turned;
+      past = λ past. drew_past_head Lies c v me later turn x r l is alone here past turned;
+      kept = u.slots ∙ same;
+      above = drew_above_head Lies c v me later turn x r l is here turned;
+      short = u.ready;
     }

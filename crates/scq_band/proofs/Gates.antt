@@ -13,7 +13,7 @@ use Rattle.atomic_table.specs.Table.{Me, State, Allows, stepped, keeps}
 use Rattle.atomic_table.proofs.Lists.{at_set}
 use Rattle.scq_word.specs.declared.setup.Setup.{Setup}
 use Rattle.scq_core.specs.declared.step.Step.{Step}
-use Rattle.scq_core.specs.Machine.{Part}
+use Rattle.scq_core.specs.Machine.{SeatPart}
 use Rattle.scq_core.specs.Updated.{updated}
 use Rattle.scq_core.proofs.UpdatedLemmas.{updated_here, updated_else}
 use Rattle.scq_band.specs.Known.{Member, Known}
@@ -23,7 +23,8 @@ use Rattle.scq_band.specs.Steps.{my, my_of}
 use Rattle.scq_band.specs.Seats.{IsAlone, looked, retired_at}
 use Rattle.scq_band.proofs.WordLemmas.{gate_shown}
 use Rattle.scq_band.proofs.Operations.{less_one}
-use Rattle.scq_band.proofs.StandingSeats.{set_stands}
+use Rattle.scq_band.proofs.StandingSeats.{seat_apart, set_stands}
+use Rattle.scq_band.proofs.Views.{views_shown}
 
 -- no more seats are awake than there are
 pub awake_few : (gone : ℕ → Option ℕ) (n : ℕ) → awake gone n ≤ n
@@ -176,31 +177,21 @@ module _ {S : Type 0} (Lies : ℕ → S → List ℕ → Type 0) where
             (slice_index s.words 0) me.0);
       }))
       (sym same)
-      (record {
-        scene = sh.scene;
-        leads = sh.leads;
-        gone_is = sh.gone_is;
-        made = sh.made;
-        words = sh.words;
-        awake_seats = sh.awake_seats;
-        room = sh.room;
-        views =
-            λ j v e.
-            elim (at_set s.views id j (looked (slice_index s.words 0) me.0) v e) [
-              | inl at ↦
-                  let mine = sh.views id me.0 here in
-                  let view : IsView Lies c sh.scene s.homes (slice_index s.words 0) id (looked (slice_index s.words 0) me.0) = record {
-                    seats = mine.seats;
-                    rings = mine.rings;
-                    numbers = mine.numbers;
-                    last_gate = λ n is. let eq : slice_index s.words 0 ≡ n = cc in omega (arith, eq);
-                  } in
-                  rw at.0 (subst (λ (u : Known). IsView Lies c sh.scene s.homes (slice_index s.words 0) id u) at.1 view)
-              | inr other ↦ sh.views j v other.1
-            ];
-        stored = sh.stored;
-        all_stand = λ k low. set_stands s.views id k me.0 (looked (slice_index s.words 0) me.0) here (λ a. a) (sh.all_stand k low);
-      }) in
+      (views_shown Lies c s sh.scene.owner (slice_set s.views id (looked (slice_index s.words 0) me.0)) sh
+      (λ j v e.
+      elim (at_set s.views id j (looked (slice_index s.words 0) me.0) v e) [
+        | inl at ↦
+            let mine = sh.views id me.0 here in
+            let view : IsView Lies c sh.scene s.homes (slice_index s.words 0) id (looked (slice_index s.words 0) me.0) = record {
+              seats = mine.seats;
+              rings = mine.rings;
+              numbers = mine.numbers;
+              last_gate = λ n is. let eq : slice_index s.words 0 ≡ n = cc in omega (arith, eq);
+            } in
+            rw at.0 (subst (λ (u : Known). IsView Lies c sh.scene s.homes (slice_index s.words 0) id u) at.1 view)
+        | inr other ↦ sh.views j v other.1
+      ])
+      (λ k low. set_stands s.views id k me.0 (looked (slice_index s.words 0) me.0) here (λ a. a) (sh.all_stand k low))) in
       (looked (slice_index s.words 0) me.0, keeps, tt, shown, (refl, refl, reading c id me.0 s sh here))
 
   -- the seats of another view, after a seat has retired
@@ -210,7 +201,7 @@ module _ {S : Type 0} (Lies : ℕ → S → List ℕ → Type 0) where
   gone_else c z homes id j k n mine apart [] owns = tt
   gone_else c z homes id j k n mine apart (x ∷ xs) owns =
       let x_is = owns.0 in
-      let other : x.number ≢ k = λ e. let both = sym x_is.owner ∙ ap z.owner e ∙ mine in apart (ap (λ (q : ℕ × ℕ). q.0) both) in (
+      let other = seat_apart z.owner x.number k j id x_is.owner mine apart in (
         record {
           low = x_is.low;
           owner = x_is.owner;
@@ -255,7 +246,7 @@ module _ {S : Type 0} (Lies : ℕ → S → List ℕ → Type 0) where
                   let is : Some calls ≡ Some n = sym (updated_here gone k (Some calls)) ∙ ap now (sym same) ∙ e in
                   let all : calls ≡ n = cc in
                   let part : length (z.state.part b).calls ≡ calls =
-                  ap (λ j. length (z.state.part j).calls) same ∙ ap (λ (p : Part). length p.calls) x_is.part in
+                  ap (λ j. length (z.state.part j).calls) same ∙ ap (λ (p : SeatPart). length p.calls) x_is.part in
                   omega (arith, all, part)
               | inr other ↦ sh.made b n (sym (updated_else gone k (Some calls) b other) ∙ e)
             ];

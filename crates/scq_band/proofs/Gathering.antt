@@ -9,13 +9,13 @@ use Rattle.scq_band.specs.Known.{Member, Known, both_of}
 use Rattle.scq_band.specs.Steps.{my}
 use Rattle.scq_band.specs.Standing.{Standing}
 use Rattle.scq_band.specs.Closing.{indices_of}
-use Rattle.scq_band.specs.Homes.{IsMemberOf, OutOrHome, AreGathered, all_seen}
+use Rattle.scq_band.specs.Homes.{IsMemberOf, OutOrHome, SeatsAreGathered, all_seen}
 use Rattle.scq_band.proofs.SeatsHome.{has_one, has_more}
 
 module _ {B : Type 0} where
   pub gathered_first : (contents : B → List ℕ) (rings : ℕ) (all left : List (Standing B)) (s : Standing B) (w : Known) → all ≡ left ++ s ∷ []
       → w.seats ≡ my w ∷ [] → IsMemberOf contents s (my w) → w.numbers ≡ s.numbers → length s.numbers ≡ rings → w.gate ≡ s.gate → (told : Seen) → told ≡ s.seen
-      → AreGathered contents rings all left w told
+      → SeatsAreGathered contents rings all left w told
   gathered_first contents rings all left s w split alone member numbers count gate told seen =
       record {
         done = s ∷ [];
@@ -26,9 +26,9 @@ module _ {B : Type 0} where
       }
 
   pub gathered_more : (contents : B → List ℕ) (rings : ℕ) (all before left : List (Standing B)) (s : Standing B) (v w : Known) (told : Seen)
-      → AreGathered contents rings all before v told
+      → SeatsAreGathered contents rings all before v told
       → before ≡ left ++ s ∷ [] → w.seats ≡ my w ∷ [] → IsMemberOf contents s (my w) → w.numbers ≡ s.numbers → length s.numbers ≡ rings
-      → w.gate ≡ s.gate → (more : Seen) → more ≡ s.seen → AreGathered contents rings all left (both_of v w) (both_seen told more)
+      → w.gate ≡ s.gate → (more : Seen) → more ≡ s.seen → SeatsAreGathered contents rings all left (both_of v w) (both_seen told more)
   gathered_more contents rings all before left s v w told now last alone member numbers count gate more seen =
       record {
         done = s ∷ now.done;

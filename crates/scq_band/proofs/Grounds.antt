@@ -34,22 +34,7 @@ use Rattle.scq_band.proofs.Moves.{Ground}
 -- the location of a turn is on the turn's ring
 ring_at-turn : (c : Setup) (t : Phase) → ring_at (location_of c t) ≡ ring_of t
 ring_at-turn c Idle = refl
-ring_at-turn c (AtE1 r i w l) = refl
-ring_at-turn c (AtE2 r i w t l) = refl
-ring_at-turn c (AtE3 r i w t e) = refl
-ring_at-turn c (AtE4 r i w t e) = refl
-ring_at-turn c (AtE5 r i w t) = refl
-ring_at-turn c (AtE6 r i w t) = refl
-ring_at-turn c (AtD1 r) = refl
-ring_at-turn c (AtD2 r l) = refl
-ring_at-turn c (AtD3 r h l) = refl
-ring_at-turn c (AtD4 r h) = refl
-ring_at-turn c (AtD5 r h e) = refl
-ring_at-turn c (AtD6 r h) = refl
-ring_at-turn c (AtD7 r h from to) = refl
-ring_at-turn c (AtD8 r h from) = refl
-ring_at-turn c (AtD9 r h from to) = refl
-ring_at-turn c (AtD10 r h leaving) = refl
+ring_at-turn c turn = refl
 
 slot_at-turn : (c : Setup) (t : Phase) → IsSlotAt c (location_of c t)
 slot_at-turn c (AtE2 r i w t l) = slot_of_small c.order t
@@ -57,18 +42,7 @@ slot_at-turn c (AtE4 r i w t e) = slot_of_small c.order t
 slot_at-turn c (AtD3 r h l) = slot_of_small c.order h
 slot_at-turn c (AtD4 r h) = slot_of_small c.order h
 slot_at-turn c (AtD5 r h e) = slot_of_small c.order h
-slot_at-turn c Idle = tt
-slot_at-turn c (AtE1 r i w l) = tt
-slot_at-turn c (AtE3 r i w t e) = tt
-slot_at-turn c (AtE5 r i w t) = tt
-slot_at-turn c (AtE6 r i w t) = tt
-slot_at-turn c (AtD1 r) = tt
-slot_at-turn c (AtD2 r l) = tt
-slot_at-turn c (AtD6 r h) = tt
-slot_at-turn c (AtD7 r h from to) = tt
-slot_at-turn c (AtD8 r h from) = tt
-slot_at-turn c (AtD9 r h from to) = tt
-slot_at-turn c (AtD10 r h leaving) = tt
+slot_at-turn c turn = tt
 
 -- a turn's location is one of the setup's
 pub is_location : (c : Setup) (t : Phase) → ring_of t < c.rings → IsLocation c (location_of c t)

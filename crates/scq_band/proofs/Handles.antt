@@ -197,14 +197,8 @@ module _ {S : Type 0} (Lies : ℕ → S → List ℕ → Type 0) where
       → length homes ≡ n_of c.order → Stored Lies c m.cells.entries homes
       → Busy c m.cells (m.part k).hand t → Carries Lies t slots → ((r h : ℕ) → t ≡ AtD4 r h → is_none_in (ring_slots c) (word_at c m.cells r h) ≡ false)
       → Handles Lies c m homes slots k t
-  handles c m homes slots k Idle one room stored busy front stands =
-      quiet Lies c m homes slots k Idle stored refl refl
-  handles c m homes slots k (AtE1 r i w l) one room stored busy front stands =
-      quiet Lies c m homes slots k (AtE1 r i w l) stored refl refl
   handles c m homes slots k (AtE2 r i w t l) one room stored busy front stands =
       quiet Lies c m homes slots k (AtE2 r i w t l) stored (ap (λ (n : Cells). n.entries) (written_same m.cells (location_of c (AtE2 r i w t l)))) refl
-  handles c m homes slots k (AtE3 r i w t e) one room stored busy front stands =
-      quiet Lies c m homes slots k (AtE3 r i w t e) stored refl refl
   handles c m homes [] k (AtE4 r i w t e) one room stored busy front stands = absurd front
   handles c m homes (x ∷ xs) k (AtE4 r i w t e) one room stored busy front stands =
       elim (cases_eq (word_at c m.cells r t) e) [
@@ -214,14 +208,6 @@ module _ {S : Type 0} (Lies : ℕ → S → List ℕ → Type 0) where
             quiet Lies c m homes (x ∷ xs) k (AtE4 r i w t e) stored
             (rw test (ap (λ (n : Cells). n.entries) (written_same m.cells (location_of c (AtE4 r i w t e))))) (rw test refl)
       ]
-  handles c m homes slots k (AtE5 r i w t) one room stored busy front stands =
-      quiet Lies c m homes slots k (AtE5 r i w t) stored refl refl
-  handles c m homes slots k (AtE6 r i w t) one room stored busy front stands =
-      quiet Lies c m homes slots k (AtE6 r i w t) stored refl refl
-  handles c m homes slots k (AtD1 r) one room stored busy front stands =
-      quiet Lies c m homes slots k (AtD1 r) stored refl refl
-  handles c m homes slots k (AtD2 r l) one room stored busy front stands =
-      quiet Lies c m homes slots k (AtD2 r l) stored refl refl
   handles c m homes slots k (AtD3 r h l) one room stored busy front stands =
       quiet Lies c m homes slots k (AtD3 r h l) stored (ap (λ (n : Cells). n.entries) (written_same m.cells (location_of c (AtD3 r h l)))) refl
   handles c m homes slots k (AtD4 r h) one room stored busy front stands =
@@ -233,13 +219,4 @@ module _ {S : Type 0} (Lies : ℕ → S → List ℕ → Type 0) where
             let test : (word_at c m.cells r h == e) ≡ false = ne_eqb _ _ miss in
             quiet Lies c m homes slots k (AtD5 r h e) stored (rw test (ap (λ (n : Cells). n.entries) (written_same m.cells (location_of c (AtD5 r h e))))) refl
       ]
-  handles c m homes slots k (AtD6 r h) one room stored busy front stands =
-      quiet Lies c m homes slots k (AtD6 r h) stored refl refl
-  handles c m homes slots k (AtD7 r h from to) one room stored busy front stands =
-      quiet Lies c m homes slots k (AtD7 r h from to) stored refl refl
-  handles c m homes slots k (AtD8 r h from) one room stored busy front stands =
-      quiet Lies c m homes slots k (AtD8 r h from) stored refl refl
-  handles c m homes slots k (AtD9 r h from to) one room stored busy front stands =
-      quiet Lies c m homes slots k (AtD9 r h from to) stored refl refl
-  handles c m homes slots k (AtD10 r h leaving) one room stored busy front stands =
-      quiet Lies c m homes slots k (AtD10 r h leaving) stored refl refl
+  handles c m homes slots k turn one room stored busy front stands = quiet Lies c m homes slots k turn stored refl refl

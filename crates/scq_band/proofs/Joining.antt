@@ -3,7 +3,7 @@ use Rattle.std.proofs.Common.{◌≡◌, ℕ, zero, suc, ◌+◌, ◌<◌, ◌�
 use Rattle.std.specs.Prelude.{Option, Some, None, slice_set, slice_index_or}
 use Rattle.scq_band.specs.Known.{Known, nobody, lower_gate, both_of}
 use Rattle.scq_band.specs.declared.numbers.Numbers.{Numbers}
-use Rattle.scq_band.specs.Numbers.{known_of, larger, joined}
+use Rattle.scq_band.specs.Numbers.{known_of, larger, raised_by}
 use Rattle.scq_band.specs.Kept.{AreSmall}
 use Rattle.scq_band.proofs.Keeping.{max_small, max_order}
 
@@ -26,7 +26,7 @@ joined_next (suc n) (a ∷ xs) (b ∷ ys) x y low there mine its =
     ap (λ (zs : List Numbers). larger a b ∷ zs) (joined_next n xs ys x y (omega arith) (omega arith) mine its)
 
 -- past the end of either list all is joined
-pub joined_all : (n : ℕ) (xs ys : List Numbers) → (n < length xs → n < length ys → ⊥) → joined_below n xs ys ≡ joined xs ys
+pub joined_all : (n : ℕ) (xs ys : List Numbers) → (n < length xs → n < length ys → ⊥) → joined_below n xs ys ≡ raised_by xs ys
 joined_all zero [] ys over = refl
 joined_all zero (x ∷ xs) [] over = refl
 joined_all zero (x ∷ xs) (y ∷ ys) over = absurd (over (omega arith) (omega arith))
@@ -34,7 +34,7 @@ joined_all (suc n) [] ys over = refl
 joined_all (suc n) (x ∷ xs) [] over = refl
 joined_all (suc n) (x ∷ xs) (y ∷ ys) over = ap (λ (zs : List Numbers). larger x y ∷ zs) (joined_all n xs ys (λ a b. over (omega (arith, a)) (omega (arith, b))))
 
-pub small_joined : (xs ys : List Numbers) → AreSmall xs → AreSmall ys → AreSmall (joined xs ys)
+pub small_joined : (xs ys : List Numbers) → AreSmall xs → AreSmall ys → AreSmall (raised_by xs ys)
 small_joined [] ys one other r = one r
 small_joined (x ∷ xs) [] one other r = one r
 small_joined (x ∷ xs) (y ∷ ys) one other zero = (
@@ -64,7 +64,7 @@ take_length (suc n) [] low = absurd (omega arith)
 take_length (suc n) (x ∷ xs) low = ap suc (take_length n xs (omega arith))
 
 -- who takes in a view that knows nothing knows what it knew
-joined_none : (xs : List Numbers) → joined xs [] ≡ xs
+joined_none : (xs : List Numbers) → raised_by xs [] ≡ xs
 joined_none [] = refl
 joined_none (x ∷ xs) = refl
 

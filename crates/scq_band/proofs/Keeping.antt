@@ -8,7 +8,7 @@ use Rattle.std.proofs.lemmas.List.{length-append, length-set}
 use Rattle.atomic_table.specs.Seated.{TableId}
 use Rattle.atomic_table.specs.Table.{Me, rest}
 use Rattle.scq_word.specs.Sizes.{n_of}
-use Rattle.scq_core.specs.Machine.{Part, Location}
+use Rattle.scq_core.specs.Machine.{SeatPart, Location}
 use Rattle.scq_core.specs.Table.{hand_without, ends}
 use Rattle.scq_word.specs.declared.setup.Setup.{Setup}
 use Rattle.scq_core.specs.declared.ended.Ended.{Ended}
@@ -26,10 +26,10 @@ use Rattle.scq_band.specs.Sights.{Sight, StandsAfter, Went, Looked, retired_ones
 use Rattle.scq_law.specs.Prefixes.{IsRecordAfter}
 use Rattle.scq_band.specs.RunSeen.{Seen, Caller, EndsWith, IsCallInRun, WasEmptyInRun, IsReadingInRun, IsMomentInRun, WasFoundInRun, AllWereSeenRetired}
 use Rattle.scq_band.specs.Steps.{my, bytes_in, front_bytes}
-use Rattle.scq_band.specs.Seats.{IsAlone, looked, HasGotAfter, with_part, seated, put_at, got_at, nothing_at, drew_head, spent_at}
+use Rattle.scq_band.specs.Seats.{IsAlone, looked, HasGotAfter, with_part, seated, put_at, got_at, nothing_at, none_at, drew_head, drawn_spent, spent_at, HasFoundNone, HasSpentGet}
 use Rattle.scq_band.specs.Turns.{Fronts}
 use Rattle.scq_band.specs.Buffers.{LiesIn, opening_of}
-use Rattle.scq_band.specs.Standing.{Identity, Standing, in_hand, bytes_of, bytes_in_hand, having_seen, caller_of, after_put, after_get, after_nothing, after_spent_put, HasTaken}
+use Rattle.scq_band.specs.Standing.{Identity, Standing, in_hand, laid_bytes, bytes_in_hand, having_seen, caller_of, seat_after_put, seat_after_get, seat_after_nothing, seat_after_spent_put, seat_after_spent_get, SeatHasTaken}
 use Rattle.scq_band.specs.Kept.{in_order, buffer_in, hand_of, identity_of, standing_from, standing_of, AllGiven, IsSmall, AreSmall, IsKept}
 use Rattle.scq_band.proofs.Slots.{times-append, times-without, length-without, put_hand}
 use Rattle.scq_law.proofs.Aspects.EmptyCalls.{empty_at_call}
@@ -76,10 +76,10 @@ same_head x y rises low =
     ap (λ f. made f y.seen y.head) rises.finished ∙ ap (λ s. made x.finished s y.head) rises.seen ∙ ap (λ h. made x.finished x.seen h) head
 
 -- two changes of one ring are one change
-pub changed_twice : (f g : Numbers → Numbers) (r : ℕ) (ns : List Numbers) → r < length ns → changed f r (changed g r ns) ≡ changed (λ x. f (g x)) r ns
-changed_twice f g r [] low = refl
-changed_twice f g zero (n ∷ ns) low = refl
-changed_twice f g (suc r) (n ∷ ns) low = ap (λ (l : List Numbers). n ∷ l) (changed_twice f g r ns (omega arith))
+pub changed_twice : (f g : Numbers → Numbers) (r : ℕ) (ns : List Numbers) → changed f r (changed g r ns) ≡ changed (λ x. f (g x)) r ns
+changed_twice f g r [] = refl
+changed_twice f g zero (n ∷ ns) = refl
+changed_twice f g (suc r) (n ∷ ns) = ap (λ (l : List Numbers). n ∷ l) (changed_twice f g r ns)
 
 pub max_small : (a b : ℕ) → a < 2 ^ 60 → b < 2 ^ 60 → max a b < 2 ^ 60
 max_small a b one other =
@@ -198,19 +198,19 @@ module _ {B : Type 0} where
       (ms : List (ℕ × Slot B)) (given : List B) (i : ℕ) (buffer : B) (s : Standing B) (r p : ℕ)
       → standing_from fs table key me ≡ s → later ≡ table → v ≡ me.0 → in_hand s.hand i ≡ Some (Some buffer) → Brought IsSame me given ms i (Some buffer)
       → me'.0 ≡ put_at r i p (front_bytes contents ms) v → me'.1 ≡ rest ms
-      → standing_from gs later key me' ≡ having_seen gs (after_put r i p (bytes_in_hand contents s.hand i) s)
+      → standing_from gs later key me' ≡ having_seen gs (seat_after_put r i p (bytes_in_hand contents s.hand i) s)
   put_standing contents IsSame fs gs table later key me me' v ms given i buffer s r p is same view has b put home =
       let others : rest ms ≡ b.others = ap rest b.is in
       let bytes : front_bytes contents ms ≡ bytes_in_hand contents s.hand i = ap (front_bytes contents) b.is ∙ ap (bytes_in contents) b.has
-      ∙ ap (bytes_of contents) (sym has) in
+      ∙ ap (laid_bytes contents) (sym has) in
       let w = bytes_in_hand contents s.hand i in
       let now : me' ≡ (put_at r i p w me.0, b.others) =
       ap (λ (u : Known). (u, me'.1)) (put ∙ ap (λ (l : List ℕ). put_at r i p l v) bytes ∙ ap (put_at r i p w) view)
       ∙ ap (λ (l : List (ℕ × Slot B)). (put_at r i p w me.0, l)) (home ∙ others) in
       ap (standing_from gs later key) now ∙ ap (λ t. standing_from gs t key (put_at r i p w me.0, b.others)) same
-      ∙ ap (λ (h : List (ℕ × Option B)). record (having_seen gs (after_put r i p w (standing_from fs table key me))) { hand = h })
+      ∙ ap (λ (h : List (ℕ × Option B)). record (having_seen gs (seat_after_put r i p w (standing_from fs table key me))) { hand = h })
       (put_hand me.1 ms b.others i b.slot b.same b.is (my me.0).part.hand)
-      ∙ ap (λ (t : Standing B). having_seen gs (after_put r i p w t)) is
+      ∙ ap (λ (t : Standing B). having_seen gs (seat_after_put r i p w t)) is
 
   pub turned_hand : (slots ms : List (ℕ × Slot B)) → ((j : ℕ) → buffer_in ms j ≡ buffer_in slots j) → (hand : List ℕ) → hand_of ms hand ≡ hand_of slots hand
   turned_hand slots ms same [] = refl
@@ -222,14 +222,14 @@ module _ {B : Type 0} where
       (ms : List (ℕ × Slot B)) (s : Standing B) (r t : ℕ)
       → standing_from fs table key me ≡ s → later ≡ table → v ≡ me.0 → ((j : ℕ) → buffer_in ms j ≡ buffer_in me.1 j)
       → me'.0 ≡ spent_at r t true v → me'.1 ≡ ms
-      → standing_from gs later key me' ≡ having_seen gs (after_spent_put r t s)
+      → standing_from gs later key me' ≡ having_seen gs (seat_after_spent_put r t s)
   spent_standing fs gs table later key me me' v ms s r t is same view buffers spent slots =
       let now : me' ≡ (spent_at r t true me.0, ms) = ap (λ (u : Known). (u, me'.1)) (spent ∙ ap (spent_at r t true) view)
       ∙ ap (λ (l : List (ℕ × Slot B)). (spent_at r t true me.0, l)) slots in
       ap (standing_from gs later key) now ∙ ap (λ z. standing_from gs z key (spent_at r t true me.0, ms)) same
-      ∙ ap (λ (h : List (ℕ × Option B)). record (having_seen gs (after_spent_put r t (standing_from fs table key me))) { hand = h })
+      ∙ ap (λ (h : List (ℕ × Option B)). record (having_seen gs (seat_after_spent_put r t (standing_from fs table key me))) { hand = h })
       (turned_hand me.1 ms buffers (my me.0).part.hand)
-      ∙ ap (λ (z : Standing B). having_seen gs (after_spent_put r t z)) is
+      ∙ ap (λ (z : Standing B). having_seen gs (seat_after_spent_put r t z)) is
 
   -- the slot in front has the buffer that its index was given
   pub seen : (contents : B → List ℕ) (IsSame : B → B → Type 0) (me : Me (Slot B) Known) (ms : List (ℕ × Slot B)) (given all : List B) (i : ℕ) (buffer : B)
@@ -252,11 +252,11 @@ module _ {B : Type 0} (contents : B → List ℕ) (IsSame : B → B → Type 0) 
   -- after a get
   pub kept_got : (key : Key B) (me me' : Me (Slot B) Known) (indices later : List ℕ) (room room' : ℕ) (numbers numbers' : List Numbers) (spent : Option ℕ)
       (r h i : ℕ)
-      → IsKept IsSame key me indices room numbers spent → HasGotAfter (LiesIn contents IsSame key.given.value.items) r h i me me'
-      → ((j : ℕ) → times j (my me'.0).part.hand ≤ 1) → i < n_of key.setup.order → later ≡ indices ++ i ∷ [] → room' ≡ room
-      → r < length numbers → numbers' ≡ changed (λ x. sees h (passes (h + 1) x)) r numbers
+      → IsKept IsSame key me indices room numbers spent → HasGotAfter (LiesIn contents IsSame key.given.value.items) key.setup r h i me me'
+      → later ≡ indices ++ i ∷ [] → room' ≡ room → numbers' ≡ changed (λ x. sees h (passes (h + 1) x)) r numbers
       → IsKept IsSame key me' later room' numbers' spent
-  kept_got key me me' indices later room room' numbers numbers' spent r h i kept got once low more space there new =
+  kept_got key me me' indices later room room' numbers numbers' spent r h i kept gets more space new =
+      let got = gets.got in
       let hand = (my me.0).part.hand in
       let view = got.view in
       let come = got.slots.come in
@@ -265,7 +265,7 @@ module _ {B : Type 0} (contents : B → List ℕ) (IsSame : B → B → Type 0) 
       λ j.
       ap (times j) more ∙ times-append j indices (i ∷ []) ∙ ap (λ n. n + times j (i ∷ [])) (kept.same j) ∙ sym (times-append j hand (i ∷ []))
       ∙ ap (times j) (sym held_now) in
-      let known : numbers' ≡ me'.0.numbers = new ∙ sym (changed_twice (sees h) (passes (h + 1)) r numbers there)
+      let known : numbers' ≡ me'.0.numbers = new ∙ sym (changed_twice (sees h) (passes (h + 1)) r numbers)
       ∙ ap (λ (ns : List Numbers). changed (sees h) r (changed (passes (h + 1)) r ns)) kept.numbers ∙ ap (λ (u : Known). u.numbers) (sym view) in
       record {
         alone = record {
@@ -280,11 +280,11 @@ module _ {B : Type 0} (contents : B → List ℕ) (IsSame : B → B → Type 0) 
             let b = ap length held_now ∙ length-append hand (i ∷ []) in
             let was = kept.count in
             omega arith;
-        once = λ j. let s = size j in let o = once j in omega arith;
+        once = λ j. let s = size j in let o = got.once j in omega arith;
         low =
             λ j some.
             elim (cases_eq j i) [
-              | inl same ↦ rw same low
+              | inl same ↦ rw same got.low
               | inr other ↦
                   let away : times j (i ∷ []) ≡ 0 = rw (ne_eqb i j (λ e. other (sym e))) refl in
                   let s = ap (times j) more ∙ times-append j indices (i ∷ []) in
@@ -330,11 +330,11 @@ module _ {B : Type 0} (contents : B → List ℕ) (IsSame : B → B → Type 0) 
       ]
 
   -- what contracts see of a seat after a get
-  pub got_standing : (fs gs : Seen) (table later : TableId) (key : Key B) (me me' : Me (Slot B) Known) (numbers : List Numbers) (s : Standing B) (r h i : ℕ)
-      → standing_from fs table key me ≡ s → later ≡ table → HasGotAfter (LiesIn contents IsSame key.given.value.items) r h i me me'
-      → ((j : ℕ) → times j (my me'.0).part.hand ≤ 1) → r < length me.0.numbers
-      → HasTaken contents IsSame r h i s (standing_from gs later key me')
-  got_standing fs gs table later key me me' numbers s r h i is same got once there =
+  pub got_standing : (fs gs : Seen) (table later : TableId) (key : Key B) (me me' : Me (Slot B) Known) (s : Standing B) (r h i : ℕ)
+      → standing_from fs table key me ≡ s → later ≡ table → HasGotAfter (LiesIn contents IsSame key.given.value.items) key.setup r h i me me'
+      → SeatHasTaken contents IsSame r h i s (standing_from gs later key me')
+  got_standing fs gs table later key me me' s r h i is same gets =
+      let got = gets.got in
       let hand = (my me.0).part.hand in
       let lies = got.slots.lies in
       let b = lies.buffer in
@@ -342,11 +342,11 @@ module _ {B : Type 0} (contents : B → List ℕ) (IsSame : B → B → Type 0) 
       let x = got.slots.value in
       let held_now : (my me'.0).part.hand ≡ hand ++ i ∷ [] = ap (λ (u : Known). (my u).part.hand) got.view in
       let none : times i hand ≡ 0 =
-      let o = once i in
+      let o = got.once i in
       let l = ap (times i) held_now ∙ times-append i hand (i ∷ []) in
       let one : times i (i ∷ []) ≡ 1 = rw (eq-eqb i i refl) refl in
       omega (arith, o, l, one) in
-      let here : HasTaken contents IsSame r h i (standing_from fs table key me) (standing_from gs later key me') =
+      let here : SeatHasTaken contents IsSame r h i (standing_from fs table key me) (standing_from gs later key me') =
       record {
         buffer = b;
         given = record { first = lies.first; was = lies.was; same = lies.same };
@@ -356,12 +356,12 @@ module _ {B : Type 0} (contents : B → List ℕ) (IsSame : B → B → Type 0) 
             ∙ ap (λ t. standing_from gs t key (got_at r h i w (drew_head r h me.0), (i, x) ∷ me.1)) same
             ∙ ap (λ (l : List (ℕ × Option B)). record (standing_from gs table key (got_at r h i w (drew_head r h me.0), (i, x) ∷ me.1)) { hand = l })
             (come_hand me.1 i x hand none ∙ ap (λ (o : Option B). hand_of me.1 hand ++ (i, o) ∷ []) lies.laid)
-            ∙ ap (λ (ns : List Numbers). record (having_seen gs (after_get r h i b w (standing_from fs table key me))) { numbers = ns })
-            (changed_twice (sees h) (passes (h + 1)) r me.0.numbers there)
-            ∙ ap (λ (z : List ℕ). having_seen gs (after_get r h i b z (standing_from fs table key me))) (sym lies.bytes);
+            ∙ ap (λ (ns : List Numbers). record (having_seen gs (seat_after_get r h i b w (standing_from fs table key me))) { numbers = ns })
+            (changed_twice (sees h) (passes (h + 1)) r me.0.numbers)
+            ∙ ap (λ (z : List ℕ). having_seen gs (seat_after_get r h i b z (standing_from fs table key me))) (sym lies.bytes);
         came = in_hand-none me.1 hand i none;
       } in
-      subst (λ (z : Standing B). HasTaken contents IsSame r h i z (standing_from gs later key me')) is here
+      subst (λ (z : Standing B). SeatHasTaken contents IsSame r h i z (standing_from gs later key me')) is here
 
 pub known_here : (ns : List Numbers) (r : ℕ) (y : Numbers) → r < length ns → known_of (slice_set ns r y) r ≡ y
 known_here [] r y low = absurd (omega arith)
@@ -375,17 +375,22 @@ head_reached c opening v u r head went low is =
     let numbers = u.known.numbers in
     let le = (went.numbers r (known_of numbers r) (known_there numbers r low)).head in omega (arith, is, le)
 
--- the view of a get that has found nothing, with the last ticket that it drew, if any
-abbrev pub none_at : ℕ → Option ℕ → Known → Known
-none_at r drawn v = seated (with_part (ends (Nothing r) (my v).part) (my v)) (changed (λ x. empties (drew drawn x)) r v.numbers) v
+-- what a get has found that ends at once, and one that drew a ticket
+module _ {S : Type 0} (c : Setup) (r : ℕ) (me later : Me S Known) where
+  pub found_first : later.0 ≡ nothing_at r me.0 → later.1 ≡ me.1 → HasFoundNone c r None me later
+  found_first view slots = record { view = view; slots = slots; below = λ t is. absurd (cc); past = λ t is. absurd (cc) }
 
-pub found_none : (r : ℕ) (drawn : Option ℕ) (v u : Known) → r < length v.numbers → (drawn ≡ None → u ≡ nothing_at r v)
-    → ((t : ℕ) → drawn ≡ Some t → u ≡ nothing_at r (drew_head r t v))
-    → u ≡ none_at r drawn v
-found_none r None v u low first later = first refl
-found_none r (Some t) v u low first later =
-    later t refl
-    ∙ ap (λ (ns : List Numbers). seated (with_part (ends (Nothing r) (my v).part) (my v)) ns v) (changed_twice empties (passes (t + 1)) r v.numbers low)
+  pub found_after : (t : ℕ) → later.0 ≡ nothing_at r (drew_head r t me.0) → later.1 ≡ me.1 → t < c.limit
+      → ((known : Numbers) → slice_get me.0.numbers r ≡ Some known → known.head ≤ t) → HasFoundNone c r (Some t) me later
+  found_after t view slots low above =
+      record {
+        view =
+            view ∙ ap (λ (ns : List Numbers). seated (with_part (ends (Nothing r) (my me.0).part) (my me.0)) ns me.0)
+            (changed_twice empties (passes (t + 1)) r me.0.numbers);
+        slots = slots;
+        below = λ u is. let same : t ≡ u = cc in rw (← same) low;
+        past = λ u is. let same : t ≡ u = cc in rw (← same) above;
+      }
 
 none_small : (drawn : Option ℕ) (x : Numbers) → IsSmall x → IsSmall (empties (drew drawn x))
 none_small None x small = small
@@ -419,10 +424,29 @@ module _ {B : Type 0} (IsSame : B → B → Type 0) where
 
   pub none_standing : (fs gs : Seen) (table later : TableId) (key : Key B) (me me' : Me (Slot B) Known) (s : Standing B) (r : ℕ) (drawn : Option ℕ)
       → standing_from fs table key me ≡ s → later ≡ table → me'.0 ≡ none_at r drawn me.0 → me'.1 ≡ me.1
-      → standing_from gs later key me' ≡ having_seen gs (after_nothing r drawn s)
+      → standing_from gs later key me' ≡ having_seen gs (seat_after_nothing r drawn s)
   none_standing fs gs table later key me me' s r drawn is same none slots =
       ap (standing_from gs later key) (ap (λ (u : Known). (u, me'.1)) none ∙ ap (λ (l : List (ℕ × Slot B)). (none_at r drawn me.0, l)) slots)
-      ∙ ap (λ t. standing_from gs t key (none_at r drawn me.0, me.1)) same ∙ ap (λ (z : Standing B). having_seen gs (after_nothing r drawn z)) is
+      ∙ ap (λ t. standing_from gs t key (none_at r drawn me.0, me.1)) same ∙ ap (λ (z : Standing B). having_seen gs (seat_after_nothing r drawn z)) is
+
+module _ {B : Type 0} (IsSame : B → B → Type 0) where
+  -- after a get that drew a ticket at or past the limit
+  pub kept_spent_get : (key : Key B) (c : Setup) (me me' : Me (Slot B) Known) (indices : List ℕ) (room : ℕ) (numbers numbers' : List Numbers) (spent : Option ℕ)
+      (r t : ℕ) → IsKept IsSame key me indices room numbers spent → HasSpentGet c r t me me' → numbers' ≡ changed (passes (t + 1)) r numbers
+      → IsKept IsSame key me' indices room numbers' (Some t)
+  kept_spent_get key c me me' indices room numbers numbers' spent r t kept drew new =
+      let f : Numbers → Numbers = passes (t + 1) in
+      kept_still IsSame key me' me.0 (drawn_spent r t me.0) me.1 indices room room numbers numbers' spent (Some t) kept refl
+      (record { seats = refl; out = kept.alone.out }) refl refl (new ∙ ap (changed f r) kept.numbers) (ap length new ∙ length-set numbers r _)
+      (subst AreSmall (sym new) (small_changed f r numbers (λ x small. small) kept.small)) refl
+      (ap (λ (u : Known). (u, me'.1)) drew.view ∙ ap (λ (l : List (ℕ × Slot B)). (drawn_spent r t me.0, l)) drew.slots)
+
+  pub spent_get_standing : (fs gs : Seen) (table later : TableId) (key : Key B) (c : Setup) (me me' : Me (Slot B) Known) (s : Standing B) (r t : ℕ)
+      → standing_from fs table key me ≡ s → later ≡ table → HasSpentGet c r t me me'
+      → standing_from gs later key me' ≡ having_seen gs (seat_after_spent_get r t s)
+  spent_get_standing fs gs table later key c me me' s r t is same drew =
+      ap (standing_from gs later key) (ap (λ (u : Known). (u, me'.1)) drew.view ∙ ap (λ (l : List (ℕ × Slot B)). (drawn_spent r t me.0, l)) drew.slots)
+      ∙ ap (λ z. standing_from gs z key (drawn_spent r t me.0, me.1)) same ∙ ap (λ (z : Standing B). having_seen gs (seat_after_spent_get r t z)) is
 
 -- a seat that rests after a run, with the part that its view has
 rests_after : (c : Setup) (opening : List (List ℕ)) (run : List (ℕ × Step)) (x : Member) (number : ℕ) → StandsAfter c opening run x → x.part.phase ≡ Idle
@@ -432,8 +456,8 @@ rests_after c opening run x number stands rests same =
     record {
       recorded = stands.recorded;
       is_run = stands.is_run;
-      idle = ap (λ (p : Part). p.phase) part ∙ rests;
-      calls_are = ap (λ (p : Part). p.calls) part;
+      idle = ap (λ (p : SeatPart). p.phase) part ∙ rests;
+      calls_are = ap (λ (p : SeatPart). p.calls) part;
     }
 
 module _ {B : Type 0} where

@@ -5,7 +5,7 @@ use Rattle.std.proofs.lemmas.Bool.{cases_lt}
 use Rattle.std.proofs.lemmas.Nat.{mul-add-lt, div-mul-add, same_from_place}
 use Rattle.scq_word.specs.declared.setup.Setup.{Setup}
 use Rattle.scq_core.specs.Machine.{Location, tail_of, head_of, threshold_of, entry_of}
-use Rattle.scq_band.specs.Layout.{ring_at, IsSlotAt, IsLocation, offset_of, ring_words, count_by, word_by, ring_by, gate_word, distance, word_count, at, ring_of_word, IsHot, AreApart, HotWordsAreApart}
+use Rattle.scq_band.specs.Layout.{ring_at, IsSlotAt, IsLocation, offset_of, ring_words, count_by, word_by, ring_by, gate_word, distance, word_count, at, ring_of_word, IsHot, StandApart, HotWordsAreApart}
 
 pub offset_low : (d : ℕ) (c : Setup) (l : Location) → 1 ≤ d → IsSlotAt c l → offset_of d l < ring_words d c
 offset_low d c (tail_of r) some slot = omega arith
@@ -68,7 +68,7 @@ hot_low d (head_of r) hot = omega arith
 hot_low d (threshold_of r) hot = omega arith
 hot_low d (entry_of r s) hot = absurd hot
 
-offsets_apart : (d : ℕ) (l k : Location) → IsHot l → ring_at l ≡ ring_at k → l ≢ k → AreApart d (offset_of d l) (offset_of d k)
+offsets_apart : (d : ℕ) (l k : Location) → IsHot l → ring_at l ≡ ring_at k → l ≢ k → StandApart d (offset_of d l) (offset_of d k)
 offsets_apart d (tail_of r) (tail_of q) hot ring other = absurd (other (ap tail_of ring))
 offsets_apart d (tail_of r) (head_of q) hot ring other = inl (omega arith)
 offsets_apart d (tail_of r) (threshold_of q) hot ring other = inl (omega arith)
@@ -84,7 +84,7 @@ offsets_apart d (threshold_of r) (entry_of q z) hot ring other = inl (omega arit
 offsets_apart d (entry_of r s) k hot ring other = absurd hot
 
 -- a hot word stands that far from each other word
-hot_by : (d : ℕ) (c : Setup) (l k : Location) → 1 ≤ d → IsHot l → IsLocation c l → IsLocation c k → l ≢ k → AreApart d (word_by d c l) (word_by d c k)
+hot_by : (d : ℕ) (c : Setup) (l k : Location) → 1 ≤ d → IsHot l → IsLocation c l → IsLocation c k → l ≢ k → StandApart d (word_by d c l) (word_by d c k)
 hot_by d c l k some hot here there other =
     let w = ring_words d c in
     elim (cases_lt (ring_at l) (ring_at k)) [

@@ -77,11 +77,6 @@ module _ (c : Setup) (m : Machine) (k : ℕ) where
       → FinishedStay c m (moved c m k t) → ThresholdCovers c m
       → ((r : ℕ) → ring_slots c ≤ m.cells.head r) → ((r h : ℕ) → t ≡ AtD4 r h → h < m.cells.tail r) → AllTrue c m numbers
       → AllTrue c (moved c m k t) (learned c t (read m.cells (location_of c t)) numbers)
-  learned_true Idle numbers busy up stay covers first got all = all_stay c m _ numbers up stay all
-  learned_true (AtE1 r i w l) numbers busy up stay covers first got all = all_stay c m _ numbers up stay all
-  learned_true (AtE2 r i w t l) numbers busy up stay covers first got all = all_stay c m _ numbers up stay all
-  learned_true (AtE3 r i w t e) numbers busy up stay covers first got all = all_stay c m _ numbers up stay all
-  learned_true (AtE4 r i w t e) numbers busy up stay covers first got all = all_stay c m _ numbers up stay all
   learned_true (AtE5 r i w t) numbers busy up stay covers first got all =
       elim (cases_Bool (m.cells.threshold r == reset_level c)) [
         | inl ends_here ↦
@@ -114,10 +109,8 @@ module _ (c : Setup) (m : Machine) (k : ℕ) where
       let here = updated_here m.cells.head r (m.cells.head r + 1) in
       told_after (AtD2 r l) (passes (m.cells.head r + 1)) r numbers up stay all
       (λ x h. passes_true c (moved c m k (AtD2 r l)) r (m.cells.head r + 1) x (omega arith) h)
-  learned_true (AtD3 r h l) numbers busy up stay covers first got all = all_stay c m _ numbers up stay all
   learned_true (AtD4 r h) numbers busy up stay covers first got all =
       told_before (AtD4 r h) (sees h) r numbers up stay all (λ x t. sees_true c m r h x (got r h refl) t)
-  learned_true (AtD5 r h e) numbers busy up stay covers first got all = all_stay c m _ numbers up stay all
   learned_true (AtD6 r h) numbers busy up stay covers first got all =
       elim (cases_Bool (nat_le (m.cells.tail r) (h + 1))) [
         | inl leaves ↦
@@ -127,10 +120,6 @@ module _ (c : Setup) (m : Machine) (k : ℕ) where
             (λ x t. passes_true c m r (x.finished + 1) x (let o = t.order in let s = t.seen in omega arith) t))
         | inr goes ↦ same_list _ (learned c (AtD6 r h) (m.cells.tail r) numbers) _ (rw goes refl) (all_stay c m (moved c m k (AtD6 r h)) numbers up stay all)
       ]
-  learned_true (AtD7 r h from to) numbers busy up stay covers first got all = all_stay c m _ numbers up stay all
-  learned_true (AtD8 r h from) numbers busy up stay covers first got all = all_stay c m _ numbers up stay all
-  learned_true (AtD9 r h from to) numbers busy up stay covers first got all = all_stay c m _ numbers up stay all
-  learned_true (AtD10 r h true) numbers busy up stay covers first got all = all_stay c m _ numbers up stay all
   learned_true (AtD10 r h false) numbers busy up stay covers first got all =
       elim (cases_Bool (nat_le (m.cells.threshold r) zero_level)) [
         | inl ends_here ↦
@@ -141,31 +130,22 @@ module _ (c : Setup) (m : Machine) (k : ℕ) where
         | inr goes ↦ same_list _ (learned c (AtD10 r h false) (m.cells.threshold r) numbers) _ (rw goes refl)
             (all_stay c m (moved c m k (AtD10 r h false)) numbers up stay all)
       ]
+  learned_true turn numbers busy up stay covers first got all = all_stay c m _ numbers up stay all
 
 -- a turn tells of no ring more than there are
 pub changed_length : (f : Numbers → Numbers) (r : ℕ) (numbers : List Numbers) → length (changed f r numbers) ≡ length numbers
 changed_length f r numbers = length-set numbers r _
 
 pub learned_length : (c : Setup) (t : Phase) (x : ℕ) (numbers : List Numbers) → length (learned c t x numbers) ≡ length numbers
-learned_length c Idle x numbers = refl
-learned_length c (AtE1 r i w l) x numbers = refl
-learned_length c (AtE2 r i w t l) x numbers = refl
-learned_length c (AtE3 r i w t e) x numbers = refl
-learned_length c (AtE4 r i w t e) x numbers = refl
 learned_length c (AtE5 r i w t) x numbers =
     either_way (λ (ns : List Numbers). length ns ≡ length numbers) (x == reset_level c) _ _ (changed_length (finishes t) r numbers) refl
 learned_length c (AtE6 r i w t) x numbers = changed_length (finishes t) r numbers
 learned_length c (AtD1 r) x numbers =
     either_way (λ (ns : List Numbers). length ns ≡ length numbers) (nat_lt x zero_level) _ _ (changed_length empties r numbers) refl
 learned_length c (AtD2 r l) x numbers = changed_length (passes (x + 1)) r numbers
-learned_length c (AtD3 r h l) x numbers = refl
 learned_length c (AtD4 r h) x numbers = changed_length (sees h) r numbers
-learned_length c (AtD5 r h e) x numbers = refl
 learned_length c (AtD6 r h) x numbers =
     either_way (λ (ns : List Numbers). length ns ≡ length numbers) (nat_le x (h + 1)) _ _ (changed_length empties r numbers) refl
-learned_length c (AtD7 r h from to) x numbers = refl
-learned_length c (AtD8 r h from) x numbers = refl
-learned_length c (AtD9 r h from to) x numbers = refl
-learned_length c (AtD10 r h true) x numbers = refl
 learned_length c (AtD10 r h false) x numbers =
     either_way (λ (ns : List Numbers). length ns ≡ length numbers) (nat_le x zero_level) _ _ (changed_length empties r numbers) refl
+learned_length c turn x numbers = refl

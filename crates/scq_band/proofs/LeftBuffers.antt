@@ -8,7 +8,7 @@ use Rattle.scq_word.specs.declared.setup.Setup.{Setup}
 use Rattle.scq_word.specs.Sizes.{n_of}
 use Rattle.scq_word.specs.Words.{index_in, cycle_in, is_none_in, mark_of}
 use Rattle.scq_core.specs.declared.ended.Ended.TheVariants.{Got}
-use Rattle.scq_core.specs.Machine.{Part, Machine}
+use Rattle.scq_core.specs.Machine.{SeatPart, Machine}
 use Rattle.scq_core.specs.Laws.{total}
 use Rattle.scq_core.specs.Table.{ring_slots, slot}
 use Rattle.scq_core.specs.Reach.{IsReachable}
@@ -21,8 +21,8 @@ use Rattle.scq_law.proofs.Places.EntryLaws.{stands_placed}
 use Rattle.scq_band.specs.Known.{Member}
 use Rattle.scq_band.specs.Shown.{Scene, Has, Owns, Stored}
 use Rattle.scq_band.specs.Closing.{IsLeft, EachLeftIsItsPut, StandsAtItsPut}
-use Rattle.scq_band.proofs.AllSeats.{AreAll, seat_at, total_all, member_at}
-use Rattle.scq_band.proofs.ClosedRecords.{records_of, AllRest, was_put_by, call_ended}
+use Rattle.scq_band.proofs.AllSeats.{AreAllSeats, seat_at, total_all, member_at}
+use Rattle.scq_band.proofs.ClosedRecords.{member_records, AllRest, was_put_by, call_ended}
 use Rattle.scq_band.proofs.ClosedCounts.{sum_by-map, hands_of}
 
 -- all slots of each member's hand were brought home
@@ -56,7 +56,7 @@ module _ {S : Type 0} (Lies : ℕ → S → List ℕ → Type 0) where
       subst (λ j. Has Lies homes j (m.cells.entries.content e.ring e.slot)) e.is (stored e.ring e.slot e.low e.full)
 
   -- each slot is at home
-  pub all_home : (c : Setup) (z : Scene) (homes : List (maybe.Option S)) (id : ℕ) (xs : List Member) → IsReachable c z.state → AreAll c z.state xs
+  pub all_home : (c : Setup) (z : Scene) (homes : List (maybe.Option S)) (id : ℕ) (xs : List Member) → IsReachable c z.state → AreAllSeats c z.state xs
       → AllBrought xs → Owns Lies c z homes id xs → Stored Lies c z.state.cells.entries homes → (i : ℕ) → i < n_of c.order → (w : List ℕ) × Has Lies homes i w
   all_home c z homes id xs reach all brought owns stored i small = go at.0 at.1
     where
@@ -75,7 +75,7 @@ module _ {S : Type 0} (Lies : ℕ → S → List ℕ → Type 0) where
           let e = in_entry c z.state i r s small is in
           (z.state.cells.entries.content e.ring e.slot, entry_home c z.state homes i stored e)
 
-module _ (c : Setup) (m : Machine) (xs : List Member) (reach : IsReachable c m) (all : AreAll c m xs) (rest : AllRest xs) where
+module _ (c : Setup) (m : Machine) (xs : List Member) (reach : IsReachable c m) (all : AreAllSeats c m xs) (rest : AllRest xs) where
   -- an index in no hand is in an entry
   pub left_entry : (i : ℕ) → i < n_of c.order → IsLeft (hands_of xs) i → InEntry c m i
   left_entry i small left = go at.0 at.1
@@ -86,7 +86,7 @@ module _ (c : Setup) (m : Machine) (xs : List Member) (reach : IsReachable c m) 
       go : (h : Home) → IsHome c m i h → InEntry c m i
       go (hand_of k) is =
           let sums : sum_by (times i) (hands_of xs) ≡ total (λ p. times i p.hand) m.part c.seats =
-          sum_by-map (times i) (λ (x : Member). x.part.hand) xs ∙ sym (total_all c m xs (λ (p : Part). times i p.hand) all) in
+          sum_by-map (times i) (λ (x : Member). x.part.hand) xs ∙ sym (total_all c m xs (λ (p : SeatPart). times i p.hand) all) in
           let one = total_one (λ p. times i p.hand) m.part c.seats k is.0 in
           let once = is.1 in
           absurd (omega (arith, sums, left, one, once))
@@ -100,7 +100,7 @@ module _ (c : Setup) (m : Machine) (xs : List Member) (reach : IsReachable c m) 
   pub lefts_are_puts : (bytes : List (List ℕ)) → length m.opening ≡ n_of c.order
       → ((i : ℕ) (small : i < n_of c.order) (left : IsLeft (hands_of xs) i)
       → m.cells.entries.content (left_entry i small left).ring (left_entry i small left).slot ≡ slice_index_or bytes i [])
-      → EachLeftIsItsPut c m.opening (records_of xs) (hands_of xs) bytes
+      → EachLeftIsItsPut c m.opening (member_records xs) (hands_of xs) bytes
   lefts_are_puts bytes count same =
       record {
         put =
@@ -129,9 +129,9 @@ module _ (c : Setup) (m : Machine) (xs : List Member) (reach : IsReachable c m) 
 
 -- where the slots at home have the bytes that are told, each such index stands at the place of its put
 pub lefts_stand : {S : Type 0} (Lies : ℕ → S → List ℕ → Type 0) (c : Setup) (m : Machine) (xs : List Member) (homes : List (maybe.Option S))
-    (bytes : List (List ℕ)) → IsReachable c m → AreAll c m xs → AllRest xs → length m.opening ≡ n_of c.order → Stored Lies c m.cells.entries homes
+    (bytes : List (List ℕ)) → IsReachable c m → AreAllSeats c m xs → AllRest xs → length m.opening ≡ n_of c.order → Stored Lies c m.cells.entries homes
     → ((i : ℕ) (w : List ℕ) → i < n_of c.order → Has Lies homes i w → slice_index_or bytes i [] ≡ w)
-    → (i : ℕ) → i < n_of c.order → IsLeft (hands_of xs) i → StandsAtItsPut c m.opening (records_of xs) m i (slice_index_or bytes i [])
+    → (i : ℕ) → i < n_of c.order → IsLeft (hands_of xs) i → StandsAtItsPut c m.opening (member_records xs) m i (slice_index_or bytes i [])
 lefts_stand Lies c m xs homes bytes reach all rest count stored tells i small left =
     let e = left_entry c m xs reach all rest i small left in
     let s = stands c m xs reach all rest i small left in
@@ -146,9 +146,9 @@ lefts_stand Lies c m xs homes bytes reach all rest count stored tells i small le
 
 -- where the slots at home have the bytes that are told
 pub lefts_at_home : {S : Type 0} (Lies : ℕ → S → List ℕ → Type 0) (c : Setup) (m : Machine) (xs : List Member) (homes : List (maybe.Option S))
-    (bytes : List (List ℕ)) → IsReachable c m → AreAll c m xs → AllRest xs → length m.opening ≡ n_of c.order → Stored Lies c m.cells.entries homes
+    (bytes : List (List ℕ)) → IsReachable c m → AreAllSeats c m xs → AllRest xs → length m.opening ≡ n_of c.order → Stored Lies c m.cells.entries homes
     → ((i : ℕ) (w : List ℕ) → i < n_of c.order → Has Lies homes i w → slice_index_or bytes i [] ≡ w)
-    → EachLeftIsItsPut c m.opening (records_of xs) (hands_of xs) bytes
+    → EachLeftIsItsPut c m.opening (member_records xs) (hands_of xs) bytes
 lefts_at_home Lies c m xs homes bytes reach all rest count stored tells =
     lefts_are_puts c m xs reach all rest bytes count
     (λ i small left. sym (tells i _ small (entry_home Lies c m homes i stored (left_entry c m xs reach all rest i small left))))

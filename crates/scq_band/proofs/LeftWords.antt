@@ -6,7 +6,7 @@ use mathlib.Core.Option.{some}
 use lib.ListN.{get_elem?}
 use Rattle.scq_word.specs.declared.setup.Setup.{Setup}
 use Rattle.scq_word.specs.Words.{is_none_in}
-use Rattle.scq_word.specs.Entries.{index_of, IsIndexOrMark}
+use Rattle.scq_word.specs.Entries.{index_unless_mark, IsIndexOrMark}
 use Rattle.scq_core.specs.Machine.{Cells, entry_of}
 use Rattle.scq_core.specs.Table.{ring_slots}
 use Rattle.scq_core.proofs.Indices.{HasIndices}
@@ -19,8 +19,8 @@ use Rattle.scq_band.proofs.Layouts.{at_low}
 use Rattle.scq_band.proofs.Unloading.{read_word}
 
 -- whether an index stands in the word of a slot
-abbrev pub counted : Setup → List ℕ → ℕ → ℕ → ℕ
-counted c words r s = has_index c (slice_index words (at c (entry_of r s)))
+abbrev pub index_count : Setup → List ℕ → ℕ → ℕ → ℕ
+index_count c words r s = has_index c (slice_index words (at c (entry_of r s)))
 
 -- the word that is read has an index or the mark
 pub word_has : (c : Setup) (words : List ℕ) (r s i x : ℕ) → i ≡ at c (entry_of r s) → get_elem? words i ≡ some x → r < c.rings → s < ring_slots c
@@ -31,24 +31,24 @@ word_has c words r s i x at_slot here ring low shows =
     subst (λ (w : ℕ). IsIndexOrMark c.order w) (sym is) (shows.2.entries r s)
 
 -- what one word counts
-counts_one : (c : Setup) (x : ℕ) (o : Option ℕ) → o ≡ index_of c.order x → has_index c x ≡ (if is_some o then 1 else 0)
+counts_one : (c : Setup) (x : ℕ) (o : Option ℕ) → o ≡ index_unless_mark c.order x → has_index c x ≡ (if is_some o then 1 else 0)
 counts_one c x o is =
     rw is (elim (cases_Bool (is_none_in (ring_slots c) x)) [ inl t ↦ rw t refl | inr f ↦ rw f refl ])
 
 pub counts_next : (c : Setup) (words : List ℕ) (r s i x left later : ℕ) (o : Option ℕ) → i ≡ at c (entry_of r s) → get_elem? words i ≡ some x
-    → o ≡ index_of c.order x → left ≡ sum_to (counted c words r) s → later ≡ left + (if is_some o then 1 else 0)
-    → later ≡ sum_to (counted c words r) (s + 1)
+    → o ≡ index_unless_mark c.order x → left ≡ sum_to (index_count c words r) s → later ≡ left + (if is_some o then 1 else 0)
+    → later ≡ sum_to (index_count c words r) (s + 1)
 counts_next c words r s i x left later o at_slot here is before now =
     let word : slice_index words (at c (entry_of r s)) ≡ x = ap (slice_index words) (sym at_slot) ∙ read_word words i x here in
-    let one : counted c words r s ≡ (if is_some o then 1 else 0) = ap (has_index c) word ∙ counts_one c x o is in
-    let sums : later ≡ sum_to (counted c words r) (suc s) = omega (arith, before, now, one) in
-    sums ∙ ap (sum_to (counted c words r)) (let next : suc s ≡ s + 1 = omega arith in next)
+    let one : index_count c words r s ≡ (if is_some o then 1 else 0) = ap (has_index c) word ∙ counts_one c x o is in
+    let sums : later ≡ sum_to (index_count c words r) (suc s) = omega (arith, before, now, one) in
+    sums ∙ ap (sum_to (index_count c words r)) (let next : suc s ≡ s + 1 = omega arith in next)
 
 -- what all words of a ring count
 pub counts_all : (c : Setup) (words : List ℕ) (m : Cells) (r left : ℕ) → ShowsWords c words m → r < c.rings
-    → left ≡ sum_to (counted c words r) (ring_slots c) → left ≡ left_in c m r
+    → left ≡ sum_to (index_count c words r) (ring_slots c) → left ≡ left_in c m r
 counts_all c words m r left shows ring is =
-    is ∙ sum_same (λ s. has_index c (m.entries.word r s)) (counted c words r) (ring_slots c)
+    is ∙ sum_same (λ s. has_index c (m.entries.word r s)) (index_count c words r) (ring_slots c)
     (λ s low. ap (has_index c) (shows.shows (entry_of r s) (ring, low)))
 
 -- and it is one of the table's

@@ -45,6 +45,7 @@ pub mod Starting
 pub mod Exchanging
 pub mod Keeping
 pub mod Putting
+pub mod LaidFirst
 pub mod Joining
 pub mod SeatsShared
 pub mod StandingSeats

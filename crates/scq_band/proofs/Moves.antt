@@ -16,7 +16,7 @@ use Rattle.scq_word.specs.Words.{is_none_in}
 use Rattle.scq_core.specs.declared.phase.Phase.{Phase}
 use Rattle.scq_core.specs.declared.phase.Phase.TheVariants.{AtE1, AtD2, AtD4}
 use Rattle.scq_core.specs.declared.step.Step.{Step}
-use Rattle.scq_core.specs.Machine.{Part, Machine, read, beside}
+use Rattle.scq_core.specs.Machine.{SeatPart, Machine, read, beside}
 use Rattle.scq_core.specs.Table.{ring_slots, turn_of, location_of, writes, stores, after, moved}
 use Rattle.scq_core.specs.Turn.{IsReady}
 use Rattle.scq_core.specs.Reach.{IsReachable}
@@ -28,7 +28,7 @@ use Rattle.scq_band.specs.declared.numbers.Numbers.{Numbers}
 use Rattle.scq_band.specs.Layout.{at, IsLocation}
 use Rattle.scq_band.specs.Known.{Member, Known}
 use Rattle.scq_band.specs.Shown.{Scene, LeadsTo, Has, IsMember, Owns, IsView, Shown}
-use Rattle.scq_law.specs.Retries.{Finds}
+use Rattle.scq_law.specs.Retries.{FindsAtLeast}
 use Rattle.scq_law.specs.Run.{recorded_after}
 use Rattle.scq_law.proofs.Replays.LongerRuns.{run_last}
 use Rattle.scq_band.specs.Turns.{learned, turned_member, made, FindsIndex, Draws, MayTurn, Carries, Turned}
@@ -49,7 +49,7 @@ pub record Ground (c : Setup) (m : Machine) (k : ℕ) (t : Phase) : Type 0 where
   pub one : OneHand c m
   pub stands : (r h : ℕ) → t ≡ AtD4 r h → is_none_in (ring_slots c) (word_at c m.cells r h) ≡ false
   pub ready : IsReady c t (read m.cells (location_of c t))
-  pub finds : Finds c t (read m.cells (location_of c t))
+  pub finds : FindsAtLeast c t (read m.cells (location_of c t))
   pub covers : ThresholdCovers c m
   pub first : (r : ℕ) → ring_slots c ≤ m.cells.head r
   pub got : (r h : ℕ) → t ≡ AtD4 r h → h < m.cells.tail r
@@ -72,7 +72,7 @@ finds_index c m (AtD4 r h) stands = stands r h refl
 finds_index c m t stands = tt
 
 -- a turn leaves its seat's record no shorter
-calls_longer : (c : Setup) (t : Phase) (x : ℕ) (y : List ℕ) (p : Part) → length p.calls ≤ length (after c t x y p).calls
+calls_longer : (c : Setup) (t : Phase) (x : ℕ) (y : List ℕ) (p : SeatPart) → length p.calls ≤ length (after c t x y p).calls
 calls_longer c t x y p =
     let grown = calls_after c t x y p in
     let same : length (after c t x y p).calls ≡ length p.calls + length grown.more = ap length grown.appended ∙ length-append p.calls grown.more in
@@ -87,11 +87,11 @@ calls_stay c m k b t =
       | inl same ↦
           let now : (moved c m k t).part k ≡ after c t x y (m.part k) = updated_here m.part k _ in
           let more = calls_longer c t x y (m.part k) in
-          let same_length = ap (λ (p : Part). length p.calls) now in
+          let same_length = ap (λ (p : SeatPart). length p.calls) now in
           rw same (omega arith)
       | inr other ↦
           let now : (moved c m k t).part b ≡ m.part b = updated_else m.part k _ b other in
-          let same_length = ap (λ (p : Part). length p.calls) now in
+          let same_length = ap (λ (p : SeatPart). length p.calls) now in
           omega arith
     ]
 
@@ -238,7 +238,7 @@ module _ {S : Type 0} (Lies : ℕ → S → List ℕ → Type 0) where
       let g = grounds m k may.step (reaches sh.leads) x_is.low enabled in
       let h = handles Lies c m s.homes me.1 k t g.one sh.room sh.stored g.busy carries g.stands in
       let found : slice_index s.words i ≡ read m.cells l = ap (slice_index s.words) word ∙ sh.words.shows l g.location in
-      let busy : Busy c m.cells may.member.part.hand t = subst (λ (p : Part). Busy c m.cells p.hand t) x_is.part g.busy in
+      let busy : Busy c m.cells may.member.part.hand t = subst (λ (p : SeatPart). Busy c m.cells p.hand t) x_is.part g.busy in
       let wrote : f (slice_index s.words i) ≡ writes c t (read m.cells l) = ap f found ∙ does m (reaches sh.leads) busy in
       let w = made c t (read m.cells l) (beside m.cells l) me.0 in
       let longer = run ++ (k, may.step) ∷ [] in
@@ -256,12 +256,12 @@ module _ {S : Type 0} (Lies : ℕ → S → List ℕ → Type 0) where
         draws = draws_above c m t me.0.numbers mine.numbers;
         fits =
             hand_of_made (λ h. length h ≤ n_of c.order) c t (read m.cells l) (beside m.cells l) me.0 may.member may.alone
-            (subst (λ (p : Part). length (after c t (read m.cells l) (beside m.cells l) p).hand ≤ n_of c.order) x_is.part
-            (subst (λ (p : Part). length p.hand ≤ n_of c.order) (updated_here m.part k _) g.fits));
+            (subst (λ (p : SeatPart). length (after c t (read m.cells l) (beside m.cells l) p).hand ≤ n_of c.order) x_is.part
+            (subst (λ (p : SeatPart). length p.hand ≤ n_of c.order) (updated_here m.part k _) g.fits));
         once =
             λ i.
             hand_of_made (λ h. times i h ≤ 1) c t (read m.cells l) (beside m.cells l) me.0 may.member may.alone
-            (subst (λ (p : Part). times i (after c t (read m.cells l) (beside m.cells l) p).hand ≤ 1) x_is.part
-            (subst (λ (p : Part). times i p.hand ≤ 1) (updated_here m.part k _) (g.once i)));
+            (subst (λ (p : SeatPart). times i (after c t (read m.cells l) (beside m.cells l) p).hand ≤ 1) x_is.part
+            (subst (λ (p : SeatPart). times i p.hand ≤ 1) (updated_here m.part k _) (g.once i)));
       } in
       (w, h.act, h.valid, shown, subst (λ n. Turned Lies c t me n (w, carried_after me.1 h.act)) (sym found) tells)

@@ -21,7 +21,7 @@ use Rattle.scq_law.specs.Run.{recorded_first}
 use Rattle.scq_law.proofs.Replays.LongerRuns.{run_first}
 use Rattle.scq_band.specs.declared.numbers.Numbers.{Numbers}
 use Rattle.scq_band.specs.Layout.{gate_word}
-use Rattle.scq_band.specs.Making.{AreOpened}
+use Rattle.scq_band.specs.Making.{WordsAreOpened}
 use Rattle.scq_band.specs.Numbers.{first_numbers_of, first_numbers, IsTrue}
 use Rattle.scq_band.specs.Known.{Known}
 use Rattle.scq_band.proofs.StandingSeats.{opened_stands}
@@ -92,7 +92,7 @@ module _ {S : Type 0} (Lies : ℕ → S → List ℕ → Type 0) where
   )
 
   -- the table at the start
-  pub opens : (c : Setup) (ws : List ℕ) (xs : List S) (contents : List (List ℕ)) → AreOpened c ws c.rings 0
+  pub opens : (c : Setup) (ws : List ℕ) (xs : List S) (contents : List (List ℕ)) → WordsAreOpened c ws c.rings 0
       → length xs ≡ n_of c.order → length contents ≡ n_of c.order → ((j : ℕ) → j < n_of c.order → Has Lies (map some xs) j (slice_index_or contents j []))
       → Shown Lies contents c (λ k. None) [] (opening ws xs (first_view c))
   opens c ws xs contents opened many all has =

@@ -12,209 +12,82 @@ use Rattle.scq_core.specs.declared.phase.Phase.TheVariants.{Idle, AtE1, AtE2, At
 use Rattle.scq_core.specs.Machine.{Cells, read}
 use Rattle.scq_core.specs.Table.{ring_slots, cycle, reset_level, passed, location_of, writes}
 use Rattle.scq_core.specs.Laws.{WordsFit}
+use Rattle.scq_band.specs.declared.rule.Key.{Key}
+use Rattle.scq_band.specs.declared.slot.Slot.{Slot}
+use Rattle.scq_band.specs.Buffers.{LiesIn, opening_of}
 use Rattle.scq_band.specs.Known.{Known}
+use Rattle.scq_band.specs.Sights.{Sight, Went, known_me}
 use Rattle.scq_band.specs.Turns.{Carries, Turned}
-use Rattle.scq_band.specs.Steps.{IsLoad, IsDraw, Exchanges, IsReset, IsTaking, IsCount}
+use Rattle.scq_band.specs.Steps.{my_phase, OnlyReads, IsDraw, Exchanges, IsReset, IsTakingTurn, IsCountDown}
+
+-- what a step tells of the seat that made it, where its turn is this, or the seat's phase
+abbrev pub Tells : {B : Type 0} → (B → List ℕ) → (B → B → Type 0) → Key B → Phase → Me (Slot B) Sight → ℕ → Me (Slot B) Sight → Type 0
+Tells contents IsSame key t me x later =
+    Turned (LiesIn contents IsSame key.given.value.items) key.setup t (known_me me) x (known_me later)
+    × Went key.setup (opening_of contents key.given.value.items) me.0 later.0
+
+abbrev pub TellsOfPhase : {B : Type 0} → (B → List ℕ) → (B → B → Type 0) → Key B → Me (Slot B) Sight → Me (Slot B) Sight → ℕ → Me (Slot B) Sight → Type 0
+TellsOfPhase contents IsSame key first me x later = Tells contents IsSame key (my_phase first.0.known) me x later
 
 -- a turn that only reads writes what it found
-pub load_says : (c : Setup) (t : Phase) (x : ℕ) → IsLoad t → x ≡ writes c t x
-load_says c Idle x is = absurd is
-load_says c (AtE1 r i w l) x is = absurd is
+pub load_says : (c : Setup) (t : Phase) (x : ℕ) → OnlyReads t → x ≡ writes c t x
 load_says c (AtE2 r i w t l) x is = refl
 load_says c (AtE3 r i w t e) x is = refl
-load_says c (AtE4 r i w t e) x is = absurd is
 load_says c (AtE5 r i w t) x is = refl
-load_says c (AtE6 r i w t) x is = absurd is
 load_says c (AtD1 r) x is = refl
-load_says c (AtD2 r l) x is = absurd is
 load_says c (AtD3 r h l) x is = refl
-load_says c (AtD4 r h) x is = absurd is
-load_says c (AtD5 r h e) x is = absurd is
 load_says c (AtD6 r h) x is = refl
-load_says c (AtD7 r h from to) x is = absurd is
 load_says c (AtD8 r h from) x is = refl
 load_says c (AtD9 r h from to) x is = refl
-load_says c (AtD10 r h leaving) x is = absurd is
+load_says c turn x is = absurd is
 
-pub load_carries : {S : Type 0} (Lies : ℕ → S → List ℕ → Type 0) (t : Phase) (slots : List (ℕ × S)) → IsLoad t → Carries Lies t slots
-load_carries Lies Idle slots is = absurd is
-load_carries Lies (AtE1 r i w l) slots is = absurd is
-load_carries Lies (AtE2 r i w t l) slots is = tt
-load_carries Lies (AtE3 r i w t e) slots is = tt
+pub load_carries : {S : Type 0} (Lies : ℕ → S → List ℕ → Type 0) (t : Phase) (slots : List (ℕ × S)) → OnlyReads t → Carries Lies t slots
 load_carries Lies (AtE4 r i w t e) slots is = absurd is
-load_carries Lies (AtE5 r i w t) slots is = tt
-load_carries Lies (AtE6 r i w t) slots is = absurd is
-load_carries Lies (AtD1 r) slots is = tt
-load_carries Lies (AtD2 r l) slots is = absurd is
-load_carries Lies (AtD3 r h l) slots is = tt
-load_carries Lies (AtD4 r h) slots is = absurd is
-load_carries Lies (AtD5 r h e) slots is = absurd is
-load_carries Lies (AtD6 r h) slots is = tt
-load_carries Lies (AtD7 r h from to) slots is = absurd is
-load_carries Lies (AtD8 r h from) slots is = tt
-load_carries Lies (AtD9 r h from to) slots is = tt
-load_carries Lies (AtD10 r h leaving) slots is = absurd is
+load_carries Lies turn slots is = tt
 
 -- a draw adds one, which the word has room for
 pub draw_says : (c : Setup) (m : Cells) (t : Phase) → WordsFit c m → IsDraw t → (read m (location_of c t) + 1) % 2 ^ 64 ≡ writes c t (read m (location_of c t))
-draw_says c m Idle fit is = absurd is
 draw_says c m (AtE1 r i w l) fit is = mod-eq_of_lt (fit.tail r)
-draw_says c m (AtE2 r i w t l) fit is = absurd is
-draw_says c m (AtE3 r i w t e) fit is = absurd is
-draw_says c m (AtE4 r i w t e) fit is = absurd is
-draw_says c m (AtE5 r i w t) fit is = absurd is
-draw_says c m (AtE6 r i w t) fit is = absurd is
-draw_says c m (AtD1 r) fit is = absurd is
 draw_says c m (AtD2 r l) fit is = mod-eq_of_lt (fit.head r)
-draw_says c m (AtD3 r h l) fit is = absurd is
-draw_says c m (AtD4 r h) fit is = absurd is
-draw_says c m (AtD5 r h e) fit is = absurd is
-draw_says c m (AtD6 r h) fit is = absurd is
-draw_says c m (AtD7 r h from to) fit is = absurd is
-draw_says c m (AtD8 r h from) fit is = absurd is
-draw_says c m (AtD9 r h from to) fit is = absurd is
-draw_says c m (AtD10 r h leaving) fit is = absurd is
+draw_says c m turn fit is = absurd is
 
 pub draw_carries : {S : Type 0} (Lies : ℕ → S → List ℕ → Type 0) (t : Phase) (slots : List (ℕ × S)) → IsDraw t → Carries Lies t slots
-draw_carries Lies Idle slots is = absurd is
-draw_carries Lies (AtE1 r i w l) slots is = tt
-draw_carries Lies (AtE2 r i w t l) slots is = absurd is
-draw_carries Lies (AtE3 r i w t e) slots is = absurd is
 draw_carries Lies (AtE4 r i w t e) slots is = absurd is
-draw_carries Lies (AtE5 r i w t) slots is = absurd is
-draw_carries Lies (AtE6 r i w t) slots is = absurd is
-draw_carries Lies (AtD1 r) slots is = absurd is
-draw_carries Lies (AtD2 r l) slots is = tt
-draw_carries Lies (AtD3 r h l) slots is = absurd is
-draw_carries Lies (AtD4 r h) slots is = absurd is
-draw_carries Lies (AtD5 r h e) slots is = absurd is
-draw_carries Lies (AtD6 r h) slots is = absurd is
-draw_carries Lies (AtD7 r h from to) slots is = absurd is
-draw_carries Lies (AtD8 r h from) slots is = absurd is
-draw_carries Lies (AtD9 r h from to) slots is = absurd is
-draw_carries Lies (AtD10 r h leaving) slots is = absurd is
+draw_carries Lies turn slots is = tt
 
 -- an exchange writes the new word where it finds the old one
 swapped : (x e z old new : ℕ) → old ≡ e → new ≡ z → either (x == old) new x ≡ (if x == e then z else x)
 swapped x e z old new was is = rw (was, is) refl
 
 pub exchange_says : (c : Setup) (t : Phase) (x old new : ℕ) → Exchanges c t old new → either (x == old) new x ≡ writes c t x
-exchange_says c Idle x old new is = absurd is
-exchange_says c (AtE1 r i w l) x old new is = absurd is
-exchange_says c (AtE2 r i w t l) x old new is = absurd is
-exchange_says c (AtE3 r i w t e) x old new is = absurd is
 exchange_says c (AtE4 r i w t e) x old new is = swapped x e (packed (ring_slots c) (cycle c t) 1 i) old new is.0 is.1
-exchange_says c (AtE5 r i w t) x old new is = absurd is
-exchange_says c (AtE6 r i w t) x old new is = absurd is
-exchange_says c (AtD1 r) x old new is = absurd is
-exchange_says c (AtD2 r l) x old new is = absurd is
-exchange_says c (AtD3 r h l) x old new is = absurd is
-exchange_says c (AtD4 r h) x old new is = absurd is
 exchange_says c (AtD5 r h e) x old new is = swapped x e (passed c h e) old new is.0 is.1
-exchange_says c (AtD6 r h) x old new is = absurd is
 exchange_says c (AtD7 r h from to) x old new is = swapped x from to old new is.0 is.1
-exchange_says c (AtD8 r h from) x old new is = absurd is
-exchange_says c (AtD9 r h from to) x old new is = absurd is
-exchange_says c (AtD10 r h leaving) x old new is = absurd is
+exchange_says c turn x old new is = absurd is
 
 -- a reset tells nothing of what it found
 pub reset_tells : {S : Type 0} (Lies : ℕ → S → List ℕ → Type 0) (c : Setup) (t : Phase) (me later : Me S Known) (x y : ℕ) → IsReset t
     → Turned Lies c t me x later → Turned Lies c t me y later
-reset_tells Lies c Idle me later x y is told = absurd is
-reset_tells Lies c (AtE1 r i w l) me later x y is told = absurd is
-reset_tells Lies c (AtE2 r i w t l) me later x y is told = absurd is
-reset_tells Lies c (AtE3 r i w t e) me later x y is told = absurd is
-reset_tells Lies c (AtE4 r i w t e) me later x y is told = absurd is
-reset_tells Lies c (AtE5 r i w t) me later x y is told = absurd is
 reset_tells Lies c (AtE6 r i w t) me later x y is told =
     record { beside = told.beside; view = told.view; slots = told.slots; found = tt; stands = tt; ready = tt; draws = tt; fits = told.fits; once = told.once }
-reset_tells Lies c (AtD1 r) me later x y is told = absurd is
-reset_tells Lies c (AtD2 r l) me later x y is told = absurd is
-reset_tells Lies c (AtD3 r h l) me later x y is told = absurd is
-reset_tells Lies c (AtD4 r h) me later x y is told = absurd is
-reset_tells Lies c (AtD5 r h e) me later x y is told = absurd is
-reset_tells Lies c (AtD6 r h) me later x y is told = absurd is
-reset_tells Lies c (AtD7 r h from to) me later x y is told = absurd is
-reset_tells Lies c (AtD8 r h from) me later x y is told = absurd is
-reset_tells Lies c (AtD9 r h from to) me later x y is told = absurd is
-reset_tells Lies c (AtD10 r h leaving) me later x y is told = absurd is
+reset_tells Lies c turn me later x y is told = absurd is
 
 pub reset_says : (c : Setup) (t : Phase) (x level : ℕ) → IsReset t → level ≡ reset_level c → level ≡ writes c t x
-reset_says c Idle x level is as_said = absurd is
-reset_says c (AtE1 r i w l) x level is as_said = absurd is
-reset_says c (AtE2 r i w t l) x level is as_said = absurd is
-reset_says c (AtE3 r i w t e) x level is as_said = absurd is
-reset_says c (AtE4 r i w t e) x level is as_said = absurd is
-reset_says c (AtE5 r i w t) x level is as_said = absurd is
 reset_says c (AtE6 r i w t) x level is as_said = as_said
-reset_says c (AtD1 r) x level is as_said = absurd is
-reset_says c (AtD2 r l) x level is as_said = absurd is
-reset_says c (AtD3 r h l) x level is as_said = absurd is
-reset_says c (AtD4 r h) x level is as_said = absurd is
-reset_says c (AtD5 r h e) x level is as_said = absurd is
-reset_says c (AtD6 r h) x level is as_said = absurd is
-reset_says c (AtD7 r h from to) x level is as_said = absurd is
-reset_says c (AtD8 r h from) x level is as_said = absurd is
-reset_says c (AtD9 r h from to) x level is as_said = absurd is
-reset_says c (AtD10 r h leaving) x level is as_said = absurd is
+reset_says c turn x level is as_said = absurd is
 
 pub reset_carries : {S : Type 0} (Lies : ℕ → S → List ℕ → Type 0) (t : Phase) (slots : List (ℕ × S)) → IsReset t → Carries Lies t slots
-reset_carries Lies Idle slots is = absurd is
-reset_carries Lies (AtE1 r i w l) slots is = absurd is
-reset_carries Lies (AtE2 r i w t l) slots is = absurd is
-reset_carries Lies (AtE3 r i w t e) slots is = absurd is
 reset_carries Lies (AtE4 r i w t e) slots is = absurd is
-reset_carries Lies (AtE5 r i w t) slots is = absurd is
-reset_carries Lies (AtE6 r i w t) slots is = tt
-reset_carries Lies (AtD1 r) slots is = absurd is
-reset_carries Lies (AtD2 r l) slots is = absurd is
-reset_carries Lies (AtD3 r h l) slots is = absurd is
-reset_carries Lies (AtD4 r h) slots is = absurd is
-reset_carries Lies (AtD5 r h e) slots is = absurd is
-reset_carries Lies (AtD6 r h) slots is = absurd is
-reset_carries Lies (AtD7 r h from to) slots is = absurd is
-reset_carries Lies (AtD8 r h from) slots is = absurd is
-reset_carries Lies (AtD9 r h from to) slots is = absurd is
-reset_carries Lies (AtD10 r h leaving) slots is = absurd is
+reset_carries Lies turn slots is = tt
 
 -- an or with the mark takes the index out
-pub consume_says : (c : Setup) (t : Phase) (x mark : ℕ) → IsTaking t → mark ≡ mark_of (ring_slots c) → bit_or x mark ≡ writes c t x
-consume_says c Idle x mark is as_said = absurd is
-consume_says c (AtE1 r i w l) x mark is as_said = absurd is
-consume_says c (AtE2 r i w t l) x mark is as_said = absurd is
-consume_says c (AtE3 r i w t e) x mark is as_said = absurd is
-consume_says c (AtE4 r i w t e) x mark is as_said = absurd is
-consume_says c (AtE5 r i w t) x mark is as_said = absurd is
-consume_says c (AtE6 r i w t) x mark is as_said = absurd is
-consume_says c (AtD1 r) x mark is as_said = absurd is
-consume_says c (AtD2 r l) x mark is as_said = absurd is
-consume_says c (AtD3 r h l) x mark is as_said = absurd is
+pub consume_says : (c : Setup) (t : Phase) (x mark : ℕ) → IsTakingTurn t → mark ≡ mark_of (ring_slots c) → bit_or x mark ≡ writes c t x
 consume_says c (AtD4 r h) x mark is as_said = rw as_said (bit_or-mark_of c.order x)
-consume_says c (AtD5 r h e) x mark is as_said = absurd is
-consume_says c (AtD6 r h) x mark is as_said = absurd is
-consume_says c (AtD7 r h from to) x mark is as_said = absurd is
-consume_says c (AtD8 r h from) x mark is as_said = absurd is
-consume_says c (AtD9 r h from to) x mark is as_said = absurd is
-consume_says c (AtD10 r h leaving) x mark is as_said = absurd is
+consume_says c turn x mark is as_said = absurd is
 
-pub consume_carries : {S : Type 0} (Lies : ℕ → S → List ℕ → Type 0) (t : Phase) (slots : List (ℕ × S)) → IsTaking t → Carries Lies t slots
-consume_carries Lies Idle slots is = absurd is
-consume_carries Lies (AtE1 r i w l) slots is = absurd is
-consume_carries Lies (AtE2 r i w t l) slots is = absurd is
-consume_carries Lies (AtE3 r i w t e) slots is = absurd is
+pub consume_carries : {S : Type 0} (Lies : ℕ → S → List ℕ → Type 0) (t : Phase) (slots : List (ℕ × S)) → IsTakingTurn t → Carries Lies t slots
 consume_carries Lies (AtE4 r i w t e) slots is = absurd is
-consume_carries Lies (AtE5 r i w t) slots is = absurd is
-consume_carries Lies (AtE6 r i w t) slots is = absurd is
-consume_carries Lies (AtD1 r) slots is = absurd is
-consume_carries Lies (AtD2 r l) slots is = absurd is
-consume_carries Lies (AtD3 r h l) slots is = absurd is
-consume_carries Lies (AtD4 r h) slots is = tt
-consume_carries Lies (AtD5 r h e) slots is = absurd is
-consume_carries Lies (AtD6 r h) slots is = absurd is
-consume_carries Lies (AtD7 r h from to) slots is = absurd is
-consume_carries Lies (AtD8 r h from) slots is = absurd is
-consume_carries Lies (AtD9 r h from to) slots is = absurd is
-consume_carries Lies (AtD10 r h leaving) slots is = absurd is
+consume_carries Lies turn slots is = tt
 
 -- a count takes one off a word that is not 0
 pub less_one : (x : ℕ) → 0 < x → x < 2 ^ 64 → (x + (2 ^ 64 - 1)) % 2 ^ 64 ≡ x - 1
@@ -222,44 +95,14 @@ less_one x some small =
     let e : x + (2 ^ 64 - 1) ≡ (x - 1) + 1 * 2 ^ 64 = omega arith in
     ap (λ n. n % 2 ^ 64) e ∙ add-mul-mod_self_right (x - 1) 1 (2 ^ 64) ∙ mod-eq_of_lt (omega arith)
 
-pub count_says : (c : Setup) (m : Cells) (t : Phase) → WordsFit c m → IsCount t
+pub count_says : (c : Setup) (m : Cells) (t : Phase) → WordsFit c m → IsCountDown t
     → (read m (location_of c t) + (2 ^ 64 - 1)) % 2 ^ 64 ≡ writes c t (read m (location_of c t))
-count_says c m Idle fit is = absurd is
-count_says c m (AtE1 r i w l) fit is = absurd is
-count_says c m (AtE2 r i w t l) fit is = absurd is
-count_says c m (AtE3 r i w t e) fit is = absurd is
-count_says c m (AtE4 r i w t e) fit is = absurd is
-count_says c m (AtE5 r i w t) fit is = absurd is
-count_says c m (AtE6 r i w t) fit is = absurd is
-count_says c m (AtD1 r) fit is = absurd is
-count_says c m (AtD2 r l) fit is = absurd is
-count_says c m (AtD3 r h l) fit is = absurd is
-count_says c m (AtD4 r h) fit is = absurd is
-count_says c m (AtD5 r h e) fit is = absurd is
-count_says c m (AtD6 r h) fit is = absurd is
-count_says c m (AtD7 r h from to) fit is = absurd is
-count_says c m (AtD8 r h from) fit is = absurd is
-count_says c m (AtD9 r h from to) fit is = absurd is
 count_says c m (AtD10 r h leaving) fit is = less_one (m.threshold r) (fit.threshold r).0 (fit.threshold r).1
+count_says c m turn fit is = absurd is
 
-pub count_carries : {S : Type 0} (Lies : ℕ → S → List ℕ → Type 0) (t : Phase) (slots : List (ℕ × S)) → IsCount t → Carries Lies t slots
-count_carries Lies Idle slots is = absurd is
-count_carries Lies (AtE1 r i w l) slots is = absurd is
-count_carries Lies (AtE2 r i w t l) slots is = absurd is
-count_carries Lies (AtE3 r i w t e) slots is = absurd is
+pub count_carries : {S : Type 0} (Lies : ℕ → S → List ℕ → Type 0) (t : Phase) (slots : List (ℕ × S)) → IsCountDown t → Carries Lies t slots
 count_carries Lies (AtE4 r i w t e) slots is = absurd is
-count_carries Lies (AtE5 r i w t) slots is = absurd is
-count_carries Lies (AtE6 r i w t) slots is = absurd is
-count_carries Lies (AtD1 r) slots is = absurd is
-count_carries Lies (AtD2 r l) slots is = absurd is
-count_carries Lies (AtD3 r h l) slots is = absurd is
-count_carries Lies (AtD4 r h) slots is = absurd is
-count_carries Lies (AtD5 r h e) slots is = absurd is
-count_carries Lies (AtD6 r h) slots is = absurd is
-count_carries Lies (AtD7 r h from to) slots is = absurd is
-count_carries Lies (AtD8 r h from) slots is = absurd is
-count_carries Lies (AtD9 r h from to) slots is = absurd is
-count_carries Lies (AtD10 r h leaving) slots is = tt
+count_carries Lies turn slots is = tt
 
 -- what is told of a step may be said in other words
 pub allows_map : {S V : Type 0} (holds : State S V → Type 0) (slots id : ℕ) (me : Me S V) (i : ℕ) (f : ℕ → ℕ) (then1 then2 : ℕ → Me S V → Type 0)

@@ -3,7 +3,7 @@ use Rattle.std.proofs.Common.{◌≡◌, ℕ, List, [], ◌∷◌, map, refl, sy
 use Rattle.atomic_table.specs.Table.{Me}
 use Rattle.scq_word.specs.declared.setup.Setup.{Setup}
 use Rattle.scq_core.specs.declared.phase.Phase.{Phase}
-use Rattle.scq_core.specs.Machine.{Part}
+use Rattle.scq_core.specs.Machine.{SeatPart}
 use Rattle.scq_core.specs.declared.step.Step.{Step}
 use Rattle.scq_core.specs.Table.{after, turn_at}
 use Rattle.scq_band.specs.Layout.{ring_of_word}
@@ -18,15 +18,15 @@ made_alone : (c : Setup) (t : Phase) (x : ℕ) (y : List ℕ) (v : Known) → v.
 made_alone c t x y v alone = ap (λ (xs : List Member). record v { seats = map (turned_member c t x y) xs; numbers = learned c t x v.numbers }) alone
 
 -- the seat's part becomes what the table says, and its numbers what the turn tells
-pub goes : {S : Type 0} (Lies : ℕ → S → List ℕ → Type 0) (c : Setup) (t : Phase) (me later : Me S Known) (x : ℕ) (q : Part) → IsAlone me.0
+pub goes : {S : Type 0} (Lies : ℕ → S → List ℕ → Type 0) (c : Setup) (t : Phase) (me later : Me S Known) (x : ℕ) (q : SeatPart) → IsAlone me.0
     → ((y : List ℕ) → after c t x y (my me.0).part ≡ q)
     → Turned Lies c t me x later → later.0 ≡ seated (with_part q (my me.0)) (learned c t x me.0.numbers) me.0
 goes Lies c t me later x q alone is turned =
     turned.view ∙ made_alone c t x turned.beside me.0 alone.seats
-    ∙ ap (λ (p : Part). seated (with_part p (my me.0)) (learned c t x me.0.numbers) me.0) (is turned.beside)
+    ∙ ap (λ (p : SeatPart). seated (with_part p (my me.0)) (learned c t x me.0.numbers) me.0) (is turned.beside)
 
 -- the same, of a turn that is known by an equation
-pub goes_as : {S : Type 0} (Lies : ℕ → S → List ℕ → Type 0) (c : Setup) (t u : Phase) (me later : Me S Known) (x : ℕ) (q : Part) → t ≡ u → IsAlone me.0
+pub goes_as : {S : Type 0} (Lies : ℕ → S → List ℕ → Type 0) (c : Setup) (t u : Phase) (me later : Me S Known) (x : ℕ) (q : SeatPart) → t ≡ u → IsAlone me.0
     → ((y : List ℕ) → after c u x y (my me.0).part ≡ q)
     → Turned Lies c t me x later → later.0 ≡ seated (with_part q (my me.0)) (learned c u x me.0.numbers) me.0
 goes_as Lies c t u me later x q same alone is turned =

@@ -13,7 +13,7 @@ use Rattle.scq_core.specs.Table.{ring_slots, goes_on}
 use Rattle.scq_band.specs.Known.{Known}
 use Rattle.scq_band.specs.Turns.{Turned}
 use Rattle.scq_band.specs.Steps.{my, my_phase}
-use Rattle.scq_band.specs.Seats.{IsAlone, goes_to, index_of, content_of}
+use Rattle.scq_band.specs.Seats.{IsAlone, goes_to, put_index, content_of}
 use Rattle.scq_band.proofs.Outcomes.{goes_as, turned_as}
 
 module _ {S : Type 0} (Lies : ℕ → S → List ℕ → Type 0) (c : Setup) (me later : Me S Known) (turn : Phase) (x r i : ℕ) (w : List ℕ) (t e : ℕ) where
@@ -43,6 +43,6 @@ rank_fits c x small =
 
 -- what load_vacant and exchange say of the seat, told of the view that the loop began with
 pub room_then : (v w later : Known) (r i : ℕ) (content : List ℕ) (t l e : ℕ) → w ≡ goes_to (AtE2 r i content t l) v
-    → later ≡ goes_to (AtE4 r (index_of (my_phase w)) (content_of (my_phase w)) t e) w → later ≡ goes_to (AtE4 r i content t e) v
+    → later ≡ goes_to (AtE4 r (put_index (my_phase w)) (content_of (my_phase w)) t e) w → later ≡ goes_to (AtE4 r i content t e) v
 room_then v w later r i content t l e first next =
-    subst (λ (u : Known). later ≡ goes_to (AtE4 r (index_of (my_phase u)) (content_of (my_phase u)) t e) u) first next
+    subst (λ (u : Known). later ≡ goes_to (AtE4 r (put_index (my_phase u)) (content_of (my_phase u)) t e) u) first next

@@ -6,7 +6,7 @@ use Rattle.std.proofs.lemmas.Bool.{cases_Bool, lt-ltb}
 use Rattle.scq_word.specs.declared.entry.Entry.{Entry}
 use Rattle.scq_word.specs.Sizes.{slots_of}
 use Rattle.scq_word.specs.Tickets.{cycle_of}
-use Rattle.scq_word.specs.Entries.{entry_in, index_of as index_of_word}
+use Rattle.scq_word.specs.Entries.{entry_in, index_unless_mark as index_of_word}
 use Rattle.atomic_table.specs.Table.{Me}
 use Rattle.scq_word.specs.declared.setup.Setup.{Setup}
 use Rattle.scq_word.specs.Words.{safe_in, cycle_in, is_none_in}

@@ -6,7 +6,7 @@ use Rattle.atomic_table.specs.Table.{Me, rest}
 use Rattle.scq_band.specs.RunSeen.{Seen}
 use Rattle.scq_band.specs.declared.slot.Slot.{Slot}
 use Rattle.scq_band.specs.Known.{Known}
-use Rattle.scq_band.specs.Standing.{Standing, in_hand, bytes_of, bytes_in_hand, with_buffer, without_index, having_seen, after_put, IsAsGiven}
+use Rattle.scq_band.specs.Standing.{Standing, in_hand, laid_bytes, bytes_in_hand, with_buffer, without_index, having_seen, seat_after_put, IsAsGiven}
 use Rattle.scq_band.proofs.Exchanging.{Brought}
 
 module _ {B : Type 0} where
@@ -32,13 +32,13 @@ module _ {B : Type 0} where
 
   -- a seat whose buffer was laid and put is one that put it
   pub put_laid : (contents : B → List ℕ) (gs : Seen) (s : Standing B) (r i p : ℕ) (b : B) → in_hand s.hand i ≡ Some None
-      → having_seen gs (after_put r i p (bytes_in_hand contents (with_buffer i (Some b) s.hand) i) (record s { hand = with_buffer i (Some b) s.hand }))
-      ≡ having_seen gs (after_put r i p (contents b) s)
+      → having_seen gs (seat_after_put r i p (bytes_in_hand contents (with_buffer i (Some b) s.hand) i) (record s { hand = with_buffer i (Some b) s.hand }))
+      ≡ having_seen gs (seat_after_put r i p (contents b) s)
   put_laid contents gs s r i p b lifted =
       let laid = with_buffer i (Some b) s.hand in
-      let bytes : bytes_in_hand contents laid i ≡ contents b = ap (bytes_of contents) (laid_there s.hand i None (Some b) lifted) in
-      ap (λ (w : List ℕ). having_seen gs (after_put r i p w (record s { hand = laid }))) bytes
-      ∙ ap (λ (h : List (ℕ × Option B)). having_seen gs (record (after_put r i p (contents b) s) { hand = h })) (laid_gone s.hand i (Some b))
+      let bytes : bytes_in_hand contents laid i ≡ contents b = ap (laid_bytes contents) (laid_there s.hand i None (Some b) lifted) in
+      ap (λ (w : List ℕ). having_seen gs (seat_after_put r i p w (record s { hand = laid }))) bytes
+      ∙ ap (λ (h : List (ℕ × Option B)). having_seen gs (record (seat_after_put r i p (contents b) s) { hand = h })) (laid_gone s.hand i (Some b))
 
   -- the slot in which the buffer is laid stands first
   pub laid_brought : (IsSame : B → B → Type 0) (given : List B) (me : Me (Slot B) Known) (others : List (ℕ × Slot B)) (i : ℕ) (b : B)

@@ -70,8 +70,8 @@ one_of x p has = at has.0 has.1 has.2
     at (suc j) low is = absurd (omega (arith, low))
 
 -- steps that go on
-pub went_on : (c : Setup) (opening : List (List ℕ)) (a b d : Sight) → Went c opening a b → Went c opening b d → Went c opening a d
-went_on c opening a b d one other =
+pub went_on : {c : Setup} {opening : List (List ℕ)} {a b d : Sight} → Went c opening a b → Went c opening b d → Went c opening a d
+went_on {c} {opening} {a} {b} {d} one other =
     let next : IsPrefix one.after other.before = (subst (λ (x : Seen). AllPrefixes x.runs other.before) one.has_seen other.had_seen).0 in
     let start = one.before ++ ((my a.known).number, one.first) ∷ [] in
     record {
@@ -88,9 +88,9 @@ went_on c opening a b d one other =
       numbers = other.numbers;
     }
 
-pub goes_then : (c : Setup) (opening : List (List ℕ)) (a b d : Sight) → GoesOn c opening a b → Went c opening b d → Went c opening a d
-goes_then c opening a b d (inl same) went = subst (λ (v : Sight). Went c opening v d) same went
-goes_then c opening a b d (inr one) went = went_on c opening a b d one went
+pub goes_then : {c : Setup} {opening : List (List ℕ)} {a b d : Sight} → GoesOn c opening a b → Went c opening b d → Went c opening a d
+goes_then {c} {opening} {a} {b} {d} (inl same) went = subst (λ (v : Sight). Went c opening v d) same went
+goes_then (inr one) went = went_on one went
 
 module _ {S : Type 0} (Lies : ℕ → S → List ℕ → Type 0) where
   -- the part of the one seat of a view, after the run

@@ -10,7 +10,7 @@ use Rattle.scq_band.specs.RunSeen.{Seen}
 use Rattle.scq_band.specs.declared.numbers.Numbers.{Numbers}
 use Rattle.scq_band.specs.declared.rule.Key.{Key}
 use Rattle.scq_band.specs.declared.slot.Slot.{Slot}
-use Rattle.scq_band.specs.Numbers.{joined, larger}
+use Rattle.scq_band.specs.Numbers.{raised_by, larger}
 use Rattle.scq_band.specs.Known.{Member, Known, lower_gate, both_of}
 use Rattle.scq_band.specs.Steps.{my}
 use Rattle.scq_band.specs.Standing.{Standing}
@@ -222,7 +222,7 @@ module _ {B : Type 0} where
 
 -- a number of the first list, and one of the second, are no larger than the joined one
 joined_first : (xs ys : List Numbers) (r : ℕ) (x : Numbers) → slice_get xs r ≡ Some x
-    → (y : Numbers) × (slice_get (joined xs ys) r ≡ Some y) × (x.head ≤ y.head)
+    → (y : Numbers) × (slice_get (raised_by xs ys) r ≡ Some y) × (x.head ≤ y.head)
 joined_first [] ys r x e = absurd (cc)
 joined_first (a ∷ xs) [] r x e = (x, e, omega arith)
 joined_first (a ∷ xs) (b ∷ ys) zero x e =
@@ -232,7 +232,7 @@ joined_first (a ∷ xs) (b ∷ ys) zero x e =
 joined_first (a ∷ xs) (b ∷ ys) (suc r) x e = joined_first xs ys r x e
 
 joined_second : (xs ys : List Numbers) (r : ℕ) (x : Numbers) → length ys ≤ length xs → slice_get ys r ≡ Some x
-    → (y : Numbers) × (slice_get (joined xs ys) r ≡ Some y) × (x.head ≤ y.head)
+    → (y : Numbers) × (slice_get (raised_by xs ys) r ≡ Some y) × (x.head ≤ y.head)
 joined_second xs [] r x fits e = absurd (cc)
 joined_second [] (b ∷ ys) r x fits e = absurd (omega arith)
 joined_second (a ∷ xs) (b ∷ ys) zero x fits e =
@@ -263,7 +263,7 @@ module _ {B : Type 0} where
     gates_joined ss x y known.1,
   )
 
-  heads_joined : (ss : List (Standing B)) (xs ys : List Numbers) → HeadsKnown ss xs → HeadsKnown ss (joined xs ys)
+  heads_joined : (ss : List (Standing B)) (xs ys : List Numbers) → HeadsKnown ss xs → HeadsKnown ss (raised_by xs ys)
   heads_joined [] xs ys known = tt
   heads_joined (s ∷ ss) xs ys known = (
     λ r x e.

@@ -16,6 +16,10 @@ at_low [] id v e = absurd (some-ne-none v (sym e))
 at_low (x ∷ xs) zero v e = omega arith
 at_low (x ∷ xs) (suc id) v e = let low = at_low xs id v e in omega (arith, low)
 
+-- seats of different views are different
+pub seat_apart : (owner : ℕ → ℕ × ℕ) (a b j id : ℕ) {m n : ℕ} → owner a ≡ (j, m) → owner b ≡ (id, n) → j ≢ id → a ≢ b
+seat_apart owner a b j id one other apart same = apart (ap (λ (q : ℕ × ℕ). q.0) (sym one ∙ ap owner same ∙ other))
+
 -- a turn leaves each seat its number
 pub turned_stands : (c : Setup) (t : Phase) (x : ℕ) (y : List ℕ) (k : ℕ) (ms : List Member) → StandsAmong k ms → StandsAmong k (map (turned_member c t x y) ms)
 turned_stands c t x y k [] is = absurd is
@@ -93,25 +97,15 @@ joined_stands views id other k v w here there apart is =
     let both = slice_set views id (both_of v w) in
     let in_both : get_elem? (slice_set both other nobody) id ≡ some (both_of v w) =
     set_else both other id nobody (λ e. apart (sym e)) ∙ set_here views id (both_of v w) (at_low views id v here) in
+    let among : (u : Known) (n : ℕ) → is.id ≡ n → get_elem? views n ≡ some u → StandsAmong k u.seats =
+    λ u n same at.
+    let its : is.view ≡ u = some-injective is.view u (sym is.there ∙ ap (get_elem? views) same ∙ at) in
+    subst (λ (y : Known). StandsAmong k y.seats) its is.stands in
     elim (cases_eq is.id other) [
-      | inl same ↦
-          let its : is.view ≡ w = some-injective is.view w (sym is.there ∙ ap (get_elem? views) same ∙ there) in
-          record {
-            id = id;
-            view = both_of v w;
-            there = in_both;
-            stands = front_stands k w.seats v.seats (subst (λ (u : Known). StandsAmong k u.seats) its is.stands);
-          }
+      | inl same ↦ record { id = id; view = both_of v w; there = in_both; stands = front_stands k w.seats v.seats (among w other same there) }
       | inr beside ↦
           elim (cases_eq is.id id) [
-            | inl same ↦
-                let its : is.view ≡ v = some-injective is.view v (sym is.there ∙ ap (get_elem? views) same ∙ here) in
-                record {
-                  id = id;
-                  view = both_of v w;
-                  there = in_both;
-                  stands = back_stands k w.seats v.seats (subst (λ (u : Known). StandsAmong k u.seats) its is.stands);
-                }
+            | inl same ↦ record { id = id; view = both_of v w; there = in_both; stands = back_stands k w.seats v.seats (among v id same here) }
             | inr elsewhere ↦
                 record {
                   id = is.id;

@@ -10,12 +10,12 @@ use Rattle.scq_core.specs.Table.{ring_slots}
 use Rattle.scq_band.specs.declared.slot.Slot.{Slot}
 use Rattle.scq_band.specs.Layout.{ring_at, IsLocation, offset_of, gate_word, word_count, at}
 use Rattle.scq_band.specs.Homes.{full_slot}
-use Rattle.scq_band.specs.Making.{lifted, AllLaid, AreOpened}
+use Rattle.scq_band.specs.Making.{lifted, AllLaid, WordsAreOpened}
 use Rattle.scq_band.proofs.Layouts.{offset_low, same_offset, at_low, at_some, at_apart}
 
 -- one word more is put where it stands
-pub opens_next : (c : Setup) (words : List ℕ) (r o i x : ℕ) (l : Location) → AreOpened c words r o → IsLocation c l → ring_at l ≡ r → offset_of 1 l ≡ o
-    → i ≡ at c l → x ≡ read (start_cells c []) l → AreOpened c (slice_set words i x) r (suc o)
+pub opens_next : (c : Setup) (words : List ℕ) (r o i x : ℕ) (l : Location) → WordsAreOpened c words r o → IsLocation c l → ring_at l ≡ r → offset_of 1 l ≡ o
+    → i ≡ at c l → x ≡ read (start_cells c []) l → WordsAreOpened c (slice_set words i x) r (suc o)
 opens_next c words r o i x l before here ring offset at_l is =
     rw at_l (record {
       count = length-set words (at c l) x ∙ before.count;
@@ -44,7 +44,7 @@ opens_next c words r o i x l before here ring offset at_l is =
     })
 
 -- a ring whose words all stand there
-pub opens_ring : (c : Setup) (words : List ℕ) (r o : ℕ) → o ≡ 3 + ring_slots c → AreOpened c words r o → AreOpened c words (r + 1) 0
+pub opens_ring : (c : Setup) (words : List ℕ) (r o : ℕ) → o ≡ 3 + ring_slots c → WordsAreOpened c words r o → WordsAreOpened c words (r + 1) 0
 opens_ring c words r o all before =
     record {
       count = before.count;
@@ -66,7 +66,7 @@ opens_ring c words r o all before =
     }
 
 -- a table in which none but the gate stands there yet
-pub opens_gate : (c : Setup) (words : List ℕ) (i x : ℕ) → length words ≡ word_count c → i ≡ gate_word → x ≡ c.seats → AreOpened c (slice_set words i x) 0 0
+pub opens_gate : (c : Setup) (words : List ℕ) (i x : ℕ) → length words ≡ word_count c → i ≡ gate_word → x ≡ c.seats → WordsAreOpened c (slice_set words i x) 0 0
 opens_gate c words i x count at_gate is =
     rw at_gate (record {
       count = length-set words gate_word x ∙ count;

@@ -7,7 +7,7 @@ use Rattle.std.proofs.Math.Nat.{max-eq_left, max-eq_right}
 use mathlib.Core.Option.{some, some-injective, some-ne-none}
 use mathlib.Core.Option as maybe
 use lib.ListN.{get_elem?}
-use Rattle.atomic_table.specs.Table.{Splits, Joins}
+use Rattle.atomic_table.specs.Table.{State, Splits, Joins}
 use Rattle.atomic_table.proofs.Lists.{at_set, at_snoc, set_again, set_else}
 use Rattle.scq_word.specs.declared.setup.Setup.{Setup}
 use Rattle.scq_core.specs.declared.step.Step.{Step}
@@ -16,9 +16,9 @@ use Rattle.scq_core.specs.Machine.{Machine}
 use Rattle.scq_core.proofs.UpdatedLemmas.{updated_here, updated_else}
 use Rattle.scq_law.specs.Bounds.{IsFinished}
 use Rattle.scq_band.specs.declared.numbers.Numbers.{Numbers}
-use Rattle.scq_band.specs.Numbers.{before_places, IsTrue, larger, joined}
-use Rattle.scq_band.specs.Known.{Member, Known, nobody, note_of, behind_first, first_alone, others_of, first_of, lower_gate, both_of}
-use Rattle.scq_band.specs.Shown.{Scene, Owns, IsView, Shown}
+use Rattle.scq_band.specs.Numbers.{before_places, IsTrue, larger, raised_by}
+use Rattle.scq_band.specs.Known.{Member, Known, nobody, note_of_view, behind_first, first_alone, others_of, first_of, lower_gate, both_of}
+use Rattle.scq_band.specs.Shown.{Scene, Owns, IsView, Shown, StandsInAView}
 use Rattle.scq_band.proofs.Knowledge.{AllTrue}
 use Rattle.scq_band.proofs.StandingSeats.{set_stands, longer_stands, peeled_stands, joined_stands}
 
@@ -39,21 +39,21 @@ larger_true c m r x y t u =
       head = let a = t.head in let b = u.head in omega arith;
     }
 
-joined_read : (xs ys : List Numbers) (r : ℕ) (z : Numbers) → slice_get (joined xs ys) r ≡ Some z
+joined_read : (xs ys : List Numbers) (r : ℕ) (z : Numbers) → slice_get (raised_by xs ys) r ≡ Some z
     → (slice_get xs r ≡ Some z) ⊎ ((x : Numbers) × (y : Numbers) × (slice_get xs r ≡ Some x) × (slice_get ys r ≡ Some y) × (z ≡ larger x y))
 joined_read [] ys r z e = absurd (cc)
 joined_read (x ∷ xs) [] r z e = inl e
 joined_read (x ∷ xs) (y ∷ ys) zero z e = let same : larger x y ≡ z = cc in inr (x, y, refl, refl, sym same)
 joined_read (x ∷ xs) (y ∷ ys) (suc r) z e = joined_read xs ys r z e
 
-joined_true : (c : Setup) (m : Machine) (xs ys : List Numbers) → AllTrue c m xs → AllTrue c m ys → AllTrue c m (joined xs ys)
+joined_true : (c : Setup) (m : Machine) (xs ys : List Numbers) → AllTrue c m xs → AllTrue c m ys → AllTrue c m (raised_by xs ys)
 joined_true c m xs ys one other r z e =
     elim (joined_read xs ys r z e) [
       | inl there ↦ one r z there
       | inr h ↦ rw h.4 (larger_true c m r h.0 h.1 (one r h.0 h.2) (other r h.1 h.3))
     ]
 
-pub joined_length : (xs ys : List Numbers) → length (joined xs ys) ≡ length xs
+pub joined_length : (xs ys : List Numbers) → length (raised_by xs ys) ≡ length xs
 joined_length [] ys = refl
 joined_length (x ∷ xs) [] = refl
 joined_length (x ∷ xs) (y ∷ ys) = ap suc (joined_length xs ys)
@@ -66,56 +66,50 @@ lower_true word (Some a) (Some b) one other n is =
     let same : min a b ≡ n = cc in let left = one a refl in let right = other b refl in omega (arith, same, left, right)
 
 module _ {S : Type 0} (Lies : ℕ → S → List ℕ → Type 0) where
-  -- a note may be copied off any view
-  pub copies : {opening : List (List ℕ)} {gone : ℕ → Option ℕ} {run : List (ℕ × Step)} (c : Setup) (id : ℕ) (v : Known)
-      → Splits (Shown Lies opening c gone run) id v v (note_of v)
-  copies c id v s sh here =
+  -- where words and slots are as they were, the views have to be true, and each seat to stand in one
+  pub views_shown : {opening : List (List ℕ)} {gone : ℕ → Option ℕ} {run : List (ℕ × Step)} (c : Setup) (s : State S Known) (owner : ℕ → ℕ × ℕ)
+      (views : List Known) → (sh : Shown Lies opening c gone run s)
+      → ((j : ℕ) (u : Known) → get_elem? views j ≡ some u → IsView Lies c (record (sh.scene) { owner = owner }) s.homes (slice_index s.words 0) j u)
+      → ((k : ℕ) → k < c.seats → StandsInAView k views) → Shown Lies opening c gone run (record { words = s.words; homes = s.homes; views = views })
+  views_shown c s owner views sh each stand =
       record {
-        scene = sh.scene;
+        scene = record (sh.scene) { owner = owner };
         leads = sh.leads;
         gone_is = sh.gone_is;
         made = sh.made;
         words = sh.words;
         awake_seats = sh.awake_seats;
         room = sh.room;
-        views =
-            λ j u e.
-            elim (at_snoc (slice_set s.views id v) (note_of v) u j e) [
-              | inl old ↦ sh.views j u (subst (λ (vs : List Known). get_elem? vs j ≡ some u) (set_again s.views id v here) old)
-              | inr new ↦
-                  let mine = sh.views id v here in
-                  let note : IsView Lies c sh.scene s.homes (slice_index s.words 0) j (note_of v) =
-                  record { seats = tt; rings = inl refl; numbers = mine.numbers; last_gate = λ n is. absurd (cc) } in
-                  subst (λ (w : Known). IsView Lies c sh.scene s.homes (slice_index s.words 0) j w) new note
-            ];
+        views = each;
         stored = sh.stored;
-        all_stand = λ k low. longer_stands (slice_set s.views id v) (note_of v ∷ []) k (set_stands s.views id k v v here (λ a. a) (sh.all_stand k low));
+        all_stand = stand;
       }
 
-  -- a mark may be made of any view
+  -- one more view, in which no seat stands
+  adds : {opening : List (List ℕ)} {gone : ℕ → Option ℕ} {run : List (ℕ × Step)} (c : Setup) (id : ℕ) (v new : Known)
+      → ((z : Scene) (homes : List (maybe.Option S)) (word j : ℕ) → IsView Lies c z homes word id v → IsView Lies c z homes word j new)
+      → Splits (Shown Lies opening c gone run) id v v new
+  adds c id v new its s sh here =
+      views_shown c s sh.scene.owner (slice_set s.views id v ++ new ∷ []) sh
+      (λ j u e.
+      elim (at_snoc (slice_set s.views id v) new u j e) [
+        | inl old ↦ sh.views j u (subst (λ (vs : List Known). get_elem? vs j ≡ some u) (set_again s.views id v here) old)
+        | inr last ↦
+            subst (λ (w : Known). IsView Lies c sh.scene s.homes (slice_index s.words 0) j w) last
+            (its sh.scene s.homes (slice_index s.words 0) j (sh.views id v here))
+      ])
+      (λ k low. longer_stands (slice_set s.views id v) (new ∷ []) k (set_stands s.views id k v v here (λ a. a) (sh.all_stand k low)))
+
+  -- a note may be copied off any view, and a mark be made of it
+  pub copies : {opening : List (List ℕ)} {gone : ℕ → Option ℕ} {run : List (ℕ × Step)} (c : Setup) (id : ℕ) (v : Known)
+      → Splits (Shown Lies opening c gone run) id v v (note_of_view v)
+  copies c id v =
+      adds c id v (note_of_view v) (λ z homes word j mine. record { seats = tt; rings = inl refl; numbers = mine.numbers; last_gate = λ n is. absurd (cc) })
+
   pub marks : {opening : List (List ℕ)} {gone : ℕ → Option ℕ} {run : List (ℕ × Step)} (c : Setup) (id : ℕ) (v : Known)
       → Splits (Shown Lies opening c gone run) id v v nobody
-  marks c id v s sh here =
-      record {
-        scene = sh.scene;
-        leads = sh.leads;
-        gone_is = sh.gone_is;
-        made = sh.made;
-        words = sh.words;
-        awake_seats = sh.awake_seats;
-        room = sh.room;
-        views =
-            λ j u e.
-            elim (at_snoc (slice_set s.views id v) nobody u j e) [
-              | inl old ↦ sh.views j u (subst (λ (vs : List Known). get_elem? vs j ≡ some u) (set_again s.views id v here) old)
-              | inr new ↦
-                  let mark : IsView Lies c sh.scene s.homes (slice_index s.words 0) j nobody =
-                  record { seats = tt; rings = inl refl; numbers = λ r x is. absurd (cc); last_gate = λ n is. absurd (cc) } in
-                  subst (λ (w : Known). IsView Lies c sh.scene s.homes (slice_index s.words 0) j w) new mark
-            ];
-        stored = sh.stored;
-        all_stand = λ k low. longer_stands (slice_set s.views id v) (nobody ∷ []) k (set_stands s.views id k v v here (λ a. a) (sh.all_stand k low));
-      }
+  marks c id v =
+      adds c id v nobody (λ z homes word j mine. record { seats = tt; rings = inl refl; numbers = λ r x is. absurd (cc); last_gate = λ n is. absurd (cc) })
 
   -- who stands where after a join: the seats of the other view in front of the first's
   abbrev joined_owner : ℕ → ℕ → ℕ → (ℕ → ℕ × ℕ) → ℕ → ℕ × ℕ
@@ -169,46 +163,36 @@ module _ {S : Type 0} (Lies : ℕ → S → List ℕ → Type 0) where
       let zz = joined_scene id other (length v.seats) z in
       let mine = sh.views id v here in
       let its = sh.views other w (sym (set_else s.views id other (both_of v w) apart) ∙ there) in
-      record {
-        scene = zz;
-        leads = sh.leads;
-        gone_is = sh.gone_is;
-        made = sh.made;
-        words = sh.words;
-        awake_seats = sh.awake_seats;
-        room = sh.room;
-        views =
-            λ j u e.
-            elim (at_set (slice_set s.views id (both_of v w)) other j nobody u e) [
+      views_shown c s zz.owner (slice_set (slice_set s.views id (both_of v w)) other nobody) sh
+      (λ j u e.
+      elim (at_set (slice_set s.views id (both_of v w)) other j nobody u e) [
+        | inl at ↦
+            let none : IsView Lies c zz s.homes (slice_index s.words 0) j nobody =
+            record { seats = tt; rings = inl refl; numbers = λ r x is. absurd (cc); last_gate = λ n is. absurd (cc) } in
+            subst (λ (k : Known). IsView Lies c zz s.homes (slice_index s.words 0) j k) at.1 none
+        | inr beside ↦
+            elim (at_set s.views id j (both_of v w) u beside.1) [
               | inl at ↦
-                  let none : IsView Lies c zz s.homes (slice_index s.words 0) j nobody =
-                  record { seats = tt; rings = inl refl; numbers = λ r x is. absurd (cc); last_gate = λ n is. absurd (cc) } in
-                  subst (λ (k : Known). IsView Lies c zz s.homes (slice_index s.words 0) j k) at.1 none
-              | inr beside ↦
-                  elim (at_set s.views id j (both_of v w) u beside.1) [
-                    | inl at ↦
-                        let both : IsView Lies c zz s.homes (slice_index s.words 0) id (both_of v w) = record {
-                          seats =
-                              come_over c z s.homes id other v.seats w.seats its.seats
-                              (stay_there c z s.homes id other (length v.seats) id (λ e. apart (sym e)) v.seats mine.seats);
-                          rings = inr (joined_length v.numbers w.numbers ∙ all_rings c v full mine.rings);
-                          numbers = joined_true c z.state v.numbers w.numbers mine.numbers its.numbers;
-                          last_gate = lower_true (slice_index s.words 0) v.gate w.gate mine.last_gate its.last_gate;
-                        } in
-                        rw at.0 (subst (λ (k : Known). IsView Lies c zz s.homes (slice_index s.words 0) id k) at.1 both)
-                    | inr elsewhere ↦
-                        let old = sh.views j u elsewhere.1 in
-                        record {
-                          seats = stay_there c z s.homes id other (length v.seats) j beside.0 u.seats old.seats;
-                          rings = old.rings;
-                          numbers = old.numbers;
-                          last_gate = old.last_gate;
-                        }
-                  ]
-            ];
-        stored = sh.stored;
-        all_stand = λ k low. joined_stands s.views id other k v w here (sym (set_else s.views id other (both_of v w) apart) ∙ there) apart (sh.all_stand k low);
-      }
+                  let both : IsView Lies c zz s.homes (slice_index s.words 0) id (both_of v w) = record {
+                    seats =
+                        come_over c z s.homes id other v.seats w.seats its.seats
+                        (stay_there c z s.homes id other (length v.seats) id (λ e. apart (sym e)) v.seats mine.seats);
+                    rings = inr (joined_length v.numbers w.numbers ∙ all_rings c v full mine.rings);
+                    numbers = joined_true c z.state v.numbers w.numbers mine.numbers its.numbers;
+                    last_gate = lower_true (slice_index s.words 0) v.gate w.gate mine.last_gate its.last_gate;
+                  } in
+                  rw at.0 (subst (λ (k : Known). IsView Lies c zz s.homes (slice_index s.words 0) id k) at.1 both)
+              | inr elsewhere ↦
+                  let old = sh.views j u elsewhere.1 in
+                  record {
+                    seats = stay_there c z s.homes id other (length v.seats) j beside.0 u.seats old.seats;
+                    rings = old.rings;
+                    numbers = old.numbers;
+                    last_gate = old.last_gate;
+                  }
+            ]
+      ])
+      (λ k low. joined_stands s.views id other k v w here (sym (set_else s.views id other (both_of v w) apart) ∙ there) apart (sh.all_stand k low))
     where
       all_rings : (c : Setup) (v : Known) → (v.seats ≡ [] → ⊥) → (v.seats ≡ []) ⊎ (length v.numbers ≡ c.rings) → length v.numbers ≡ c.rings
       all_rings c v seated (inl empty) = absurd (seated empty)
@@ -273,37 +257,27 @@ module _ {S : Type 0} (Lies : ℕ → S → List ℕ → Type 0) where
         numbers = mine.numbers;
         last_gate = mine.last_gate;
       } in
-      record {
-        scene = zz;
-        leads = sh.leads;
-        gone_is = sh.gone_is;
-        made = sh.made;
-        words = sh.words;
-        awake_seats = sh.awake_seats;
-        room = sh.room;
-        views =
-            λ j u e.
-            elim (snoc_read (slice_set s.views id (others_of v)) (first_of v) u j e) [
-              | inl old ↦
-                  elim (at_set s.views id j (others_of v) u old) [
-                    | inl at ↦ rw at.0 (subst (λ (k : Known). IsView Lies c zz s.homes (slice_index s.words 0) id k) at.1 others)
-                    | inr elsewhere ↦
-                        let was = sh.views j u elsewhere.1 in
-                        record {
-                          seats = split_owner_else c z s.homes x.number id j (length xs) x_is.owner u.seats was.seats (λ b less is. absurd (elsewhere.0 is))
-                              (new, 0);
-                          rings = was.rings;
-                          numbers = was.numbers;
-                          last_gate = was.last_gate;
-                        }
-                  ]
-              | inr last ↦
-                  let is : j ≡ new = last.0 ∙ length-set s.views id (others_of v) in
-                  rw is (subst (λ (k : Known). IsView Lies c zz s.homes (slice_index s.words 0) new k) last.1 first)
-            ];
-        stored = sh.stored;
-        all_stand = λ k low. peeled_stands s.views id k v x xs seats here (sh.all_stand k low);
-      }
+      views_shown Lies c s zz.owner (slice_set s.views id (others_of v) ++ first_of v ∷ []) sh
+      (λ j u e.
+      elim (snoc_read (slice_set s.views id (others_of v)) (first_of v) u j e) [
+        | inl old ↦
+            elim (at_set s.views id j (others_of v) u old) [
+              | inl at ↦ rw at.0 (subst (λ (k : Known). IsView Lies c zz s.homes (slice_index s.words 0) id k) at.1 others)
+              | inr elsewhere ↦
+                  let was = sh.views j u elsewhere.1 in
+                  record {
+                    seats = split_owner_else c z s.homes x.number id j (length xs) x_is.owner u.seats was.seats (λ b less is. absurd (elsewhere.0 is))
+                        (new, 0);
+                    rings = was.rings;
+                    numbers = was.numbers;
+                    last_gate = was.last_gate;
+                  }
+            ]
+        | inr last ↦
+            let is : j ≡ new = last.0 ∙ length-set s.views id (others_of v) in
+            rw is (subst (λ (k : Known). IsView Lies c zz s.homes (slice_index s.words 0) new k) last.1 first)
+      ])
+      (λ k low. peeled_stands s.views id k v x xs seats here (sh.all_stand k low))
     where
       index_low : (l : List Known) (i : ℕ) (a : Known) → get_elem? l i ≡ some a → i < length l
       index_low [] i a e = absurd (some-ne-none a (sym e))

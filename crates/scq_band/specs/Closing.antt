@@ -25,21 +25,22 @@ use Rattle.scq_law.specs.declared.ordered.Ordered.{Ordered}
 use Rattle.scq_law.specs.Prefixes.{AllPrefixes}
 use Rattle.scq_law.specs.Progress.{HasProgress, DelayedByEnds, EndsAlone}
 use Rattle.scq_band.specs.RunSeen.{Caller}
+use Rattle.scq_band.specs.Buffers.{opening_of}
 use Rattle.scq_band.specs.declared.numbers.Numbers.{Numbers}
 use Rattle.scq_band.specs.Numbers.{known_of}
 use Rattle.scq_band.specs.Standing.{Identity, Standing, IsAsGiven, caller_of}
 
 -- this call ended so
-abbrev pub IsCall : List (List Ended) → ℕ → ℕ → Ended → Type 0
-IsCall records seat number ended =
+abbrev pub CallEndedSo : List (List Ended) → ℕ → ℕ → Ended → Type 0
+CallEndedSo records seat number ended =
     (calls : List Ended) × (slice_get records seat ≡ Some calls)
     × (slice_get calls number ≡ Some ended)
 
 -- some call ended so
-pub record HasEnded (records : List (List Ended)) (ended : Ended) : Type 0 where
+pub record SomeCallEndedSo (records : List (List Ended)) (ended : Ended) : Type 0 where
   pub seat : ℕ
   pub number : ℕ
-  pub is : IsCall records seat number ended
+  pub is : CallEndedSo records seat number ended
 
 -- the opening put of an index: at the place 2n + index of ring 0, with the bytes that its buffer
 -- was given with
@@ -51,7 +52,7 @@ pub record IsOpeningPut (c : Setup) (opening : List (List ℕ)) (r p : ℕ) (w :
 
 -- a put placed these bytes at the place p of ring r: an opening put, or a call
 abbrev pub WasPut : Setup → List (List ℕ) → List (List Ended) → ℕ → ℕ → List ℕ → Type 0
-WasPut c opening records r p w = IsOpeningPut c opening r p w ⊎ HasEnded records (Done r p w)
+WasPut c opening records r p w = IsOpeningPut c opening r p w ⊎ SomeCallEndedSo records (Done r p w)
 
 -- some seat knows that Head of ring r is past the place p
 pub record IsKnownPassed (known : List (List Numbers)) (r p : ℕ) : Type 0 where
@@ -63,28 +64,28 @@ pub record IsKnownPassed (known : List (List Numbers)) (r p : ℕ) : Type 0 wher
 -- each place that was got is the place of a put with the same bytes
 abbrev pub EachGetHasItsPut : Setup → List (List ℕ) → List (List Ended) → Type 0
 EachGetHasItsPut c opening records =
-    (r p : ℕ) (w : List ℕ) → HasEnded records (Got r p w) → WasPut c opening records r p w
+    (r p : ℕ) (w : List ℕ) → SomeCallEndedSo records (Got r p w) → WasPut c opening records r p w
 
 -- no place was put at twice, neither by two calls nor by a call where an opening put is
 pub record NoneIsPutTwice (c : Setup) (opening : List (List ℕ))
     (records : List (List Ended)) : Type 0 where
-  pub once : (r p : ℕ) (v w : List ℕ) (a x b y : ℕ) → IsCall records a x (Done r p v)
-      → IsCall records b y (Done r p w) → (a ≡ b) × (x ≡ y)
+  pub once : (r p : ℕ) (v w : List ℕ) (a x b y : ℕ) → CallEndedSo records a x (Done r p v)
+      → CallEndedSo records b y (Done r p w) → (a ≡ b) × (x ≡ y)
   pub apart : (r p : ℕ) (v w : List ℕ) → IsOpeningPut c opening r p v
-      → HasEnded records (Done r p w) → ⊥
+      → SomeCallEndedSo records (Done r p w) → ⊥
 
 -- no place was got twice
 abbrev pub NoneIsGotTwice : List (List Ended) → Type 0
 NoneIsGotTwice records =
-    (r p : ℕ) (v w : List ℕ) (a x b y : ℕ) → IsCall records a x (Got r p v)
-    → IsCall records b y (Got r p w) → (a ≡ b) × (x ≡ y)
+    (r p : ℕ) (v w : List ℕ) (a x b y : ℕ) → CallEndedSo records a x (Got r p v)
+    → CallEndedSo records b y (Got r p w) → (a ≡ b) × (x ≡ y)
 
 -- each put whose place some seat knows to be below Head was got
 abbrev pub EachPutPassedIsGot : Setup → List (List ℕ) → List (List Ended) → List (List Numbers)
     → Type 0
 EachPutPassedIsGot c opening records known =
     (r p : ℕ) (w : List ℕ) → WasPut c opening records r p w → IsKnownPassed known r p
-    → HasEnded records (Got r p w)
+    → SomeCallEndedSo records (Got r p w)
 
 -- how many puts of a ring placed an index, the opening puts among them, how many gets took one, and
 -- how many puts were begun
@@ -113,7 +114,7 @@ pub record IsPastTheBound (c : Setup) (records : List (List Ended)) (seat ticket
   pub low : ring < c.rings
   pub number : ℕ
   pub is_put : Bool
-  pub call : IsCall records seat number (Spent ring ticket is_put)
+  pub call : CallEndedSo records seat number (Spent ring ticket is_put)
   pub past : c.limit < ticket_bound c.order c.seats (begun_on c records ring)
 
 -- where a seat keeps a spent ticket, the bound of the ticket's ring is past the limit
@@ -167,7 +168,7 @@ pub record LeftPut (c : Setup) (opening : List (List ℕ)) (records : List (List
   pub ring : ℕ
   pub place : ℕ
   pub put : WasPut c opening records ring place w
-  pub not_got : (v : List ℕ) → HasEnded records (Got ring place v) → ⊥
+  pub not_got : (v : List ℕ) → SomeCallEndedSo records (Got ring place v) → ⊥
 
 -- each hand has indices of the setup alone, and no index stands twice in all hands
 pub record EachIsInOneHand (c : Setup) (hands : List (List ℕ)) : Type 0 where
@@ -229,6 +230,43 @@ pub record AreTheLifted {B : Type 0} (IsSame : B → B
   pub lifted : (i : ℕ)
       → times i (indices_of out) ≡ sum_by (λ (s : Standing B). times i (lifted_of s.hand)) seats
   pub same : (o : ℕ × B) → Contains out o → IsAsGiven IsSame band.given o.0 o.1
+
+-- what the records of all seats say of one another
+pub record RecordsAgree (c : Setup) (opening : List (List ℕ)) (records : List (List Ended))
+    (known : List (List Numbers)) : Type 0 where
+  pub gets : EachGetHasItsPut c opening records
+  pub put_once : NoneIsPutTwice c opening records
+  pub once : NoneIsGotTwice records
+  pub passed : EachPutPassedIsGot c opening records known
+
+-- where the indices are: as many in each ring as were put there and not got, each once, and in one
+-- hand at most
+pub record IndicesAgree (c : Setup) (records : List (List Ended)) (held : List (List ℕ))
+    (left : List ℕ) : Type 0 where
+  pub balance : IsBalance c records left
+  pub all_there : IsAllThere c held left
+  pub hands : EachIsInOneHand c held
+
+-- the buffers that come back are those that were given, with the bytes that they had in hands, and
+-- those of their puts in rings
+pub record BuffersComeBack {B : Type 0} (contents : B → List ℕ) (IsSame : B → B
+    → Type 0) (band : Identity B) (seats : List (Standing B)) (out : List (ℕ × B))
+    (buffers : List B) : Type 0 where
+  pub same : AreTheSame IsSame band.given buffers
+  pub held : All (ComesBackAsItWas contents buffers) (held_buffers seats out)
+  pub left : EachLeftIsItsPut band.setup (opening_of contents band.given) (all_calls seats)
+      (all_hands seats) (map contents buffers)
+
+-- what seats were told of those that retired is so
+pub record RetiredAgree {B : Type 0} (seats : List (Standing B)) : Type 0 where
+  pub gate : AllRetiredWhereClosed seats
+  pub retirees : EachSeenRetiredHas seats
+
+-- spent tickets are kept past the bounds alone
+pub record SpentAgree (c : Setup) (records : List (List Ended)) (kept : List (Option ℕ))
+    : Type 0 where
+  pub bounds : EachSpentIsPastTheBound c records kept
+  pub limits : NoneIsSpentWithinTheLimit c records kept
 
 -- one run behind all calls. Its calls have all ended, each seat is one of these callers, and each
 -- caller's record is the run's; all that any of them had seen are prefixes of it. Its history has

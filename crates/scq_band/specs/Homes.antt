@@ -147,7 +147,7 @@ module _ {B : Type 0} where
   all_seen (s ∷ ss) = both_seen (all_seen ss) s.seen
 
   -- of all these seats some are left, and the others stand in one view with their slots at home
-  pub record AreGathered (contents : B
+  pub record SeatsAreGathered (contents : B
       → List ℕ) (rings : ℕ) (all left : List (Standing B)) (v : Known) (told : Seen) : Type 0 where
     pub done : List (Standing B)
     pub split : all ≡ left ++ done

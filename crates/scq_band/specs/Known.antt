@@ -3,16 +3,16 @@
 -- stand in it with their parts, a lower bound of each ring's counters, and what it read at the
 -- gate. A note is a view in which no seat stands.
 use Rattle.std.specs.Prelude.{ℕ, List, [], ◌∷◌, ◌++◌, Option, Some, None, min}
-use Rattle.scq_core.specs.Machine.{Part}
+use Rattle.scq_core.specs.Machine.{SeatPart}
 use Rattle.scq_band.specs.declared.numbers.Numbers.{Numbers}
-use Rattle.scq_band.specs.Numbers.{joined}
+use Rattle.scq_band.specs.Numbers.{raised_by}
 
 -- a seat: its number, its part, how many calls stood in its record when it retired, and the indices
 -- in its hand whose slots were brought home before the table closes, each with the bytes of its
 -- buffer
 pub record Member : Type 0 where
   pub number : ℕ
-  pub part : Part
+  pub part : SeatPart
   pub retired : Option ℕ
   pub brought : List (ℕ × List ℕ)
 
@@ -28,8 +28,8 @@ abbrev pub nobody : Known
 nobody = record { seats = []; numbers = []; gates = 0; gate = None }
 
 -- a note of a view: what it knows of the rings
-abbrev pub note_of : Known → Known
-note_of v = record { seats = []; numbers = v.numbers; gates = 0; gate = None }
+abbrev pub note_of_view : Known → Known
+note_of_view v = record { seats = []; numbers = v.numbers; gates = 0; gate = None }
 
 -- the seats behind the first, and the first alone
 abbrev pub behind_first : List Member → List Member
@@ -59,7 +59,7 @@ abbrev pub both_of : Known → Known → Known
 both_of v w =
     record v {
       seats = w.seats ++ v.seats;
-      numbers = joined v.numbers w.numbers;
+      numbers = raised_by v.numbers w.numbers;
       gate =
           lower_gate v.gate w.gate;
     }

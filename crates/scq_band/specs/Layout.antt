@@ -77,12 +77,12 @@ IsHot (entry_of r s) = ⊥
 IsHot l = Unit {0}
 
 -- these words stand that far apart
-abbrev pub AreApart : ℕ → ℕ → ℕ → Type 0
-AreApart d i j = (i + d ≤ j) ⊎ (j + d ≤ i)
+abbrev pub StandApart : ℕ → ℕ → ℕ → Type 0
+StandApart d i j = (i + d ≤ j) ⊎ (j + d ≤ i)
 
 -- the gate and each hot word stand that far from every other word that is used
 abbrev pub HotWordsAreApart : Type 0
 HotWordsAreApart =
     (c : Setup) (l : Location) → IsLocation c l
-    → AreApart distance gate_word (at c l)
-    × (IsHot l → (k : Location) → IsLocation c k → l ≢ k → AreApart distance (at c l) (at c k))
+    → StandApart distance gate_word (at c l)
+    × (IsHot l → (k : Location) → IsLocation c k → l ≢ k → StandApart distance (at c l) (at c k))

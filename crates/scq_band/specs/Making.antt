@@ -18,12 +18,12 @@ use Rattle.scq_band.specs.RunSeen.{nothing_seen}
 use Rattle.scq_band.specs.Sights.{Sight}
 
 -- a buffer is laid in the slot
-abbrev pub IsLaid : {B : Type 0} → Slot B → Type 0
-IsLaid {B} slot = (b : B) × (slot.buffer ≡ Some b)
+abbrev pub HasBuffer : {B : Type 0} → Slot B → Type 0
+HasBuffer {B} slot = (b : B) × (slot.buffer ≡ Some b)
 
 abbrev pub AllLaid : {B : Type 0} → List (Slot B) → Type 0
 AllLaid [] = Unit {0}
-AllLaid (x ∷ xs) = IsLaid x × AllLaid xs
+AllLaid (x ∷ xs) = HasBuffer x × AllLaid xs
 
 -- the buffers that are laid in slots
 abbrev lifted_from : {B : Type 0} → Option B → List B → List B
@@ -42,19 +42,19 @@ pub record IsRoom (c : Setup) (room : Room) : Type 0 where
 
 -- a location of a ring before r, or in r one of the first o of Tail, Head, Threshold and the
 -- entries by slot
-abbrev pub IsBefore : ℕ → ℕ → Location → Type 0
-IsBefore r o l = (ring_at l < r) ⊎ ((ring_at l ≡ r) × (offset_of 1 l < o))
+abbrev pub IsLocatedBefore : ℕ → ℕ → Location → Type 0
+IsLocatedBefore r o l = (ring_at l < r) ⊎ ((ring_at l ≡ r) × (offset_of 1 l < o))
 
 -- the words of a table, of which the gate and those before stand as they do at the start
-pub record AreOpened (c : Setup) (words : List ℕ) (r o : ℕ) : Type 0 where
+pub record WordsAreOpened (c : Setup) (words : List ℕ) (r o : ℕ) : Type 0 where
   pub count : length words ≡ word_count c
   pub gate : slice_index words gate_word ≡ c.seats
-  pub shows : (l : Location) → IsLocation c l → IsBefore r o l
+  pub shows : (l : Location) → IsLocation c l → IsLocatedBefore r o l
       → slice_index words (at c l) ≡ read (start_cells c []) l
 
 -- the memory of a band
 pub record IsMemory (c : Setup) (memory : Memory) : Type 0 where
-  pub opened : AreOpened c memory.words.items c.rings 0
+  pub opened : WordsAreOpened c memory.words.items c.rings 0
   pub none_left : memory.left.items ≡ []
   pub each_ring : c.rings ≤ vec_capacity memory.left
   pub rings : AreRings c c.rings memory.rings.items

@@ -77,7 +77,7 @@ abbrev pub changed : (Numbers → Numbers) → ℕ → List Numbers → List Num
 changed f r numbers = slice_set numbers r (f (known_of numbers r))
 
 -- the first list, each number raised by that of the second
-abbrev pub joined : List Numbers → List Numbers → List Numbers
-joined [] ys = []
-joined (x ∷ xs) [] = x ∷ xs
-joined (x ∷ xs) (y ∷ ys) = larger x y ∷ joined xs ys
+abbrev pub raised_by : List Numbers → List Numbers → List Numbers
+raised_by [] ys = []
+raised_by (x ∷ xs) [] = x ∷ xs
+raised_by (x ∷ xs) (y ∷ ys) = larger x y ∷ raised_by xs ys

@@ -15,7 +15,7 @@ use Rattle.scq_band.specs.RunSeen.{Seen, nothing_seen, with_run, both_seen, Ends
 use Rattle.scq_band.specs.declared.numbers.Numbers.{Numbers}
 use Rattle.scq_band.specs.Numbers.{IsTrue}
 use Rattle.scq_band.specs.Layout.{at, IsLocation}
-use Rattle.scq_band.specs.Known.{Member, Known, nobody, note_of, others_of, first_of, both_of}
+use Rattle.scq_band.specs.Known.{Member, Known, nobody, note_of_view, others_of, first_of, both_of}
 use Rattle.scq_band.specs.Shown.{Shown, awake, first_view}
 use Rattle.scq_band.specs.Steps.{my}
 
@@ -106,7 +106,7 @@ mark_sight v = mark_with v.seen
 
 -- a note of a view; what is left of one that was joined to another
 abbrev pub note_sight : Sight → Sight
-note_sight v = record { known = note_of v.known; seen = v.seen }
+note_sight v = record { known = note_of_view v.known; seen = v.seen }
 
 abbrev pub spent_sight : Sight
 spent_sight = record { known = nobody; seen = nothing_seen }

@@ -78,12 +78,12 @@ module _ {B : Type 0} where
   in_hand (x ∷ xs) i = if x.0 == i then Some x.1 else in_hand xs i
 
   -- the bytes of the buffer that is laid for an index in a hand
-  abbrev pub bytes_of : (B → List ℕ) → Option (Option B) → List ℕ
-  bytes_of contents (Some (Some buffer)) = contents buffer
-  bytes_of contents held = []
+  abbrev pub laid_bytes : (B → List ℕ) → Option (Option B) → List ℕ
+  laid_bytes contents (Some (Some buffer)) = contents buffer
+  laid_bytes contents held = []
 
   abbrev pub bytes_in_hand : (B → List ℕ) → List (ℕ × Option B) → ℕ → List ℕ
-  bytes_in_hand contents hand i = bytes_of contents (in_hand hand i)
+  bytes_in_hand contents hand i = laid_bytes contents (in_hand hand i)
 
   -- a hand without an index
   abbrev pub without_index : ℕ → List (ℕ × Option B) → List (ℕ × Option B)
@@ -102,8 +102,8 @@ module _ {B : Type 0} where
   caller_of s = record { seat = s.number; calls = s.calls; seen = s.seen }
 
   -- a seat whose put of an index has ended at a place, with the bytes of its buffer
-  abbrev pub after_put : ℕ → ℕ → ℕ → List ℕ → Standing B → Standing B
-  after_put ring index place bytes s =
+  abbrev pub seat_after_put : ℕ → ℕ → ℕ → List ℕ → Standing B → Standing B
+  seat_after_put ring index place bytes s =
       record s {
         calls = s.calls ++ Done ring place bytes ∷ [];
         hand = without_index index s.hand;
@@ -111,8 +111,8 @@ module _ {B : Type 0} where
       }
 
   -- a seat whose get has ended with an index at a place, and whose buffer came with these bytes
-  abbrev pub after_get : ℕ → ℕ → ℕ → B → List ℕ → Standing B → Standing B
-  after_get ring place index buffer bytes s =
+  abbrev pub seat_after_get : ℕ → ℕ → ℕ → B → List ℕ → Standing B → Standing B
+  seat_after_get ring place index buffer bytes s =
       record s {
         calls = s.calls ++ Got ring place bytes ∷ [];
         hand = s.hand ++ (index, Some buffer) ∷ [];
@@ -120,8 +120,8 @@ module _ {B : Type 0} where
       }
 
   -- a seat whose get has found nothing, with the last ticket that it drew, if any
-  abbrev pub after_nothing : ℕ → Option ℕ → Standing B → Standing B
-  after_nothing ring drawn s =
+  abbrev pub seat_after_nothing : ℕ → Option ℕ → Standing B → Standing B
+  seat_after_nothing ring drawn s =
       record s {
         calls = s.calls ++ Nothing ring ∷ [];
         numbers =
@@ -129,12 +129,12 @@ module _ {B : Type 0} where
       }
 
   -- a seat whose put, or get, drew a ticket at or past the limit
-  abbrev pub after_spent_put : ℕ → ℕ → Standing B → Standing B
-  after_spent_put ring ticket s =
+  abbrev pub seat_after_spent_put : ℕ → ℕ → Standing B → Standing B
+  seat_after_spent_put ring ticket s =
       record s { calls = s.calls ++ Spent ring ticket true ∷ []; spent = Some ticket }
 
-  abbrev pub after_spent_get : ℕ → ℕ → Standing B → Standing B
-  after_spent_get ring ticket s =
+  abbrev pub seat_after_spent_get : ℕ → ℕ → Standing B → Standing B
+  seat_after_spent_get ring ticket s =
       record s {
         calls = s.calls ++ Spent ring ticket false ∷ [];
         numbers = changed (passes (ticket + 1)) ring s.numbers;
@@ -142,8 +142,8 @@ module _ {B : Type 0} where
       }
 
   -- a seat that read this number at the gate
-  abbrev pub after_look : ℕ → Standing B → Standing B
-  after_look found s = record s { gates = s.gates + 1; gate = Some found }
+  abbrev pub seat_after_look : ℕ → Standing B → Standing B
+  seat_after_look found s = record s { gates = s.gates + 1; gate = Some found }
 
   -- a buffer is the same as the one given for an index
   pub record IsAsGiven (IsSame : B → B
@@ -153,20 +153,21 @@ module _ {B : Type 0} where
     pub same : IsSame first buffer
 
   -- a seat that has got an index at a place: its buffer is the same as the one given for the index
-  pub record HasTaken (contents : B → List ℕ) (IsSame : B → B
+  pub record SeatHasTaken (contents : B → List ℕ) (IsSame : B → B
       → Type 0) (ring place index : ℕ) (old new : Standing B) : Type 0 where
     pub buffer : B
     pub given : IsAsGiven IsSame old.band.given index buffer
-    pub seat : new ≡ having_seen new.seen (after_get ring place index buffer (contents buffer) old)
+    pub seat : new ≡ having_seen new.seen
+        (seat_after_get ring place index buffer (contents buffer) old)
     -- it was not in the hand before
     pub came : in_hand old.hand index ≡ None
 
   -- a seat that has found a ring empty: the head number answered is the larger of the known head
   -- (one past the last ticket, where the seat drew any) and of one more than the known finished
   -- place. Which tickets it drew, if any, isn't said but for their bounds
-  pub record FoundEmpty (ring head : ℕ) (old new : Standing B) : Type 0 where
+  pub record SeatFoundEmpty (ring head : ℕ) (old new : Standing B) : Type 0 where
     pub drawn : Option ℕ
-    pub seat : new ≡ having_seen new.seen (after_nothing ring drawn old)
+    pub seat : new ≡ having_seen new.seen (seat_after_nothing ring drawn old)
     pub known : head ≡ (known_of new.numbers ring).head
     -- a ticket that was drawn is below the limit, and no lower than the head that was known
     pub below : (ticket : ℕ) → drawn ≡ Some ticket → ticket < old.band.setup.limit

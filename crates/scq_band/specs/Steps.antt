@@ -60,16 +60,16 @@ draw_turn contents c word me =
     drawing (ring_of_word c word) (front_index me.1) (front_bytes contents me.1) (my_phase me.0)
 
 -- the turns that only read
-abbrev pub IsLoad : Phase → Type 0
-IsLoad (AtE2 r i w t l) = Unit {0}
-IsLoad (AtE3 r i w t e) = Unit {0}
-IsLoad (AtE5 r i w t) = Unit {0}
-IsLoad (AtD1 r) = Unit {0}
-IsLoad (AtD3 r h l) = Unit {0}
-IsLoad (AtD6 r h) = Unit {0}
-IsLoad (AtD8 r h from) = Unit {0}
-IsLoad (AtD9 r h from to) = Unit {0}
-IsLoad turn = ⊥
+abbrev pub OnlyReads : Phase → Type 0
+OnlyReads (AtE2 r i w t l) = Unit {0}
+OnlyReads (AtE3 r i w t e) = Unit {0}
+OnlyReads (AtE5 r i w t) = Unit {0}
+OnlyReads (AtD1 r) = Unit {0}
+OnlyReads (AtD3 r h l) = Unit {0}
+OnlyReads (AtD6 r h) = Unit {0}
+OnlyReads (AtD8 r h from) = Unit {0}
+OnlyReads (AtD9 r h from to) = Unit {0}
+OnlyReads turn = ⊥
 
 -- those that draw a ticket
 abbrev pub IsDraw : Phase → Type 0
@@ -89,10 +89,10 @@ abbrev pub IsReset : Phase → Type 0
 IsReset (AtE6 r i w t) = Unit {0}
 IsReset turn = ⊥
 
-abbrev pub IsTaking : Phase → Type 0
-IsTaking (AtD4 r h) = Unit {0}
-IsTaking turn = ⊥
+abbrev pub IsTakingTurn : Phase → Type 0
+IsTakingTurn (AtD4 r h) = Unit {0}
+IsTakingTurn turn = ⊥
 
-abbrev pub IsCount : Phase → Type 0
-IsCount (AtD10 r h leaving) = Unit {0}
-IsCount turn = ⊥
+abbrev pub IsCountDown : Phase → Type 0
+IsCountDown (AtD10 r h leaving) = Unit {0}
+IsCountDown turn = ⊥

@@ -12,7 +12,7 @@ use Rattle.scq_core.specs.declared.step.Step.{Step}
 use Rattle.scq_core.specs.Table.{ring_slots, zero_level, reset_level, turn_of, after}
 use Rattle.scq_core.specs.Turn.{IsReady}
 use Rattle.scq_law.specs.Hands.{times}
-use Rattle.scq_law.specs.Retries.{Finds}
+use Rattle.scq_law.specs.Retries.{FindsAtLeast}
 use Rattle.scq_band.specs.declared.numbers.Numbers.{Numbers}
 use Rattle.scq_band.specs.Known.{Member, Known}
 use Rattle.scq_band.specs.Steps.{my}
@@ -87,7 +87,7 @@ module _ {S : Type 0} (Lies : ℕ → S → List ℕ → Type 0) where
     pub beside : List ℕ
     pub view : later.0 ≡ made c t x beside me.0
     pub slots : SlotsAfter c t x beside me.1 later.1
-    pub found : Finds c t x
+    pub found : FindsAtLeast c t x
     pub stands : FindsIndex c t x
     pub ready : IsReady c t x
     pub draws : Draws t x me.0.numbers

@@ -5,7 +5,7 @@ ghost use Rattle.scq_word.specs.Sizes.{n_of};
 ghost use Rattle.scq_band.specs.Rings.{IsRing};
 ghost use Rattle.scq_band.specs.Buffers.{opening_of};
 ghost use Rattle.scq_band.specs.RunSeen.{IsReadingInRun, with_retiree, AllWereSeenRetired};
-ghost use Rattle.scq_band.specs.Standing.{first_standings, after_look, having_seen, caller_of};
+ghost use Rattle.scq_band.specs.Standing.{first_standings, seat_after_look, having_seen, caller_of};
 
 use crate::gate::{read_gate, retire};
 use crate::making::{Memory, lay_all, lift_all, reserved};
@@ -135,7 +135,7 @@ impl<B: Buffer> Band<B> {
     pub fn gate_closed(&self, seat: &mut Seat<B>) -> bool
         requires seat { seat.old.band ≡ self.now }
         ensures looked { (found : ℕ)
-            × (seat.new ≡ having_seen seat.new.seen (after_look found seat.old))
+            × (seat.new ≡ having_seen seat.new.seen (seat_after_look found seat.old))
             × (result ≡ (found == 0)) }
         ensures in_run { (found : ℕ) → seat.new.gate ≡ Some found
             → IsReadingInRun self.now.setup (opening_of B.contents self.now.given) seat.old.retired

@@ -1,6 +1,6 @@
 //! Notes, as callers have them: what one seat knows of the rings, carried to another.
 ghost use Rattle.std.specs.Prelude.{◌≡◌, ◌<◌, ◌≤◌, length, take, vec_len, vec_capacity};
-ghost use Rattle.scq_band.specs.Numbers.{joined};
+ghost use Rattle.scq_band.specs.Numbers.{raised_by};
 ghost use Rattle.scq_band.specs.RunSeen.{both_seen};
 
 use crate::badges::{learn, note};
@@ -62,7 +62,7 @@ fn copied(numbers: &Vec<Numbers>) -> [Numbers; MOST_RINGS]
 
 // Raises each number to that of the other list, where that is larger.
 fn join_all(numbers: &mut Vec<Numbers>, other: &[Numbers])
-    ensures joined { numbers.new.items ≡ joined numbers.old.items other.now }
+    ensures joined { numbers.new.items ≡ raised_by numbers.old.items other.now }
     ensures len { vec_len numbers.new ≡ vec_len numbers.old }
 {
     let mut ring = 0;
@@ -97,7 +97,7 @@ impl<B: Buffer> Band<B> {
         requires seat { seat.old.band ≡ self.now }
         requires note { note.table ≡ self.now.table }
         ensures { seat.new ≡ record seat.old {
-          numbers = joined seat.old.numbers note.numbers;
+          numbers = raised_by seat.old.numbers note.numbers;
           seen = both_seen seat.old.seen note.seen;
         } }
     {

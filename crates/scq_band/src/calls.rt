@@ -13,8 +13,9 @@ ghost use Rattle.scq_band.specs.Buffers.{opening_of};
 ghost use Rattle.scq_band.specs.Numbers.{known_of, changed, finishes, RisesInHead};
 ghost use Rattle.scq_band.specs.RunSeen.{IsCallInRun, WasEmptyInRun};
 ghost use Rattle.scq_band.specs.Standing.{caller_of, in_hand, bytes_in_hand, having_seen};
-ghost use Rattle.scq_band.specs.Standing.{after_put, after_spent_put, after_spent_get, IsAsGiven};
-ghost use Rattle.scq_band.specs.Standing.{HasTaken, FoundEmpty};
+ghost use Rattle.scq_band.specs.Standing.{seat_after_put, seat_after_spent_put};
+ghost use Rattle.scq_band.specs.Standing.{seat_after_spent_get, IsAsGiven};
+ghost use Rattle.scq_band.specs.Standing.{SeatHasTaken, SeatFoundEmpty};
 
 use crate::band::Band;
 use crate::dequeue::{Without, dequeue};
@@ -84,12 +85,13 @@ impl<B: Buffer> Band<B> {
         requires held { (buffer : B) × (in_hand seat.old.hand index ≡ Some (Some buffer)) }
         ensures band { seat.new.band ≡ seat.old.band }
         ensures put { IfOk result (λ place.
-            seat.new ≡ having_seen seat.new.seen (after_put ring index place
+            seat.new ≡ having_seen seat.new.seen (seat_after_put ring index place
             (bytes_in_hand B.contents seat.old.hand index) seat.old)) }
         ensures place { IfOk result (λ place.
             (place < self.now.setup.limit) × ((known_of seat.old.numbers ring).seen < place)) }
         ensures spent { IfErr result (λ spent. seat.old.spent ≡ None
-            → (seat.new ≡ having_seen seat.new.seen (after_spent_put ring spent.ticket seat.old))
+            → (seat.new
+            ≡ having_seen seat.new.seen (seat_after_spent_put ring spent.ticket seat.old))
             × (self.now.setup.limit ≤ spent.ticket)) }
         ensures run { seat.old.spent ≡ None
             → IsCallInRun self.now.setup (opening_of B.contents self.now.given) (caller_of seat.old)
@@ -131,13 +133,13 @@ impl<B: Buffer> Band<B> {
         ensures band { (seat.new.band ≡ seat.old.band) × (seat.new.number ≡ seat.old.number) }
         ensures put { IfOk result (λ place.
             seat.new ≡ having_seen seat.new.seen
-            (after_put ring index place (B.contents buffer) seat.old)) }
+            (seat_after_put ring index place (B.contents buffer) seat.old)) }
         ensures place { IfOk result (λ place.
             (place < self.now.setup.limit) × ((known_of seat.old.numbers ring).seen < place)) }
         ensures back { IfErr result (λ refused. refused.0 ≡ buffer) }
         ensures spent { IfErr result (λ refused. seat.old.spent ≡ None
             → (seat.new ≡ having_seen seat.new.seen
-            (after_spent_put ring refused.1.ticket seat.old))
+            (seat_after_spent_put ring refused.1.ticket seat.old))
             × (self.now.setup.limit ≤ refused.1.ticket)) }
         ensures run { seat.old.spent ≡ None
             → IsCallInRun self.now.setup (opening_of B.contents self.now.given) (caller_of seat.old)
@@ -177,18 +179,18 @@ impl<B: Buffer> Band<B> {
         requires ring { ring < self.now.setup.rings }
         ensures band { seat.new.band ≡ seat.old.band }
         ensures got { IfOk result (λ r.
-            HasTaken B.contents B.IsSameBuffer ring r.0 r.1 seat.old seat.new) }
+            SeatHasTaken B.contents B.IsSameBuffer ring r.0 r.1 seat.old seat.new) }
         ensures place { IfOk result (λ r.
             (r.0 < self.now.setup.limit) × ((known_of seat.old.numbers ring).head ≤ r.0)) }
         ensures index { IfOk result (λ r. r.1 < n_of self.now.setup.order) }
         ensures empty { (head : ℕ) → result ≡ Err (DeqRefusal.Empty head)
-            → FoundEmpty ring head seat.old seat.new }
+            → SeatFoundEmpty ring head seat.old seat.new }
         ensures empty_in_run { (head : ℕ) → result ≡ Err (DeqRefusal.Empty head)
             → WasEmptyInRun self.now.setup (opening_of B.contents self.now.given) ring head
             (caller_of seat.old) (caller_of seat.new) }
         ensures spent { (ticket : ℕ) → result ≡ Err (DeqRefusal.Spent ticket)
             → seat.old.spent ≡ None
-            → (seat.new ≡ having_seen seat.new.seen (after_spent_get ring ticket seat.old))
+            → (seat.new ≡ having_seen seat.new.seen (seat_after_spent_get ring ticket seat.old))
             × (self.now.setup.limit ≤ ticket) }
         ensures run { seat.old.spent ≡ None
             → IsCallInRun self.now.setup (opening_of B.contents self.now.given) (caller_of seat.old)

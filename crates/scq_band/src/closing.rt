@@ -9,14 +9,10 @@ ghost use Rattle.scq_band.specs.declared.slot.Slot.{Slot};
 ghost use Rattle.scq_band.specs.Buffers.{LiesIn, opening_of};
 ghost use Rattle.scq_band.specs.Steps.{my, front_index, front_bytes};
 ghost use Rattle.scq_band.specs.Kept.{identity_of};
-ghost use Rattle.scq_band.specs.Closing.{indices_of, lifted_of, IsOneRunToTheEnd, EachGetHasItsPut};
-ghost use Rattle.scq_band.specs.Closing.{NoneIsPutTwice, NoneIsGotTwice, EachPutPassedIsGot};
-ghost use Rattle.scq_band.specs.Closing.{IsBalance, IsAllThere, EachIsInOneHand};
-ghost use Rattle.scq_band.specs.Closing.{EachSpentIsPastTheBound, NoneIsSpentWithinTheLimit};
-ghost use Rattle.scq_band.specs.Closing.{EachLeftIsItsPut, AreTheSame, AreTheLifted};
-ghost use Rattle.scq_band.specs.Closing.{ComesBackAsItWas, held_buffers, AllRetiredWhereClosed};
-ghost use Rattle.scq_band.specs.Closing.{EachSeenRetiredHas, all_calls, all_hands, all_known};
-ghost use Rattle.scq_band.specs.Closing.{all_spent, callers_of};
+ghost use Rattle.scq_band.specs.Closing.{indices_of, lifted_of, IsOneRunToTheEnd, AreTheLifted};
+ghost use Rattle.scq_band.specs.Closing.{RecordsAgree, IndicesAgree, BuffersComeBack, RetiredAgree};
+ghost use Rattle.scq_band.specs.Closing.{SpentAgree, all_calls, all_hands, all_known, all_spent};
+ghost use Rattle.scq_band.specs.Closing.{callers_of};
 ghost use Rattle.scq_band.specs.Homes.{at_home, MayBring, IsLaidBack, times_lifted, WentHome};
 ghost use Rattle.scq_band.specs.Homes.{OutOrHome, AllOutGiven, MayLeave, IsMemberOf, HasAll};
 ghost use Rattle.scq_band.specs.Homes.{all_seen};
@@ -215,27 +211,14 @@ impl<B: Buffer> Band<B> {
         ensures run { IsOneRunToTheEnd self.setup (opening_of B.contents self.given)
             (callers_of seats.items) (all_calls seats.items) (all_hands seats.items)
             (map B.contents result.buffers.items) }
-        ensures buffers { AreTheSame B.IsSameBuffer self.given result.buffers.items }
-        ensures gets { EachGetHasItsPut self.setup (opening_of B.contents self.given)
-            (all_calls seats.items) }
-        ensures put_once { NoneIsPutTwice self.setup (opening_of B.contents self.given)
-            (all_calls seats.items) }
-        ensures once { NoneIsGotTwice (all_calls seats.items) }
-        ensures passed { EachPutPassedIsGot self.setup (opening_of B.contents self.given)
+        ensures buffers { BuffersComeBack B.contents B.IsSameBuffer self seats.items
+            (map T.pair out.items) result.buffers.items }
+        ensures records { RecordsAgree self.setup (opening_of B.contents self.given)
             (all_calls seats.items) (all_known seats.items) }
-        ensures balance { IsBalance self.setup (all_calls seats.items) result.left.items }
-        ensures all_there { IsAllThere self.setup (all_hands seats.items) result.left.items }
-        ensures hands { EachIsInOneHand self.setup (all_hands seats.items) }
-        ensures held { All (ComesBackAsItWas B.contents result.buffers.items)
-            (held_buffers seats.items (map T.pair out.items)) }
-        ensures left { EachLeftIsItsPut self.setup (opening_of B.contents self.given)
-            (all_calls seats.items) (all_hands seats.items)
-            (map B.contents result.buffers.items) }
-        ensures gate { AllRetiredWhereClosed seats.items }
-        ensures retirees { EachSeenRetiredHas seats.items }
-        ensures spent { EachSpentIsPastTheBound self.setup (all_calls seats.items)
-            (all_spent seats.items) }
-        ensures limits { NoneIsSpentWithinTheLimit self.setup (all_calls seats.items)
+        ensures indices { IndicesAgree self.setup (all_calls seats.items) (all_hands seats.items)
+            result.left.items }
+        ensures retired { RetiredAgree seats.items }
+        ensures spent { SpentAgree self.setup (all_calls seats.items)
             (all_spent seats.items) }
     {
         let Band {

@@ -1,17 +1,14 @@
 //! A dequeue, step by step.
-ghost use Rattle.std.specs.Prelude.{◌≡◌, ℕ, ◌+◌, ◌^◌, ◌<◌, ◌≤◌, IfSome, IfNone, IfOk, IfErr};
-ghost use Rattle.std.specs.Prelude.{IsTrue, IsFalse, Some, None, Err, slice_get, length, true};
-ghost use Rattle.scq_word.specs.Sizes.{n_of};
-ghost use Rattle.scq_law.specs.Hands.{times};
+ghost use Rattle.std.specs.Prelude.{◌≡◌, ℕ, ◌+◌, ◌^◌, ◌<◌, IfSome, IfNone, IfOk, Option};
+ghost use Rattle.std.specs.Prelude.{IsTrue, IsFalse, None, Err, true};
 ghost use Rattle.scq_core.specs.declared.phase.Phase.TheVariants.{Idle, AtD2, AtD6, AtD7, AtD10};
-ghost use Rattle.scq_band.specs.declared.numbers.Numbers.{Numbers};
 ghost use Rattle.scq_band.specs.Layout.{word_count};
 ghost use Rattle.scq_band.specs.Rings.{IsRing};
 ghost use Rattle.scq_band.specs.Buffers.{LiesIn, opening_of};
 ghost use Rattle.scq_band.specs.Sights.{known_me, Went};
 ghost use Rattle.scq_band.specs.Steps.{my, my_phase};
-ghost use Rattle.scq_band.specs.Seats.{IsAlone, IsSeeking, IsBehind, HasGot, HasGotAfter};
-ghost use Rattle.scq_band.specs.Seats.{drew_head, drawn_spent, goes_to, nothing_at};
+ghost use Rattle.scq_band.specs.Seats.{IsAlone, IsSeeking, IsBehind, SeatHasGot, HasGotAfter};
+ghost use Rattle.scq_band.specs.Seats.{HasFoundNone, HasSpentGet, goes_to, nothing_at};
 
 use crate::ring::Ring;
 use crate::rule::{Token, Words};
@@ -38,14 +35,9 @@ fn try_take<B: Buffer>(
     ensures went { Went words.now.key.setup
         (opening_of B.contents words.now.key.given.value.items) token.old.me.0 token.new.me.0 }
     ensures got { IfSome result (λ index.
-        HasGot (LiesIn B.contents B.IsSameBuffer words.now.key.given.value.items) ring.now.number
-        ticket index
+        SeatHasGot (LiesIn B.contents B.IsSameBuffer words.now.key.given.value.items)
+        words.now.key.setup ring.now.number ticket index
         (known_me token.old.me) (known_me token.new.me)) }
-    ensures small { IfSome result (λ index. index < n_of words.now.key.setup.order) }
-    ensures fits { IfSome result (λ index.
-        length (my token.new.me.0.known).part.hand ≤ n_of words.now.key.setup.order) }
-    ensures once { IfSome result (λ index. (i : ℕ)
-        → times i (my token.new.me.0.known).part.hand ≤ 1) }
     ensures given_up { IfNone result (token.new.me.0.known
         ≡ goes_to (AtD6 ring.now.number ticket) token.old.me.0.known) }
     ensures slots { IfNone result (token.new.me.1 ≡ token.old.me.1) }
@@ -149,28 +141,14 @@ pub fn dequeue<B: Buffer>(
         (opening_of B.contents words.now.key.given.value.items) token.old.me.0 token.new.me.0 }
     ensures got { IfOk result (λ r.
         HasGotAfter (LiesIn B.contents B.IsSameBuffer words.now.key.given.value.items)
-        ring.now.number r.0 r.1
+        words.now.key.setup ring.now.number r.0 r.1
         (known_me token.old.me) (known_me token.new.me)) }
-    ensures small { IfOk result (λ r.
-        (r.0 < words.now.key.setup.limit) × (r.1 < n_of words.now.key.setup.order)) }
-    ensures fits { IfOk result (λ r.
-        length (my token.new.me.0.known).part.hand ≤ n_of words.now.key.setup.order) }
-    ensures once { IfOk result (λ r. (i : ℕ) → times i (my token.new.me.0.known).part.hand ≤ 1) }
-    ensures above { IfOk result (λ r. (known : Numbers)
-        → slice_get token.old.me.0.known.numbers ring.now.number ≡ Some known → known.head ≤ r.0) }
-    ensures nothing { result ≡ Err (Without.Nothing None)
-        → token.new.me.0.known ≡ nothing_at ring.now.number token.old.me.0.known }
-    ensures nothing_left { (ticket : ℕ) → result ≡ Err (Without.Nothing (Some ticket))
-        → (token.new.me.0.known
-        ≡ nothing_at ring.now.number (drew_head ring.now.number ticket token.old.me.0.known))
-        × (ticket < words.now.key.setup.limit)
-        × ((known : Numbers) → slice_get token.old.me.0.known.numbers ring.now.number ≡ Some known
-        → known.head ≤ ticket) }
+    ensures nothing { (drawn : Option ℕ) → result ≡ Err (Without.Nothing drawn)
+        → HasFoundNone words.now.key.setup ring.now.number drawn
+        (known_me token.old.me) (known_me token.new.me) }
     ensures spent { (ticket : ℕ) → result ≡ Err (Without.Spent ticket)
-        → (token.new.me.0.known ≡ drawn_spent ring.now.number ticket token.old.me.0.known)
-        × (words.now.key.setup.limit ≤ ticket) }
-    ensures short { (ticket : ℕ) → result ≡ Err (Without.Spent ticket) → ticket + 1 < 2 ^ 64 }
-    ensures kept { IfErr result (λ e. token.new.me.1 ≡ token.old.me.1) }
+        → HasSpentGet words.now.key.setup ring.now.number ticket
+        (known_me token.old.me) (known_me token.new.me) }
 {
     if load(words, token, ring.threshold()) < ZERO_LEVEL {
         return Err(Without::Nothing(None));

@@ -1,6 +1,6 @@
 //! An enqueue of the slot that stands first, step by step.
 ghost use Rattle.std.specs.Prelude.{◌≡◌, ◌+◌, ◌<◌, ◌≤◌, if◌then◌else◌, IfSome, IfNone, IfOk, IfErr};
-ghost use Rattle.std.specs.Prelude.{IsTrue, IsFalse, Some, None, true, slice_get};
+ghost use Rattle.std.specs.Prelude.{IsTrue, IsFalse, Some, None, true};
 ghost use Rattle.atomic_table.specs.Table.{rest};
 ghost use Rattle.scq_band.specs.Buffers.{LiesIn, opening_of};
 ghost use Rattle.scq_band.specs.Turns.{Fronts};
@@ -9,12 +9,11 @@ ghost use Rattle.scq_word.specs.Sizes.{n_of};
 ghost use Rattle.scq_word.specs.Words.{rank_in};
 ghost use Rattle.scq_core.specs.Table.{ring_slots, holds_index};
 ghost use Rattle.scq_band.specs.Layout.{word_count, at, entry_at};
-ghost use Rattle.scq_band.specs.declared.numbers.Numbers.{Numbers};
 ghost use Rattle.scq_band.specs.Rings.{IsRing, IsFilled};
 ghost use Rattle.scq_band.specs.Sights.{known_me, Went};
 ghost use Rattle.scq_band.specs.Steps.{my, my_phase, front_index, front_bytes};
 ghost use Rattle.scq_band.specs.Seats.{IsAlone, IsLooking, IsEnding, goes_to, placed_to, done_at};
-ghost use Rattle.scq_band.specs.Seats.{put_at, spent_at, index_of, content_of, least_of};
+ghost use Rattle.scq_band.specs.Seats.{HasPut, HasSpentPut, put_index, content_of, least_of};
 
 use crate::ring::Ring;
 use crate::rule::{Token, Words};
@@ -45,14 +44,14 @@ fn load_vacant<B: Buffer>(
         (opening_of B.contents words.now.key.given.value.items) token.old.me.0 token.new.me.0 }
     ensures slots { token.new.me.1 ≡ token.old.me.1 }
     ensures room { IfSome result (λ found. token.new.me.0.known
-        ≡ goes_to (AtE4 ring.now.number (index_of (my_phase token.old.me.0.known))
+        ≡ goes_to (AtE4 ring.now.number (put_index (my_phase token.old.me.0.known))
         (content_of (my_phase token.old.me.0.known)) ticket found)
         token.old.me.0.known) }
     ensures least { IfSome result (λ found.
         least_of (my_phase token.old.me.0.known) ≤ rank_in (ring_slots words.now.key.setup) found) }
     ensures no_room { IfNone result
         (token.new.me.0.known
-        ≡ goes_to (AtE1 ring.now.number (index_of (my_phase token.old.me.0.known))
+        ≡ goes_to (AtE1 ring.now.number (put_index (my_phase token.old.me.0.known))
         (content_of (my_phase token.old.me.0.known))
         (ticket + 1)) token.old.me.0.known) }
 {
@@ -86,7 +85,7 @@ fn try_place<B: Buffer>(
     requires alone { IsAlone token.old.me.0.known }
     requires looks { IsLooking ring.now.number ticket (my_phase token.old.me.0.known) }
     requires limit { ticket < ring.now.limit }
-    requires index { (index ≡ index_of (my_phase token.old.me.0.known))
+    requires index { (index ≡ put_index (my_phase token.old.me.0.known))
         × (index < n_of words.now.key.setup.order) }
     requires front { Fronts (LiesIn B.contents B.IsSameBuffer words.now.key.given.value.items) index
         (content_of (my_phase token.old.me.0.known)) token.old.me.1 }
@@ -157,18 +156,12 @@ pub fn enqueue<B: Buffer>(
     ensures own { (token.new.table_id ≡ token.old.table_id) × (token.new.id ≡ token.old.id) }
     ensures went { Went words.now.key.setup
         (opening_of B.contents words.now.key.given.value.items) token.old.me.0 token.new.me.0 }
-    ensures placed { IfOk result (λ place.
-        token.new.me.0.known
-        ≡ put_at ring.now.number index place
-        (front_bytes B.contents token.old.me.1) token.old.me.0.known) }
-    ensures given { IfOk result (λ place. token.new.me.1 ≡ rest token.old.me.1) }
-    ensures above { IfOk result (λ place. (place < words.now.key.setup.limit)
-        × ((known : Numbers) → slice_get token.old.me.0.known.numbers ring.now.number ≡ Some known
-        → known.seen < place)) }
+    ensures put { IfOk result (λ place.
+        HasPut B.contents words.now.key.setup ring.now.number index place
+        (known_me token.old.me) (known_me token.new.me)) }
     ensures spent { IfErr result (λ ticket.
-        token.new.me.0.known ≡ spent_at ring.now.number ticket true token.old.me.0.known) }
-    ensures kept { IfErr result (λ ticket.
-        (token.new.me.1 ≡ token.old.me.1) × (words.now.key.setup.limit ≤ ticket)) }
+        HasSpentPut words.now.key.setup ring.now.number ticket
+        (known_me token.old.me) (known_me token.new.me)) }
 {
     'draws: loop {
         let ticket = draw(words, token, ring.tail);

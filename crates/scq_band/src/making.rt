@@ -6,7 +6,8 @@ ghost use Rattle.scq_core.specs.Start.{start_cells};
 ghost use Rattle.scq_band.specs.Numbers.{first_numbers};
 ghost use Rattle.scq_band.specs.Homes.{full_slot};
 ghost use Rattle.scq_band.specs.Rings.{AreRings};
-ghost use Rattle.scq_band.specs.Making.{lifted, AllLaid, IsRoom, IsMemory, IsOfStart, AreOpened};
+ghost use Rattle.scq_band.specs.Making.{lifted, AllLaid, IsRoom, IsMemory, IsOfStart};
+ghost use Rattle.scq_band.specs.Making.{WordsAreOpened};
 
 use crate::layout::{GATE, entry_word, head_word, tail_word, threshold_word, word_count};
 use crate::numbers::Numbers;
@@ -111,8 +112,8 @@ fn first_threshold(setup: &Setup, ring: u32) -> u64
 fn open_ring(words: &mut Vec<u64>, state: &State, ring: u32)
     requires start { IsOfStart state.now }
     requires ring { ring < state.now.setup.rings }
-    requires before { AreOpened state.now.setup words.old.items ring 0 }
-    ensures { AreOpened state.now.setup words.new.items (ring + 1) 0 }
+    requires before { WordsAreOpened state.now.setup words.old.items ring 0 }
+    ensures { WordsAreOpened state.now.setup words.new.items (ring + 1) 0 }
 {
     let setup = state.setup();
     let tail = tail_word(&setup, ring);
@@ -126,7 +127,7 @@ fn open_ring(words: &mut Vec<u64>, state: &State, ring: u32)
 
 // The words of the table at the start.
 fn first_words(alloc: Global, setup: Setup) -> Result<Vec<u64>, NoMemory>
-    ensures { IfOk result (λ v. AreOpened setup v.items setup.rings 0) }
+    ensures { IfOk result (λ v. WordsAreOpened setup v.items setup.rings 0) }
 {
     let state = State::start(alloc, setup, no_contents(alloc, &setup)?)?;
     let mut words = vec![in alloc; 0; word_count(&setup)]?;

@@ -7,8 +7,9 @@ ghost use Rattle.scq_band.specs.Layout.{at};
 ghost use Rattle.scq_band.specs.Buffers.{LiesIn, opening_of};
 ghost use Rattle.scq_band.specs.Turns.{MayTurn, Carries, Turned};
 ghost use Rattle.scq_band.specs.Sights.{known_me, Went};
-ghost use Rattle.scq_band.specs.Steps.{my_phase, load_turn, draw_turn, IsLoad, IsDraw, Exchanges};
-ghost use Rattle.scq_band.specs.Steps.{IsReset, IsTaking, IsCount};
+ghost use Rattle.scq_band.specs.Steps.{my_phase, load_turn, draw_turn, OnlyReads, IsDraw};
+ghost use Rattle.scq_band.specs.Steps.{Exchanges};
+ghost use Rattle.scq_band.specs.Steps.{IsReset, IsTakingTurn, IsCountDown};
 
 use crate::rule::{Token, Words};
 use scq_word::Buffer;
@@ -21,7 +22,7 @@ pub fn load<B: Buffer>(words: &Words<B>, token: &mut Token<B>, word: usize) -> u
     requires low { word < words.now.table_id.words }
     requires may { MayTurn words.now.key.setup token.old.me.0.known
         (load_turn words.now.key.setup word token.old.me.0.known) }
-    requires kind { IsLoad (load_turn words.now.key.setup word token.old.me.0.known) }
+    requires kind { OnlyReads (load_turn words.now.key.setup word token.old.me.0.known) }
     requires word { word
         ≡ at words.now.key.setup
         (location_of words.now.key.setup
@@ -119,7 +120,7 @@ pub fn consume<B: Buffer>(words: &Words<B>, token: &mut Token<B>, word: usize, m
     requires low { word < words.now.table_id.words }
     requires may { MayTurn words.now.key.setup token.old.me.0.known
         (my_phase token.old.me.0.known) }
-    requires kind { IsTaking (my_phase token.old.me.0.known) }
+    requires kind { IsTakingTurn (my_phase token.old.me.0.known) }
     requires word { word
         ≡ at words.now.key.setup (location_of words.now.key.setup (my_phase token.old.me.0.known)) }
     requires mark { mark ≡ mark_of (ring_slots words.now.key.setup) }
@@ -141,7 +142,7 @@ pub fn count_down<B: Buffer>(words: &Words<B>, token: &mut Token<B>, word: usize
     requires low { word < words.now.table_id.words }
     requires may { MayTurn words.now.key.setup token.old.me.0.known
         (my_phase token.old.me.0.known) }
-    requires kind { IsCount (my_phase token.old.me.0.known) }
+    requires kind { IsCountDown (my_phase token.old.me.0.known) }
     requires word { word
         ≡ at words.now.key.setup (location_of words.now.key.setup (my_phase token.old.me.0.known)) }
     ensures own { (token.new.table_id ≡ token.old.table_id) × (token.new.id ≡ token.old.id) }

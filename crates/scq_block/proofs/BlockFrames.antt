@@ -12,7 +12,7 @@ use Rattle.scq_block.specs.declared.frame.Frame.{Frame}
 use Rattle.scq_block.specs.Blocks.{IsFrameOf, AreAllOf, IsCarved}
 use Rattle.scq_block.proofs.FrameLists.{past_both}
 use Rattle.scq_block.proofs.Sorting.{first}
-use Rattle.scq_block.specs.Frames.{start_of, bytes_of, IsSame, IsPlaced, AreInOrder, AreDealt}
+use Rattle.scq_block.specs.Frames.{frame_start, bytes_of, IsSame, IsPlaced, AreInOrder, AreFramesFrom}
 
 numbers_in_order : (fs : List Frame) → AreInOrder fs → map (λ f. f.number) fs ≡ range_with_len 0 (length fs)
 numbers_in_order fs ordered =
@@ -29,7 +29,7 @@ same_numbers fs gs long same =
     get_or-map (λ f. f.number) fs k d 0 small ∙ (same k d small).number ∙ sym (get_or-map (λ f. f.number) gs k d 0 (omega (arith, long))))
 
 -- what was dealt from the block's place on is what `carve` gives
-pub carved : (b : Block) (start : Ptr) (fs : List Frame) → start ≡ b.shell.ptr → AreDealt start b.count b.cap fs → IsCarved b.count b.cap b fs
+pub carved : (b : Block) (start : Ptr) (fs : List Frame) → start ≡ b.shell.ptr → AreFramesFrom start b.count b.cap fs → IsCarved b.count b.cap b fs
 carved b start fs is dealt = record {
   count = (refl, dealt.count);
   size = refl;
@@ -82,7 +82,7 @@ one_row m n c i j p q e =
     (rows, columns)
 
 pub apart : (b : Block) (f g : Frame) (i j : ℕ) → IsFrameOf b f → IsFrameOf b g → i < length (bytes_of f) → j < length (bytes_of g)
-    → start_of f +ₚ i ≡ start_of g +ₚ j → (f.number ≡ g.number) × (i ≡ j)
+    → frame_start f +ₚ i ≡ frame_start g +ₚ j → (f.number ≡ g.number) × (i ≡ j)
 apart b f g i j own₁ own₂ p q e =
     let at₁ = past_both b.shell.ptr (f.number * b.cap) i in
     let at₂ = past_both b.shell.ptr (g.number * b.cap) j in

@@ -6,7 +6,7 @@ use Rattle.std.proofs.lemmas.List.Elements.{All-push}
 use denote.RawPtr.{Ptr, block_ptr, null_ptr, ◌+ₚ◌}
 use Rattle.scq_block.specs.declared.frame.Frame.{Frame}
 use Rattle.scq_block.specs.declared.span.Span.{Span}
-use Rattle.scq_block.specs.Frames.{start_of, bytes_of, IsPlaced, AreInOrder, AreDealt}
+use Rattle.scq_block.specs.Frames.{frame_start, bytes_of, IsPlaced, AreInOrder, AreFramesFrom}
 
 -- past a place and past the next is past both
 pub past_both : (p : Ptr) (m n : ℕ) → p +ₚ m +ₚ n ≡ p +ₚ (m + n)
@@ -45,8 +45,8 @@ AreInOrder-push fs f all is k d h = elim (cases_lt k (length fs)) [
 ]
 
 -- one more frame, of the next number
-pub AreDealt-push : (start : Ptr) (n cap : ℕ) (fs : List Frame) (f : Frame) → AreDealt start n cap fs → f.number ≡ n
-    → IsPlaced start cap f → bytes_of f ≡ replicate cap 0 → AreDealt start (n + 1) cap (fs ++ f ∷ [])
+pub AreDealt-push : (start : Ptr) (n cap : ℕ) (fs : List Frame) (f : Frame) → AreFramesFrom start n cap fs → f.number ≡ n
+    → IsPlaced start cap f → bytes_of f ≡ replicate cap 0 → AreFramesFrom start (n + 1) cap (fs ++ f ∷ [])
 AreDealt-push start n cap fs f all is at clear = record {
   count = longer fs f ∙ ap (λ k. k + 1) all.count;
   ordered = AreInOrder-push fs f all.ordered (is ∙ sym all.count);
@@ -56,7 +56,7 @@ AreDealt-push start n cap fs f all is at clear = record {
 
 -- the frames that were dealt, and what is left for those from `number` on
 pub record IsDealing (start : Ptr) (n cap number capacity : ℕ) (fs : List Frame) (rest : Span) : Type 0 where
-  pub dealt : AreDealt start number cap fs
+  pub dealt : AreFramesFrom start number cap fs
   pub below : number < n
   pub room : n ≤ capacity
   pub from : rest.start ≡ start +ₚ number * cap
@@ -66,7 +66,7 @@ pub record IsDealing (start : Ptr) (n cap number capacity : ℕ) (fs : List Fram
 pub IsDealing-next : (start : Ptr) (n cap number capacity : ℕ) (fs : List Frame) (rest front back : Span) (f : Frame)
     → IsDealing start n cap number capacity fs rest → number + 1 < n
     → (front.start ≡ rest.start) × (front.bytes ≡ take cap rest.bytes) × (back.start ≡ rest.start +ₚ cap) × (back.bytes ≡ drop cap rest.bytes)
-    → (f.number ≡ number) × (bytes_of f ≡ front.bytes) × (start_of f ≡ front.start)
+    → (f.number ≡ number) × (bytes_of f ≡ front.bytes) × (frame_start f ≡ front.start)
     → IsDealing start n cap (number + 1) capacity (fs ++ f ∷ []) back
 IsDealing-next start n cap number capacity fs rest front back f was below cut is =
     let left = n - (number + 1) in
@@ -100,13 +100,13 @@ All-end start cap fs f all = subst (IsPlaced start cap) (get_or-end fs f f) (all
 
 -- the last frame of the list lies where its place says
 end_at : (start : Ptr) (cap : ℕ) (fs : List Frame) (f : Frame) → AreInOrder (fs ++ f ∷ [])
-    → All (IsPlaced start cap) (fs ++ f ∷ []) → start_of f ≡ start +ₚ length fs * cap
+    → All (IsPlaced start cap) (fs ++ f ∷ []) → frame_start f ≡ start +ₚ length fs * cap
 end_at start cap fs f ordered placed = (All-end start cap fs f placed).at ∙ ap (λ k. start +ₚ k * cap) (AreInOrder-end fs f ordered)
 
 -- the last frame alone
 pub IsGathering-first : (start : Ptr) (len cap : ℕ) (fs : List Frame) (f : Frame) (rest : Span)
     → AreInOrder (fs ++ f ∷ []) → All (IsPlaced start cap) (fs ++ f ∷ []) → length (fs ++ f ∷ []) * cap ≡ len
-    → (rest.start ≡ start_of f) × (rest.bytes ≡ bytes_of f) → IsGathering start len cap fs rest
+    → (rest.start ≡ frame_start f) × (rest.bytes ≡ bytes_of f) → IsGathering start len cap fs rest
 IsGathering-first start len cap fs f rest ordered placed all is =
     let size = (All-end start cap fs f placed).size in
     record {
@@ -118,7 +118,7 @@ IsGathering-first start len cap fs f rest ordered placed all is =
 
 -- what was gathered begins where the last frame ends
 pub next_to : (start : Ptr) (len cap : ℕ) (fs : List Frame) (f : Frame) (rest : Span) → IsGathering start len cap (fs ++ f ∷ []) rest
-    → rest.start ≡ start_of f +ₚ length (bytes_of f)
+    → rest.start ≡ frame_start f +ₚ length (bytes_of f)
 next_to start len cap fs f rest g =
     let size = (All-end start cap fs f g.placed).size in
     g.from ∙ ap (λ k. start +ₚ k) (longer_by fs f cap) ∙ sym (past_both start (length fs * cap) cap)
@@ -127,7 +127,7 @@ next_to start len cap fs f rest g =
 -- one more frame, the last of the list
 pub IsGathering-next : (start : Ptr) (len cap : ℕ) (fs : List Frame) (f : Frame) (rest both : Span)
     → IsGathering start len cap (fs ++ f ∷ []) rest
-    → (both.start ≡ start_of f) × (both.bytes ≡ bytes_of f ++ rest.bytes) → IsGathering start len cap fs both
+    → (both.start ≡ frame_start f) × (both.bytes ≡ bytes_of f ++ rest.bytes) → IsGathering start len cap fs both
 IsGathering-next start len cap fs f rest both g is =
     let size = (All-end start cap fs f g.placed).size in
     let joined : length both.bytes ≡ cap + length rest.bytes = ap length is.1 ∙ length-append (bytes_of f) rest.bytes ∙ ap (λ k. k + length rest.bytes) size in

@@ -11,13 +11,13 @@ abbrev pub bytes_of : Frame → List ℕ
 bytes_of f = f.bytes.items
 
 -- where its bytes begin
-abbrev pub start_of : Frame → Ptr
-start_of f = f.bytes.ptr
+abbrev pub frame_start : Frame → Ptr
+frame_start f = f.bytes.ptr
 
 -- the two are one frame: one number, and equally many bytes from one place on
 pub record IsSame (f g : Frame) : Type 0 where
   pub number : f.number ≡ g.number
-  pub start : start_of f ≡ start_of g
+  pub start : frame_start f ≡ frame_start g
   pub size : length (bytes_of f) ≡ length (bytes_of g)
 
 pub same_as_itself : (a : Frame) → IsSame a a
@@ -42,7 +42,7 @@ written_same a bytes = record {
 
 -- the frame has `cap` bytes, and lies where its number says among frames that begin at `start`
 pub record IsPlaced (start : Ptr) (cap : ℕ) (f : Frame) : Type 0 where
-  pub at : start_of f ≡ start +ₚ f.number * cap
+  pub at : frame_start f ≡ start +ₚ f.number * cap
   pub size : length (bytes_of f) ≡ cap
 
 -- the k-th frame has the number k
@@ -54,7 +54,7 @@ abbrev pub AreZero : ℕ → List Frame → Type 0
 AreZero cap = All (λ f. bytes_of f ≡ replicate cap 0)
 
 -- so many frames lie from `start` on, in order, and all their bytes are 0
-pub record AreDealt (start : Ptr) (n cap : ℕ) (fs : List Frame) : Type 0 where
+pub record AreFramesFrom (start : Ptr) (n cap : ℕ) (fs : List Frame) : Type 0 where
   pub count : length fs ≡ n
   pub ordered : AreInOrder fs
   pub placed : All (IsPlaced start cap) fs

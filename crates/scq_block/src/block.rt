@@ -3,7 +3,7 @@ ghost use Rattle.std.specs.Prelude.{◌≡◌, ◌*◌, ◌^◌, ◌<◌, ◌≤
 ghost use Rattle.std.specs.Prelude.{vec_capacity};
 ghost use Rattle.std.specs.List.{All};
 ghost use denote.RawPtr.{InBlock, null_ptr};
-ghost use Rattle.scq_block.specs.Frames.{IsPlaced, AreInOrder, AreDealt};
+ghost use Rattle.scq_block.specs.Frames.{IsPlaced, AreInOrder, AreFramesFrom};
 
 use crate::frame::Frame;
 use crate::span::{Shell, Span};
@@ -82,7 +82,7 @@ fn deal(mut frames: Vec<Frame>, span: Span, start: *mut u8, n: u32, cap: u32) ->
     requires zero { (span.start ≡ start) × (span.bytes ≡ replicate (n * cap) 0) }
     requires some { (0 < n) × (0 < cap) × (n * cap ≤ 2 ^ 31) }
     requires room { (frames.items ≡ []) × (n ≤ vec_capacity frames) }
-    ensures { AreDealt start n cap result.items }
+    ensures { AreFramesFrom start n cap result.items }
 {
     let mut rest = span;
     let mut number = 0;

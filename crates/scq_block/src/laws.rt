@@ -4,7 +4,7 @@ ghost use Rattle.std.specs.List.Sorted.{IsPermutation};
 ghost use denote.RawPtr.{◌+ₚ◌};
 ghost use Rattle.scq_block.specs.declared.frame.Frame.{Frame};
 ghost use Rattle.scq_block.specs.declared.block.Block.{Block};
-ghost use Rattle.scq_block.specs.Frames.{IsSame, bytes_of, start_of};
+ghost use Rattle.scq_block.specs.Frames.{IsSame, bytes_of, frame_start};
 ghost use Rattle.scq_block.specs.Blocks.{IsFrameOf, AreAllOf};
 
 /// Two frames of one block are the same exactly where they have one number.
@@ -18,7 +18,7 @@ pub fn numbers_tell_frames()
 pub fn frames_lie_apart()
     ensures { (b : Block) (f g : Frame) (i j : ℕ) → IsFrameOf b f → IsFrameOf b g
         → i < length (bytes_of f) → j < length (bytes_of g)
-        → start_of f +ₚ i ≡ start_of g +ₚ j → (f.number ≡ g.number) × (i ≡ j) }
+        → frame_start f +ₚ i ≡ frame_start g +ₚ j → (f.number ≡ g.number) × (i ≡ j) }
 {}
 
 /// Frames that are, one by one, the same as all frames of a block are all frames of it, whatever

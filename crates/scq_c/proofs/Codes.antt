@@ -1,7 +1,7 @@
 -- What each call answers, one lemma for each of its numbers.
 use Rattle.std.proofs.Common.{◌≡◌, None, ℕ, suc, refl, inl, inr, arith}
 use Rattle.scq_port.specs.Ports.{PortStanding}
-use Rattle.scq_port.specs.Calls.{IsLent, IsTaken, IsSent, IsGivenBack, WasFull, WasEmpty, IsSpentGet, IsSpentPut, HasNoRoom, HasTopic, HasNoTopic, HoldsNoSuch, HasRetired}
+use Rattle.scq_port.specs.Calls.{IsLent, ValueIsTaken, IsSent, ValueIsGivenBack, WasFull, WasEmpty, IsSpentGet, IsSpentPut, HasNoRoom, HasTopic, HasNoTopic, HoldsNoSuch, PortHasRetired}
 use Rattle.scq_c.specs.declared.exports.Held.{Held}
 use Rattle.scq_c.specs.Answers.{OfLend, OfTake, OfSend, OfGiveBack, shown_at, with_place}
 
@@ -45,7 +45,7 @@ lend_no_room before old new is =
       known = inr (inr (inr refl));
     }
 
-pub take_taken : (topic place index : ℕ) (before : Held) (old new : PortStanding) → IsTaken topic place index old new
+pub take_taken : (topic place index : ℕ) (before : Held) (old new : PortStanding) → ValueIsTaken topic place index old new
     → OfTake topic 0 before (shown_at place index before) old new
 take_taken topic place index before old new is =
     record {
@@ -146,7 +146,7 @@ send_no_topic index topic before old new is =
       known = inr (inr (inr (inl refl)));
     }
 
-pub send_retired : (index topic before : ℕ) (old new : PortStanding) → HasRetired old new × HasTopic topic old
+pub send_retired : (index topic before : ℕ) (old new : PortStanding) → PortHasRetired old new × HasTopic topic old
     → OfSend index topic 16 before before old new
 send_retired index topic before old new is =
     record {
@@ -158,7 +158,7 @@ send_retired index topic before old new is =
       known = inr (inr (inr (inr refl)));
     }
 
-pub give_given : (index : ℕ) (old new : PortStanding) → IsGivenBack index old new → OfGiveBack index 0 old new
+pub give_given : (index : ℕ) (old new : PortStanding) → ValueIsGivenBack index old new → OfGiveBack index 0 old new
 give_given index old new is =
     record {
       given = λ e. is;

@@ -1,7 +1,7 @@
 -- Several calls of C, one slot after the other. Plan: what went so far is kept as `WentBelow`, which grows by a slot; a slot that
 -- is written leaves the others.
-use Rattle.std.proofs.Common.{◌≡◌, ◌≢◌, ℕ, zero, suc, ◌+◌, ◌<◌, ◌≤◌, List, [], ◌∷◌, length, refl, sym, ◌∙◌, ap, subst, arith, length-set}
-use Rattle.std.specs.Prelude.{Some, None, slice_get, slice_set, slice_index_or}
+use Rattle.std.proofs.Common.{◌≡◌, ◌≢◌, ℕ, zero, suc, ◌+◌, ◌<◌, ◌≤◌, List, [], ◌∷◌, length, refl, sym, ◌∙◌, subst, arith, length-set}
+use Rattle.std.specs.Prelude.{Some, slice_get, slice_set, slice_index_or}
 use Rattle.scq_port.specs.Ports.{PortStanding}
 use Rattle.scq_port.proofs.Lists.{set_here, set_other}
 use Rattle.scq_c.specs.declared.exports.Held.{Held}

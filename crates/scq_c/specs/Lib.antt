@@ -1,4 +1,5 @@
 pub mod Handles
 pub mod Tallies
+pub mod Codes
 pub mod Answers
 pub mod Many

@@ -1,7 +1,8 @@
--- Several calls of C in one: what is answered is that of the first that was refused, or 0.
-use Rattle.std.specs.Prelude.{◌≡◌, ℕ, zero, suc, ◌≤◌, List, length, Some, slice_get}
+-- Several calls of C in one: what is answered is that of the first that was refused, or ok.
+use Rattle.std.specs.Prelude.{◌≡◌, ℕ, suc, ◌≤◌, List, length, Some, slice_get}
 use Rattle.scq_port.specs.Ports.{PortStanding}
 use Rattle.scq_c.specs.declared.exports.Held.{Held}
+use Rattle.scq_c.specs.Codes.{scq_ok}
 use Rattle.scq_c.specs.Answers.{OfSend, OfGiveBack, with_place}
 
 -- so many calls, one after the other, took a port from what it was to what it is; `Call k` is what
@@ -17,25 +18,25 @@ pub data InARow (Call : ℕ → PortStanding → PortStanding → Type 0) (old :
 abbrev pub SlotCall : Type 1
 SlotCall = ℕ → Held → Held → PortStanding → PortStanding → Type 0
 
--- the call of the slot k was answered 0, and the slot is as it left it
+-- the call of the slot k was answered ok, and the slot is as it left it
 pub record WentAt (Of : SlotCall) (before after : List Held) (k : ℕ) (old new : PortStanding)
     : Type 0 where
   pub slot : Held
   pub left : Held
   pub was : slice_get before k ≡ Some slot
   pub is : slice_get after k ≡ Some left
-  pub went : Of 0 slot left old new
+  pub went : Of scq_ok slot left old new
 
--- of several calls, one for each slot, in the order of the slots: the first `done` were answered 0,
--- one after the other. Behind these no slot was written. With 0 they are all; else the next was
--- answered so, and what it would have written to its slot isn't there
+-- of several calls, one for each slot, in the order of the slots: the first `done` were answered
+-- ok, one after the other. Behind these no slot was written. With ok they are all; else the next
+-- was answered so, and what it would have written to its slot isn't there
 pub record OfMany (Of : SlotCall) (code done : ℕ) (before after : List Held)
     (old new : PortStanding) : Type 0 where
   pub last : PortStanding
   pub went : InARow (WentAt Of before after) old done last
   pub rest : (k : ℕ) → done ≤ k → slice_get after k ≡ slice_get before k
-  pub all : code ≡ 0 → (done ≡ length before) × (new ≡ last)
-  pub refused : (code ≡ 0 → ⊥)
+  pub all : code ≡ scq_ok → (done ≡ length before) × (new ≡ last)
+  pub refused : (code ≡ scq_ok → ⊥)
       → (slot : Held) × (told : Held) × (slice_get before done ≡ Some slot)
       × Of code slot told last new
 

@@ -7,6 +7,7 @@ ghost use Rattle.scq_port.specs.Ports.{PortStanding};
 ghost use Rattle.scq_port.specs.Calls.{retired_port};
 ghost use Rattle.scq_c.specs.Answers.{OfLend, OfTake, OfSend, OfGiveBack, OfOpen, OfEnd, OfRetired};
 ghost use Rattle.scq_c.specs.Answers.{OfCount, shown_at};
+ghost use Rattle.scq_c.specs.Codes.{scq_ok, scq_spent, scq_closed};
 
 use crate::answers::{CLOSED, EMPTY, FULL, NO_ROOM, NO_TOPIC, NOT_HELD, OK, RETIRED, SPENT};
 use crate::c_port::{CPort, Memory};
@@ -94,7 +95,7 @@ pub(crate) fn lend_into(port: &mut Port, out: &mut Held) -> u32
 #[unsafe(no_mangle)]
 pub extern "C" fn scq_lend_index(alloc: Global, handle: &mut Handle, out: &mut Held) -> u32
     ensures closed { handle.old.port ≡ None
-        → (result ≡ 4) × (handle.new.port ≡ None) × (out.new ≡ out.old) }
+        → (result ≡ scq_closed) × (handle.new.port ≡ None) × (out.new ≡ out.old) }
     ensures answered { (x : PortStanding) → handle.old.port ≡ Some x
         → (y : PortStanding) × (handle.new.port ≡ Some y) × OfLend result out.old out.new x y }
 {
@@ -138,7 +139,7 @@ pub extern "C" fn scq_take_index(
     out: &mut Held,
 ) -> u32
     ensures closed { handle.old.port ≡ None
-        → (result ≡ 4) × (handle.new.port ≡ None) × (out.new ≡ out.old) }
+        → (result ≡ scq_closed) × (handle.new.port ≡ None) × (out.new ≡ out.old) }
     ensures answered { (x : PortStanding) → handle.old.port ≡ Some x
         → (y : PortStanding) × (handle.new.port ≡ Some y)
         × OfTake topic result out.old out.new x y }
@@ -181,7 +182,7 @@ pub extern "C" fn scq_send(
     place: &mut u64,
 ) -> u32
     ensures closed { handle.old.port ≡ None
-        → (result ≡ 4) × (handle.new.port ≡ None) × (place.new ≡ place.old) }
+        → (result ≡ scq_closed) × (handle.new.port ≡ None) × (place.new ≡ place.old) }
     ensures answered { (x : PortStanding) → handle.old.port ≡ Some x
         → (y : PortStanding) × (handle.new.port ≡ Some y)
         × OfSend index topic result place.old place.new x y }
@@ -209,7 +210,7 @@ pub(crate) fn give_back_into(port: &mut Port, index: u32) -> u32
 /// Gives a buffer back.
 #[unsafe(no_mangle)]
 pub extern "C" fn scq_give_back(alloc: Global, handle: &mut Handle, index: u32) -> u32
-    ensures closed { handle.old.port ≡ None → (result ≡ 4) × (handle.new.port ≡ None) }
+    ensures closed { handle.old.port ≡ None → (result ≡ scq_closed) × (handle.new.port ≡ None) }
     ensures answered { (x : PortStanding) → handle.old.port ≡ Some x
         → (y : PortStanding) × (handle.new.port ≡ Some y) × OfGiveBack index result x y }
 {
@@ -224,9 +225,9 @@ pub extern "C" fn scq_give_back(alloc: Global, handle: &mut Handle, index: u32) 
 /// Retires a port: it sends no more.
 #[unsafe(no_mangle)]
 pub extern "C" fn scq_retire(alloc: Global, handle: &mut Handle) -> u32
-    ensures closed { handle.old.port ≡ None → (result ≡ 4) × (handle.new.port ≡ None) }
+    ensures closed { handle.old.port ≡ None → (result ≡ scq_closed) × (handle.new.port ≡ None) }
     ensures retired { (x : PortStanding) → handle.old.port ≡ Some x
-        → (result ≡ 0) × (handle.new.port ≡ Some (retired_port x)) }
+        → (result ≡ scq_ok) × (handle.new.port ≡ Some (retired_port x)) }
 {
     let Some(mut port) = taken(handle, alloc) else {
         return CLOSED;
@@ -247,7 +248,7 @@ fn asked(port: &mut Port) -> u32
 /// Whether all ports of a queue have retired.
 #[unsafe(no_mangle)]
 pub extern "C" fn scq_retired(alloc: Global, handle: &mut Handle) -> u32
-    ensures closed { handle.old.port ≡ None → (result ≡ 4) × (handle.new.port ≡ None) }
+    ensures closed { handle.old.port ≡ None → (result ≡ scq_closed) × (handle.new.port ≡ None) }
     ensures answered { (x : PortStanding) → handle.old.port ≡ Some x
         → (y : PortStanding) × (handle.new.port ≡ Some y) × OfRetired result x y }
 {
@@ -263,8 +264,8 @@ pub extern "C" fn scq_retired(alloc: Global, handle: &mut Handle) -> u32
 #[unsafe(no_mangle)]
 pub extern "C" fn scq_counts_of(alloc: Global, handle: &mut Handle, out: &mut Tally) -> u32
     ensures same { handle.new.port ≡ handle.old.port }
-    ensures closed { handle.old.port ≡ None → (result ≡ 4) × (out.new ≡ out.old) }
-    ensures counts { (x : PortStanding) → handle.old.port ≡ Some x → (result ≡ 0)
+    ensures closed { handle.old.port ≡ None → (result ≡ scq_closed) × (out.new ≡ out.old) }
+    ensures counts { (x : PortStanding) → handle.old.port ≡ Some x → (result ≡ scq_ok)
         × (out.new.sent ≡ (counts_of (lists_of x.pass)).sent)
         × (out.new.taken ≡ (counts_of (lists_of x.pass)).taken)
         × (out.new.full ≡ (counts_of (lists_of x.pass)).full) }
@@ -286,11 +287,11 @@ pub extern "C" fn scq_counts_of(alloc: Global, handle: &mut Handle, out: &mut Ta
 #[unsafe(no_mangle)]
 pub extern "C" fn scq_spent(alloc: Global, handle: &mut Handle, ticket: &mut u64) -> u32
     ensures same { handle.new.port ≡ handle.old.port }
-    ensures closed { handle.old.port ≡ None → (result ≡ 4) × (ticket.new ≡ ticket.old) }
+    ensures closed { handle.old.port ≡ None → (result ≡ scq_closed) × (ticket.new ≡ ticket.old) }
     ensures none { (x : PortStanding) → handle.old.port ≡ Some x → x.pass.spent ≡ None
-        → (result ≡ 0) × (ticket.new ≡ ticket.old) }
+        → (result ≡ scq_ok) × (ticket.new ≡ ticket.old) }
     ensures spent { (x : PortStanding) (t : ℕ) → handle.old.port ≡ Some x → x.pass.spent ≡ Some t
-        → (result ≡ 3) × (ticket.new ≡ t) }
+        → (result ≡ scq_spent) × (ticket.new ≡ t) }
 {
     let Some(port) = taken(handle, alloc) else {
         return CLOSED;
@@ -310,9 +311,9 @@ pub extern "C" fn scq_spent(alloc: Global, handle: &mut Handle, ticket: &mut u64
 #[unsafe(no_mangle)]
 pub extern "C" fn scq_capacity(alloc: Global, handle: &mut Handle, out: &mut u32) -> u32
     ensures same { handle.new.port ≡ handle.old.port }
-    ensures closed { handle.old.port ≡ None → (result ≡ 4) × (out.new ≡ out.old) }
+    ensures closed { handle.old.port ≡ None → (result ≡ scq_closed) × (out.new ≡ out.old) }
     ensures capacity { (x : PortStanding) → handle.old.port ≡ Some x
-        → (result ≡ 0) × (out.new ≡ n_of x.pass.queue.setup.order) }
+        → (result ≡ scq_ok) × (out.new ≡ n_of x.pass.queue.setup.order) }
 {
     let Some(port) = taken(handle, alloc) else {
         return CLOSED;
@@ -339,7 +340,7 @@ fn count_into(port: &mut Port, topic: u32, out: &mut u32) -> u32
 /// About how many buffers stand on a topic.
 #[unsafe(no_mangle)]
 pub extern "C" fn scq_count(alloc: Global, handle: &mut Handle, topic: u32, out: &mut u32) -> u32
-    ensures closed { handle.old.port ≡ None → (result ≡ 4) × (handle.new.port ≡ None)
+    ensures closed { handle.old.port ≡ None → (result ≡ scq_closed) × (handle.new.port ≡ None)
         × (out.new ≡ out.old) }
     ensures answered { (x : PortStanding) → handle.old.port ≡ Some x
         → (y : PortStanding) × (handle.new.port ≡ Some y)
@@ -381,9 +382,9 @@ pub extern "C" fn scq_end(
 ) -> u32
     ensures closed { handle.new.port ≡ None }
     ensures was_closed { handle.old.port ≡ None
-        → (result ≡ 4) × (out.new ≡ out.old) × (counts.new ≡ counts.old) }
+        → (result ≡ scq_closed) × (out.new ≡ out.old) × (counts.new ≡ counts.old) }
     ensures was_open { (x : PortStanding) → handle.old.port ≡ Some x
-        → (result ≡ 0) × OfEnd x out.new counts.old counts.new }
+        → (result ≡ scq_ok) × OfEnd x out.new counts.old counts.new }
 {
     match taken(handle, alloc) {
         Some(port) => {

@@ -4,6 +4,7 @@ ghost use Rattle.std.specs.Prelude.{◌≡◌, Some, None};
 ghost use Rattle.scq_port.specs.Ports.{PortStanding};
 ghost use Rattle.scq_c.specs.Answers.{OfLend, OfTake};
 ghost use Rattle.scq_c.specs.Many.{OfMany, OfSends, OfGiveBacks};
+ghost use Rattle.scq_c.specs.Codes.{scq_closed};
 
 use crate::answers::{CLOSED, OK};
 use crate::exports::{Held, give_back_into, lend_into, send_into, take_into};
@@ -37,7 +38,7 @@ pub extern "C" fn scq_lend_index_many(
     out: &mut [Held],
     done: &mut usize,
 ) -> u32
-    ensures closed { handle.old.port ≡ None → (result ≡ 4) × (handle.new.port ≡ None)
+    ensures closed { handle.old.port ≡ None → (result ≡ scq_closed) × (handle.new.port ≡ None)
         × (out.new ≡ out.old) × (done.new ≡ 0) }
     ensures answered { (x : PortStanding) → handle.old.port ≡ Some x
         → (y : PortStanding) × (handle.new.port ≡ Some y)
@@ -81,7 +82,7 @@ pub extern "C" fn scq_take_index_many(
     out: &mut [Held],
     done: &mut usize,
 ) -> u32
-    ensures closed { handle.old.port ≡ None → (result ≡ 4) × (handle.new.port ≡ None)
+    ensures closed { handle.old.port ≡ None → (result ≡ scq_closed) × (handle.new.port ≡ None)
         × (out.new ≡ out.old) × (done.new ≡ 0) }
     ensures answered { (x : PortStanding) → handle.old.port ≡ Some x
         → (y : PortStanding) × (handle.new.port ≡ Some y)
@@ -124,7 +125,7 @@ pub extern "C" fn scq_send_many(
     topic: u32,
     done: &mut usize,
 ) -> u32
-    ensures closed { handle.old.port ≡ None → (result ≡ 4) × (handle.new.port ≡ None)
+    ensures closed { handle.old.port ≡ None → (result ≡ scq_closed) × (handle.new.port ≡ None)
         × (slots.new ≡ slots.old) × (done.new ≡ 0) }
     ensures answered { (x : PortStanding) → handle.old.port ≡ Some x
         → (y : PortStanding) × (handle.new.port ≡ Some y)
@@ -164,7 +165,7 @@ pub extern "C" fn scq_give_back_many(
     slots: &[Held],
     done: &mut usize,
 ) -> u32
-    ensures closed { handle.old.port ≡ None → (result ≡ 4) × (handle.new.port ≡ None)
+    ensures closed { handle.old.port ≡ None → (result ≡ scq_closed) × (handle.new.port ≡ None)
         × (done.new ≡ 0) }
     ensures answered { (x : PortStanding) → handle.old.port ≡ Some x
         → (y : PortStanding) × (handle.new.port ≡ Some y)

@@ -12,7 +12,7 @@ use Rattle.scq_hist.specs.declared.events.PutName.{PutName}
 use Rattle.scq_hist.specs.declared.events.PutName.TheVariants.{Of}
 use Rattle.scq_hist.proofs.NamesLemmas.{names_there, named_there}
 use Rattle.scq_check.specs.ByName.{place_in}
-use Rattle.scq_check.specs.Counterparts.{AtFirst, IsOrigin, IsOfOrigin, IsRepeatOf, IsOfRefused}
+use Rattle.scq_check.specs.Counterparts.{AtFirst, IsOrigin, IsOfOrigin, IsRepeatOf, IsOfRefused, NamesNone}
 use Rattle.scq_check.specs.Refused.{IsAcceptedAt, IsRefusals, NotSpentBefore, IsSpentAt}
 use Rattle.scq_check.specs.declared.by_name.ByName.{ByName}
 use Rattle.scq_check.specs.declared.counterparts.Origin.{Origin}
@@ -34,16 +34,22 @@ repeat_there events e event name (Some d) at named first = record { name = name;
 pub no_repeat : (events : List Event) (e : ℕ) (event : Event) → slice_get events e ≡ Some event → got_name event ≡ None → IsOnceAt events e
 no_repeat events e event at none name d names lt before = let n = named_there events e event name at names in absurd cc
 
--- a Got that isn't fresh names a put
-pub no_unfresh : (opening : List (List ℕ)) (events : List Event) (e : ℕ) (event : Event) → slice_get events e ≡ Some event → got_name event ≡ None → IsFreshAt opening events e
-no_unfresh opening events e event at none s seat queue name content call =
-    let n = named_there events e event name at (record { seat = seat; content = content; ends = call.ends }) in absurd cc
+-- a Got that isn't fresh names a put, and so does one that overtakes
+pub none_named : (events : List Event) (e : ℕ) (event : Event) → slice_get events e ≡ Some event → got_name event ≡ None → NamesNone events e
+none_named events e event at none name names = let n = named_there events e event name at names in absurd cc
 
--- a Got that overtakes names a put
-pub no_overtaking : (opening : List (List ℕ)) (events : List Event) (e : ℕ) (event : Event) → slice_get events e ≡ Some event → got_name event ≡ None
-    → IsInOrderAt opening events e
-no_overtaking opening events e event at none s seat number queue start content get put =
-    let n = named_there events e event (Of seat number) at (record { seat = get.seat; content = get.content; ends = get.call.ends }) in absurd cc
+pub fresh_without : (opening : List (List ℕ)) (events : List Event) (e : ℕ) → NamesNone events e → IsFreshAt opening events e
+fresh_without opening events e none s seat queue name content call =
+    absurd (none name (record { seat = seat; content = content; ends = call.ends }))
+
+pub in_order_without : (opening : List (List ℕ)) (events : List Event) (e : ℕ) → NamesNone events e → IsInOrderAt opening events e
+in_order_without opening events e none s seat number queue start content get put =
+    absurd (none (Of seat number) (record { seat = get.seat; content = get.content; ends = get.call.ends }))
+
+pub names_some : (events : List Event) (Holds : ℕ → Type 0) (first : Option ℕ) → ((e : ℕ) → NamesNone events e → Holds e) → IsFirstFailing Holds first
+    → IfSome first (λ e. ¬ NamesNone events e)
+names_some events Holds None holds failing = tt
+names_some events Holds (Some e) holds failing = λ none. failing.0 (holds e none)
 
 pub origin_there : (opening : List (List ℕ)) (events : List Event) (e : ℕ) (event : Event) (name : PutName) (origin : Origin) → slice_get events e ≡ Some event
     → got_name event ≡ Some name → IsOrigin opening events name origin → IsOfOrigin opening events e origin

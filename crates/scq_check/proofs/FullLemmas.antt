@@ -17,8 +17,9 @@ use Rattle.scq_hist.specs.declared.events.PutName.{PutName}
 use Rattle.scq_hist.specs.declared.events.PutName.TheVariants.{Of}
 use Rattle.scq_hist.specs.declared.events.Reply.TheVariants.{Got, Spent}
 use Rattle.scq_hist.proofs.Counting.{count_none, count_more, count_same, count_unique}
+use Rattle.scq_hist.proofs.UnderWay.{same_call}
 use Rattle.scq_check.specs.ByName.{place_in}
-use Rattle.scq_check.specs.Full.{IsTaking, IsFreeing, IsBefore, held_at_start, IsFullAt, IsFullWithin, IsFullRightAt, IsRefusalAt, IsUsedUp, counted}
+use Rattle.scq_check.specs.Full.{IsTaking, IsFreeing, HoldsBefore, held_at_start, IsFullAt, IsFullWithin, IsFullRightAt, IsRefusalAt, IsUsedUp, one_more_if}
 use Rattle.scq_check.specs.Full.{NoPutAt, untouched, places_in, IsFullBy, ArePlacesOf, ArePlacesAt}
 use Rattle.scq_check.specs.Puts.{put_number}
 use Rattle.scq_check.specs.Refused.{IsRefused, IsRefusals}
@@ -29,39 +30,39 @@ use Rattle.scq_check.specs.declared.full.AllPlaces.{AllPlaces}
 use Rattle.scq_check.proofs.RefusedLemmas.{refused_by_names}
 
 -- one position more
-more_by : (P : ℕ → Type 0) (m c : ℕ) (b : Bool) → (IsTrue b ↔ P m) → IsCount (IsBefore P m) c → IsCount (IsBefore P (m + 1)) (counted c b)
+more_by : (P : ℕ → Type 0) (m c : ℕ) (b : Bool) → (IsTrue b ↔ P m) → IsCount (HoldsBefore P m) c → IsCount (HoldsBefore P (m + 1)) (one_more_if c b)
 more_by P m c true test count =
-    count_more (IsBefore P m) (IsBefore P (m + 1)) m c count (λ h. let lt = h.0 in absurd (omega arith)) (omega arith, test.0 refl)
+    count_more (HoldsBefore P m) (HoldsBefore P (m + 1)) m c count (λ h. let lt = h.0 in absurd (omega arith)) (omega arith, test.0 refl)
     (λ i h. let lt = h.0 in (omega arith, h.1))
     (λ i h. elim (cases_eq m i) [ inl same ↦ inl same | inr ne ↦ (let lt = h.0 in inr (omega arith, h.1)) ])
 more_by P m c false test count =
-    count_same (IsBefore P m) (IsBefore P (m + 1)) c count
+    count_same (HoldsBefore P m) (HoldsBefore P (m + 1)) c count
     (λ i h. let lt = h.0 in (omega arith, h.1))
     (λ i h. elim (cases_eq m i) [
       | inl same ↦ (let wrong = test.1 (subst P (sym same) h.1) in absurd cc)
       | inr ne ↦ (let lt = h.0 in (omega arith, h.1))
     ])
 
-not_by : (P : ℕ → Type 0) (m c : ℕ) → ¬ P m → IsCount (IsBefore P m) c → IsCount (IsBefore P (m + 1)) c
+not_by : (P : ℕ → Type 0) (m c : ℕ) → ¬ P m → IsCount (HoldsBefore P m) c → IsCount (HoldsBefore P (m + 1)) c
 not_by P m c not_here count = more_by P m c false (λ t. absurd cc, λ here. absurd (not_here here)) count
 
-few_more : (n m : ℕ) (b : Bool) → n ≤ m → counted n b ≤ m + 1
+few_more : (n m : ℕ) (b : Bool) → n ≤ m → one_more_if n b ≤ m + 1
 few_more n m true few = omega arith
 few_more n m false few = omega arith
 
 -- what the numbers of a queue tell
 from_numbers : (room : ℕ) (opening : List (List ℕ)) (events : List Event) (queue m : ℕ) (places : Places)
-    → IsCount (IsBefore (IsTaking events queue) m) places.taken → IsCount (IsBefore (IsFreeing events queue) m) places.freed
+    → IsCount (HoldsBefore (IsTaking events queue) m) places.taken → IsCount (HoldsBefore (IsFreeing events queue) m) places.freed
     → IsUsedUp room opening queue places → IsFullAt room opening events queue m
 from_numbers room opening events queue m places takes frees full =
     record { taken = places.taken; freed = places.freed; takes = takes; frees = frees; full = full }
 
 to_numbers : (room : ℕ) (opening : List (List ℕ)) (events : List Event) (queue m : ℕ) (places : Places)
-    → IsCount (IsBefore (IsTaking events queue) m) places.taken → IsCount (IsBefore (IsFreeing events queue) m) places.freed
+    → IsCount (HoldsBefore (IsTaking events queue) m) places.taken → IsCount (HoldsBefore (IsFreeing events queue) m) places.freed
     → IsFullAt room opening events queue m → IsUsedUp room opening queue places
 to_numbers room opening events queue m places takes frees is =
-    let taken = count_unique (IsBefore (IsTaking events queue) m) is.taken places.taken is.takes takes in
-    let freed = count_unique (IsBefore (IsFreeing events queue) m) is.freed places.freed is.frees frees in
+    let taken = count_unique (HoldsBefore (IsTaking events queue) m) is.taken places.taken is.takes takes in
+    let freed = count_unique (HoldsBefore (IsFreeing events queue) m) is.freed places.freed is.frees frees in
     let full = is.full in omega arith
 
 full_later : (room : ℕ) (opening : List (List ℕ)) (events : List Event) (queue m k : ℕ) → IsFullBy room opening events queue m k
@@ -70,7 +71,7 @@ full_later room opening events queue m k is = record { by = (let le = is.by in o
 
 -- the last full moment, after one event more
 last_more : (room : ℕ) (opening : List (List ℕ)) (events : List Event) (queue e : ℕ) (new : Places)
-    → IsCount (IsBefore (IsTaking events queue) (e + 1)) new.taken → IsCount (IsBefore (IsFreeing events queue) (e + 1)) new.freed
+    → IsCount (HoldsBefore (IsTaking events queue) (e + 1)) new.taken → IsCount (HoldsBefore (IsFreeing events queue) (e + 1)) new.freed
     → ((k : ℕ) → k ≤ e → IsFullAt room opening events queue k → (k ≤ new.full_till) ⊎ IsUsedUp room opening queue new)
     → (k : ℕ) → k ≤ e + 1 → IsFullAt room opening events queue k → (k ≤ new.full_till) ⊎ IsUsedUp room opening queue new
 last_more room opening events queue e new takes frees before k le full = elim (cases_eq k (e + 1)) [
@@ -95,14 +96,14 @@ idle room opening events queue e places no_put no_get is =
 
 -- the queue of the event: what its numbers say just before the event is kept
 pub places_more : (room : ℕ) (opening : List (List ℕ)) (events : List Event) (queue e : ℕ) (old new : Places) (b c : Bool)
-    → (IsTrue b ↔ IsTaking events queue e) → (IsTrue c ↔ IsFreeing events queue e) → new.taken ≡ counted old.taken b → new.freed ≡ counted old.freed c
+    → (IsTrue b ↔ IsTaking events queue e) → (IsTrue c ↔ IsFreeing events queue e) → new.taken ≡ one_more_if old.taken b → new.freed ≡ one_more_if old.freed c
     → (IsUsedUp room opening queue old → new.full_till ≡ e) → ((IsUsedUp room opening queue old → ⊥) → new.full_till ≡ old.full_till)
     → ArePlacesOf room opening events queue e old → ArePlacesOf room opening events queue (e + 1) new
 places_more room opening events queue e old new b c takes_test frees_test taken freed used left is =
-    let takes : IsCount (IsBefore (IsTaking events queue) (e + 1)) new.taken =
-    subst (λ n. IsCount (IsBefore (IsTaking events queue) (e + 1)) n) (sym taken) (more_by (IsTaking events queue) e old.taken b takes_test is.takes) in
-    let frees : IsCount (IsBefore (IsFreeing events queue) (e + 1)) new.freed =
-    subst (λ n. IsCount (IsBefore (IsFreeing events queue) (e + 1)) n) (sym freed) (more_by (IsFreeing events queue) e old.freed c frees_test is.frees) in
+    let takes : IsCount (HoldsBefore (IsTaking events queue) (e + 1)) new.taken =
+    subst (λ n. IsCount (HoldsBefore (IsTaking events queue) (e + 1)) n) (sym taken) (more_by (IsTaking events queue) e old.taken b takes_test is.takes) in
+    let frees : IsCount (HoldsBefore (IsFreeing events queue) (e + 1)) new.freed =
+    subst (λ n. IsCount (HoldsBefore (IsFreeing events queue) (e + 1)) n) (sym freed) (more_by (IsFreeing events queue) e old.freed c frees_test is.frees) in
     let few_taken = few_more old.taken e b is.few_taken in
     let few_freed = few_more old.freed e c is.few_freed in
     let by_case : (IsUsedUp room opening queue old) ⊎ (IsUsedUp room opening queue old → ⊥) =
@@ -160,8 +161,8 @@ pub all_start : (room : ℕ) (opening : List (List ℕ)) (events : List Event) (
     → ArePlacesAt room opening events 0 all
 all_start room opening events all none = record {
   each = λ q. subst (λ z. ArePlacesOf room opening events q 0 z) (sym (none q)) (record {
-    takes = count_none (IsBefore (IsTaking events q) 0) (λ i h. let lt = h.0 in absurd (omega arith));
-    frees = count_none (IsBefore (IsFreeing events q) 0) (λ i h. let lt = h.0 in absurd (omega arith));
+    takes = count_none (HoldsBefore (IsTaking events q) 0) (λ i h. let lt = h.0 in absurd (omega arith));
+    frees = count_none (HoldsBefore (IsFreeing events q) 0) (λ i h. let lt = h.0 in absurd (omega arith));
     few_taken = omega arith;
     few_freed = omega arith;
     full = λ some. absurd (omega arith);
@@ -192,13 +193,9 @@ pub refusal_decides : (room : ℕ) (opening : List (List ℕ)) (events : List Ev
     → (IsTrue b ↔ IsFullWithin room opening events queue s e) → IsTrue b ↔ IsFullRightAt room opening events e
 refusal_decides room opening events e queue s b here test = (
   λ t r k q content call.
-      let x = here.call.ends in let y = call.ends in
-      let seats : k ≡ here.seat = cc in
-      let u = here.call.under_way_till in let v = call.under_way_till in
-      let starts : s ≡ r = cc in
-      let a = here.call.starts in let b = call.starts in
-      let queues : queue ≡ q = cc in
-      subst (λ n. IsFullWithin room opening events n r e) queues (subst (λ n. IsFullWithin room opening events queue n e) starts (test.0 t)),
+      let same = same_call events here.seat k s r e (Put queue here.content) (Put q content) Spent Spent here.call call in
+      let queues : queue ≡ q = (let calls = same.calls in cc) in
+      subst (λ n. IsFullWithin room opening events n r e) queues (subst (λ n. IsFullWithin room opening events queue n e) same.starts (test.0 t)),
   λ h. test.1 (h s here.seat queue here.content here.call),
 )
 

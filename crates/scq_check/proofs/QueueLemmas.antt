@@ -19,7 +19,7 @@ use Rattle.scq_hist.proofs.Counting.{count_none}
 use Rattle.scq_hist.proofs.Pending.{pending_same}
 use Rattle.scq_hist.proofs.TallyLemmas.{finished_same}
 use Rattle.scq_check.specs.Tables.{IsQueueOf}
-use Rattle.scq_check.specs.Queues.{AreClaimed, unseen, queue_in, IsRightAt, IsRightBy, IsQueueAt, AreQueuesAt, AreSmall}
+use Rattle.scq_check.specs.Queues.{AreClaimed, unseen, queue_in, IsRightAt, IsRightBy, IsQueueAt, AreQueuesAt, CountsAreSmall}
 use Rattle.scq_check.specs.declared.queues.Tally.{Tally}
 use Rattle.scq_check.specs.declared.queues.Queue.{Queue}
 use Rattle.scq_check.specs.declared.queues.Queues.{Queues}
@@ -149,7 +149,7 @@ queues_more opening events number e old new after lawful of tokens known step ar
 pub small_more : (number e : ℕ) (old new : Queues) (after : Queue) → new.tokens ≡ old.tokens
     → ((q : ℕ) → get nat_cmp new.known q ≡ cond (nat_eq number q) (Some after) (get nat_cmp old.known q))
     → after.tally.ungot ≤ (queue_in old number).tally.ungot + 1 → after.pending ≤ (queue_in old number).pending + 1
-    → AreSmall e old → AreSmall (e + 1) new
+    → CountsAreSmall e old → CountsAreSmall (e + 1) new
 small_more number e old new after tokens known few few_gets small =
     let ungot = small.ungot number in let pending = small.pending number in
     let same : new.tokens.ungot ≡ old.tokens.ungot = ap (λ (t : Tally). t.ungot) tokens in
@@ -204,7 +204,7 @@ queues_start opening events queues empty is = record {
 unseen_few : (tokens : Tally) (number : ℕ) → (unseen tokens number).tally.ungot ≤ tokens.ungot + 0
 unseen_few tokens number = elim (eqb_tells number 0) [ inl s ↦ rw s.0 (omega arith) | inr s ↦ rw s.0 (omega arith) ]
 
-pub small_start : (queues : Queues) → IsEmpty queues.known → AreSmall 0 queues
+pub small_start : (queues : Queues) → IsEmpty queues.known → CountsAreSmall 0 queues
 small_start queues empty = record {
   ungot = λ q. subst (λ o. (unwrap_or o (unseen queues.tokens q)).tally.ungot ≤ queues.tokens.ungot + 0) (sym (none_known queues empty q))
       (unseen_few queues.tokens q);

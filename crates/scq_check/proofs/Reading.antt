@@ -7,10 +7,10 @@ use Rattle.scq_hist.specs.declared.events.Event.{Event}
 use Rattle.scq_check.specs.Line.{line_of}
 use Rattle.scq_check.specs.declared.line.Line.{Line}
 use Rattle.scq_check.specs.declared.line.Line.TheVariants.{Opening, Happens}
-use Rattle.scq_check.specs.HistoryText.{token_of, event_of, tokens_in, events_in, may_follow, is_next, IsHistory, empty, one_more, IsUnlawfulLine}
+use Rattle.scq_check.specs.HistoryText.{token_of, said_event, tokens_in, events_in, may_follow, may_stand_next, IsHistory, empty, one_more, IsUnlawfulLine}
 
 -- so many lines were read, which say these tokens and events, and the rest follows
-pub record IsRead (lines rest : List (List ℕ)) (tokens : List (List ℕ)) (events : List Event) (number : ℕ) : Type 0 where
+pub record LinesAreRead (lines rest : List (List ℕ)) (tokens : List (List ℕ)) (events : List Event) (number : ℕ) : Type 0 where
   pub before : List (List ℕ)
   pub stands : lines ≡ before ++ rest
   pub numbered : number ≡ length before
@@ -23,7 +23,7 @@ pub record IsRead (lines rest : List (List ℕ)) (tokens : List (List ℕ)) (eve
   pub few_events : length events ≤ 1000
 
 -- nothing was read yet
-pub read_none : (lines tokens : List (List ℕ)) (events : List Event) → tokens ≡ [] → events ≡ [] → IsLawful [] → IsRead lines lines tokens events 0
+pub read_none : (lines tokens : List (List ℕ)) (events : List Event) → tokens ≡ [] → events ≡ [] → IsLawful [] → LinesAreRead lines lines tokens events 0
 read_none lines tokens events t e lawful =
     record {
       before = [];
@@ -42,7 +42,7 @@ tokens_one_more : (before : List (List ℕ)) (line : List ℕ) → tokens_in (be
 tokens_one_more before line = filter_map-append (λ line. token_of (line_of line)) before (line ∷ [])
 
 events_one_more : (before : List (List ℕ)) (line : List ℕ) → events_in (before ++ line ∷ []) ≡ events_in before ++ events_in (line ∷ [])
-events_one_more before line = filter_map-append (λ line. event_of (line_of line)) before (line ∷ [])
+events_one_more before line = filter_map-append (λ line. said_event (line_of line)) before (line ∷ [])
 
 -- a line that may follow says a token or an event, and there is room for it
 record IsCounted (tokens : List (List ℕ)) (events : List Event) (more_tokens : List (List ℕ)) (more_events : List Event) : Type 0 where
@@ -59,8 +59,8 @@ counted_in tokens events line (Some (Happens event)) is may few_t few_e =
 counted_in tokens events line None is may few_t few_e = absurd cc
 
 module _ (lines : List (List ℕ)) (line : List ℕ) (rest : List (List ℕ)) (tokens : List (List ℕ)) (events : List Event) (number : ℕ)
-    (is : IsRead lines (line ∷ rest) tokens events number) where
-  same_next : is_next is.before line ≡ may_follow tokens events (line_of line)
+    (is : LinesAreRead lines (line ∷ rest) tokens events number) where
+  same_next : may_stand_next is.before line ≡ may_follow tokens events (line_of line)
   same_next = rw (is.tokens_are, is.events_are) refl
 
   events_up_to : events_in (is.before ++ line ∷ []) ≡ events ++ events_in (line ∷ [])
@@ -69,7 +69,7 @@ module _ (lines : List (List ℕ)) (line : List ℕ) (rest : List (List ℕ)) (t
   -- the next line is read
   pub read_more : (new_tokens : List (List ℕ)) (new_events : List Event) → may_follow tokens events (line_of line) ≡ true
       → new_tokens ≡ tokens ++ tokens_in (line ∷ []) → new_events ≡ events ++ events_in (line ∷ []) → IsLawful new_events
-      → IsRead lines rest new_tokens new_events (number + 1)
+      → LinesAreRead lines rest new_tokens new_events (number + 1)
   read_more new_tokens new_events may t e lawful =
       let counted = counted_in tokens events line (line_of line) refl may is.few_tokens is.few_events in
       let many_tokens = ap length t ∙ length-append tokens (tokens_in (line ∷ [])) in
@@ -94,10 +94,7 @@ module _ (lines : List (List ℕ)) (line : List ℕ) (rest : List (List ℕ)) (t
       record {
         before = is.before;
         line = line;
-        after = rest;
-        stands = is.stands;
-        numbered = omega (arith, is.numbered, a);
-        history = is.history;
+        behind = record { after = rest; stands = is.stands; numbered = omega (arith, is.numbered, a); history = is.history };
         next = same_next ∙ may;
         unlawful = λ lawful. unlawful (subst IsLawful events_up_to lawful);
       }

@@ -1,5 +1,5 @@
 -- One tally more, kept of the queue of an event just before it
-use Rattle.std.proofs.Common.{◌≡◌, ℕ, zero, suc, ◌+◌, ◌<◌, ◌≤◌, inl, inr, List, [], ◌∷◌, ◌++◌, Some, slice_get, length, length-append, refl, sym, ◌∙◌}
+use Rattle.std.proofs.Common.{◌≡◌, ℕ, zero, suc, ◌+◌, ◌<◌, ◌≤◌, ◌↔◌, inl, inr, Bool, IsTrue, List, [], ◌∷◌, ◌++◌, Some, None, slice_get, length, length-append, refl, sym, ◌∙◌}
 use Rattle.std.proofs.Common.{subst, ap, arith}
 use Rattle.std.proofs.lemmas.Bool.{cases_eq}
 use Rattle.std.proofs.lemmas.Option.{slice_get_within}
@@ -8,10 +8,13 @@ use Rattle.scq_hist.specs.Tallies.{IsTally}
 use Rattle.scq_hist.specs.declared.events.Call.TheVariants.{Put}
 use Rattle.scq_hist.specs.declared.events.Event.{Event}
 use Rattle.scq_hist.specs.declared.events.Event.TheVariants.{Start}
+use Rattle.scq_check.specs.Failures.{AreFailuresBefore, failures_with}
 use Rattle.scq_check.specs.Tables.{IsQueueOf}
-use Rattle.scq_check.specs.Queues.{queue_in, AreQueuesAt, AreTallies}
+use Rattle.scq_check.specs.Queues.{queue_in, AreQueuesAt, CountsAreSmall, AreTallies}
+use Rattle.scq_check.specs.declared.failures.Failures.{Failures}
 use Rattle.scq_check.specs.declared.queues.Tally.{Tally}
 use Rattle.scq_check.specs.declared.queues.Queues.{Queues}
+use Rattle.scq_check.proofs.FailureLemmas.{failures_none, failures_more}
 
 still : {X : Type 0} (xs : List X) (x : X) (k : ℕ) → k < length xs → slice_get (xs ++ x ∷ []) k ≡ slice_get xs k
 still {X} [] x k lt = absurd (omega arith)
@@ -44,8 +47,39 @@ tallies_more opening events e number queues old new tally of are here push is =
           ];
     }
 
-pub few_tokens : (old new : Tally) (n : ℕ) → new ≡ old → old.ungot ≤ n → new.ungot ≤ n
+few_tokens : (old new : Tally) (n : ℕ) → new ≡ old → old.ungot ≤ n → new.ungot ≤ n
 few_tokens old new n same few = subst (λ (t : Tally). t.ungot ≤ n) (sym same) few
+
+-- what is kept of the queues before position e
+pub record AreKept (opening : List (List ℕ)) (events : List Event) (e : ℕ) (queues : Queues) : Type 0 where
+  pub few : queues.tokens.ungot ≤ length opening
+  pub small : CountsAreSmall e queues
+  pub at : AreQueuesAt opening events e queues
+
+pub kept_more : (opening : List (List ℕ)) (events : List Event) (e : ℕ) (old new : Queues) → new.tokens ≡ old.tokens → CountsAreSmall (e + 1) new
+    → ((opening : List (List ℕ)) → AreQueuesAt opening events e old → AreQueuesAt opening events (e + 1) new)
+    → AreKept opening events e old → AreKept opening events (e + 1) new
+kept_more opening events e old new tokens small at is = record {
+  few = few_tokens old.tokens new.tokens (length opening) tokens is.few;
+  small = small;
+  at = at opening is.at;
+}
+
+-- and beside them the events so far that break an aspect
+pub record AreJudged (Holds : ℕ → Type 0) (opening : List (List ℕ)) (events : List Event) (e : ℕ) (queues : Queues) (found : Failures) : Type 0 where
+  pub kept : AreKept opening events e queues
+  pub failures : AreFailuresBefore Holds e found
+
+pub judged_none : (Holds : ℕ → Type 0) (opening : List (List ℕ)) (events : List Event) (queues : Queues) (f : Failures) → queues.tokens.ungot ≤ length opening
+    → CountsAreSmall 0 queues → AreQueuesAt opening events 0 queues → f.first ≡ None → f.count ≡ 0 → AreJudged Holds opening events 0 queues f
+judged_none Holds opening events queues f few small at first count =
+    record { kept = record { few = few; small = small; at = at }; failures = failures_none Holds f first count }
+
+pub judged_more : (Holds : ℕ → Type 0) (opening : List (List ℕ)) (events : List Event) (e : ℕ) (old new : Queues) (f g : Failures) (holds : Bool)
+    → g ≡ failures_with f e holds → (AreQueuesAt opening events e old → IsTrue holds ↔ Holds e)
+    → (AreKept opening events e old → AreKept opening events (e + 1) new) → AreJudged Holds opening events e old f → AreJudged Holds opening events (e + 1) new g
+judged_more Holds opening events e old new f g holds with test kept is =
+    record { kept = kept is.kept; failures = rw with (failures_more Holds e f holds (test is.kept.at) is.failures) }
 
 pub same_tallies : (opening : List (List ℕ)) (events : List Event) (m : ℕ) (read kept : List Tally) → read ≡ kept → AreTallies opening events m kept
     → AreTallies opening events m read

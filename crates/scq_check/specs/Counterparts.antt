@@ -31,6 +31,10 @@ pub record IsOfOrigin (opening : List (List ℕ)) (events : List Event) (e : ℕ
   pub named : Names events e name
   pub is : IsOrigin opening events name origin
 
+-- For private calls: the event at position e names no put
+abbrev pub NamesNone : List Event → ℕ → Type 0
+NamesNone events e = (name : PutName) → ¬ Names events e name
+
 -- what is told of it stands below position m
 abbrev pub IsOriginWithin : ℕ → Origin → Type 0
 IsOriginWithin m Nobody = Unit {0}

@@ -37,8 +37,8 @@ pub record IsFreeing (events : List Event) (queue e : ℕ) : Type 0 where
   pub first : (d : ℕ) → d < e → ¬ Names events d name
 
 -- so before position m
-abbrev pub IsBefore : (ℕ → Type 0) → ℕ → ℕ → Type 0
-IsBefore P m i = (i < m) × P i
+abbrev pub HoldsBefore : (ℕ → Type 0) → ℕ → ℕ → Type 0
+HoldsBefore P m i = (i < m) × P i
 
 -- the opening tokens have places in queue 0
 abbrev pub held_at_start : List (List ℕ) → ℕ → ℕ
@@ -51,8 +51,8 @@ pub record IsFullAt (room : ℕ) (opening : List (List ℕ)) (events : List Even
     (queue m : ℕ) : Type 0 where
   pub taken : ℕ
   pub freed : ℕ
-  pub takes : IsCount (IsBefore (IsTaking events queue) m) taken
-  pub frees : IsCount (IsBefore (IsFreeing events queue) m) freed
+  pub takes : IsCount (HoldsBefore (IsTaking events queue) m) taken
+  pub frees : IsCount (HoldsBefore (IsFreeing events queue) m) freed
   pub full : room + freed ≤ held_at_start opening queue + taken
 
 -- so at a moment inside a call that starts at position s and ends at position e
@@ -90,9 +90,9 @@ IsUsedUp room opening queue places =
     room + places.freed ≤ held_at_start opening queue + places.taken
 
 -- a number, or one more
-abbrev pub counted : ℕ → Bool → ℕ
-counted n true = n + 1
-counted n false = n
+abbrev pub one_more_if : ℕ → Bool → ℕ
+one_more_if n true = n + 1
+one_more_if n false = n
 
 -- before any event
 abbrev pub untouched : Places
@@ -111,8 +111,8 @@ pub record IsFullBy (room : ℕ) (opening : List (List ℕ)) (events : List Even
 -- what is known of the places of the queue at moment m
 pub record ArePlacesOf (room : ℕ) (opening : List (List ℕ)) (events : List Event) (queue m : ℕ)
     (places : Places) : Type 0 where
-  pub takes : IsCount (IsBefore (IsTaking events queue) m) places.taken
-  pub frees : IsCount (IsBefore (IsFreeing events queue) m) places.freed
+  pub takes : IsCount (HoldsBefore (IsTaking events queue) m) places.taken
+  pub frees : IsCount (HoldsBefore (IsFreeing events queue) m) places.freed
   pub few_taken : places.taken ≤ m
   pub few_freed : places.freed ≤ m
   pub full : 0 < places.full_till → IsFullBy room opening events queue m places.full_till

@@ -13,16 +13,16 @@ abbrev pub token_of : Option Line → Option (List ℕ)
 token_of (Some (Opening content)) = Some content
 token_of _ = None
 
-abbrev pub event_of : Option Line → Option Event
-event_of (Some (Happens event)) = Some event
-event_of _ = None
+abbrev pub said_event : Option Line → Option Event
+said_event (Some (Happens event)) = Some event
+said_event _ = None
 
 -- the opening tokens and the events of lines, in order
 abbrev pub tokens_in : List (List ℕ) → List (List ℕ)
 tokens_in lines = filter_map (λ line. token_of (line_of line)) lines
 
 abbrev pub events_in : List (List ℕ) → List Event
-events_in lines = filter_map (λ line. event_of (line_of line)) lines
+events_in lines = filter_map (λ line. said_event (line_of line)) lines
 
 -- whether a line may follow where these tokens and events came before: it is of the form, and an
 -- opening token comes before all events and has at most 4,095 others before it, an event at most
@@ -34,35 +34,34 @@ may_follow tokens events (Some (Happens event)) = nat_lt (length events) 1000
 may_follow tokens events None = false
 
 -- whether it may after these lines
-abbrev pub is_next : List (List ℕ) → List ℕ → Bool
-is_next before line = may_follow (tokens_in before) (events_in before) (line_of line)
+abbrev pub may_stand_next : List (List ℕ) → List ℕ → Bool
+may_stand_next before line = may_follow (tokens_in before) (events_in before) (line_of line)
 
 -- lines of a history: each may follow those before it, and the events up to it are lawful
 pub data IsHistory : List (List ℕ) → Type 0 where
   empty : IsHistory []
   one_more : (before : List (List ℕ)) (line : List ℕ) → IsHistory before
-      → is_next before line ≡ true
+      → may_stand_next before line ≡ true
       → IsLawful (events_in (before ++ line ∷ [])) → IsHistory (before ++ line ∷ [])
 
--- the lines before the one of this number, from 1, are those of a history, and it may not follow
--- them
+-- the line of this number, from 1, stands behind those of a history
+pub record StandsBehind (before lines : List (List ℕ)) (line : List ℕ) (number : ℕ) : Type 0 where
+  pub after : List (List ℕ)
+  pub stands : lines ≡ before ++ line ∷ after
+  pub numbered : number ≡ length before + 1
+  pub history : IsHistory before
+
+-- so does this one, and it may not follow them
 pub record IsBadLine (lines : List (List ℕ)) (number : ℕ) : Type 0 where
   pub before : List (List ℕ)
   pub line : List ℕ
-  pub after : List (List ℕ)
-  pub stands : lines ≡ before ++ line ∷ after
-  pub numbered : number ≡ length before + 1
-  pub history : IsHistory before
-  pub bad : is_next before line ≡ false
+  pub behind : StandsBehind before lines line number
+  pub bad : may_stand_next before line ≡ false
 
--- the lines before the one of this number are those of a history, it may follow them, and the
--- events up to it aren't lawful
+-- so does this one, it may follow them, and the events up to it aren't lawful
 pub record IsUnlawfulLine (lines : List (List ℕ)) (number : ℕ) : Type 0 where
   pub before : List (List ℕ)
   pub line : List ℕ
-  pub after : List (List ℕ)
-  pub stands : lines ≡ before ++ line ∷ after
-  pub numbered : number ≡ length before + 1
-  pub history : IsHistory before
-  pub next : is_next before line ≡ true
+  pub behind : StandsBehind before lines line number
+  pub next : may_stand_next before line ≡ true
   pub unlawful : ¬ IsLawful (events_in (before ++ line ∷ []))

@@ -10,7 +10,7 @@ use Rattle.scq_hist.specs.declared.events.PutName.{PutName}
 use Rattle.scq_hist.specs.declared.events.PutName.TheVariants as name
 use Rattle.scq_hist.specs.declared.events.Reply.{Reply}
 use Rattle.scq_hist.specs.declared.events.Reply.TheVariants.{Done, Got, Nothing, Spent}
-use Rattle.scq_lines.specs.Lines.{fields_of, number_of, number_below, content_of}
+use Rattle.scq_lines.specs.Lines.{fields_of, number_of, number_below, field_content}
 use Rattle.scq_check.specs.declared.line.Bounds.{Bounds}
 use Rattle.scq_check.specs.declared.line.Line.{Line}
 use Rattle.scq_check.specs.declared.line.Line.TheVariants.{Opening, Happens}
@@ -19,35 +19,35 @@ use Rattle.scq_check.specs.declared.line.Line.TheVariants.{Opening, Happens}
 abbrev pub seat_in : Bounds → List ℕ → Option ℕ
 seat_in bounds field = number_below (bounds.seat + 1) field
 
-abbrev pub queue_in : Bounds → List ℕ → Option ℕ
-queue_in bounds field = number_below (bounds.queue + 1) field
+abbrev pub said_queue : Bounds → List ℕ → Option ℕ
+said_queue bounds field = number_below (bounds.queue + 1) field
 
 abbrev pub token_in : Bounds → List ℕ → Option ℕ
 token_in bounds field = number_below (bounds.token + 1) field
 
-abbrev pub content_in : List ℕ → Option (List ℕ)
-content_in field = content_of 64 field
+abbrev pub said_content : List ℕ → Option (List ℕ)
+said_content field = field_content 64 field
 
 -- the put of this name: `o J` is the opening token J, and `S2 N` the put number N of seat S2
-abbrev pub of_seat : Option ℕ → Option ℕ → Option PutName
-of_seat (Some seat) (Some number) = Some (name.Of seat number)
-of_seat _ _ = None
+abbrev pub name_of_seat : Option ℕ → Option ℕ → Option PutName
+name_of_seat (Some seat) (Some number) = Some (name.Of seat number)
+name_of_seat _ _ = None
 
-abbrev pub name_of : Bounds → List ℕ → List ℕ → Option PutName
-name_of bounds by number =
+abbrev pub said_name : Bounds → List ℕ → List ℕ → Option PutName
+said_name bounds by number =
     if bytes_eq by (codes "o") then option_map name.Opening (token_in bounds number)
-    else of_seat (seat_in bounds by) (number_of number)
+    else name_of_seat (seat_in bounds by) (number_of number)
 
 -- the call of `put Q X` or `get Q`
-abbrev pub put_of : Option ℕ → Option (List ℕ) → Option Call
-put_of (Some queue) (Some content) = Some (Put queue content)
-put_of _ _ = None
+abbrev pub said_put : Option ℕ → Option (List ℕ) → Option Call
+said_put (Some queue) (Some content) = Some (Put queue content)
+said_put _ _ = None
 
 abbrev pub call_of : Bounds → List (List ℕ) → Option Call
 call_of bounds (word ∷ queue ∷ []) =
-    if bytes_eq word (codes "get") then option_map Get (queue_in bounds queue) else None
+    if bytes_eq word (codes "get") then option_map Get (said_queue bounds queue) else None
 call_of bounds (word ∷ queue ∷ content ∷ []) =
-    if bytes_eq word (codes "put") then put_of (queue_in bounds queue) (content_in content)
+    if bytes_eq word (codes "put") then said_put (said_queue bounds queue) (said_content content)
     else None
 call_of bounds _ = None
 
@@ -63,21 +63,21 @@ bare_reply word =
     else if bytes_eq word (codes "spent") then Some Spent
     else None
 
-abbrev pub reply_of : Bounds → List (List ℕ) → Option Reply
-reply_of bounds (word ∷ []) = bare_reply word
-reply_of bounds (word ∷ by ∷ number ∷ content ∷ []) =
-    if bytes_eq word (codes "got") then got_of (name_of bounds by number) (content_in content)
+abbrev pub said_reply : Bounds → List (List ℕ) → Option Reply
+said_reply bounds (word ∷ []) = bare_reply word
+said_reply bounds (word ∷ by ∷ number ∷ content ∷ []) =
+    if bytes_eq word (codes "got") then got_of (said_name bounds by number) (said_content content)
     else None
-reply_of bounds _ = None
+said_reply bounds _ = None
 
 -- the event of `start S CALL` or `end S REPLY`
-abbrev pub started : Option ℕ → Option Call → Option Line
-started (Some seat) (Some call) = Some (Happens (Start seat call))
-started _ _ = None
+abbrev pub said_start : Option ℕ → Option Call → Option Line
+said_start (Some seat) (Some call) = Some (Happens (Start seat call))
+said_start _ _ = None
 
-abbrev pub ended : Option ℕ → Option Reply → Option Line
-ended (Some seat) (Some reply) = Some (Happens (End seat reply))
-ended _ _ = None
+abbrev pub said_end : Option ℕ → Option Reply → Option Line
+said_end (Some seat) (Some reply) = Some (Happens (End seat reply))
+said_end _ _ = None
 
 -- the opening token of `opening X`
 abbrev pub opened : Option (List ℕ) → List (List ℕ) → Option Line
@@ -87,9 +87,11 @@ opened _ _ = None
 -- what the fields of a line say within bounds, if they are of the form: `opening X`, or an event
 abbrev pub said : Bounds → List (List ℕ) → Option Line
 said bounds (word ∷ field ∷ more) =
-    if bytes_eq word (codes "opening") then opened (content_in field) more
-    else if bytes_eq word (codes "start") then started (seat_in bounds field) (call_of bounds more)
-    else if bytes_eq word (codes "end") then ended (seat_in bounds field) (reply_of bounds more)
+    if bytes_eq word (codes "opening") then opened (said_content field) more
+    else if bytes_eq word (codes "start")
+    then said_start (seat_in bounds field) (call_of bounds more)
+    else if bytes_eq word (codes "end")
+    then said_end (seat_in bounds field) (said_reply bounds more)
     else None
 said bounds _ = None
 

@@ -55,7 +55,7 @@ pub record AreQueuesAt (opening : List (List ℕ)) (events : List Event) (m : �
   pub each : (number : ℕ) → IsQueueAt opening events number m (queue_in queues number)
 
 -- no count has outgrown the tokens and the events
-pub record AreSmall (m : ℕ) (queues : Queues) : Type 0 where
+pub record CountsAreSmall (m : ℕ) (queues : Queues) : Type 0 where
   pub ungot : (number : ℕ) → (queue_in queues number).tally.ungot ≤ queues.tokens.ungot + m
   pub pending : (number : ℕ) → (queue_in queues number).pending ≤ m
 

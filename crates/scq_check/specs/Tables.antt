@@ -1,5 +1,6 @@
 -- For private calls: what the tables of a history answer
-use Rattle.std.specs.Prelude.{◌≡◌, ℕ, suc, List, Option, Some, None, length, slice_get}
+use Rattle.std.specs.Prelude.{◌≡◌, ◌<◌, ℕ, suc, List, Option, Some, None, length, slice_get}
+use Rattle.scq_hist.specs.Aspects.{IsLawful}
 use Rattle.scq_hist.specs.Calls.{under_way, IsCall, IsPending}
 use Rattle.scq_hist.specs.Lookups.{NoDoneAt}
 use Rattle.scq_hist.specs.declared.events.Call.{Call}
@@ -17,6 +18,17 @@ pub record IsTables (events : List Event) (tables : Tables) : Type 0 where
   pub calls : IsCalls events (length events) tables.calls
   pub puts : IsPuts events (length events) tables.puts
   pub gots : IsGots events (length events) tables.gots
+
+-- the tables are those of a lawful history
+pub record AreOfLawful (events : List Event) (made : Tables) : Type 0 where
+  pub tables : IsTables events made
+  pub lawful : IsLawful events
+
+-- and it has an event at position e
+pub record HasEvent (events : List Event) (made : Tables) (e : ℕ) : Type 0 where
+  pub tables : IsTables events made
+  pub lawful : IsLawful events
+  pub within : e < length events
 
 -- the event at position e, a Start or an End of the seat, is of the call that starts at position s
 abbrev pub IsOf : List Event → ℕ → ℕ → ℕ → Option Event → Type 0

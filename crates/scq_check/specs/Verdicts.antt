@@ -1,11 +1,15 @@
 -- The verdict of an aspect, and how verdicts are printed
-use Rattle.std.specs.Prelude.{◌≡◌, ℕ, ◌+◌, ◌<◌, List, ◌++◌, Option, Some, None, IfSome, codes}
-use Rattle.std.specs.Prelude.{decimal}
+use Rattle.std.specs.Prelude.{◌≡◌, ◌↔◌, ℕ, ◌+◌, ◌<◌, List, ◌++◌, Option, Some, None, IfSome}
+use Rattle.std.specs.Prelude.{codes, decimal}
 use Rattle.std.specs.Option.{option_map}
+use Rattle.scq_hist.specs.Aspects.{IsFreshAt, IsFresh, IsOnceAt, IsOnce}
+use Rattle.scq_hist.specs.Aspects.{IsInOrderAt, IsInOrder, IsEmptyRightAt, IsEmptyRight}
 use Rattle.scq_hist.specs.First.{IsFirstFailing}
 use Rattle.scq_hist.specs.declared.events.Event.{Event}
 use Rattle.scq_check.specs.Counterparts.{AtFirst, IsOfOrigin, IsOriginWithin, IsRepeatOf}
 use Rattle.scq_check.specs.Counterparts.{IsOvertaking, IsEmptyBeside, IsOfRefused}
+use Rattle.scq_check.specs.Failures.{AreFailures}
+use Rattle.scq_check.specs.Refused.{IsAcceptedAt}
 use Rattle.scq_check.specs.Waiting.{IsToldWithin}
 use Rattle.scq_check.specs.declared.verdicts.Breaches.{Breaches}
 use Rattle.scq_check.specs.declared.verdicts.Verdict.{Verdict}
@@ -15,6 +19,22 @@ use Rattle.scq_check.specs.declared.verdicts.Verdict.{Verdict}
 abbrev pub IsVerdict : (ℕ → Type 0) → Option ℕ → Type 0
 IsVerdict Holds verdict =
     (first : Option ℕ) × (verdict ≡ option_map (λ e. e + 1) first) × IsFirstFailing Holds first
+
+-- the verdict of a history: of each aspect the first event that breaks it
+pub record IsVerdictOf (opening : List (List ℕ)) (events : List Event)
+    (verdict : Verdict) : Type 0 where
+  pub fresh : IsVerdict (IsFreshAt opening events) verdict.fresh
+  pub once : IsVerdict (IsOnceAt events) verdict.once
+  pub in_order : IsVerdict (IsInOrderAt opening events) verdict.in_order
+  pub empty_right : IsVerdict (IsEmptyRightAt opening events) verdict.empty_right
+
+-- the verdict has no event exactly where the aspect holds
+pub record TellsWhatHolds (opening : List (List ℕ)) (events : List Event)
+    (verdict : Verdict) : Type 0 where
+  pub is_fresh : (verdict.fresh ≡ None) ↔ IsFresh opening events
+  pub is_once : (verdict.once ≡ None) ↔ IsOnce events
+  pub is_in_order : (verdict.in_order ≡ None) ↔ IsInOrder opening events
+  pub is_empty_right : (verdict.empty_right ≡ None) ↔ IsEmptyRight opening events
 
 -- what the first event that breaks each aspect stands against
 pub record HaveCounterparts (opening : List (List ℕ)) (events : List Event)
@@ -28,6 +48,16 @@ pub record HaveCounterparts (opening : List (List ℕ)) (events : List Event)
   pub empty_right : AtFirst
       (IsEmptyBeside opening events) breaches.empty_right.first breaches.counterparts.empty_right
   pub accepted : AtFirst (IsOfRefused events) breaches.accepted.first breaches.counterparts.accepted
+
+-- of a history: the events that break each aspect, and what the first of them stands against
+pub record AreBreaches (opening : List (List ℕ)) (events : List Event)
+    (breaches : Breaches) : Type 0 where
+  pub accepted : AreFailures (IsAcceptedAt events) breaches.accepted
+  pub fresh : AreFailures (IsFreshAt opening events) breaches.fresh
+  pub once : AreFailures (IsOnceAt events) breaches.once
+  pub in_order : AreFailures (IsInOrderAt opening events) breaches.in_order
+  pub empty_right : AreFailures (IsEmptyRightAt opening events) breaches.empty_right
+  pub against : HaveCounterparts opening events breaches
 
 -- each first event that breaks an aspect stands below position m, and so does what is told beside
 -- it

@@ -5,7 +5,7 @@ ghost use Rattle.std.specs.Prelude.{MatchOption};
 ghost use Rattle.scq_hist.specs.Calls.{under_way};
 ghost use Rattle.scq_check.specs.Calls.{own_start, IsCalls, IsCallUnderWay};
 
-use scq_hist::{Call, Event};
+use scq_hist::{Call, Event, call_started};
 use scq_word::NoMemory;
 use std::alloc::Global;
 use std::collections::BTreeMap;
@@ -89,9 +89,6 @@ impl Calls {
             (λ call. IsCallUnderWay events.now seat moment call.now) }
     {
         let start = self.under_way(events, moment, seat)?;
-        match &events[start] {
-            Event::Start { call, .. } => Some(call),
-            Event::End { .. } => None,
-        }
+        Some(call_started(events, start)?)
     }
 }

@@ -1,22 +1,21 @@
 //! What the first event that breaks an aspect stands against.
 
 ghost use Rattle.std.specs.Prelude.{◌<◌, length, IfOk, IfSome};
-ghost use Rattle.scq_hist.specs.Aspects.{IsLawful, IsFreshAt, IsOnceAt, IsInOrderAt};
-ghost use Rattle.scq_hist.specs.Aspects.{IsEmptyRightAt};
+ghost use Rattle.scq_hist.specs.Aspects.{IsOnceAt, IsInOrderAt, IsEmptyRightAt};
 ghost use Rattle.scq_check.specs.Counterparts.{IsOrigin, IsOfOrigin, IsOriginWithin, IsRepeatOf};
 ghost use Rattle.scq_check.specs.Counterparts.{IsOvertaking, IsEmptyBeside, IsOfRefused, AtFirst};
+ghost use Rattle.scq_check.specs.Counterparts.{NamesNone};
 ghost use Rattle.scq_check.specs.Failures.{AreFailures};
 ghost use Rattle.scq_check.specs.Refused.{IsAcceptedAt};
-ghost use Rattle.scq_check.specs.Tables.{IsTables};
+ghost use Rattle.scq_check.specs.Tables.{AreOfLawful, IsTables};
 ghost use Rattle.scq_check.specs.Waiting.{IsToldWithin};
 
 use crate::failures::Failures;
-use crate::gots::got_name;
 use crate::order::{empty_at, put_got_at};
 use crate::refused::{named_put, refusals};
 use crate::tables::Tables;
 use crate::waiting::{Waiting, find_waiting};
-use scq_hist::{Event, PutName};
+use scq_hist::{Event, PutName, got_name};
 use scq_word::{Bytes, NoMemory};
 use std::alloc::Global;
 
@@ -70,20 +69,20 @@ fn origin_of(tables: &Tables, opening: &[Bytes], events: &[Event], name: PutName
     }
 }
 
-/// Of the Gots that aren't fresh: where the put of the first of them was put.
-pub(crate) fn origin_first(
+/// Of the Gots that break an aspect: where the put that the first of them names was put.
+pub(crate) fn origin_of_first(
     tables: &Tables,
     opening: &[Bytes],
     events: &[Event],
-    unfresh: &Failures,
+    gots: &Failures,
 ) -> Option<Origin>
     requires tables { IsTables events.now tables.now }
-    requires failures { AreFailures (IsFreshAt opening.now events.now) unfresh.now }
-    requires within { IfSome unfresh.now.first (λ e. e < length events.now) }
-    ensures first { AtFirst (IsOfOrigin opening.now events.now) unfresh.now.first result }
+    requires named { IfSome gots.now.first (λ e. ¬ (NamesNone events.now e)) }
+    requires within { IfSome gots.now.first (λ e. e < length events.now) }
+    ensures first { AtFirst (IsOfOrigin opening.now events.now) gots.now.first result }
     ensures within { IfSome result (IsOriginWithin (length events.now)) }
 {
-    let e = unfresh.first?;
+    let e = gots.first?;
     let name = got_name(&events[e])?;
     Some(origin_of(tables, opening, events, name))
 }
@@ -109,8 +108,7 @@ pub(crate) fn overtaken(
     events: &[Event],
     overtaking: &Failures,
 ) -> Option<Waiting>
-    requires tables { IsTables events.now tables.now }
-    requires lawful { IsLawful events.now }
+    requires known { AreOfLawful events.now tables.now }
     requires failures { AreFailures (IsInOrderAt opening.now events.now) overtaking.now }
     requires within { IfSome overtaking.now.first (λ e. e < length events.now) }
     ensures first { AtFirst (IsOvertaking opening.now events.now) overtaking.now.first result }
@@ -121,24 +119,6 @@ pub(crate) fn overtaken(
     Some(find_waiting(tables, opening, events, queue, start, e))
 }
 
-/// Of the Gots that overtake: where the put that the first of them has got was put.
-pub(crate) fn overtaker_first(
-    tables: &Tables,
-    opening: &[Bytes],
-    events: &[Event],
-    overtaking: &Failures,
-) -> Option<Origin>
-    requires tables { IsTables events.now tables.now }
-    requires failures { AreFailures (IsInOrderAt opening.now events.now) overtaking.now }
-    requires within { IfSome overtaking.now.first (λ e. e < length events.now) }
-    ensures first { AtFirst (IsOfOrigin opening.now events.now) overtaking.now.first result }
-    ensures within { IfSome result (IsOriginWithin (length events.now)) }
-{
-    let e = overtaking.first?;
-    let name = got_name(&events[e])?;
-    Some(origin_of(tables, opening, events, name))
-}
-
 /// Of the wrong Empties: the puts that wait when the first of them ends.
 pub(crate) fn waiting_beside(
     tables: &Tables,
@@ -146,8 +126,7 @@ pub(crate) fn waiting_beside(
     events: &[Event],
     wrong: &Failures,
 ) -> Option<Waiting>
-    requires tables { IsTables events.now tables.now }
-    requires lawful { IsLawful events.now }
+    requires known { AreOfLawful events.now tables.now }
     requires failures { AreFailures (IsEmptyRightAt opening.now events.now) wrong.now }
     requires within { IfSome wrong.now.first (λ e. e < length events.now) }
     ensures first { AtFirst (IsEmptyBeside opening.now events.now) wrong.now.first result }
@@ -165,8 +144,7 @@ pub(crate) fn refused_first(
     events: &[Event],
     refused: &Failures,
 ) -> Result<Option<usize>, NoMemory>
-    requires tables { IsTables events.now tables.now }
-    requires lawful { IsLawful events.now }
+    requires known { AreOfLawful events.now tables.now }
     requires failures { AreFailures (IsAcceptedAt events.now) refused.now }
     requires within { IfSome refused.now.first (λ e. e < length events.now) }
     ensures first { IfOk result (AtFirst (IsOfRefused events.now) refused.now.first) }

@@ -1,34 +1,17 @@
 //! The Gots that aren't fresh, and those that name the put of an earlier one.
 
-ghost use Rattle.std.specs.Prelude.{◌≡◌, ◌<◌, ◌↔◌, ℕ, IsTrue, Some, length, slice_get, IfSome};
+ghost use Rattle.std.specs.Prelude.{◌<◌, ◌↔◌, ℕ, IsTrue, length, IfSome};
 ghost use Rattle.std.specs.Prelude.{MatchOption};
 ghost use Rattle.scq_hist.specs.Calls.{IsPut};
-ghost use Rattle.scq_hist.specs.Aspects.{IsLawful, IsBegun, IsFreshAt, IsOnceAt};
-ghost use Rattle.scq_check.specs.Tables.{IsTables};
+ghost use Rattle.scq_hist.specs.Aspects.{IsBegun, IsFreshAt, IsOnceAt};
+ghost use Rattle.scq_check.specs.Tables.{AreOfLawful, HasEvent, IsTables};
 ghost use Rattle.scq_check.specs.Gots.{IsGotOf, IsNoGot};
 ghost use Rattle.scq_check.specs.Failures.{AreFailures};
 
 use crate::failures::Failures;
-use crate::gots::got_name;
 use crate::tables::Tables;
-use scq_hist::{Call, Event, PutName, Reply};
+use scq_hist::{Event, PutName, Reply, got_name, is_earlier_put, is_token};
 use scq_word::Bytes;
-
-fn same_bytes(a: &Bytes, b: &Bytes) -> bool
-    ensures { IsTrue result ↔ (a.now ≡ b.now) }
-{
-    a.bytes() == b.bytes()
-}
-
-// Whether this opening token is of this queue and content.
-fn is_token(opening: &[Bytes], number: u32, queue: u32, content: &Bytes) -> bool
-    ensures { IsTrue result ↔ ((queue ≡ 0) × (slice_get opening.now number ≡ Some content.now)) }
-{
-    match opening.get(number as usize) {
-        Some(token) => queue == 0 && same_bytes(token, content),
-        None => false,
-    }
-}
 
 // Whether the seat's put of this number is of this queue and content, and starts before position e.
 fn is_put(
@@ -44,10 +27,7 @@ fn is_put(
     ensures { IsTrue result
         ↔ ((s : ℕ) × (s < e) × IsPut events.now seat number queue content.now s) }
 {
-    match tables.put_named(events, seat, number) {
-        Some((start, of, put)) if start < e && of == queue => same_bytes(put, content),
-        _ => false,
-    }
+    is_earlier_put(tables.put_named(events, seat, number), queue, content, e)
 }
 
 // The name and the content of an End with Got.
@@ -69,8 +49,8 @@ fn is_begun(
     tables: &Tables,
     opening: &[Bytes],
     events: &[Event],
-    name: PutName,
     queue: u32,
+    name: PutName,
     content: &Bytes,
     e: usize,
 ) -> bool
@@ -85,15 +65,13 @@ fn is_begun(
 
 // Whether the Got that stands at this position, if one does, is fresh.
 fn is_fresh_at(tables: &Tables, opening: &[Bytes], events: &[Event], e: usize) -> bool
-    requires tables { IsTables events.now tables.now }
-    requires lawful { IsLawful events.now }
-    requires within { e < length events.now }
+    requires { HasEvent events.now tables.now e }
     ensures { IsTrue result ↔ IsFreshAt opening.now events.now e }
 {
     match got(&events[e]) {
         Some((name, content)) => {
             let queue = tables.queue_of(events, e);
-            is_begun(tables, opening, events, name, queue, content, e)
+            is_begun(tables, opening, events, queue, name, content, e)
         }
         None => true,
     }
@@ -102,8 +80,7 @@ fn is_fresh_at(tables: &Tables, opening: &[Bytes], events: &[Event], e: usize) -
 /// The Gots that aren't fresh. `opening` has the contents of the tokens that stand in queue 0
 /// before the list.
 pub(crate) fn unfresh(tables: &Tables, opening: &[Bytes], events: &[Event]) -> Failures
-    requires tables { IsTables events.now tables.now }
-    requires lawful { IsLawful events.now }
+    requires { AreOfLawful events.now tables.now }
     ensures failures { AreFailures (IsFreshAt opening.now events.now) result }
     ensures within { IfSome result.first (λ e. e < length events.now) }
 {

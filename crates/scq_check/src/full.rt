@@ -6,10 +6,11 @@ ghost use Rattle.std.specs.Prelude.{length, IfOk, IfSome, OnOk};
 ghost use Rattle.scq_hist.specs.Aspects.{IsLawful};
 ghost use Rattle.scq_check.specs.Failures.{AreFailures};
 ghost use Rattle.scq_check.specs.Full.{IsTaking, IsFreeing, IsPutAt, NoPutAt, IsRefusalAt};
-ghost use Rattle.scq_check.specs.Full.{NoRefusalAt, IsUsedUp, counted, held_at_start, places_in};
+ghost use Rattle.scq_check.specs.Full.{NoRefusalAt, IsUsedUp, one_more_if, held_at_start};
+ghost use Rattle.scq_check.specs.Full.{places_in};
 ghost use Rattle.scq_check.specs.Full.{untouched, ArePlacesOf, ArePlacesAt, IsFullRightAt};
 ghost use Rattle.scq_check.specs.Refused.{IsRefusals};
-ghost use Rattle.scq_check.specs.Tables.{IsTables};
+ghost use Rattle.scq_check.specs.Tables.{HasEvent, IsTables};
 
 use crate::by_name::ByName;
 use crate::failures::Failures;
@@ -65,9 +66,7 @@ fn takes(tables: &Tables, refusals: &ByName, events: &[Event], queue: u32, s: us
 
 // Whether a get of this queue ends at this position that is the first to have got its put.
 fn frees(tables: &Tables, events: &[Event], queue: u32, e: usize) -> bool
-    requires tables { IsTables events.now tables.now }
-    requires lawful { IsLawful events.now }
-    requires within { e < length events.now }
+    requires { HasEvent events.now tables.now e }
     ensures { IsTrue result ↔ IsFreeing events.now queue e }
 {
     match tables.get_ending_at(events, e) {
@@ -78,9 +77,7 @@ fn frees(tables: &Tables, events: &[Event], queue: u32, e: usize) -> bool
 
 // The put that ends with Spent at this position: the position of its Start, and its queue.
 fn refusal_at(tables: &Tables, events: &[Event], e: usize) -> Option<(usize, u32)>
-    requires tables { IsTables events.now tables.now }
-    requires lawful { IsLawful events.now }
-    requires within { e < length events.now }
+    requires { HasEvent events.now tables.now e }
     ensures { MatchOption result (NoRefusalAt events.now e) (λ put.
         IsRefusalAt events.now e put.1 put.0) }
 {
@@ -106,7 +103,7 @@ fn held_at_start(opening: &[Bytes], queue: u32) -> usize
 // A number, or one more.
 fn counted(number: usize, more: bool) -> usize
     requires { number + 1 < 2 ^ 64 }
-    ensures { result ≡ counted number more }
+    ensures { result ≡ one_more_if number more }
 {
     if more { number + 1 } else { number }
 }
@@ -159,9 +156,7 @@ impl Places {
         queue: u32,
         e: usize,
     ) -> Places
-        requires tables { IsTables events.now tables.now }
-        requires lawful { IsLawful events.now }
-        requires within { e < length events.now }
+        requires event { HasEvent events.now tables.now e }
         requires refusals { IsRefusals events.now (length events.now) refusals.now }
         requires before { ArePlacesOf room opening.now events.now queue e self }
         ensures { ArePlacesOf room opening.now events.now queue (e + 1) result }
@@ -207,9 +202,7 @@ impl AllPlaces {
         events: &[Event],
         e: usize,
     ) -> Result<(), NoMemory>
-        requires tables { IsTables events.now tables.now }
-        requires lawful { IsLawful events.now }
-        requires within { e < length events.now }
+        requires event { HasEvent events.now tables.now e }
         requires refusals { IsRefusals events.now (length events.now) refusals.now }
         requires before { ArePlacesAt room opening.now events.now e self.old }
         ensures { OnOk result (ArePlacesAt room opening.now events.now (e + 1) self.new) }
@@ -231,9 +224,7 @@ fn is_full_right_at(
     places: &AllPlaces,
     e: usize,
 ) -> bool
-    requires tables { IsTables events.now tables.now }
-    requires lawful { IsLawful events.now }
-    requires within { e < length events.now }
+    requires event { HasEvent events.now tables.now e }
     requires places { ArePlacesAt room opening.now events.now e places.now }
     ensures { IsTrue result ↔ IsFullRightAt room opening.now events.now e }
 {

@@ -3,12 +3,12 @@
 ghost use Rattle.std.specs.Prelude.{◌≡◌, ◌+◌, ◌<◌, ℕ, None, Some, length, IfOk, OnOk, MatchOption};
 ghost use Rattle.std.specs.Prelude.{if◌then◌else◌, is_some};
 ghost use Rattle.scq_hist.specs.Calls.{IsGot};
-ghost use Rattle.scq_hist.specs.Lookups.{got_name, IsFirstNamed};
+ghost use Rattle.scq_hist.specs.Lookups.{IsFirstNamed};
 ghost use Rattle.scq_hist.specs.declared.events.PutName.{PutName};
 ghost use Rattle.scq_check.specs.Gots.{found_in, is_same_put, IsGots};
 
 use crate::by_name::ByName;
-use scq_hist::{Event, PutName, Reply};
+use scq_hist::{Event, PutName, got_name};
 use scq_word::NoMemory;
 use std::alloc::Global;
 use std::collections::BTreeMap;
@@ -18,19 +18,6 @@ use std::collections::BTreeMap;
 pub(crate) struct Gots {
     of_tokens: BTreeMap<u32, usize>,
     of_seats: ByName,
-}
-
-/// The name in an End with Got.
-pub(crate) fn got_name(event: &Event) -> Option<PutName>
-    ensures { result ≡ got_name event.now }
-{
-    match event {
-        Event::End {
-            reply: Reply::Got { name, .. },
-            ..
-        } => Some(*name),
-        _ => None,
-    }
 }
 
 impl Gots {

@@ -22,14 +22,14 @@ const MOST_TOKENS: usize = 4096;
 const MOST_EVENTS: usize = 1000;
 
 /// A history: the contents of the tokens that stand in queue 0 before its events, and the events.
-#[derive(Debug, Drop)]
+#[derive(Drop)]
 pub struct History {
     pub opening: Vec<Bytes>,
     pub events: Vec<Event>,
 }
 
 /// Why a text is no history: the first line with a fault, from 1. Or memory was wanted.
-#[derive(Clone, Copy, Debug, PartialEq, Eq, Error)]
+#[derive(Clone, Copy, Debug, Error)]
 pub enum HistoryFault {
     /// The line is not of the form, is an opening token behind an event, or is one line too many.
     #[error("line {line}: not understood")]

@@ -1,7 +1,7 @@
 //! The first event out of place in a list of any length.
 
 ghost use Rattle.std.specs.Prelude.{◌↔◌, ◌<◌, IsTrue, IfOk, IfSome, length, slice_get};
-ghost use Rattle.scq_hist.specs.Aspects.{Suits, IsLawfulAt};
+ghost use Rattle.scq_hist.specs.Aspects.{SuitsCall, IsLawfulAt};
 ghost use Rattle.scq_hist.specs.First.{IsFirstFailing};
 ghost use Rattle.scq_check.specs.Calls.{IsCalls};
 
@@ -12,7 +12,7 @@ use std::alloc::Global;
 
 // Whether a call of this kind may end with the reply.
 fn suits(call: &Call, reply: &Reply) -> bool
-    ensures { IsTrue result ↔ Suits call.now reply.now }
+    ensures { IsTrue result ↔ SuitsCall call.now reply.now }
 {
     match call {
         Call::Put { .. } => matches!(reply, Reply::Done | Reply::Spent),

@@ -3,8 +3,9 @@
 ghost use Rattle.std.specs.Prelude.{◌≡◌, [], ◌∷◌, IfOk};
 ghost use Rattle.std.specs.Str.{bytes_eq};
 ghost use Rattle.scq_lines.specs.Lines.{fields_of, fields_after};
-ghost use Rattle.scq_check.specs.Line.{seat_in, content_in, name_of, call_of, bare_reply, reply_of};
-ghost use Rattle.scq_check.specs.Line.{opened, started, ended, said};
+ghost use Rattle.scq_check.specs.Line.{seat_in, said_content, said_name, call_of, bare_reply};
+ghost use Rattle.scq_check.specs.Line.{said_reply};
+ghost use Rattle.scq_check.specs.Line.{opened, said_start, said_end, said};
 
 use scq_hist::{Call, Event, PutName, Reply};
 use scq_lines::{content, first_field, next_field, number, number_up_to};
@@ -83,7 +84,7 @@ pub fn read_fields(
 
 // `opening X`, from X on.
 fn opening(alloc: Global, field: &[u8], rest: &[u8]) -> Result<Option<Line>, NoMemory>
-    ensures { IfOk result (λ line. line ≡ opened (content_in field.now) (fields_after rest.now)) }
+    ensures { IfOk result (λ line. line ≡ opened (said_content field.now) (fields_after rest.now)) }
 {
     if next_field(rest).is_some() {
         return Ok(None);
@@ -97,7 +98,7 @@ fn opening(alloc: Global, field: &[u8], rest: &[u8]) -> Result<Option<Line>, NoM
 // `start S CALL`, from S on.
 fn start(alloc: Global, bounds: Bounds, field: &[u8], rest: &[u8]) -> Result<Option<Line>, NoMemory>
     ensures { IfOk result (λ line.
-        line ≡ started (seat_in bounds field.now) (call_of bounds (fields_after rest.now))) }
+        line ≡ said_start (seat_in bounds field.now) (call_of bounds (fields_after rest.now))) }
 {
     let Some(seat) = number_up_to(bounds.seat, field) else {
         return Ok(None);
@@ -113,7 +114,7 @@ fn start(alloc: Global, bounds: Bounds, field: &[u8], rest: &[u8]) -> Result<Opt
 // `end S REPLY`, from S on.
 fn end(alloc: Global, bounds: Bounds, field: &[u8], rest: &[u8]) -> Result<Option<Line>, NoMemory>
     ensures { IfOk result (λ line.
-        line ≡ ended (seat_in bounds field.now) (reply_of bounds (fields_after rest.now))) }
+        line ≡ said_end (seat_in bounds field.now) (said_reply bounds (fields_after rest.now))) }
 {
     let Some(seat) = number_up_to(bounds.seat, field) else {
         return Ok(None);
@@ -176,7 +177,7 @@ fn put(
 
 // `done`, `nothing`, `spent` or `got NAME X`.
 fn reply(alloc: Global, bounds: Bounds, rest: &[u8]) -> Result<Option<Reply>, NoMemory>
-    ensures { IfOk result (λ reply. reply ≡ reply_of bounds (fields_after rest.now)) }
+    ensures { IfOk result (λ reply. reply ≡ said_reply bounds (fields_after rest.now)) }
 {
     let Some((word, rest)) = next_field(rest) else {
         return Ok(None);
@@ -209,7 +210,7 @@ fn got(
     rest: &[u8],
 ) -> Result<Option<Reply>, NoMemory>
     ensures { IfOk result (λ reply.
-        reply ≡ reply_of bounds (word.now ∷ by.now ∷ fields_after rest.now)) }
+        reply ≡ said_reply bounds (word.now ∷ by.now ∷ fields_after rest.now)) }
 {
     let Some((number, rest)) = next_field(rest) else {
         return Ok(None);
@@ -231,7 +232,7 @@ fn got(
 
 // `o J` for an opening token, `S2 N` for a put of a seat.
 fn name(bounds: Bounds, by: &[u8], field: &[u8]) -> Option<PutName>
-    ensures { result ≡ name_of bounds by.now field.now }
+    ensures { result ≡ said_name bounds by.now field.now }
 {
     if is_word(by, b"o") {
         let number = number_up_to(bounds.token, field)?;

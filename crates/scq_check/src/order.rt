@@ -2,11 +2,11 @@
 
 ghost use Rattle.std.specs.Prelude.{◌≡◌, ◌+◌, ◌<◌, ◌≤◌, ◌^◌, ◌↔◌, ℕ, List, IsTrue, MatchOption};
 ghost use Rattle.std.specs.Prelude.{length, IfOk, IfSome};
-ghost use Rattle.scq_hist.specs.Aspects.{IsLawful, IsInOrderAt, IsEmptyRightAt};
+ghost use Rattle.scq_hist.specs.Aspects.{IsInOrderAt, IsEmptyRightAt};
 ghost use Rattle.scq_hist.specs.Tallies.{IsPutGotAt, NoPutGotAt, IsEmptyAt, NoEmptyAt};
 ghost use Rattle.scq_check.specs.Failures.{AreFailures};
-ghost use Rattle.scq_check.specs.Tables.{IsTables};
 ghost use Rattle.scq_check.specs.Queues.{AreQueuesAt, AreTallies};
+ghost use Rattle.scq_check.specs.Tables.{AreOfLawful, HasEvent};
 
 use crate::failures::Failures;
 use crate::queues::{Queue, Queues, Tally};
@@ -22,8 +22,7 @@ fn tallies_before(
     opening: &[Bytes],
     events: &[Event],
 ) -> Result<Vec<Tally>, NoMemory>
-    requires tables { IsTables events.now tables.now }
-    requires lawful { IsLawful events.now }
+    requires { AreOfLawful events.now tables.now }
     ensures { IfOk result (λ tallies.
         AreTallies opening.now events.now (length events.now) tallies.items) }
 {
@@ -39,9 +38,7 @@ fn tallies_before(
 // The seat's put that the get which ends at this position has got: the position of its Start, and
 // its queue.
 pub(crate) fn put_got_at(tables: &Tables, events: &[Event], e: usize) -> Option<(usize, u32)>
-    requires tables { IsTables events.now tables.now }
-    requires lawful { IsLawful events.now }
-    requires within { e < length events.now }
+    requires { HasEvent events.now tables.now e }
     ensures { MatchOption result
         (NoPutGotAt events.now e)
         (λ put. IsPutGotAt events.now e put.1 put.0) }
@@ -65,9 +62,7 @@ fn is_in_order_at(
     queues: &Queues,
     e: usize,
 ) -> bool
-    requires tables { IsTables events.now tables.now }
-    requires lawful { IsLawful events.now }
-    requires within { e < length events.now }
+    requires event { HasEvent events.now tables.now e }
     requires many { length tallies.now ≡ length events.now }
     ensures { (opening : List (List ℕ))
         → AreTallies opening events.now (length events.now) tallies.now
@@ -93,8 +88,7 @@ pub(crate) fn out_of_order(
     opening: &[Bytes],
     events: &[Event],
 ) -> Result<Failures, NoMemory>
-    requires tables { IsTables events.now tables.now }
-    requires lawful { IsLawful events.now }
+    requires { AreOfLawful events.now tables.now }
     ensures failures { IfOk result (AreFailures (IsInOrderAt opening.now events.now)) }
     ensures within { IfOk result (λ failures. IfSome failures.first (λ e. e < length events.now)) }
 {
@@ -110,9 +104,7 @@ pub(crate) fn out_of_order(
 
 // The get that ends with Nothing at this position: the position of its Start, and its queue.
 pub(crate) fn empty_at(tables: &Tables, events: &[Event], e: usize) -> Option<(usize, u32)>
-    requires tables { IsTables events.now tables.now }
-    requires lawful { IsLawful events.now }
-    requires within { e < length events.now }
+    requires { HasEvent events.now tables.now e }
     ensures { MatchOption result (NoEmptyAt events.now e) (λ get.
         IsEmptyAt events.now e get.1 get.0) }
 {
@@ -130,9 +122,7 @@ pub(crate) fn empty_at(tables: &Tables, events: &[Event], e: usize) -> Option<(u
 
 // Whether an Empty that ends at this position, if one does, is right.
 fn is_empty_right_at(tables: &Tables, events: &[Event], queues: &Queues, e: usize) -> bool
-    requires tables { IsTables events.now tables.now }
-    requires lawful { IsLawful events.now }
-    requires within { e < length events.now }
+    requires { HasEvent events.now tables.now e }
     ensures { (opening : List (List ℕ))
         → AreQueuesAt opening events.now e queues.now
         → (IsTrue result ↔ IsEmptyRightAt opening events.now e) }
@@ -150,8 +140,7 @@ pub(crate) fn wrong_empties(
     opening: &[Bytes],
     events: &[Event],
 ) -> Result<Failures, NoMemory>
-    requires tables { IsTables events.now tables.now }
-    requires lawful { IsLawful events.now }
+    requires { AreOfLawful events.now tables.now }
     ensures failures { IfOk result (AreFailures (IsEmptyRightAt opening.now events.now)) }
     ensures within { IfOk result (λ failures. IfSome failures.first (λ e. e < length events.now)) }
 {

@@ -2,12 +2,12 @@
 
 ghost use Rattle.std.specs.Prelude.{◌≡◌, ◌+◌, ◌<◌, ◌≤◌, ◌^◌, ◌↔◌, ◌⊎◌, ℕ, List, IsTrue};
 ghost use Rattle.std.specs.Prelude.{MatchOption, length, OnOk};
-ghost use Rattle.scq_hist.specs.Aspects.{IsLawful};
 ghost use Rattle.scq_hist.specs.Calls.{IsFinishedAt, IsPending};
 ghost use Rattle.scq_hist.specs.Counts.{IsCount};
 ghost use Rattle.scq_hist.specs.Tallies.{IsTally, AddsPut, IsTokenGotAt, NoTokenGotAt};
-ghost use Rattle.scq_check.specs.Tables.{IsTables};
-ghost use Rattle.scq_check.specs.Queues.{AreClaimed, IsQueueAt, AreQueuesAt, AreSmall, queue_in};
+ghost use Rattle.scq_check.specs.Tables.{AreOfLawful, HasEvent, IsTables};
+ghost use Rattle.scq_check.specs.Queues.{AreClaimed, IsQueueAt, AreQueuesAt, CountsAreSmall};
+ghost use Rattle.scq_check.specs.Queues.{queue_in};
 ghost use Rattle.scq_check.specs.Queues.{unseen};
 
 use crate::tables::Tables;
@@ -43,8 +43,7 @@ pub(crate) struct Queues {
 
 // The tally of one put more.
 fn with_put(tally: Tally, tables: &Tables, events: &[Event], name: PutName) -> Tally
-    requires tables { IsTables events.now tables.now }
-    requires lawful { IsLawful events.now }
+    requires known { AreOfLawful events.now tables.now }
     requires room { tally.ungot + 1 < 2 ^ 64 }
     ensures { AddsPut events.now name tally.ungot tally.claimed_from result.ungot
         result.claimed_from }
@@ -64,9 +63,7 @@ fn with_put(tally: Tally, tables: &Tables, events: &[Event], name: PutName) -> T
 // From the puts of this queue that are finished just before the event at position e to those that
 // are finished just after it.
 fn tally_after(tally: Tally, tables: &Tables, events: &[Event], queue: u32, e: usize) -> Tally
-    requires tables { IsTables events.now tables.now }
-    requires lawful { IsLawful events.now }
-    requires within { e < length events.now }
+    requires event { HasEvent events.now tables.now e }
     requires room { tally.ungot + 1 < 2 ^ 64 }
     ensures few { result.ungot ≤ tally.ungot + 1 }
     ensures tally { (opening : List (List ℕ))
@@ -100,9 +97,7 @@ fn pending_after(pending: usize, tables: &Tables, events: &[Event], queue: u32, 
 
 // The position of the Start of the get that ends at this position and has got an opening token.
 fn token_got_at(tables: &Tables, opening: &[Bytes], events: &[Event], e: usize) -> Option<usize>
-    requires tables { IsTables events.now tables.now }
-    requires lawful { IsLawful events.now }
-    requires within { e < length events.now }
+    requires { HasEvent events.now tables.now e }
     ensures { MatchOption result
         (NoTokenGotAt opening.now events.now e)
         (IsTokenGotAt opening.now events.now e) }
@@ -117,8 +112,7 @@ fn token_got_at(tables: &Tables, opening: &[Bytes], events: &[Event], e: usize) 
 
 // The tally of the opening tokens.
 fn opening_tally(tables: &Tables, opening: &[Bytes], events: &[Event]) -> Tally
-    requires tables { IsTables events.now tables.now }
-    requires lawful { IsLawful events.now }
+    requires { AreOfLawful events.now tables.now }
     ensures few { result.ungot ≤ length opening.now }
     ensures tally { IsTally events.now
         (IsFinishedAt opening.now events.now 0 0) result.ungot result.claimed_from }
@@ -187,9 +181,7 @@ impl Queue {
 
     // From just before the event at position e, which is of one of its calls, to just after it.
     fn after(self, tables: &Tables, events: &[Event], queue: u32, e: usize) -> Queue
-        requires tables { IsTables events.now tables.now }
-        requires lawful { IsLawful events.now }
-        requires within { e < length events.now }
+        requires event { HasEvent events.now tables.now e }
         requires room { self.tally.ungot + 1 < 2 ^ 64 }
         requires room_for_gets { self.pending + 1 < 2 ^ 64 }
         ensures few { result.tally.ungot ≤ self.tally.ungot + 1 }
@@ -208,10 +200,9 @@ impl Queue {
 impl Queues {
     /// The queues before any event.
     pub(crate) fn new(alloc: Global, tables: &Tables, opening: &[Bytes], events: &[Event]) -> Queues
-        requires tables { IsTables events.now tables.now }
-        requires lawful { IsLawful events.now }
+        requires { AreOfLawful events.now tables.now }
         ensures few { result.tokens.ungot ≤ length opening.now }
-        ensures small { AreSmall 0 result }
+        ensures small { CountsAreSmall 0 result }
         ensures at { AreQueuesAt opening.now events.now 0 result }
     {
         Queues {
@@ -236,12 +227,10 @@ impl Queues {
         events: &[Event],
         e: usize,
     ) -> Result<(), NoMemory>
-        requires tables { IsTables events.now tables.now }
-        requires lawful { IsLawful events.now }
-        requires within { e < length events.now }
-        requires small { AreSmall e self.old }
+        requires event { HasEvent events.now tables.now e }
+        requires small { CountsAreSmall e self.old }
         requires room { self.old.tokens.ungot + length events.now < 2 ^ 64 }
-        ensures small { OnOk result (AreSmall (e + 1) self.new) }
+        ensures small { OnOk result (CountsAreSmall (e + 1) self.new) }
         ensures tokens { self.new.tokens ≡ self.old.tokens }
         ensures at { OnOk result ((opening : List (List ℕ))
             → AreQueuesAt opening events.now e self.old

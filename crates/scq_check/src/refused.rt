@@ -2,14 +2,13 @@
 
 ghost use Rattle.std.specs.Prelude.{◌≡◌, ◌+◌, ◌<◌, ◌↔◌, IsTrue, Some, IfOk, IfSome, OnOk, length};
 ghost use Rattle.std.specs.Prelude.{MatchOption, is_some};
-ghost use Rattle.scq_hist.specs.Aspects.{IsLawful};
 ghost use Rattle.scq_hist.specs.Lookups.{got_name};
 ghost use Rattle.scq_hist.specs.declared.events.PutName.TheVariants.{Of};
 ghost use Rattle.scq_check.specs.ByName.{place_in};
 ghost use Rattle.scq_check.specs.Failures.{AreFailures};
 ghost use Rattle.scq_check.specs.Refused.{IsSpentAt, NoneSpentAt, NamesNoPut, IsRefusals};
 ghost use Rattle.scq_check.specs.Refused.{IsAcceptedAt};
-ghost use Rattle.scq_check.specs.Tables.{IsTables};
+ghost use Rattle.scq_check.specs.Tables.{AreOfLawful, HasEvent};
 
 use crate::by_name::ByName;
 use crate::failures::Failures;
@@ -20,9 +19,7 @@ use std::alloc::Global;
 
 // The put that ends with Spent at this position: its seat and number.
 fn spent_at(tables: &Tables, events: &[Event], e: usize) -> Option<(u32, u64)>
-    requires tables { IsTables events.now tables.now }
-    requires lawful { IsLawful events.now }
-    requires within { e < length events.now }
+    requires { HasEvent events.now tables.now e }
     ensures { MatchOption result (NoneSpentAt events.now e) (λ put.
         IsSpentAt events.now put.0 put.1 e) }
 {
@@ -40,8 +37,7 @@ fn spent_at(tables: &Tables, events: &[Event], e: usize) -> Option<(u32, u64)>
 
 // Where each put that ended with Spent did.
 pub(crate) fn refusals(alloc: Global, tables: &Tables, events: &[Event]) -> Result<ByName, NoMemory>
-    requires tables { IsTables events.now tables.now }
-    requires lawful { IsLawful events.now }
+    requires { AreOfLawful events.now tables.now }
     ensures { IfOk result (IsRefusals events.now (length events.now)) }
 {
     let mut refusals = ByName::new(alloc);
@@ -58,9 +54,7 @@ fn add_refusal(
     events: &[Event],
     e: usize,
 ) -> Result<(), NoMemory>
-    requires tables { IsTables events.now tables.now }
-    requires lawful { IsLawful events.now }
-    requires within { e < length events.now }
+    requires event { HasEvent events.now tables.now e }
     requires before { IsRefusals events.now e refusals.old }
     ensures { OnOk result (IsRefusals events.now (e + 1) refusals.new) }
 {
@@ -112,8 +106,7 @@ pub(crate) fn refused_gots(
     tables: &Tables,
     events: &[Event],
 ) -> Result<Failures, NoMemory>
-    requires tables { IsTables events.now tables.now }
-    requires lawful { IsLawful events.now }
+    requires { AreOfLawful events.now tables.now }
     ensures failures { IfOk result (AreFailures (IsAcceptedAt events.now)) }
     ensures within { IfOk result (λ failures. IfSome failures.first (λ e. e < length events.now)) }
 {

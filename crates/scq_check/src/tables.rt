@@ -2,16 +2,15 @@
 
 ghost use Rattle.std.specs.Prelude.{◌≡◌, ◌<◌, ◌↔◌, ℕ, suc, IsTrue, length, slice_get, IfOk};
 ghost use Rattle.std.specs.Prelude.{MatchOption};
-ghost use Rattle.scq_hist.specs.Aspects.{IsLawful};
 ghost use Rattle.scq_hist.specs.Calls.{IsPut, IsGot, IsGetOf, IsPending};
 ghost use Rattle.scq_hist.specs.Lookups.{IsFirstNamed, EndsNoGet, NoPutBefore, EndsDone, NoDoneAt};
 ghost use Rattle.scq_check.specs.Puts.{put_number};
-ghost use Rattle.scq_check.specs.Tables.{IsCallOf, IsQueueOf, IsTables};
+ghost use Rattle.scq_check.specs.Tables.{AreOfLawful, HasEvent, IsCallOf, IsQueueOf, IsTables};
 
 use crate::calls::Calls;
-use crate::gots::{Gots, got_name};
+use crate::gots::Gots;
 use crate::puts::Puts;
-use scq_hist::{Call, Event, PutName, Reply};
+use scq_hist::{Call, Event, PutName, Reply, call_started, got_name};
 use scq_word::{Bytes, NoMemory};
 use std::alloc::Global;
 
@@ -36,9 +35,7 @@ impl Tables {
 
     /// The call that the event at this position belongs to, and the position of its Start.
     pub(crate) fn call_of<'a>(&self, events: &'a [Event], e: usize) -> (usize, &'a Call)
-        requires tables { IsTables events.now self.now }
-        requires lawful { IsLawful events.now }
-        requires within { e < length events.now }
+        requires { HasEvent events.now self.now e }
         ensures { IsCallOf events.now e result.0 result.1.now }
     {
         let start = self.calls.start(events, e);
@@ -50,9 +47,7 @@ impl Tables {
 
     /// The queue of that call.
     pub(crate) fn queue_of(&self, events: &[Event], e: usize) -> u32
-        requires tables { IsTables events.now self.now }
-        requires lawful { IsLawful events.now }
-        requires within { e < length events.now }
+        requires { HasEvent events.now self.now e }
         ensures { IsQueueOf events.now e result }
     {
         match self.call_of(events, e).1 {
@@ -74,12 +69,9 @@ impl Tables {
             (λ put. IsPut events.now seat number put.1 put.2.now put.0) }
     {
         let start = self.puts.start(events, seat, number)?;
-        match &events[start] {
-            Event::Start {
-                call: Call::Put { queue, content },
-                ..
-            } => Some((start, *queue, content)),
-            _ => None,
+        match call_started(events, start)? {
+            Call::Put { queue, content } => Some((start, *queue, content)),
+            Call::Get { .. } => None,
         }
     }
 
@@ -94,9 +86,7 @@ impl Tables {
 
     /// The put of this queue that ends with Done at this position.
     pub(crate) fn done_put(&self, events: &[Event], queue: u32, e: usize) -> Option<PutName>
-        requires tables { IsTables events.now self.now }
-        requires lawful { IsLawful events.now }
-        requires within { e < length events.now }
+        requires { HasEvent events.now self.now e }
         ensures { MatchOption result (NoDoneAt events.now queue e) (EndsDone events.now queue e) }
     {
         match &events[e] {
@@ -142,8 +132,7 @@ impl Tables {
 
     /// The position of the Start of the get that has got this put.
     pub(crate) fn get_of(&self, events: &[Event], name: PutName) -> Option<usize>
-        requires tables { IsTables events.now self.now }
-        requires lawful { IsLawful events.now }
+        requires { AreOfLawful events.now self.now }
         ensures { MatchOption result
             (¬ (IsGot events.now name))
             (λ s. (e : ℕ) × IsGetOf events.now name s e) }
@@ -155,9 +144,7 @@ impl Tables {
     /// If the call that ends at this position is the get that has got a put: that put, and the
     /// position of the get's Start.
     pub(crate) fn get_ending_at(&self, events: &[Event], e: usize) -> Option<(PutName, usize)>
-        requires tables { IsTables events.now self.now }
-        requires lawful { IsLawful events.now }
-        requires within { e < length events.now }
+        requires { HasEvent events.now self.now e }
         ensures { MatchOption result (EndsNoGet events.now e) (λ get.
             IsGetOf events.now get.0 get.1 e) }
     {

@@ -1,18 +1,14 @@
 //! The four aspects of a history judged, and the verdict printed.
 
-ghost use Rattle.std.specs.Prelude.{◌≡◌, ◌+◌, ◌++◌, ◌<◌, ◌^◌, ◌↔◌, None, length, IfOk, IfSome};
+ghost use Rattle.std.specs.Prelude.{◌≡◌, ◌+◌, ◌++◌, ◌<◌, ◌^◌, length, IfOk, IfSome};
 ghost use Rattle.std.specs.Prelude.{OnOk, is_some};
 ghost use Rattle.std.specs.Option.{option_map};
-ghost use Rattle.scq_hist.specs.Aspects.{IsLawful, IsFreshAt, IsFresh, IsOnceAt, IsOnce};
-ghost use Rattle.scq_hist.specs.Aspects.{IsInOrderAt, IsInOrder, IsEmptyRightAt, IsEmptyRight};
-ghost use Rattle.scq_check.specs.Failures.{AreFailures};
-ghost use Rattle.scq_check.specs.Refused.{IsAcceptedAt};
-ghost use Rattle.scq_check.specs.Verdicts.{AreWithin, HaveCounterparts, IsVerdict, aspect_line};
-ghost use Rattle.scq_check.specs.Verdicts.{verdict_lines};
+ghost use Rattle.scq_hist.specs.Aspects.{IsLawful};
+ghost use Rattle.scq_check.specs.Verdicts.{AreBreaches, AreWithin, IsVerdictOf, TellsWhatHolds};
+ghost use Rattle.scq_check.specs.Verdicts.{aspect_line, verdict_lines};
 
 use crate::counterparts::{
-    Counterparts, named_first, origin_first, overtaken, overtaker_first, refused_first,
-    waiting_beside,
+    Counterparts, named_first, origin_of_first, overtaken, refused_first, waiting_beside,
 };
 use crate::failures::Failures;
 use crate::freshness::{repeated, unfresh};
@@ -26,7 +22,7 @@ use std::alloc::Global;
 
 /// What is judged of a history: for each aspect none where it holds, else the number, from 1, of
 /// the first event that breaks it.
-#[derive(Clone, Copy, Debug, PartialEq, Eq)]
+#[derive(Clone, Copy)]
 pub struct Verdict {
     /// The first Got that names no put of its queue and content that is an opening token or began
     /// before.
@@ -65,16 +61,7 @@ pub fn find_breaches(
     events: &[Event],
 ) -> Result<Breaches, NoMemory>
     requires { IsLawful events.now }
-    ensures fresh { IfOk result (λ breaches.
-        AreFailures (IsFreshAt opening.now events.now) breaches.fresh) }
-    ensures once { IfOk result (λ breaches. AreFailures (IsOnceAt events.now) breaches.once) }
-    ensures in_order { IfOk result (λ breaches.
-        AreFailures (IsInOrderAt opening.now events.now) breaches.in_order) }
-    ensures empty_right { IfOk result (λ breaches.
-        AreFailures (IsEmptyRightAt opening.now events.now) breaches.empty_right) }
-    ensures accepted { IfOk result (λ breaches.
-        AreFailures (IsAcceptedAt events.now) breaches.accepted) }
-    ensures counterparts { IfOk result (HaveCounterparts opening.now events.now) }
+    ensures breaches { IfOk result (AreBreaches opening.now events.now) }
     ensures within { IfOk result (λ breaches. AreWithin (length events.now) breaches) }
 {
     let tables = Tables::new(alloc, events)?;
@@ -85,10 +72,10 @@ pub fn find_breaches(
     let accepted = refused_gots(alloc, &tables, events)?;
     let refused = refused_first(alloc, &tables, events, &accepted)?;
     let counterparts = Counterparts {
-        fresh: origin_first(&tables, opening, events, &fresh),
+        fresh: origin_of_first(&tables, opening, events, &fresh),
         once: named_first(&tables, events, &once),
         in_order: overtaken(&tables, opening, events, &in_order),
-        overtaker: overtaker_first(&tables, opening, events, &in_order),
+        overtaker: origin_of_first(&tables, opening, events, &in_order),
         empty_right: waiting_beside(&tables, opening, events, &empty_right),
         accepted: refused,
     };
@@ -107,24 +94,8 @@ pub fn find_breaches(
 /// faster than the history's length.
 pub fn judge(alloc: Global, opening: &[Bytes], events: &[Event]) -> Result<Verdict, NoMemory>
     requires { IsLawful events.now }
-
-    // The first event that breaks the aspect.
-    ensures fresh { IfOk result (λ verdict.
-        IsVerdict (IsFreshAt opening.now events.now) verdict.fresh) }
-    ensures once { IfOk result (λ verdict. IsVerdict (IsOnceAt events.now) verdict.once) }
-    ensures in_order { IfOk result (λ verdict.
-        IsVerdict (IsInOrderAt opening.now events.now) verdict.in_order) }
-    ensures empty_right { IfOk result (λ verdict.
-        IsVerdict (IsEmptyRightAt opening.now events.now) verdict.empty_right) }
-
-    // There is none exactly where the aspect holds.
-    ensures is_fresh { IfOk result (λ verdict.
-        (verdict.fresh ≡ None) ↔ IsFresh opening.now events.now) }
-    ensures is_once { IfOk result (λ verdict. (verdict.once ≡ None) ↔ IsOnce events.now) }
-    ensures is_in_order { IfOk result (λ verdict.
-        (verdict.in_order ≡ None) ↔ IsInOrder opening.now events.now) }
-    ensures is_empty_right { IfOk result (λ verdict.
-        (verdict.empty_right ≡ None) ↔ IsEmptyRight opening.now events.now) }
+    ensures verdict { IfOk result (IsVerdictOf opening.now events.now) }
+    ensures holds { IfOk result (TellsWhatHolds opening.now events.now) }
 {
     let tables = Tables::new(alloc, events)?;
     let in_order = out_of_order(alloc, &tables, opening, events)?;

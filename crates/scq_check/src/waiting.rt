@@ -2,14 +2,13 @@
 
 ghost use Rattle.std.specs.Prelude.{◌≡◌, ◌<◌, ◌≤◌, ◌^◌, ◌↔◌, ℕ, IsTrue, IfSome, MatchOption};
 ghost use Rattle.std.specs.Prelude.{length};
-ghost use Rattle.scq_hist.specs.Aspects.{IsLawful};
 ghost use Rattle.scq_hist.specs.Calls.{IsGot};
 ghost use Rattle.scq_hist.specs.Lookups.{IsFirstNamed};
 ghost use Rattle.scq_hist.specs.declared.events.PutName.{PutName as ThePutName};
 ghost use Rattle.scq_check.specs.Failures.{AreFailures};
-ghost use Rattle.scq_check.specs.Tables.{IsTables};
 ghost use Rattle.scq_check.specs.Waiting.{IsLeftOut, IsTokenLeftOut, IsPutLeftOut, IsToldPut};
 ghost use Rattle.scq_check.specs.Waiting.{AreWaiting, IsToldWithin, told_of};
+ghost use Rattle.scq_check.specs.Tables.{AreOfLawful, HasEvent};
 
 use crate::failures::Failures;
 use crate::tables::Tables;
@@ -43,8 +42,7 @@ pub(crate) enum Sought {
 // Whether the put isn't sought: a get that started before position e has got it, or where it is to
 // be got later, none has.
 fn is_left_out(sought: Sought, tables: &Tables, events: &[Event], name: PutName, e: usize) -> bool
-    requires tables { IsTables events.now tables.now }
-    requires lawful { IsLawful events.now }
+    requires { AreOfLawful events.now tables.now }
     ensures { IsTrue result ↔ IsLeftOut sought events.now e name }
 {
     match tables.get_of(events, name) {
@@ -66,8 +64,7 @@ fn is_token_left_out(
     e: usize,
     number: usize,
 ) -> bool
-    requires tables { IsTables events.now tables.now }
-    requires lawful { IsLawful events.now }
+    requires known { AreOfLawful events.now tables.now }
     requires within { number < length opening.now }
     ensures { IsTrue result ↔ IsTokenLeftOut sought opening.now events.now queue e number }
 {
@@ -90,9 +87,7 @@ fn is_put_left_out(
     e: usize,
     d: usize,
 ) -> bool
-    requires tables { IsTables events.now tables.now }
-    requires lawful { IsLawful events.now }
-    requires within { d < length events.now }
+    requires { HasEvent events.now tables.now d }
     ensures { (m : ℕ) → d < m → (IsTrue result ↔ IsPutLeftOut sought events.now queue m e d) }
 {
     match tables.done_put(events, queue, d) {
@@ -110,8 +105,7 @@ fn waiting_tokens(
     queue: u32,
     e: usize,
 ) -> Failures
-    requires tables { IsTables events.now tables.now }
-    requires lawful { IsLawful events.now }
+    requires { AreOfLawful events.now tables.now }
     ensures failures { AreFailures (IsTokenLeftOut sought opening.now events.now queue e) result }
     ensures few { result.count ≤ length opening.now }
 {
@@ -134,8 +128,7 @@ fn waiting_puts(
     m: usize,
     e: usize,
 ) -> Failures
-    requires tables { IsTables events.now tables.now }
-    requires lawful { IsLawful events.now }
+    requires known { AreOfLawful events.now tables.now }
     requires within { m ≤ length events.now }
     ensures failures { AreFailures (IsPutLeftOut sought events.now queue m e) result }
     ensures within { IfSome result.first (λ d. d < length events.now) }
@@ -172,8 +165,7 @@ fn got_of_told(
     token: Option<usize>,
     put: Option<usize>,
 ) -> Option<usize>
-    requires tables { IsTables events.now tables.now }
-    requires lawful { IsLawful events.now }
+    requires known { AreOfLawful events.now tables.now }
     requires token { IfSome token (λ number. number < 2 ^ 32) }
     requires put { IfSome put (λ d. d < length events.now) }
     ensures got { (name : ThePutName) → IsToldPut events.now queue token put name
@@ -203,8 +195,7 @@ pub(crate) fn find_waiting(
     m: usize,
     e: usize,
 ) -> Waiting
-    requires tables { IsTables events.now tables.now }
-    requires lawful { IsLawful events.now }
+    requires known { AreOfLawful events.now tables.now }
     requires within { m ≤ length events.now }
     ensures waiting { AreWaiting opening.now events.now queue m e result }
     ensures within { IsToldWithin (length events.now) result }

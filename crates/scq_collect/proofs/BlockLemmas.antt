@@ -7,19 +7,19 @@ use Rattle.std.proofs.lemmas.List.Elements.{All-append, All-cons, All-nil}
 use Rattle.scq_collect.specs.declared.blocks.OwnBlock.{OwnBlock}
 use Rattle.scq_collect.specs.Joined.{PartAnswer}
 use Rattle.scq_collect.specs.Coding.{IsCodable, answer_bytes, answers_bytes}
-use Rattle.scq_collect.specs.InBlocks.{AreInBlocks, HasAnswers, behind}
+use Rattle.scq_collect.specs.InBlocks.{AreInBlocks, HasAnswers, last_position}
 use Rattle.scq_collect.specs.Spans.{is_in}
 use Rattle.scq_collect.proofs.InChunks.{flat-push}
 use Rattle.scq_collect.proofs.LaidLaws.{zip-push}
 
 pub bytes-more : (before : ℕ × ℕ) (answers : List PartAnswer) (a : PartAnswer)
-    → answers_bytes before (answers ++ a ∷ []) ≡ answers_bytes before answers ++ answer_bytes (behind before answers) a
+    → answers_bytes before (answers ++ a ∷ []) ≡ answers_bytes before answers ++ answer_bytes (last_position before answers) a
 bytes-more before [] a = append-nil (answer_bytes before a)
 bytes-more before (x ∷ more) a =
     ap (λ (l : List ℕ). answer_bytes before x ++ l) (bytes-more (x.file, x.line) more a)
-    ∙ sym (append_assoc (answer_bytes before x) (answers_bytes (x.file, x.line) more) (answer_bytes (behind (x.file, x.line) more) a))
+    ∙ sym (append_assoc (answer_bytes before x) (answers_bytes (x.file, x.line) more) (answer_bytes (last_position (x.file, x.line) more) a))
 
-behind-more : (before : ℕ × ℕ) (answers : List PartAnswer) (a : PartAnswer) → behind before (answers ++ a ∷ []) ≡ (a.file, a.line)
+behind-more : (before : ℕ × ℕ) (answers : List PartAnswer) (a : PartAnswer) → last_position before (answers ++ a ∷ []) ≡ (a.file, a.line)
 behind-more before [] a = refl
 behind-more before (x ∷ more) a = behind-more (x.file, x.line) more a
 
@@ -29,7 +29,7 @@ has-none block empty = record { bytes = empty; within = All-nil (λ (a : PartAns
 
 -- it has the bytes of one more
 pub has-more : (before : ℕ × ℕ) (was : OwnBlock) (now : List ℕ) (answers : List PartAnswer) (a : PartAnswer) → now ≡ was.bytes.items ++ answer_bytes before a
-    → HasAnswers was answers → before ≡ behind (0, 0) answers → now ≡ answers_bytes (0, 0) (answers ++ a ∷ [])
+    → HasAnswers was answers → before ≡ last_position (0, 0) answers → now ≡ answers_bytes (0, 0) (answers ++ a ∷ [])
 has-more before was now answers a pushed has at =
     pushed ∙ ap (λ (l : List ℕ). l ++ answer_bytes before a) has.bytes
     ∙ ap (λ (p : ℕ × ℕ). answers_bytes (0, 0) answers ++ answer_bytes p a) at ∙ sym (bytes-more (0, 0) answers a)
@@ -38,7 +38,7 @@ pub none : (block : OwnBlock) → HasAnswers block [] → AreInBlocks [] block (
 none block has = record { groups = []; last = []; each = tt; rest = has; at = refl; all = refl; codable = All-nil IsCodable }
 
 pub one-more : (full : List OwnBlock) (block now : OwnBlock) (before : ℕ × ℕ) (answers : List PartAnswer) (a : PartAnswer) → AreInBlocks full block before answers
-    → IsCodable a → ((own : List PartAnswer) → HasAnswers block own → before ≡ behind (0, 0) own → HasAnswers now (own ++ a ∷ []))
+    → IsCodable a → ((own : List PartAnswer) → HasAnswers block own → before ≡ last_position (0, 0) own → HasAnswers now (own ++ a ∷ []))
     → AreInBlocks full now (a.file, a.line) (answers ++ a ∷ [])
 one-more full block now before answers a held fits pushed = record {
   groups = held.groups;

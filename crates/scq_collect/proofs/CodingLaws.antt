@@ -7,7 +7,7 @@ use Rattle.std.proofs.lemmas.List.{append_assoc, drop_at, take_at}
 use Rattle.byteorder.specs.Endian.{big_bytes, big_number}
 use Rattle.byteorder.specs.Numbers.{big_number-reads_back}
 use Rattle.scq_collect.specs.Joined.{PartAnswer}
-use Rattle.scq_collect.specs.Coding.{IsCodable, answer_bytes, body_bytes, body_from, is_alone, number_bytes, number_from, part_bytes, parts_from, place_from, short_from, step, stepped, topic_code, width}
+use Rattle.scq_collect.specs.Coding.{IsCodable, answer_bytes, body_bytes, body_from, is_alone, number_bytes, number_from, part_numbers, parts_from, place_from, short_from, step, stepped, topic_code, width}
 
 -- a number's bytes, by how large it is
 pub in_one : (n : ℕ) → n < 253 → number_bytes n ≡ n ∷ []
@@ -86,7 +86,7 @@ parts-again-by false a rest e fits =
     ap (option_and_then _) (short-again a.part (number_bytes a.parts ++ rest) fits.part)
     ∙ ap (option_and_then _) (short-again a.parts rest fits.parts))
 
-parts-again : (a : PartAnswer) (rest : List ℕ) → IsCodable a → parts_from (topic_code a) (part_bytes a ++ rest) ≡ Some ((a.part, a.parts), rest)
+parts-again : (a : PartAnswer) (rest : List ℕ) → IsCodable a → parts_from (topic_code a) (part_numbers a ++ rest) ≡ Some ((a.part, a.parts), rest)
 parts-again a rest fits = parts-again-by (is_alone a) a rest refl fits
 
 -- a step leads back to where it was taken to
@@ -128,7 +128,7 @@ pub body-again : (a : PartAnswer) (rest : List ℕ) → IsCodable a → body_fro
 unfolding body_from body_bytes
 body-again a rest fits =
     let n3 : List ℕ = number_bytes (topic_code a) in
-    let n4 : List ℕ = part_bytes a in
+    let n4 : List ℕ = part_numbers a in
     let n5 : List ℕ = number_bytes a.bytes in
     let n6 : List ℕ = number_bytes (length a.text) in
     let r6 : List ℕ = a.text ++ rest in

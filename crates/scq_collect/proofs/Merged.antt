@@ -12,7 +12,7 @@ use Rattle.scq_collect.specs.declared.answered.Answered.{Answered}
 use Rattle.scq_frames.specs.declared.message.Message.{Message}
 use Rattle.scq_collect.specs.Collected.{messages_to}
 use Rattle.scq_collect.specs.Joined.{IsJoined, answers_of, part_answers, without_way}
-use Rattle.scq_collect.specs.Merging.{AreApart, IsBefore, IsInOrder, IsMerged, IsSorted, position_of, position_of_part}
+use Rattle.scq_collect.specs.Merging.{AreApart, IsBefore, StandInOrder, IsMerged, IsSorted, position_of, position_of_part}
 use Rattle.scq_collect.specs.Output.{Answer, answers_to}
 use Rattle.scq_collect.proofs.Orders.{Ascends, apart-distinct, ascends, exactly, sorted-in-order}
 use Rattle.scq_collect.proofs.Parted.{joined-answers, parts-ascend, position_of_part_answer}
@@ -43,11 +43,11 @@ sorted-map {A} {B} f position other (x ∷ xs) same sorted k d within before =
     (subst (λ p. IsBefore (other (slice_index_or (map f (x ∷ xs)) (k + 1) d)) p) (sym (read k (omega arith))) before))
 
 -- where no two have one position, they are in order
-pub merged-in-order : (given all : List Answered) → IsMerged position_of_part given all → AreApart position_of_part given → IsInOrder position_of_part all
+pub merged-in-order : (given all : List Answered) → IsMerged position_of_part given all → AreApart position_of_part given → StandInOrder position_of_part all
 merged-in-order given all m apart = sorted-in-order position_of_part given all (apart-distinct position_of_part given apart) m.same m.sorted
 
 -- where they are these in some order, and these are in order, they are these
-pub merged-exactly : (given all these : List Answered) → IsMerged position_of_part given all → IsInOrder position_of_part these
+pub merged-exactly : (given all these : List Answered) → IsMerged position_of_part given all → StandInOrder position_of_part these
     → IsPermutation given these → all ≡ these
 merged-exactly given all these m order same = exactly position_of_part given all these m.same m.sorted (ascends position_of_part these order) same
 

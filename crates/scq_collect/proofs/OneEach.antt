@@ -10,7 +10,7 @@ use Rattle.scq_topics.specs.declared.kind.Kind.{Kind}
 use Rattle.scq_frames.specs.Parts.{IsNumbered}
 use Rattle.scq_collect.specs.declared.answered.Answered.{Answered}
 use Rattle.scq_collect.specs.Joined.{AreWhole, BeginsMessage, IsJoined, PartAnswer, answers_of, in_front, joined, messages_in_order, without_way}
-use Rattle.scq_collect.specs.Merging.{IsBefore, IsInOrder, position_of_answer, position_of_part}
+use Rattle.scq_collect.specs.Merging.{IsBefore, StandInOrder, position_of_answer, position_of_part}
 use Rattle.scq_collect.specs.Output.{Answer}
 use Rattle.scq_collect.proofs.Merged.{merged-in-order}
 use Rattle.scq_collect.proofs.Orders.{Ascends, ascends, before-before, contains-cases, contains-first}
@@ -85,7 +85,7 @@ answers-up topics (x ∷ xs) up begins =
     (subst (λ p. All (λ (a : Answer). IsBefore p (position_of_answer a)) (map (joined topics) cut.others)) (position-of-first topics x cut.own begins) cut.past, cut.up)
 
 -- what ascends is in order
-up-in-order : {A : Type 0} (position : A → ℕ × ℕ × ℕ) (xs : List A) → Ascends position xs → IsInOrder position xs
+up-in-order : {A : Type 0} (position : A → ℕ × ℕ × ℕ) (xs : List A) → Ascends position xs → StandInOrder position xs
 up-in-order position [] up k d less = absurd (omega arith)
 up-in-order position (x ∷ xs) up zero d less = up.0 zero d (omega arith)
 up-in-order {A} position (x ∷ xs) up (suc k) d less =
@@ -121,9 +121,9 @@ whole-begins given (x ∷ xs) whole same up =
             late (inr (file, inr (line, less))) some = omega (arith, less, some)
 
 pub joined-in-order : (topics : List (List ℕ × Kind)) (given : List Answered) (wholes : List Answer) → IsJoined topics given wholes → AreWhole given
-    → IsInOrder position_of_answer wholes
+    → StandInOrder position_of_answer wholes
 joined-in-order topics given wholes j whole =
     let up : Ascends position_of_part j.all = ascends position_of_part j.all (merged-in-order given j.all j.merged whole.apart) in
-    subst (IsInOrder position_of_answer) (sym j.wholes_are)
+    subst (StandInOrder position_of_answer) (sym j.wholes_are)
     (up-in-order position_of_answer (answers_of topics (map without_way j.all))
     (answers-up topics (map without_way j.all) (plain-up j.all up) (whole-begins given j.all whole j.merged.same up)))

@@ -7,7 +7,7 @@ use Rattle.std.proofs.lemmas.Bool.Decides.{nat_tests}
 use Rattle.std.proofs.lemmas.List.Elements.{All-nil, All-cons, All-head, All-tail, All-append, All-weaker, recursion_from_All}
 use Rattle.std.proofs.lemmas.List.Sorted.{IsPermutation-sym, Contains-permutation}
 use Rattle.std.proofs.lemmas.Map.Keys.{IsDistinct-cons, IsDistinct-from_apart, IsDistinct-IsPermutation, apart_from_distinct}
-use Rattle.scq_collect.specs.Merging.{AreApart, IsBefore, IsInOrder, IsSorted}
+use Rattle.scq_collect.specs.Merging.{AreApart, IsBefore, StandInOrder, IsSorted}
 
 -- the same position, as a test
 abbrev pub is_position : ℕ × ℕ × ℕ → ℕ × ℕ × ℕ → Bool
@@ -43,7 +43,7 @@ abbrev pub Ascends : {A : Type 0} → (A → ℕ × ℕ × ℕ) → List A → T
 Ascends position [] = Unit {0}
 Ascends position (x ∷ xs) = All (λ z. IsBefore (position x) (position z)) xs × Ascends position xs
 
-pub ascends : {A : Type 0} (position : A → ℕ × ℕ × ℕ) (xs : List A) → IsInOrder position xs → Ascends position xs
+pub ascends : {A : Type 0} (position : A → ℕ × ℕ × ℕ) (xs : List A) → StandInOrder position xs → Ascends position xs
 ascends position [] order = tt
 ascends {A} position (x ∷ []) order = (All-nil (λ (z : A). IsBefore (position x) (position z)), tt)
 ascends {A} position (x ∷ y ∷ xs) order =
@@ -88,7 +88,7 @@ apart-distinct {A} position xs apart =
 
 -- members that are apart and sorted are in order
 pub sorted-in-order : {A : Type 0} (position : A → ℕ × ℕ × ℕ) (members merged : List A) → IsDistinct (λ (x y : A). is_position (position x) (position y)) members
-    → IsPermutation members merged → IsSorted position merged → IsInOrder position merged
+    → IsPermutation members merged → IsSorted position merged → StandInOrder position merged
 sorted-in-order {A} position members merged distinct same sorted k d within =
     let test : A → A → Bool = λ x y. is_position (position x) (position y) in
     let all : IsDistinct test merged = IsDistinct-IsPermutation test (λ x y. is_position-flip (position x) (position y)) members merged same distinct in
@@ -151,7 +151,7 @@ exactly {A} position members merged given same sorted up all =
     let distinct : IsDistinct test members =
     IsDistinct-IsPermutation test (λ x y. is_position-flip (position x) (position y)) given members (IsPermutation-sym members given all)
     (ascends-distinct position given up) in
-    let order : IsInOrder position merged = sorted-in-order position members merged distinct same sorted in
+    let order : StandInOrder position merged = sorted-in-order position members merged distinct same sorted in
     same-members position merged given (ascends position merged order) up
     (λ z c. Contains-permutation members given z all (Contains-permutation merged members z (IsPermutation-sym members merged same) c))
     (λ z c. Contains-permutation members merged z same (Contains-permutation given members z (IsPermutation-sym members given all) c))

@@ -18,7 +18,7 @@ use Rattle.scq_collect.specs.Output.{Answer}
 use Rattle.scq_collect.specs.Pieces.{AreMadeOf, AreOfMembers, AreStretchesOf, IsMadeOf, IsPieceOf, IsStretchOf, all_answers}
 use Rattle.scq_collect.specs.Spans.{AreNext, is_in}
 use Rattle.scq_collect.specs.Spots.{plain, spot_answer}
-use Rattle.scq_collect.specs.Taken.{AreTaken, IsTaken}
+use Rattle.scq_collect.specs.Taken.{AreTaken, AreAnswersIn}
 use Rattle.scq_collect.proofs.Cutting.{few-messages}
 use Rattle.scq_collect.proofs.InChunks.{flat-push}
 use Rattle.scq_collect.proofs.SpanLaws.{all-taken, answers-flat, answers-one, taken-append}
@@ -27,10 +27,10 @@ abbrev pub Made : Type 0
 Made = Result Stretch NoMemory
 
 -- it was made
-abbrev pub IsMade : Made → Type 0
-IsMade s = IsTrue (is_ok s)
+abbrev pub WasMade : Made → Type 0
+WasMade s = IsTrue (is_ok s)
 
-not-made : (e : NoMemory) → IsMade (Err e) → ⊥
+not-made : (e : NoMemory) → WasMade (Err e) → ⊥
 not-made e is =
     let clash : false ≡ true = is in
     absurd (cc)
@@ -40,9 +40,9 @@ record Found (topics : List (List ℕ × Kind)) (answers : List PartAnswer) (cut
   lists : List (List Answer)
   stretches : AreStretchesOf topics lists made
   parts : List (List PartAnswer)
-  taken : All IsMade made → AreTaken answers (flat_map (λ cut. cut) cuts) parts
-  are : All IsMade made → all_answers lists ≡ flat_map (answers_of topics) parts
-  whole : All IsMade made → All (λ s. IfOk s (λ s. IsTrue s.whole)) made → All BeginsMessage parts
+  taken : All WasMade made → AreTaken answers (flat_map (λ cut. cut) cuts) parts
+  are : All WasMade made → all_answers lists ≡ flat_map (answers_of topics) parts
+  whole : All WasMade made → All (λ s. IfOk s (λ s. IsTrue s.whole)) made → All BeginsMessage parts
 
 stretches-cons : (topics : List (List ℕ × Kind)) (own : List Answer) (lists : List (List Answer)) (s : Made) (made : List Made) → IfOk s (IsStretchOf topics own)
     → AreStretchesOf topics lists made → AreStretchesOf topics (own ∷ lists) (s ∷ made)
@@ -77,16 +77,16 @@ found topics answers (cut ∷ cuts) (Ok s ∷ made) are =
       lists = own ∷ rest.lists;
       stretches = stretches-cons topics own rest.lists (Ok s) made first.made rest.stretches;
       parts = first.parts ++ rest.parts;
-      taken = λ ok. taken-append answers cut (flat_map (λ cut. cut) cuts) first.parts rest.parts first.taken (rest.taken (All-tail IsMade (Ok s) made ok));
-      are = λ ok. ap (λ (more : List Answer). own ++ more) (rest.are (All-tail IsMade (Ok s) made ok))
+      taken = λ ok. taken-append answers cut (flat_map (λ cut. cut) cuts) first.parts rest.parts first.taken (rest.taken (All-tail WasMade (Ok s) made ok));
+      are = λ ok. ap (λ (more : List Answer). own ++ more) (rest.are (All-tail WasMade (Ok s) made ok))
           ∙ sym (flat_map-append (answers_of topics) first.parts rest.parts);
       whole = λ ok whole. All-append BeginsMessage first.parts rest.parts
           (first.whole (All-head (λ (s : Made). IfOk s (λ s. IsTrue s.whole)) (Ok s) made whole))
-          (rest.whole (All-tail IsMade (Ok s) made ok) (All-tail (λ (s : Made). IfOk s (λ s. IsTrue s.whole)) (Ok s) made whole));
+          (rest.whole (All-tail WasMade (Ok s) made ok) (All-tail (λ (s : Made). IfOk s (λ s. IsTrue s.whole)) (Ok s) made whole));
     }
 found topics answers (cut ∷ cuts) (Err e ∷ made) are =
     let rest = found topics answers cuts made (made-tail topics answers cut cuts (Err e) made are) in
-    let none : All IsMade (Err e ∷ made) → ⊥ = λ ok. not-made e (All-head IsMade (Err e) made ok) in
+    let none : All WasMade (Err e ∷ made) → ⊥ = λ ok. not-made e (All-head WasMade (Err e) made ok) in
     record {
       lists = [] ∷ rest.lists;
       stretches = stretches-cons topics [] rest.lists (Err e) made tt rest.stretches;
@@ -135,7 +135,7 @@ of-members-in-one topics members span made are fits next =
     }
 
 -- what holds of the topics of all answers holds of those of the spots that were taken
-pub taken-known : (most : ℕ) (answers : List PartAnswer) (span : Span) (spots : List Spot) → IsTaken answers span (plain spots)
+pub taken-known : (most : ℕ) (answers : List PartAnswer) (span : Span) (spots : List Spot) → AreAnswersIn answers span (plain spots)
     → All (λ a. a.topic ≤ most) answers → All (λ s. (spot_answer s).topic ≤ most) spots
 taken-known most answers span spots taken known k d less =
     let P : PartAnswer → Type 0 = λ a. a.topic ≤ most in
@@ -149,7 +149,7 @@ few-answers topics own = omega (arith, length-map (messages_in_order own) (joine
 
 -- a stretch of one span more
 pub made-more : (topics : List (List ℕ × Kind)) (answers : List PartAnswer) (spans : List Span) (n : ℕ) (d : Span) (was now : Stretch) (spots : List Spot)
-    → n < length spans → IsMadeOf topics answers (take n spans) was → IsTaken answers (slice_index_or spans n d) (plain spots)
+    → n < length spans → IsMadeOf topics answers (take n spans) was → AreAnswersIn answers (slice_index_or spans n d) (plain spots)
     → ((own : List Answer) → IsPieceOf topics own was.piece → IsPieceOf topics (own ++ answers_of topics (plain spots)) now.piece)
     → now.parts ≡ was.parts + length spots → (IsTrue now.whole → IsTrue was.whole × BeginsMessage (plain spots))
     → IsMadeOf topics answers (take (n + 1) spans) now

@@ -4,7 +4,7 @@ use Rattle.std.specs.List.{All}
 use Rattle.std.proofs.lemmas.List.{map-append}
 use Rattle.std.proofs.lemmas.List.Elements.{All-nil, All-cons, All-append, All-weaker}
 use Rattle.scq_topics.specs.declared.kind.Kind.{Kind}
-use Rattle.scq_frames.specs.Text.{Framed, framed, messages_of, messages_after, messages_from, lines_of}
+use Rattle.scq_frames.specs.Text.{Framed, framed, messages_of, messages_after, messages_from, text_lines}
 use Rattle.scq_topics.specs.Topics.{topic_of}
 use Rattle.scq_frames.specs.declared.message.Message.{Message}
 use Rattle.scq_frames.specs.Numbered.{numbered}
@@ -46,7 +46,7 @@ lines-ascend topics file number ((b ∷ bs) ∷ more) =
 
 file-ascends : (topics : List (List ℕ × Kind)) (file : ℕ) (content : List ℕ) → AreOf file 1 (map (numbered file (topic_of topics)) (messages_after 0 content))
 unfolding messages_after
-file-ascends topics file content = lines-ascend topics file 1 (lines_of content)
+file-ascends topics file content = lines-ascend topics file 1 (text_lines content)
 
 -- messages that ascend, of this file and those behind it
 record AreFrom (file : ℕ) (messages : List Message) : Type 0 where

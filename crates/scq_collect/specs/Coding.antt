@@ -34,13 +34,13 @@ is_alone a = (a.part == 1) && (a.parts == 1)
 abbrev pub topic_code : PartAnswer → ℕ
 topic_code a = 2 * a.topic + (if is_alone a then 0 else 1)
 
-abbrev pub part_bytes : PartAnswer → List ℕ
-part_bytes a = if is_alone a then [] else number_bytes a.part ++ number_bytes a.parts
+abbrev pub part_numbers : PartAnswer → List ℕ
+part_numbers a = if is_alone a then [] else number_bytes a.part ++ number_bytes a.parts
 
 -- an answer's topic, its part, how many bytes the part has, and the text with its length in front
 unfoldable pub body_bytes : PartAnswer → List ℕ
 body_bytes a =
-    number_bytes (topic_code a) ++ part_bytes a
+    number_bytes (topic_code a) ++ part_numbers a
     ++ number_bytes a.bytes ++ number_bytes (length a.text) ++ a.text
 
 -- an answer behind one to this file and line: how far its own lie behind them, and the rest

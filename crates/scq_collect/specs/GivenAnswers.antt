@@ -2,8 +2,8 @@
 use Rattle.scq_collect.specs.declared.answered.Answered.{Answered}
 use Rattle.scq_collect.specs.declared.log.Given.{Given}
 
-abbrev pub answered : Given → Answered
-answered g = record {
+abbrev pub given_answer : Given → Answered
+given_answer g = record {
   file = g.answer.file;
   line = g.answer.line;
   topic = g.answer.topic;

@@ -12,9 +12,9 @@ pub record HasAnswers (block : OwnBlock) (answers : List PartAnswer) : Type 0 wh
   pub within : All (λ a. is_in block.span a ≡ true) answers
 
 -- the file and line of the last answer, or those that came before where there is none
-abbrev pub behind : ℕ × ℕ → List PartAnswer → ℕ × ℕ
-behind before [] = before
-behind before (a ∷ more) = behind (a.file, a.line) more
+abbrev pub last_position : ℕ × ℕ → List PartAnswer → ℕ × ℕ
+last_position before [] = before
+last_position before (a ∷ more) = last_position (a.file, a.line) more
 
 -- each full block has some answers, and the last block the rest, whose next one comes behind this
 -- file and line; these are the answers, in their order
@@ -24,6 +24,6 @@ pub record AreInBlocks (full : List OwnBlock) (block : OwnBlock) (before : ℕ
   pub last : List PartAnswer
   pub each : AllZip HasAnswers full groups
   pub rest : HasAnswers block last
-  pub at : before ≡ behind (0, 0) last
+  pub at : before ≡ last_position (0, 0) last
   pub all : answers ≡ flat_map (λ group. group) groups ++ last
   pub codable : All IsCodable answers

@@ -11,8 +11,8 @@ abbrev pub IsBefore : ℕ × ℕ × ℕ → ℕ × ℕ × ℕ → Type 0
 IsBefore p q = (p.0 < q.0) ⊎ ((p.0 ≡ q.0) × ((p.1 < q.1) ⊎ ((p.1 ≡ q.1) × (p.2 < q.2))))
 
 -- each member stands before the next: so no two have one position
-abbrev pub IsInOrder : {A : Type 0} → (A → ℕ × ℕ × ℕ) → List A → Type 0
-IsInOrder position members =
+abbrev pub StandInOrder : {A : Type 0} → (A → ℕ × ℕ × ℕ) → List A → Type 0
+StandInOrder position members =
     AllAdjacentBelow (λ x y. IsBefore (position x) (position y)) members (length members)
 
 -- no member stands before the one in front of it

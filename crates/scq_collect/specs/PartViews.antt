@@ -2,8 +2,8 @@
 use Rattle.scq_collect.specs.Joined.{PartAnswer}
 use Rattle.scq_collect.specs.declared.coding.PartView.{PartView}
 
-abbrev pub part_of_view : PartView → PartAnswer
-part_of_view v = record {
+abbrev pub viewed_answer : PartView → PartAnswer
+viewed_answer v = record {
   file = v.file;
   line = v.line;
   topic = v.topic;

@@ -15,8 +15,8 @@ use Rattle.scq_collect.specs.Sums.{AreTotals}
 use Rattle.scq_collect.specs.Taken.{AreTaken}
 
 -- the bytes of the pieces, one behind the other
-abbrev pub bytes_of : List (Vec ℕ Global) → List ℕ
-bytes_of pieces = flat_map (λ p. p.items) pieces
+abbrev pub pieces_bytes : List (Vec ℕ Global) → List ℕ
+pieces_bytes pieces = flat_map (λ p. p.items) pieces
 
 -- the lines for these answers, and their totals
 pub record IsPieceOf (topics : List (List ℕ × Kind)) (answers : List Answer)

@@ -12,7 +12,8 @@ abbrev pub position_of_part_answer : PartAnswer → ℕ × ℕ × ℕ
 position_of_part_answer a = (a.file, a.line, a.part)
 
 -- the answers whose messages stand in a span, in order of their positions
-pub record IsTaken (answers : List PartAnswer) (span : Span) (parts : List PartAnswer) : Type 0 where
+pub record AreAnswersIn (answers : List PartAnswer) (span : Span) (parts : List PartAnswer)
+    : Type 0 where
   pub same : IsPermutation (filter (is_in span) answers) parts
   pub sorted : IsSorted position_of_part_answer parts
 
@@ -20,6 +21,6 @@ pub record IsTaken (answers : List PartAnswer) (span : Span) (parts : List PartA
 abbrev pub AreTaken : List PartAnswer → List Span → List (List PartAnswer) → Type 0
 AreTaken answers [] [] = Unit {0}
 AreTaken answers (span ∷ spans) (parts ∷ more) =
-    IsTaken answers span parts × AreTaken answers spans more
+    AreAnswersIn answers span parts × AreTaken answers spans more
 AreTaken answers [] (parts ∷ more) = ⊥
 AreTaken answers (span ∷ spans) [] = ⊥

@@ -24,8 +24,8 @@ fn directs(way: Way) -> usize
 
 /// The answers that a worker gave, in their order. Contracts see them as a list, each with the way
 /// in which the worker came to it; of the ways only how many are direct is kept when the program
-/// runs. An answer takes some bytes beside its text: 5 where its message stands close behind that of the answer
-/// before it, and its numbers are small.
+/// runs. An answer takes some bytes beside its text: 5 where its message stands close behind that
+/// of the answer before it, and its numbers are small.
 #[derive(Drop)]
 pub struct Answers {
     alloc: Global,
@@ -56,7 +56,7 @@ impl Model for Answers {
 
 impl Answers {
     ghost use Rattle.std.specs.Prelude.{List, length, filter, map};
-    ghost use Rattle.scq_collect.specs.GivenAnswers.{answered};
+    ghost use Rattle.scq_collect.specs.GivenAnswers.{given_answer};
     ghost use Rattle.scq_collect.specs.Joined.{PartAnswer, without_way};
     ghost use Rattle.scq_collect.specs.Laid.{AreLaid};
     ghost use Rattle.scq_collect.specs.Ways.{is_direct};
@@ -79,7 +79,7 @@ impl Answers {
 
     /// Adds an answer behind the others. Where memory is wanted they stay as they were.
     pub fn push(&mut self, given: Given<'_>) -> Result<(), NoMemory>
-        ensures pushed { OnOk result (self.new ≡ self.old ++ answered given.entry ∷ []) }
+        ensures pushed { OnOk result (self.new ≡ self.old ++ given_answer given.entry ∷ []) }
         ensures kept { OnErr result (self.new ≡ self.old) }
     {
         let answer = given.answer;

@@ -25,9 +25,9 @@ pub struct OwnBlock {
 impl OwnBlock {
     ghost use Rattle.std.specs.Prelude.{◌≡◌, ◌++◌, ◌∷◌, [], ◌+◌, ◌≤◌, List, length, vec_capacity};
     ghost use Rattle.scq_collect.specs.Coding.{IsCodable};
-    ghost use Rattle.scq_collect.specs.InBlocks.{HasAnswers, behind};
+    ghost use Rattle.scq_collect.specs.InBlocks.{HasAnswers, last_position};
     ghost use Rattle.scq_collect.specs.Joined.{PartAnswer};
-    ghost use Rattle.scq_collect.specs.PartViews.{part_of_view};
+    ghost use Rattle.scq_collect.specs.PartViews.{viewed_answer};
 
     /// No answers yet. It takes no memory.
     pub fn new(alloc: Global) -> OwnBlock
@@ -44,9 +44,9 @@ impl OwnBlock {
         requires room { length self.old.bytes.items + 63 + length answer.text.now
             ≤ vec_capacity self.old.bytes }
         ensures pushed { (answers : List PartAnswer) → HasAnswers self.old answers
-            → before ≡ behind (0, 0) answers
-            → HasAnswers self.new (answers ++ part_of_view answer.entry ∷ []) }
-        ensures codable { IsCodable (part_of_view answer.entry) }
+            → before ≡ last_position (0, 0) answers
+            → HasAnswers self.new (answers ++ viewed_answer answer.entry ∷ []) }
+        ensures codable { IsCodable (viewed_answer answer.entry) }
     {
         push_answer(&mut self.bytes, before, answer);
         self.span = self.span.and(place_at(answer.file, answer.line));

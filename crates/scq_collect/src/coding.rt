@@ -6,7 +6,7 @@ ghost use Rattle.scq_collect.specs.Coding.{IsCodable, answer_bytes, body_from, n
 ghost use Rattle.scq_collect.specs.Coding.{number_from, parts_from, place_from, short_from};
 ghost use Rattle.scq_collect.specs.Joined.{answer_of_one};
 ghost use Rattle.scq_collect.specs.Output.{answer_of_view};
-ghost use Rattle.scq_collect.specs.PartViews.{part_of_view};
+ghost use Rattle.scq_collect.specs.PartViews.{viewed_answer};
 
 use crate::whole::AnswerView;
 use byteorder::{BigEndian, ByteOrder};
@@ -15,7 +15,7 @@ use byteorder::{BigEndian, ByteOrder};
 pub const MOST_HEAD: usize = 63;
 
 /// The answer to a part, as `Answered` has it, but for the way. Its text stays where it is.
-#[derive(Clone, Copy, Debug)]
+#[derive(Clone, Copy)]
 pub struct PartView<'a> {
     pub file: u32,
     pub line: u32,
@@ -29,7 +29,7 @@ pub struct PartView<'a> {
 impl<'a> PartView<'a> {
     /// The answer to the message, where this is its one part.
     pub fn whole(&self) -> AnswerView<'a>
-        ensures { answer_of_view result ≡ answer_of_one (part_of_view self.entry.now) }
+        ensures { answer_of_view result ≡ answer_of_one (viewed_answer self.entry.now) }
     {
         AnswerView {
             file: self.file,
@@ -45,8 +45,8 @@ impl<'a> PartView<'a> {
 pub fn push_answer(block: &mut Vec<u8>, before: (u32, u32), answer: PartView<'_>)
     requires room { length block.old.items + 63 + length answer.text.now ≤ vec_capacity block.old }
     ensures bytes { block.new.items
-        ≡ block.old.items ++ answer_bytes before (part_of_view answer.entry) }
-    ensures codable { IsCodable (part_of_view answer.entry) }
+        ≡ block.old.items ++ answer_bytes before (viewed_answer answer.entry) }
+    ensures codable { IsCodable (viewed_answer answer.entry) }
     ensures capacity { vec_capacity block.old ≤ vec_capacity block.new }
 {
     let alone = is_alone(answer.part, answer.parts);
@@ -143,7 +143,7 @@ pub fn read_place(before: (u32, u32), bytes: &[u8]) -> Option<((u32, u32), &[u8]
 /// The answer at this file and line whose other bytes come first, and the bytes behind it.
 #[tactic(auto, unfolding(crate::specs::Coding::body_from))]
 pub fn read_body(place: (u32, u32), bytes: &[u8]) -> Option<(PartView<'_>, &[u8])>
-    ensures read { option_map (λ found. (part_of_view found.0, found.1.now)) result
+    ensures read { option_map (λ found. (viewed_answer found.0, found.1.now)) result
         ≡ body_from place bytes.now }
     ensures shorter { IfSome result (λ found. length found.1.now ≤ length bytes.now) }
 {

@@ -17,7 +17,7 @@ use std::alloc::Global;
 const SAMPLED: usize = 256;
 
 /// A block of answers, and a span in which the messages of all of them stand.
-#[derive(Clone, Copy, Debug)]
+#[derive(Clone, Copy)]
 pub struct Block<'a> {
     pub bytes: &'a [u8],
     pub span: Span,

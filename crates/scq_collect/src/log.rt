@@ -8,7 +8,7 @@ use crate::coding::PartView;
 use std::marker::Model;
 
 /// The answer to a part, and how a worker came to it.
-#[derive(Clone, Copy, Debug)]
+#[derive(Clone, Copy)]
 pub struct Given<'a> {
     pub answer: PartView<'a>,
     pub way: Way,
@@ -31,7 +31,7 @@ unsafe impl Send for Log {}
 unsafe impl Sync for Log {}
 
 impl Log {
-    ghost use Rattle.scq_collect.specs.GivenAnswers.{answered};
+    ghost use Rattle.scq_collect.specs.GivenAnswers.{given_answer};
 
     pub fn new() -> Log
         ensures { result.items ≡ [] }
@@ -40,7 +40,7 @@ impl Log {
     }
 
     pub fn and(&self, _given: &Given<'_>) -> Log
-        ensures { result.items ≡ self.now.items ++ answered _given.now ∷ [] }
+        ensures { result.items ≡ self.now.items ++ given_answer _given.now ∷ [] }
     {
         Log {}
     }

@@ -5,7 +5,7 @@ ghost use Rattle.scq_collect.specs.declared.answered.Answered.{Answered as TheAn
 ghost use Rattle.scq_collect.specs.Collected.{messages_to};
 ghost use Rattle.scq_collect.specs.Joined.{AreWhole, IsJoined, answers_of, part_answers};
 ghost use Rattle.scq_collect.specs.Joined.{without_way};
-ghost use Rattle.scq_collect.specs.Merging.{IsInOrder, members_of, position_of_answer};
+ghost use Rattle.scq_collect.specs.Merging.{StandInOrder, members_of, position_of_answer};
 ghost use Rattle.scq_collect.specs.Merging.{position_of_part};
 ghost use Rattle.scq_collect.specs.Output.{answer_of_whole, answers_to};
 ghost use Rattle.scq_collect.specs.Spots.{plain, spot_answer};
@@ -28,10 +28,11 @@ pub fn merge(alloc: Global, topics: &Topics, lists: &[Answers]) -> Result<Vec<Wh
 
     // Where all parts of each message are there, each message stands once.
     ensures in_order { AreWhole (members_of lists.now)
-        → IfOk result (λ wholes. IsInOrder position_of_answer (map answer_of_whole wholes.items)) }
+        → IfOk result (λ wholes.
+        StandInOrder position_of_answer (map answer_of_whole wholes.items)) }
 
     // However the members are divided into lists, what is made of them is the same.
-    ensures exact { (given : List TheAnswered) → IsInOrder position_of_part given
+    ensures exact { (given : List TheAnswered) → StandInOrder position_of_part given
         → IsPermutation (members_of lists.now) given
         → IfOk result (λ wholes.
         map answer_of_whole wholes.items ≡ answers_of topics.now (map without_way given)) }

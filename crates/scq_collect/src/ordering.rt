@@ -4,7 +4,7 @@ ghost use Rattle.scq_collect.specs.Joined.{PartAnswer};
 ghost use Rattle.scq_collect.specs.Laid.{AreLaid};
 ghost use Rattle.scq_collect.specs.Merging.{members_of};
 ghost use Rattle.scq_collect.specs.Spots.{AreMerged, plain};
-ghost use Rattle.scq_collect.specs.Taken.{IsTaken};
+ghost use Rattle.scq_collect.specs.Taken.{AreAnswersIn};
 
 use crate::Answers;
 use crate::laid::{Block, blocks_of};
@@ -32,7 +32,7 @@ pub fn take_spots<'a>(
     spots: &mut Vec<Spot<'a>>,
 ) -> Result<(), NoMemory>
     ensures { (answers : List PartAnswer) → AreLaid answers blocks.now
-        → OnOk result (IsTaken answers span.now (plain spots.new.items)) }
+        → OnOk result (AreAnswersIn answers span.now (plain spots.new.items)) }
 {
     spots.clear();
     push_spots(blocks, span, spots)?;

@@ -9,7 +9,7 @@ ghost use Rattle.scq_collect.specs.Joined.{IsJoined, answers_of, part_answers, w
 ghost use Rattle.scq_collect.specs.Merging.{members_of};
 ghost use Rattle.scq_collect.specs.Output.{Answer, answer_of_view, one_thread_output};
 ghost use Rattle.scq_collect.specs.Output.{text_of_answers};
-ghost use Rattle.scq_collect.specs.Pieces.{AreStretchesOf, IsPieceOf, all_answers, bytes_of};
+ghost use Rattle.scq_collect.specs.Pieces.{AreStretchesOf, IsPieceOf, all_answers, pieces_bytes};
 ghost use Rattle.scq_collect.specs.Spots.{plain, spot_answer};
 
 use crate::Answers;
@@ -43,17 +43,17 @@ pub struct Text {
 
 impl Model for Text {
     ghost use Rattle.std.specs.Prelude.{List, ℕ};
-    ghost use Rattle.scq_collect.specs.Pieces.{bytes_of};
+    ghost use Rattle.scq_collect.specs.Pieces.{pieces_bytes};
 
     ghost Value = { List ℕ };
 
-    ghost view = { λ t. bytes_of t.pieces.items };
+    ghost view = { λ t. pieces_bytes t.pieces.items };
 }
 
 impl Text {
     /// The pieces, in their order.
     pub fn pieces(&self) -> &[Vec<u8>]
-        ensures { bytes_of result.now ≡ self.now }
+        ensures { pieces_bytes result.now ≡ self.now }
     {
         self.pieces.as_slice()
     }
@@ -182,7 +182,7 @@ fn joined(
     requires made { (lists : List (List Answer)) × AreStretchesOf topics.now lists made.items }
     ensures text { (lists : List (List Answer)) → AreStretchesOf topics.now lists made.items
         → IfOk result (λ texts.
-        bytes_of texts.items ≡ text_of_answers topics.now (all_answers lists)) }
+        pieces_bytes texts.items ≡ text_of_answers topics.now (all_answers lists)) }
     ensures made { OnOk result (All (λ s. IsTrue (is_ok s)) made.items) }
 {
     let mut texts = Vec::with_capacity(alloc, made.len())?;

@@ -7,7 +7,7 @@ ghost use Rattle.scq_collect.specs.Coding.{IsCodable, answer_bytes};
 ghost use Rattle.scq_collect.specs.Joined.{PartAnswer};
 ghost use Rattle.scq_collect.specs.Laid.{AreLaid, IsBlockOf};
 ghost use Rattle.scq_collect.specs.Merging.{IsBefore, IsSorted};
-ghost use Rattle.scq_collect.specs.PartViews.{part_of_view};
+ghost use Rattle.scq_collect.specs.PartViews.{viewed_answer};
 ghost use Rattle.scq_collect.specs.Spans.{is_in};
 ghost use Rattle.scq_collect.specs.Spots.{plain, position_of_spot, spot_answer};
 
@@ -18,7 +18,7 @@ use scq_word::NoMemory;
 
 /// Where an answer lies: its message's file and line and its part's number, for which nothing has
 /// to be read, and the bytes from its topic on, up to the end of its block.
-#[derive(Clone, Copy, Debug)]
+#[derive(Clone, Copy)]
 pub struct Spot<'a> {
     pub file: u32,
     pub line: u32,
@@ -28,7 +28,7 @@ pub struct Spot<'a> {
 
 /// The answer that lies there.
 pub fn read_spot<'a>(spot: &Spot<'a>) -> PartView<'a>
-    ensures { part_of_view result ≡ spot_answer spot.entry.now }
+    ensures { viewed_answer result ≡ spot_answer spot.entry.now }
 {
     let Spot {
         file,

@@ -5,7 +5,7 @@ use scq_topics::ReplyBytes;
 
 /// The answer to a message: its file and line, both numbered from 1, its topic's number, how many
 /// bytes its payload has, and the reply.
-#[derive(Debug, Drop)]
+#[derive(Drop)]
 pub struct Whole {
     pub file: u32,
     pub line: u32,

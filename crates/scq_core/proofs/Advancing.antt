@@ -7,7 +7,7 @@ use Rattle.scq_core.specs.declared.phase.Phase.{Phase}
 use Rattle.scq_core.specs.declared.step.Step.{Step}
 use Rattle.scq_core.specs.declared.slot.Cell.{Cell}
 use Rattle.scq_core.specs.declared.slot.Slot.{Slot}
-use Rattle.scq_core.specs.Machine.{Part}
+use Rattle.scq_core.specs.Machine.{SeatPart}
 use Rattle.scq_core.specs.Table.{writes, stores, after, turn_of, ring_of, cell_of}
 use Rattle.scq_core.specs.Rings.{RingLists, IsCell, word_in, content_in, ring_with}
 use Rattle.scq_core.specs.StateLists.{ring_in, no_slot, no_ring, HasRings}
@@ -27,14 +27,14 @@ cell_fits c rings turn i ring p has low at is cell =
     let within : i < length rings = omega (arith, has.0) in
     rw (ring_read c rings i ring within is, at, cell) (is_cell c rings turn has low)
 
-pub turn_is : (c : Setup) (seat : Part) (step : Step) (begun : Option Phase) (turn : Phase) → is_some (turn_of c seat step) ≡ true → begun ≡ started step
+pub turn_is : (c : Setup) (seat : SeatPart) (step : Step) (begun : Option Phase) (turn : Phase) → is_some (turn_of c seat step) ≡ true → begun ≡ started step
     → turn ≡ unwrap_or begun seat.phase → turn_of c seat step ≡ Some turn
 turn_is c seat step begun turn enabled begins is =
     enabled_turn c seat.hand seat.spent seat.phase step enabled ∙ ap Some (sym (is ∙ ap (λ (o : Option Phase). unwrap_or o seat.phase) begins))
 
 -- Plan: the ring that was read and the one that is written are the turn's, so the word found, the content beside it and the
 -- ring afterwards are those of the table.
-pub advanced : (c : Setup) (step : Step) (rings : List RingLists) (seat seat_then : Part) (turn : Phase) (i : ℕ) (ring lent ring_then : RingLists) (p : Cell)
+pub advanced : (c : Setup) (step : Step) (rings : List RingLists) (seat seat_then : SeatPart) (turn : Phase) (i : ℕ) (ring lent ring_then : RingLists) (p : Cell)
     (found word : ℕ) (beside copy : List ℕ) (laid : Option (List ℕ)) → HasRings c rings → ring_of turn < c.rings → turn_of c seat step ≡ Some turn
     → i ≡ ring_of turn → ring ≡ slice_index_or rings i ring → lent ≡ slice_index_or rings i lent → p ≡ cell_of c turn
     → ((past : Slot) → beside ≡ content_in past ring p) → copy ≡ copied turn beside → ((past : Slot) → found ≡ word_in past ring p)

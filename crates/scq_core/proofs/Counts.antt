@@ -3,19 +3,19 @@ use Rattle.std.proofs.Common.{◌≡◌, ℕ, zero, suc, ◌+◌, ◌<◌, ◌�
 use Rattle.std.specs.Prelude.{Option, Some, None}
 use Rattle.std.proofs.lemmas.Bool.{cases_eq}
 use Rattle.scq_core.specs.Updated.{updated}
-use Rattle.scq_core.specs.Machine.{Part}
+use Rattle.scq_core.specs.Machine.{SeatPart}
 use Rattle.scq_core.specs.Stances.{one_on}
 use Rattle.scq_core.specs.Laws.{total}
 use Rattle.scq_core.proofs.UpdatedLemmas.{updated_here, updated_else}
 
 -- a changed part of a seat that is not counted
-pub total_beyond : (f : Part → ℕ) (part : ℕ → Part) (k : ℕ) (p : Part) (n : ℕ) → n ≤ k → total f (updated part k p) n ≡ total f part n
+pub total_beyond : (f : SeatPart → ℕ) (part : ℕ → SeatPart) (k : ℕ) (p : SeatPart) (n : ℕ) → n ≤ k → total f (updated part k p) n ≡ total f part n
 total_beyond f part k p zero le = refl
 total_beyond f part k p (suc n) le =
     rw (updated_else part k p n (λ e. omega arith), total_beyond f part k p n (omega arith)) refl
 
 -- the sum moves by what the changed part gives more or less
-pub total_updated : (f : Part → ℕ) (part : ℕ → Part) (k : ℕ) (p : Part) (n : ℕ) → k < n → total f (updated part k p) n + f (part k) ≡ total f part n + f p
+pub total_updated : (f : SeatPart → ℕ) (part : ℕ → SeatPart) (k : ℕ) (p : SeatPart) (n : ℕ) → k < n → total f (updated part k p) n + f (part k) ≡ total f part n + f p
 total_updated f part k p zero less = absurd (omega arith)
 total_updated f part k p (suc n) less =
     elim (cases_eq n k) [
@@ -27,12 +27,12 @@ total_updated f part k p (suc n) less =
     ]
 
 -- at most the number of seats
-pub total_few : (f : Part → ℕ) (part : ℕ → Part) → ((p : Part) → f p ≤ 1) → (n : ℕ) → total f part n ≤ n
+pub total_few : (f : SeatPart → ℕ) (part : ℕ → SeatPart) → ((p : SeatPart) → f p ≤ 1) → (n : ℕ) → total f part n ≤ n
 total_few f part few zero = omega arith
 total_few f part few (suc n) = let rest = total_few f part few n in let one = few (part n) in omega arith
 
 -- nothing where each gives nothing
-pub total_none : (f : Part → ℕ) (part : ℕ → Part) (n : ℕ) → ((k : ℕ) → k < n → f (part k) ≡ 0) → total f part n ≡ 0
+pub total_none : (f : SeatPart → ℕ) (part : ℕ → SeatPart) (n : ℕ) → ((k : ℕ) → k < n → f (part k) ≡ 0) → total f part n ≡ 0
 total_none f part zero none = refl
 total_none f part (suc n) none =
     let here = none n (omega arith) in
@@ -40,7 +40,7 @@ total_none f part (suc n) none =
     omega arith
 
 -- fewer than the seats where one of them gives nothing
-pub total_less : (f : Part → ℕ) (part : ℕ → Part) → ((p : Part) → f p ≤ 1) → (n k : ℕ) → k < n → f (part k) ≡ 0 → total f part n < n
+pub total_less : (f : SeatPart → ℕ) (part : ℕ → SeatPart) → ((p : SeatPart) → f p ≤ 1) → (n k : ℕ) → k < n → f (part k) ≡ 0 → total f part n < n
 total_less f part few zero k low none = absurd (omega arith)
 total_less f part few (suc n) k low none =
     elim (cases_eq n k) [
@@ -55,7 +55,7 @@ total_less f part few (suc n) k low none =
     ]
 
 -- each seat's own number is in the sum
-pub total_one : (f : Part → ℕ) (part : ℕ → Part) (n k : ℕ) → k < n → f (part k) ≤ total f part n
+pub total_one : (f : SeatPart → ℕ) (part : ℕ → SeatPart) (n k : ℕ) → k < n → f (part k) ≤ total f part n
 total_one f part zero k low = absurd (omega arith)
 total_one f part (suc n) k low =
     elim (cases_eq n k) [

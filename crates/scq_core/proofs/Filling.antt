@@ -8,12 +8,12 @@ use Rattle.scq_word.specs.Sizes.{n_of}
 use Rattle.scq_word.specs.Words.{packed}
 use Rattle.scq_word.proofs.TicketLemmas.{slot_of_small}
 use Rattle.scq_core.specs.declared.slot.Slot.{Slot}
-use Rattle.scq_core.specs.Machine.{Part, Machine}
+use Rattle.scq_core.specs.Machine.{SeatPart, Machine}
 use Rattle.scq_core.specs.Table.{ring_slots, zero_level, reset_level, slot}
 use Rattle.scq_core.specs.Start.{unused, filled, filled_contents, start_cells, idle_part, start_of}
 use Rattle.scq_core.specs.Rings.{RingLists}
 use Rattle.scq_core.specs.StateLists.{no_slot, no_ring, ring_in, cells_of, part_in, machine_of, HasRings, IsState}
-use Rattle.scq_core.specs.Fresh.{empty_ring, IsFilled, IsFullRing, IsStart}
+use Rattle.scq_core.specs.Fresh.{empty_ring, SlotsAreFilled, IsFullRing, IsStart}
 use Rattle.scq_core.specs.Reach.{IsReachable, at_start}
 use Rattle.scq_core.proofs.ListedTurns.{same_cells, same_entries, same_machine}
 
@@ -41,10 +41,10 @@ more_content c opening count slots new many is old s =
     ]
 
 -- one more index was placed
-pub filled_more : (c : Setup) (opening : List (List ℕ)) (count : ℕ) (slots later : List Slot) (copy item : List ℕ) → IsFilled c opening count slots
+pub filled_more : (c : Setup) (opening : List (List ℕ)) (count : ℕ) (slots later : List Slot) (copy item : List ℕ) → SlotsAreFilled c opening count slots
     → count < length opening → copy ≡ item → item ≡ slice_index_or opening count item
     → later ≡ slice_set slots (slot c (ring_slots c + count)) (record { word = packed (ring_slots c) 1 1 count; content = copy })
-    → IsFilled c opening (count + 1) later
+    → SlotsAreFilled c opening (count + 1) later
 filled_more c opening count slots later copy item was low copied is changed =
     let content : copy ≡ slice_index_or opening count [] = copied ∙ is ∙ get_or_default opening count item [] low in
     let new : Slot = record { word = packed (ring_slots c) 1 1 count; content = copy } in
@@ -117,14 +117,14 @@ pub start_machine : (c : Setup) (opening : List (List ℕ)) (full : RingLists) (
     ≡ start_of c opening
 start_machine c opening full more seats is =
     same_machine _ _ _ _ opening (start_cells_are c opening full more is)
-    (λ k j. replicate_read (λ (p : Part). p ≡ idle_part) seats idle_part idle_part refl refl j k)
+    (λ k j. replicate_read (λ (p : SeatPart). p ≡ idle_part) seats idle_part idle_part refl refl j k)
 
 -- the state that was made is the start
-pub started_machine : (c : Setup) (opening : List (List ℕ)) (rings : List RingLists) (seats : List Part) → IsStart c opening (c.rings - 1) rings
+pub started_machine : (c : Setup) (opening : List (List ℕ)) (rings : List RingLists) (seats : List SeatPart) → IsStart c opening (c.rings - 1) rings
     → seats ≡ replicate c.seats idle_part → machine_of (record { setup = c; rings = rings; seats = seats; opening = opening }) ≡ start_of c opening
 started_machine c opening rings seats is idle = rw (is.all, idle) (start_machine c opening is.first (c.rings - 1) c.seats is.full)
 
-pub started_sound : (c : Setup) (opening : List (List ℕ)) (rings : List RingLists) (seats : List Part) → IsStart c opening (c.rings - 1) rings
+pub started_sound : (c : Setup) (opening : List (List ℕ)) (rings : List RingLists) (seats : List SeatPart) → IsStart c opening (c.rings - 1) rings
     → seats ≡ replicate c.seats idle_part → length opening ≡ n_of c.order → IsState (record { setup = c; rings = rings; seats = seats; opening = opening })
 started_sound c opening rings seats is idle full =
     let some = c.rings_in_range in

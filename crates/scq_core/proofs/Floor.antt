@@ -9,7 +9,7 @@ use Rattle.scq_core.specs.declared.phase.Phase.{Phase}
 use Rattle.scq_core.specs.declared.phase.Phase.TheVariants.{Idle, AtE1, AtE2, AtE3, AtE4, AtE5, AtE6, AtD1, AtD2, AtD3, AtD4, AtD5, AtD6, AtD7, AtD8, AtD9, AtD10}
 use Rattle.scq_core.specs.declared.step.Step.{Step}
 use Rattle.scq_core.specs.Updated.{updated}
-use Rattle.scq_core.specs.Machine.{Cells, Part, Machine, read, beside}
+use Rattle.scq_core.specs.Machine.{Cells, SeatPart, Machine, read, beside}
 use Rattle.scq_core.specs.Table.{ring_slots, cycle, zero_level, reset_level, turn_of, location_of, after, cells_after, moved}
 use Rattle.scq_core.specs.Start.{start_of}
 use Rattle.scq_core.specs.Stances.{stance_of, entered_ring}
@@ -26,7 +26,7 @@ dequeues_begun c hand r turn (begins_put q i w low small held) = refl
 dequeues_begun c hand r turn (begins_get q low) = refl
 
 -- an enabled turn counts as its seat's phase
-pub dequeues_turn : (c : Setup) (p : Part) (s : Step) (turn : Phase) (r : ℕ) → turn_of c p s ≡ Some turn → dequeues r turn ≡ dequeues r p.phase
+pub dequeues_turn : (c : Setup) (p : SeatPart) (s : Step) (turn : Phase) (r : ℕ) → turn_of c p s ≡ Some turn → dequeues r turn ≡ dequeues r p.phase
 dequeues_turn c p s turn r e =
     elim (begins c p.hand p.spent p.phase s turn e) [
       | inl same ↦ rw same refl
@@ -34,7 +34,7 @@ dequeues_turn c p s turn r e =
     ]
 
 -- the phase of a seat after its turn
-abbrev phase_then : Setup → Cells → Part → Phase → Phase
+abbrev phase_then : Setup → Cells → SeatPart → Phase → Phase
 phase_then c m p turn = (after c turn (read m (location_of c turn)) (beside m (location_of c turn)) p).phase
 
 -- what a turn does to a ring's Threshold and dequeues: it ends at 0 or above, or falls by no more than the seat counts less
@@ -54,8 +54,8 @@ read_falls m q r was now le =
     ]
 
 -- what holds of the part of either branch
-to_part : (r b : ℕ) (t : Bool) (x y : Part) → dequeues r x.phase ≤ b → dequeues r y.phase ≤ b → dequeues r (if t then x else y).phase ≤ b
-to_part r b t x y left right = either_way (λ (v : Part). dequeues r v.phase ≤ b) t x y left right
+to_part : (r b : ℕ) (t : Bool) (x y : SeatPart) → dequeues r x.phase ≤ b → dequeues r y.phase ≤ b → dequeues r (if t then x else y).phase ≤ b
+to_part r b t x y left right = either_way (λ (v : SeatPart). dequeues r v.phase ≤ b) t x y left right
 
 -- a Threshold that falls by one where a dequeue of its ring ends
 ending_falls : (m : Cells) (q h r : ℕ) (leaving : Bool)
@@ -89,7 +89,7 @@ staying_falls m q h r l leaving high =
     ]
 
 -- each turn's effect
-falls_turn : (c : Setup) (m : Cells) (p : Part) (turn : Phase) (r : ℕ) → (turn ≡ Idle → ⊥)
+falls_turn : (c : Setup) (m : Cells) (p : SeatPart) (turn : Phase) (r : ℕ) → (turn ≡ Idle → ⊥)
     → Falls zero_level (m.threshold r) ((cells_after c turn m).threshold r) (dequeues r turn) (dequeues r (phase_then c m p turn))
 falls_turn c m p Idle r awake = absurd (awake refl)
 falls_turn c m p (AtE1 q i w l) r awake = same_falls _ _ _ _ (to_part r 0 (nat_le c.limit (m.tail q)) _ _ (omega arith) (omega arith))
@@ -116,7 +116,7 @@ falls_turn c m p (AtD1 q) r awake =
     (nat_lt (m.threshold q) zero_level)
     _
     _
-    (λ (v : Part). Falls zero_level (m.threshold r) (updated m.threshold q (m.threshold q) r) 0 (dequeues r v.phase))
+    (λ (v : SeatPart). Falls zero_level (m.threshold r) (updated m.threshold q (m.threshold q) r) 0 (dequeues r v.phase))
     (λ _. read_falls m q r 0 0 (omega arith))
     (λ high. passing_falls m q r 0 (ltb-false _ _ high))
 falls_turn c m p (AtD2 q l) r awake =
@@ -146,7 +146,7 @@ falls_turn c m p (AtD10 q h false) r awake =
     (nat_le (m.threshold q) zero_level)
     _
     _
-    (λ (v : Part). Falls zero_level (m.threshold r) (updated m.threshold q (m.threshold q - 1) r) (dequeues r (AtD10 q h false)) (dequeues r v.phase))
+    (λ (v : SeatPart). Falls zero_level (m.threshold r) (updated m.threshold q (m.threshold q - 1) r) (dequeues r (AtD10 q h false)) (dequeues r v.phase))
     (λ _. ending_falls m q h r false)
     (λ high. staying_falls m q h r (h + 1) false (leb-false _ _ high))
 
@@ -169,8 +169,8 @@ floor_turn c m k s turn low e was =
     record {
       floor =
           λ r.
-          let sum = total_updated (λ (q : Part). dequeues r q.phase) m.part k (after c turn x y p) c.seats low in
-          let few = total_few (λ (q : Part). dequeues r q.phase) (moved c m k turn).part (λ q. one_on_bit r (entered_ring (stance_of q.phase))) c.seats in
+          let sum = total_updated (λ (q : SeatPart). dequeues r q.phase) m.part k (after c turn x y p) c.seats low in
+          let few = total_few (λ (q : SeatPart). dequeues r q.phase) (moved c m k turn).part (λ q. one_on_bit r (entered_ring (stance_of q.phase))) c.seats in
           let floor = was.floor r in
           let counted = dequeues_turn c p s turn r e in
           let effect = falls_turn c m.cells p turn r (awake c p.hand p.spent p.phase s turn e) in
@@ -185,7 +185,7 @@ floor_start c opening =
     record {
       floor =
           λ r.
-          let none = total_none (λ (q : Part). dequeues r q.phase) (start_of c opening).part c.seats (λ k low. refl) in
+          let none = total_none (λ (q : SeatPart). dequeues r q.phase) (start_of c opening).part c.seats (λ k low. refl) in
           either_way
           (λ (v : ℕ). zero_level + dequeues_of c (start_of c opening) r ≤ v + c.seats)
           (r == 0)

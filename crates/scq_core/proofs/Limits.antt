@@ -10,7 +10,7 @@ use Rattle.scq_word.proofs.WordLemmas.{cycle_in-packed, safe_in_bit, index_in_sm
 use Rattle.scq_core.specs.declared.phase.Phase.{Phase}
 use Rattle.scq_core.specs.declared.phase.Phase.TheVariants.{Idle, AtE1, AtE2, AtE3, AtE4, AtD2, AtD3, AtD4, AtD5, AtD6, AtD7, AtD8, AtD9}
 use Rattle.scq_core.specs.declared.step.Step.{Step}
-use Rattle.scq_core.specs.Machine.{Cells, Part, Machine, read, beside, written, entry_of}
+use Rattle.scq_core.specs.Machine.{Cells, SeatPart, Machine, read, beside, written, entry_of}
 use Rattle.scq_core.specs.Updated.{updated}
 use Rattle.scq_core.specs.Table.{ring_slots, cycle, slot, passed, turn_of, location_of, after, cells_after, moved}
 use Rattle.scq_core.specs.Start.{start_of, filled, unused}
@@ -27,14 +27,14 @@ spent_bit None = omega arith
 spent_bit (Some t) = omega arith
 
 -- the number of a seat that keeps a ticket, after its turn
-abbrev spent_then : Setup → Cells → Part → Phase → ℕ
+abbrev spent_then : Setup → Cells → SeatPart → Phase → ℕ
 spent_then c m p turn = spent_of (after c turn (read m (location_of c turn)) (beside m (location_of c turn)) p).spent
 
 updated_within : (f : ℕ → ℕ) (q x r bound : ℕ) → x ≤ bound → f r ≤ bound → updated f q x r ≤ bound
 updated_within f q x r bound new old = updated_cases (λ (a v : ℕ). v ≤ bound) f q x r (λ _. new) (λ _. old)
 
 -- Tail after a turn, where Tail and Head stood within a bound: one further where the seat now keeps a ticket
-tail_after : (c : Setup) (m : Cells) (p : Part) (turn : Phase) (b : ℕ) → Busy c m p.hand turn → ((r : ℕ) → m.tail r ≤ c.limit + b)
+tail_after : (c : Setup) (m : Cells) (p : SeatPart) (turn : Phase) (b : ℕ) → Busy c m p.hand turn → ((r : ℕ) → m.tail r ≤ c.limit + b)
     → ((r : ℕ) → m.head r ≤ c.limit + b) → (r : ℕ) → (cells_after c turn m).tail r ≤ c.limit + (b + spent_then c m p turn)
 tail_after c m p Idle b busy tails heads r =
     let here = tails 0 in let there = tails r in updated_within m.tail 0 _ r _ (omega arith) (omega arith)
@@ -67,11 +67,10 @@ tail_after c m p (AtD9 q h from to) b busy tails heads r =
 tail_after c m p turn b busy tails heads r = let there = tails r in omega arith
 
 -- and Head
-head_after : (c : Setup) (m : Cells) (p : Part) (turn : Phase) (b : ℕ) → ((r : ℕ) → m.head r ≤ c.limit + b) → (r : ℕ)
+head_after : (c : Setup) (m : Cells) (p : SeatPart) (turn : Phase) (b : ℕ) → ((r : ℕ) → m.head r ≤ c.limit + b) → (r : ℕ)
     → (cells_after c turn m).head r ≤ c.limit + (b + spent_then c m p turn)
 head_after c m p (AtD2 q l) b heads r =
-    let here = heads q in
-    let there = heads r in
+    let here = heads q in let there = heads r in
     elim (cases_Bool (nat_le c.limit (m.head q))) [
       | inl past ↦ rw past (updated_within m.head q _ r _ (omega arith) (omega arith))
       | inr under ↦
@@ -90,7 +89,7 @@ spent_moves : (c : Setup) (m : Machine) (k : ℕ) (turn : Phase) → k < c.seats
 spent_moves c m k turn low none =
     let x = read m.cells (location_of c turn) in
     let y = beside m.cells (location_of c turn) in
-    let sum = total_updated (λ (p : Part). spent_of p.spent) m.part k (after c turn x y (m.part k)) c.seats low in
+    let sum = total_updated (λ (p : SeatPart). spent_of p.spent) m.part k (after c turn x y (m.part k)) c.seats low in
     let zero_before : spent_of (m.part k).spent ≡ 0 = rw none refl in
     omega arith
 
@@ -105,7 +104,7 @@ bounded_turn c m k s turn low steady bounded e =
     record {
       tail = λ r. let le = tail_after c m.cells p turn (spent_seats c m) was bounded.tail bounded.head r in omega arith;
       head = λ r. let le = head_after c m.cells p turn (spent_seats c m) bounded.head r in omega arith;
-      spent = total_few (λ (q : Part). spent_of q.spent) (moved c m k turn).part (λ q. spent_bit q.spent) c.seats;
+      spent = total_few (λ (q : SeatPart). spent_of q.spent) (moved c m k turn).part (λ q. spent_bit q.spent) c.seats;
     }
 
 bounded_start : (c : Setup) (opening : List (List ℕ)) → CountersBounded c (start_of c opening)
@@ -123,7 +122,7 @@ bounded_start c opening =
           (omega arith)
           (omega arith);
       head = λ r. omega arith;
-      spent = total_few (λ (q : Part). spent_of q.spent) (start_of c opening).part (λ q. spent_bit q.spent) c.seats;
+      spent = total_few (λ (q : SeatPart). spent_of q.spent) (start_of c opening).part (λ q. spent_bit q.spent) c.seats;
     }
 
 -- on each reachable state Tail and Head pass the limit by at most the seats that keep a spent ticket

@@ -14,7 +14,7 @@ use Rattle.scq_core.specs.declared.slot.Cell.{Cell}
 use Rattle.scq_core.specs.declared.slot.Cell.TheVariants as cell
 use Rattle.scq_core.specs.declared.slot.Slot.{Slot}
 use Rattle.scq_core.specs.Updated.{updated}
-use Rattle.scq_core.specs.Machine.{Cells, Entries, Part, Machine, location_at, read, beside, written}
+use Rattle.scq_core.specs.Machine.{Cells, Entries, SeatPart, Machine, location_at, read, beside, written}
 use Rattle.scq_core.specs.Table.{turn_of, location_of, writes, stores, after, cells_after, moved, step_of, ring_of, cell_of}
 use Rattle.scq_core.specs.Start.{idle_part}
 use Rattle.scq_core.specs.Reach.{by_step}
@@ -125,7 +125,7 @@ cells_turn c rings turn has low =
     write_cells c rings (ring_of turn) (cell_of c turn) (writes c turn x) (stores turn x y) within at in
     wrote ∙ rw (found_is c rings turn, beside_is c rings turn) refl
 
-pub same_machine : (m n : Cells) (p q : ℕ → Part) (o : List (List ℕ)) → m ≡ n → p ≡ q
+pub same_machine : (m n : Cells) (p q : ℕ → SeatPart) (o : List (List ℕ)) → m ≡ n → p ≡ q
     → (let b : Machine = record { cells = m; part = p; opening = o } in b) ≡ record { cells = n; part = q; opening = o }
 same_machine m n p q o a b = rw (a, b) refl
 
@@ -149,7 +149,7 @@ rings_kept c rings turn has low =
     )
 
 -- a turn of a seat on lists is the machine's step
-pub advanced_machine : (b : StateLists) (k : ℕ) (step : Step) (rings : List RingLists) (seat : Part) → HasRings b.setup b.rings → k < length b.seats
+pub advanced_machine : (b : StateLists) (k : ℕ) (step : Step) (rings : List RingLists) (seat : SeatPart) → HasRings b.setup b.rings → k < length b.seats
     → (a : Advances b.setup step b.rings (part_in b.seats k) rings seat) → ring_of a.turn < b.setup.rings
     → (step_of b.setup (machine_of b) k step ≡ Some (machine_of (record b { rings = rings; seats = slice_set b.seats k seat })))
     × HasRings b.setup rings
@@ -175,7 +175,7 @@ can_turn b k step turn sound enabled =
     record { ring = may.0; ready = rw (← found_is c b.rings turn) may.1 }
 
 -- so a step keeps a state sound
-pub still_sound : (b : StateLists) (k : ℕ) (step : Step) (rings : List RingLists) (seat : Part) → IsState b → k < b.setup.seats
+pub still_sound : (b : StateLists) (k : ℕ) (step : Step) (rings : List RingLists) (seat : SeatPart) → IsState b → k < b.setup.seats
     → (a : Advances b.setup step b.rings (part_in b.seats k) rings seat)
     → IsState (record b { rings = rings; seats = slice_set b.seats k seat })
 still_sound b k step rings seat sound low a =
@@ -188,12 +188,12 @@ still_sound b k step rings seat sound low a =
     }
 
 -- the seat that was lent is the one of its number
-pub seat_lent : (b : StateLists) (k : ℕ) (lent : Part) → IsState b → k < b.setup.seats → lent ≡ slice_index_or b.seats k lent → lent ≡ part_in b.seats k
+pub seat_lent : (b : StateLists) (k : ℕ) (lent : SeatPart) → IsState b → k < b.setup.seats → lent ≡ slice_index_or b.seats k lent → lent ≡ part_in b.seats k
 seat_lent b k lent sound low is =
     let within : k < length b.seats = omega (arith, sound.seats) in is ∙ get_or_default b.seats k lent idle_part within
 
 -- whatever the answer, the state stays sound
-pub applied_sound : (b : StateLists) (k : ℕ) (step : Step) (rings : List RingLists) (lent seat : Part) (r : Result (Unit {0}) ApplyFault) → IsState b
+pub applied_sound : (b : StateLists) (k : ℕ) (step : Step) (rings : List RingLists) (lent seat : SeatPart) (r : Result (Unit {0}) ApplyFault) → IsState b
     → k < b.setup.seats
     → lent ≡ slice_index_or b.seats k lent → OnOk r (Advances b.setup step b.rings lent rings seat) → OnErr r ((rings ≡ b.rings) × (seat ≡ lent))
     → IsState (record b { rings = rings; seats = slice_set b.seats k seat })
@@ -202,7 +202,7 @@ applied_sound b k step rings lent seat (Err fault) sound low is ok err =
     rw (err.0, err.1, seat_lent b k lent sound low is, set-get_or b.seats k idle_part) sound
 
 -- and after an Ok it is the step's
-pub applied_steps : (b : StateLists) (k : ℕ) (step : Step) (rings : List RingLists) (lent seat : Part) (r : Result (Unit {0}) ApplyFault) → IsState b
+pub applied_steps : (b : StateLists) (k : ℕ) (step : Step) (rings : List RingLists) (lent seat : SeatPart) (r : Result (Unit {0}) ApplyFault) → IsState b
     → k < b.setup.seats
     → lent ≡ slice_index_or b.seats k lent → OnOk r (Advances b.setup step b.rings lent rings seat)
     → OnOk r (step_of b.setup (machine_of b) k step ≡ Some (machine_of (record b { rings = rings; seats = slice_set b.seats k seat })))

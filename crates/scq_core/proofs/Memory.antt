@@ -4,7 +4,7 @@ use Rattle.scq_word.specs.declared.setup.Setup.{Setup}
 use Rattle.scq_core.specs.declared.phase.Phase.{Phase}
 use Rattle.scq_core.specs.declared.phase.Phase.TheVariants.{Idle, AtE1, AtE5, AtE6, AtD1, AtD2, AtD4, AtD10}
 use Rattle.scq_core.specs.declared.step.Step.{Step}
-use Rattle.scq_core.specs.Machine.{Part, read, beside}
+use Rattle.scq_core.specs.Machine.{SeatPart, read, beside}
 use Rattle.scq_core.specs.Table.{ring_of, cell_of, location_of, after}
 use Rattle.scq_core.specs.Turn.{ends_call, TakesMemory}
 use Rattle.scq_core.specs.StateLists.{StateLists, part_in, machine_of}
@@ -14,7 +14,7 @@ use Rattle.scq_core.proofs.Turns.{turned}
 use Rattle.scq_core.proofs.TurnCells.{read-cell}
 
 -- a turn that ends its call leaves the seat idle
-pub ended_idle : (c : Setup) (turn : Phase) (x : ℕ) (y : List ℕ) (p : Part) → ends_call c turn x ≡ true → (after c turn x y p).phase ≡ Idle
+pub ended_idle : (c : Setup) (turn : Phase) (x : ℕ) (y : List ℕ) (p : SeatPart) → ends_call c turn x ≡ true → (after c turn x y p).phase ≡ Idle
 ended_idle c (AtE1 r i w l) x y p ends = rw ends refl
 ended_idle c (AtE5 r i w t) x y p ends = rw ends refl
 ended_idle c (AtE6 r i w t) x y p ends = refl

@@ -8,7 +8,7 @@ use Rattle.scq_word.specs.declared.setup.Setup.{Setup}
 use Rattle.scq_word.specs.declared.entry.Entry.{Entry}
 use Rattle.scq_word.specs.Sizes.{n_of, slots_of}
 use Rattle.scq_word.specs.Words.{index_in, safe_in, is_none_in}
-use Rattle.scq_word.specs.Entries.{safe_bit, word_of, index_of, entry_in}
+use Rattle.scq_word.specs.Entries.{safe_bit, word_of, index_unless_mark, entry_in}
 use Rattle.scq_word.proofs.WordLemmas.{safe_in_bit}
 use Rattle.scq_word.proofs.TicketLemmas.{ticket_parts}
 use Rattle.scq_core.specs.Table.{ring_slots, cycle, passed}
@@ -27,14 +27,14 @@ bit_read : (s : ℕ) → s < 2 → safe_bit (s == 1) ≡ s
 bit_read s small = grind (arith, common_steps)
 
 -- an index was read off a word exactly where one stands in it
-pub index_of-none : (order e : ℕ) → index_of order e ≡ None → is_none_in (slots_of order) e ≡ true
+pub index_of-none : (order e : ℕ) → index_unless_mark order e ≡ None → is_none_in (slots_of order) e ≡ true
 index_of-none order e none =
     elim (cases_Bool (is_none_in (slots_of order) e)) [
       | inl is ↦ is
       | inr has ↦ let never : Some (index_in (slots_of order) e) ≡ None = rw has at none in absurd cc
     ]
 
-pub index_of-some : (order e i : ℕ) → index_of order e ≡ Some i → (is_none_in (slots_of order) e ≡ false) × (index_in (slots_of order) e ≡ i)
+pub index_of-some : (order e i : ℕ) → index_unless_mark order e ≡ Some i → (is_none_in (slots_of order) e ≡ false) × (index_in (slots_of order) e ≡ i)
 index_of-some order e i some =
     elim (cases_Bool (is_none_in (slots_of order) e)) [
       | inl is ↦ let never : ◌≡◌ {A = Option ℕ} None (Some i) = rw is at some in absurd cc
@@ -45,7 +45,7 @@ index_of-some order e i some =
 pub passed_moved : (c : Setup) (h e cyc : ℕ) (entry left : Entry) → entry ≡ entry_in c.order e → entry.index ≡ None → cyc ≡ cycle c h
     → left ≡ record { cycle = cyc; safe = entry.safe; index = entry.index } → word_of c.order left ≡ passed c h e
 passed_moved c h e cyc entry left read none cyc_is left_is =
-    let is : index_of c.order e ≡ None = sym (ap (λ (x : Entry). x.index) read) ∙ none in
+    let is : index_unless_mark c.order e ≡ None = sym (ap (λ (x : Entry). x.index) read) ∙ none in
     rw (left_is, none, ap (λ (x : Entry). x.safe) read, cyc_is, index_of-none c.order e is, bit_read (safe_in (ring_slots c) e) (safe_in_bit (ring_slots c) e))
     refl
 
@@ -53,6 +53,6 @@ passed_moved c h e cyc entry left read none cyc_is left_is =
 pub passed_marked : (c : Setup) (h e i : ℕ) (entry left : Entry) → entry ≡ entry_in c.order e → entry.index ≡ Some i
     → left ≡ record { cycle = entry.cycle; safe = false; index = entry.index } → word_of c.order left ≡ passed c h e
 passed_marked c h e i entry left read some left_is =
-    let is : index_of c.order e ≡ Some i = sym (ap (λ (x : Entry). x.index) read) ∙ some in
+    let is : index_unless_mark c.order e ≡ Some i = sym (ap (λ (x : Entry). x.index) read) ∙ some in
     let has = index_of-some c.order e i is in
     rw (left_is, some, ap (λ (x : Entry). x.cycle) read, has.0, has.1) refl

@@ -7,7 +7,7 @@ use Rattle.scq_core.specs.declared.ended.Ended.{Ended}
 use Rattle.scq_core.specs.declared.phase.Phase.{Phase}
 use Rattle.scq_core.specs.declared.phase.Phase.TheVariants.{Idle, AtE1, AtE2, AtE3, AtE4, AtE5, AtE6, AtD1, AtD2, AtD3, AtD4, AtD5, AtD6, AtD7, AtD8, AtD9, AtD10}
 use Rattle.scq_core.specs.declared.step.Step.{Step}
-use Rattle.scq_core.specs.Machine.{Part, Machine, read, beside}
+use Rattle.scq_core.specs.Machine.{SeatPart, Machine, read, beside}
 use Rattle.scq_core.specs.Table.{ring_slots, cycle, zero_level, reset_level, location_of, after, step_of}
 use Rattle.scq_core.specs.Laws.{Grows, RecordsGrow}
 use Rattle.scq_core.proofs.UpdatedLemmas.{updated_cases}
@@ -32,31 +32,31 @@ grows_on a b c first second =
     }
 
 -- a turn adds at most its own call
-pub calls_after : (c : Setup) (turn : Phase) (x : ℕ) (y : List ℕ) (p : Part) → Grows p.calls (after c turn x y p).calls
+pub calls_after : (c : Setup) (turn : Phase) (x : ℕ) (y : List ℕ) (p : SeatPart) → Grows p.calls (after c turn x y p).calls
 calls_after c Idle x y p = grows_by_none p.calls
-calls_after c (AtE1 r i w l) x y p = either_way (λ (q : Part). Grows p.calls q.calls) (nat_le c.limit x) _ _ (grows_by_one p.calls _) (grows_by_none p.calls)
+calls_after c (AtE1 r i w l) x y p = either_way (λ (q : SeatPart). Grows p.calls q.calls) (nat_le c.limit x) _ _ (grows_by_one p.calls _) (grows_by_none p.calls)
 calls_after c (AtE2 r i w t l) x y p =
-    either_way (λ (q : Part). Grows p.calls q.calls) (nat_lt (cycle_in (ring_slots c) x) (cycle c t) && is_none_in (ring_slots c) x) _ _
-    (either_way (λ (q : Part). Grows p.calls q.calls) (safe_in (ring_slots c) x == 1) _ _ (grows_by_none p.calls) (grows_by_none p.calls))
+    either_way (λ (q : SeatPart). Grows p.calls q.calls) (nat_lt (cycle_in (ring_slots c) x) (cycle c t) && is_none_in (ring_slots c) x) _ _
+    (either_way (λ (q : SeatPart). Grows p.calls q.calls) (safe_in (ring_slots c) x == 1) _ _ (grows_by_none p.calls) (grows_by_none p.calls))
     (grows_by_none p.calls)
-calls_after c (AtE3 r i w t e) x y p = either_way (λ (q : Part). Grows p.calls q.calls) (nat_le x t) _ _ (grows_by_none p.calls) (grows_by_none p.calls)
-calls_after c (AtE4 r i w t e) x y p = either_way (λ (q : Part). Grows p.calls q.calls) (x == e) _ _ (grows_by_none p.calls) (grows_by_none p.calls)
-calls_after c (AtE5 r i w t) x y p = either_way (λ (q : Part). Grows p.calls q.calls) (x == reset_level c) _ _ (grows_by_one p.calls _) (grows_by_none p.calls)
+calls_after c (AtE3 r i w t e) x y p = either_way (λ (q : SeatPart). Grows p.calls q.calls) (nat_le x t) _ _ (grows_by_none p.calls) (grows_by_none p.calls)
+calls_after c (AtE4 r i w t e) x y p = either_way (λ (q : SeatPart). Grows p.calls q.calls) (x == e) _ _ (grows_by_none p.calls) (grows_by_none p.calls)
+calls_after c (AtE5 r i w t) x y p = either_way (λ (q : SeatPart). Grows p.calls q.calls) (x == reset_level c) _ _ (grows_by_one p.calls _) (grows_by_none p.calls)
 calls_after c (AtE6 r i w t) x y p = grows_by_one p.calls _
-calls_after c (AtD1 r) x y p = either_way (λ (q : Part). Grows p.calls q.calls) (nat_lt x zero_level) _ _ (grows_by_one p.calls _) (grows_by_none p.calls)
-calls_after c (AtD2 r l) x y p = either_way (λ (q : Part). Grows p.calls q.calls) (nat_le c.limit x) _ _ (grows_by_one p.calls _) (grows_by_none p.calls)
+calls_after c (AtD1 r) x y p = either_way (λ (q : SeatPart). Grows p.calls q.calls) (nat_lt x zero_level) _ _ (grows_by_one p.calls _) (grows_by_none p.calls)
+calls_after c (AtD2 r l) x y p = either_way (λ (q : SeatPart). Grows p.calls q.calls) (nat_le c.limit x) _ _ (grows_by_one p.calls _) (grows_by_none p.calls)
 calls_after c (AtD3 r h l) x y p =
-    either_way (λ (q : Part). Grows p.calls q.calls) (cycle_in (ring_slots c) x == cycle c h) _ _ (grows_by_none p.calls)
-    (either_way (λ (q : Part). Grows p.calls q.calls) (nat_lt (cycle_in (ring_slots c) x) (cycle c h)) _ _ (grows_by_none p.calls) (grows_by_none p.calls))
+    either_way (λ (q : SeatPart). Grows p.calls q.calls) (cycle_in (ring_slots c) x == cycle c h) _ _ (grows_by_none p.calls)
+    (either_way (λ (q : SeatPart). Grows p.calls q.calls) (nat_lt (cycle_in (ring_slots c) x) (cycle c h)) _ _ (grows_by_none p.calls) (grows_by_none p.calls))
 calls_after c (AtD4 r h) x y p = grows_by_one p.calls _
-calls_after c (AtD5 r h e) x y p = either_way (λ (q : Part). Grows p.calls q.calls) (x == e) _ _ (grows_by_none p.calls) (grows_by_none p.calls)
-calls_after c (AtD6 r h) x y p = either_way (λ (q : Part). Grows p.calls q.calls) (nat_le x (h + 1)) _ _ (grows_by_none p.calls) (grows_by_none p.calls)
-calls_after c (AtD7 r h from to) x y p = either_way (λ (q : Part). Grows p.calls q.calls) (x == from) _ _ (grows_by_none p.calls) (grows_by_none p.calls)
+calls_after c (AtD5 r h e) x y p = either_way (λ (q : SeatPart). Grows p.calls q.calls) (x == e) _ _ (grows_by_none p.calls) (grows_by_none p.calls)
+calls_after c (AtD6 r h) x y p = either_way (λ (q : SeatPart). Grows p.calls q.calls) (nat_le x (h + 1)) _ _ (grows_by_none p.calls) (grows_by_none p.calls)
+calls_after c (AtD7 r h from to) x y p = either_way (λ (q : SeatPart). Grows p.calls q.calls) (x == from) _ _ (grows_by_none p.calls) (grows_by_none p.calls)
 calls_after c (AtD8 r h from) x y p = grows_by_none p.calls
-calls_after c (AtD9 r h from to) x y p = either_way (λ (q : Part). Grows p.calls q.calls) (nat_le to x) _ _ (grows_by_none p.calls) (grows_by_none p.calls)
+calls_after c (AtD9 r h from to) x y p = either_way (λ (q : SeatPart). Grows p.calls q.calls) (nat_le to x) _ _ (grows_by_none p.calls) (grows_by_none p.calls)
 calls_after c (AtD10 r h true) x y p = grows_by_one p.calls _
 calls_after c (AtD10 r h false) x y p =
-    either_way (λ (q : Part). Grows p.calls q.calls) (nat_le x zero_level) _ _ (grows_by_one p.calls _) (grows_by_none p.calls)
+    either_way (λ (q : SeatPart). Grows p.calls q.calls) (nat_le x zero_level) _ _ (grows_by_one p.calls _) (grows_by_none p.calls)
 
 -- so a step leaves what stands in each seat's record
 pub records_grow : (c : Setup) (m later : Machine) (k : ℕ) (step : Step) → step_of c m k step ≡ Some later → RecordsGrow m later
@@ -68,7 +68,7 @@ records_grow c m later k step e =
       calls =
           λ j.
           updated_cases
-          (λ (i : ℕ) (q : Part). Grows (m.part i).calls q.calls)
+          (λ (i : ℕ) (q : SeatPart). Grows (m.part i).calls q.calls)
           m.part
           k
           (after c t.turn (read m.cells location) (beside m.cells location) (m.part k))

@@ -10,7 +10,7 @@ use Rattle.scq_word.proofs.WordLemmas.{safe_in_bit}
 use Rattle.scq_core.specs.declared.phase.Phase.{Phase}
 use Rattle.scq_core.specs.declared.phase.Phase.TheVariants.{Idle, AtE1, AtE2, AtE3, AtE4, AtE5, AtE6, AtD1, AtD2, AtD3, AtD4, AtD5, AtD6, AtD7, AtD8, AtD9, AtD10}
 use Rattle.scq_core.specs.declared.step.Step.{Step}
-use Rattle.scq_core.specs.Machine.{Cells, Part, Machine, read, beside}
+use Rattle.scq_core.specs.Machine.{Cells, SeatPart, Machine, read, beside}
 use Rattle.scq_core.specs.Table.{ring_slots, cycle, slot, zero_level, reset_level, turn_of, location_of, after, cells_after, moved}
 use Rattle.scq_core.specs.Start.{start_of}
 use Rattle.scq_core.specs.Reach.{IsReachable, at_start, by_step}
@@ -26,7 +26,7 @@ begun c m hand turn (begins_put r i w low small held) = (record { ring = low; in
 begun c m hand turn (begins_get r low) = low
 
 -- an enabled turn has what its seat's phase has
-pub has : (c : Setup) (m : Cells) (p : Part) (s : Step) (turn : Phase) → Busy c m p.hand p.phase → turn_of c p s ≡ Some turn → Busy c m p.hand turn
+pub has : (c : Setup) (m : Cells) (p : SeatPart) (s : Step) (turn : Phase) → Busy c m p.hand p.phase → turn_of c p s ≡ Some turn → Busy c m p.hand turn
 has c m p s turn busy e =
     elim (begins c p.hand p.spent p.phase s turn e) [
       | inl same ↦ rw same busy
@@ -76,7 +76,7 @@ lasts c m n hand (AtD9 r h from to) ranks up busy =
 lasts c m n hand (AtD10 r h leaving) ranks up busy = (busy.0, drawn_lasts c _ _ h (up.head r) busy.1)
 
 -- a seat's part after its turn on these cells
-abbrev turned_part : Setup → Phase → Cells → Part → Part
+abbrev turned_part : Setup → Phase → Cells → SeatPart → SeatPart
 turned_part c turn m p = after c turn (read m (location_of c turn)) (beside m (location_of c turn)) p
 
 -- a turn that draws a ticket lifts its counter
@@ -91,7 +91,7 @@ draws c m (AtD2 r l) = let here = updated_here m.head r (m.head r + 1) in omega 
 draws c m turn = tt
 
 -- what a seat has after its own turn, of any cells n in which ranks and counters rose
-own : (c : Setup) (m n : Cells) (p : Part) (turn : Phase) → (turn ≡ Idle → ⊥) → ((r : ℕ) → ring_slots c ≤ m.tail r) → ((r : ℕ) → ring_slots c ≤ m.head r)
+own : (c : Setup) (m n : Cells) (p : SeatPart) (turn : Phase) → (turn ≡ Idle → ⊥) → ((r : ℕ) → ring_slots c ≤ m.tail r) → ((r : ℕ) → ring_slots c ≤ m.head r)
     → RankRises c m n → CountersRise m n → Draws m n turn → Busy c m p.hand turn → Busy c n p.hand turn
     → Busy c n (turned_part c turn m p).hand (turned_part c turn m p).phase
 own c m n p Idle awake tails heads ranks up drew was now = absurd (awake refl)
@@ -199,7 +199,7 @@ either_way P true x y left right = left
 either_way P false x y left right = right
 
 -- a turn that draws at or past the limit keeps its ticket and is the call's last; every other leaves what the seat keeps
-pub kept_after : (c : Setup) (turn : Phase) (x : ℕ) (y : List ℕ) (p : Part)
+pub kept_after : (c : Setup) (turn : Phase) (x : ℕ) (y : List ℕ) (p : SeatPart)
     → ((after c turn x y p).spent ≡ p.spent) ⊎ (((after c turn x y p).spent ≡ Some x) × ((after c turn x y p).phase ≡ Idle) × (c.limit ≤ x))
 kept_after c (AtE1 r i w l) x y p =
     elim (cases_Bool (nat_le c.limit x)) [
@@ -214,27 +214,27 @@ kept_after c (AtD2 r l) x y p =
 kept_after c Idle x y p = inl refl
 kept_after c (AtE2 r i w t l) x y p =
     inl
-    (either_way (λ (q : Part). q.spent ≡ p.spent) (nat_lt (cycle_in (ring_slots c) x) (cycle c t) && is_none_in (ring_slots c) x) _ _
-    (either_way (λ (q : Part). q.spent ≡ p.spent) (safe_in (ring_slots c) x == 1) _ _ refl refl) refl)
-kept_after c (AtE3 r i w t e) x y p = inl (either_way (λ (q : Part). q.spent ≡ p.spent) (nat_le x t) _ _ refl refl)
-kept_after c (AtE4 r i w t e) x y p = inl (either_way (λ (q : Part). q.spent ≡ p.spent) (x == e) _ _ refl refl)
-kept_after c (AtE5 r i w t) x y p = inl (either_way (λ (q : Part). q.spent ≡ p.spent) (x == reset_level c) _ _ refl refl)
+    (either_way (λ (q : SeatPart). q.spent ≡ p.spent) (nat_lt (cycle_in (ring_slots c) x) (cycle c t) && is_none_in (ring_slots c) x) _ _
+    (either_way (λ (q : SeatPart). q.spent ≡ p.spent) (safe_in (ring_slots c) x == 1) _ _ refl refl) refl)
+kept_after c (AtE3 r i w t e) x y p = inl (either_way (λ (q : SeatPart). q.spent ≡ p.spent) (nat_le x t) _ _ refl refl)
+kept_after c (AtE4 r i w t e) x y p = inl (either_way (λ (q : SeatPart). q.spent ≡ p.spent) (x == e) _ _ refl refl)
+kept_after c (AtE5 r i w t) x y p = inl (either_way (λ (q : SeatPart). q.spent ≡ p.spent) (x == reset_level c) _ _ refl refl)
 kept_after c (AtE6 r i w t) x y p = inl refl
-kept_after c (AtD1 r) x y p = inl (either_way (λ (q : Part). q.spent ≡ p.spent) (nat_lt x zero_level) _ _ refl refl)
+kept_after c (AtD1 r) x y p = inl (either_way (λ (q : SeatPart). q.spent ≡ p.spent) (nat_lt x zero_level) _ _ refl refl)
 kept_after c (AtD3 r h l) x y p =
     inl
-    (either_way (λ (q : Part). q.spent ≡ p.spent) (cycle_in (ring_slots c) x == cycle c h) _ _ refl
-    (either_way (λ (q : Part). q.spent ≡ p.spent) (nat_lt (cycle_in (ring_slots c) x) (cycle c h)) _ _ refl refl))
+    (either_way (λ (q : SeatPart). q.spent ≡ p.spent) (cycle_in (ring_slots c) x == cycle c h) _ _ refl
+    (either_way (λ (q : SeatPart). q.spent ≡ p.spent) (nat_lt (cycle_in (ring_slots c) x) (cycle c h)) _ _ refl refl))
 kept_after c (AtD4 r h) x y p = inl refl
-kept_after c (AtD5 r h e) x y p = inl (either_way (λ (q : Part). q.spent ≡ p.spent) (x == e) _ _ refl refl)
-kept_after c (AtD6 r h) x y p = inl (either_way (λ (q : Part). q.spent ≡ p.spent) (nat_le x (h + 1)) _ _ refl refl)
-kept_after c (AtD7 r h from to) x y p = inl (either_way (λ (q : Part). q.spent ≡ p.spent) (x == from) _ _ refl refl)
+kept_after c (AtD5 r h e) x y p = inl (either_way (λ (q : SeatPart). q.spent ≡ p.spent) (x == e) _ _ refl refl)
+kept_after c (AtD6 r h) x y p = inl (either_way (λ (q : SeatPart). q.spent ≡ p.spent) (nat_le x (h + 1)) _ _ refl refl)
+kept_after c (AtD7 r h from to) x y p = inl (either_way (λ (q : SeatPart). q.spent ≡ p.spent) (x == from) _ _ refl refl)
 kept_after c (AtD8 r h from) x y p = inl refl
-kept_after c (AtD9 r h from to) x y p = inl (either_way (λ (q : Part). q.spent ≡ p.spent) (nat_le to x) _ _ refl refl)
+kept_after c (AtD9 r h from to) x y p = inl (either_way (λ (q : SeatPart). q.spent ≡ p.spent) (nat_le to x) _ _ refl refl)
 kept_after c (AtD10 r h true) x y p = inl refl
-kept_after c (AtD10 r h false) x y p = inl (either_way (λ (q : Part). q.spent ≡ p.spent) (nat_le x zero_level) _ _ refl refl)
+kept_after c (AtD10 r h false) x y p = inl (either_way (λ (q : SeatPart). q.spent ≡ p.spent) (nat_le x zero_level) _ _ refl refl)
 
-own_kept : (c : Setup) (m : Cells) (p : Part) (turn : Phase) → p.spent ≡ None → (t : ℕ) → (turned_part c turn m p).spent ≡ Some t
+own_kept : (c : Setup) (m : Cells) (p : SeatPart) (turn : Phase) → p.spent ≡ None → (t : ℕ) → (turned_part c turn m p).spent ≡ Some t
     → ((turned_part c turn m p).phase ≡ Idle) × (c.limit ≤ t)
 own_kept c m p turn none t e =
     elim (kept_after c turn (read m (location_of c turn)) (beside m (location_of c turn)) p) [
@@ -272,7 +272,7 @@ steady_turn c m k s turn steady e =
       busy =
           λ j.
           updated_cases
-          (λ (_ : ℕ) (v : Part). Busy c n v.hand v.phase)
+          (λ (_ : ℕ) (v : SeatPart). Busy c n v.hand v.phase)
           m.part
           k
           q
@@ -282,7 +282,7 @@ steady_turn c m k s turn steady e =
       kept =
           λ j.
           updated_cases
-          (λ (_ : ℕ) (v : Part). (t : ℕ) → v.spent ≡ Some t → (v.phase ≡ Idle) × (c.limit ≤ t))
+          (λ (_ : ℕ) (v : SeatPart). (t : ℕ) → v.spent ≡ Some t → (v.phase ≡ Idle) × (c.limit ≤ t))
           m.part
           k
           q

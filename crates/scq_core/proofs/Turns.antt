@@ -14,7 +14,7 @@ use Rattle.scq_core.specs.Table.{turn_at, turn_of, next_step, moved, step_of, ho
 use Rattle.scq_core.specs.Turn.{started}
 
 -- the turn that a step is: it is enabled, and the state afterwards is the one that it makes
-pub record Turned (c : Setup) (m : Machine) (k : ℕ) (s : Step) (m' : Machine) : Type 0 where
+pub record IsTurnOf (c : Setup) (m : Machine) (k : ℕ) (s : Step) (m' : Machine) : Type 0 where
   pub turn : Phase
   pub enabled : turn_of c (m.part k) s ≡ Some turn
   pub next : m' ≡ moved c m k turn
@@ -23,7 +23,7 @@ mapped : {A B : Type 0} → (f : A → B) (o : Option A) (b : B) → option_map 
 mapped f None b e = absurd (cc)
 mapped f (Some a) b e = (a, refl, cc)
 
-pub turned : (c : Setup) (m : Machine) (k : ℕ) (s : Step) (m' : Machine) → step_of c m k s ≡ Some m' → Turned c m k s m'
+pub turned : (c : Setup) (m : Machine) (k : ℕ) (s : Step) (m' : Machine) → step_of c m k s ≡ Some m' → IsTurnOf c m k s m'
 turned c m k s m' e =
     let h = mapped (moved c m k) (turn_of c (m.part k) s) m' e in
     record { turn = h.0; enabled = h.1; next = h.2 }

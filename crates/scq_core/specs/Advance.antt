@@ -3,7 +3,7 @@ use Rattle.std.specs.Prelude.{ℕ, ◌≡◌, ◌<◌, ◌⊎◌, true, List, So
 use Rattle.scq_word.specs.declared.setup.Setup.{Setup}
 use Rattle.scq_core.specs.declared.phase.Phase.{Phase}
 use Rattle.scq_core.specs.declared.step.Step.{Step}
-use Rattle.scq_core.specs.Machine.{Part}
+use Rattle.scq_core.specs.Machine.{SeatPart}
 use Rattle.scq_core.specs.Table.{writes, stores, after, turn_of, ring_of, cell_of}
 use Rattle.scq_core.specs.Rings.{RingLists, word_in, content_in, ring_with}
 use Rattle.scq_core.specs.StateLists.{ring_in, no_slot}
@@ -33,18 +33,18 @@ rings_after c rings turn =
     (stores turn (found_by c rings turn) (beside_by c rings turn)))
 
 -- the seat's part after the turn
-abbrev pub part_by : Setup → List RingLists → Phase → Part → Part
+abbrev pub part_by : Setup → List RingLists → Phase → SeatPart → SeatPart
 part_by c rings turn p = after c turn (found_by c rings turn) (beside_by c rings turn) p
 
 -- a step takes memory only where it copies a content or ends its call
-abbrev pub WantsMemory : Setup → Part → Step → List RingLists → Type 0
+abbrev pub WantsMemory : Setup → SeatPart → Step → List RingLists → Type 0
 WantsMemory c seat step rings =
     (copies_content step ≡ true) ⊎ ((turn : Phase) → turn_of c seat step ≡ Some turn
     → ends_call c turn (found_by c rings turn) ≡ true)
 
 -- a seat's step makes a turn of it
-pub record Advances (c : Setup) (step : Step) (rings : List RingLists) (seat : Part)
-    (rings_then : List RingLists) (seat_then : Part) : Type 0 where
+pub record Advances (c : Setup) (step : Step) (rings : List RingLists) (seat : SeatPart)
+    (rings_then : List RingLists) (seat_then : SeatPart) : Type 0 where
   pub turn : Phase
   pub enabled : turn_of c seat step ≡ Some turn
   pub words : rings_then ≡ rings_after c rings turn

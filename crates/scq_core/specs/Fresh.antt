@@ -21,7 +21,7 @@ empty_ring c =
     }
 
 -- the indices below a count stand in these slots, each with its opening content
-pub record IsFilled (c : Setup) (opening : List (List ℕ)) (count : ℕ)
+pub record SlotsAreFilled (c : Setup) (opening : List (List ℕ)) (count : ℕ)
     (slots : List Slot) : Type 0 where
   pub many : length slots ≡ ring_slots c
   pub words : (s : ℕ) → (slice_index_or slots s (no_slot c)).word ≡ filled c count s
@@ -33,7 +33,7 @@ pub record IsFullRing (c : Setup) (opening : List (List ℕ)) (ring : RingLists)
   pub tail : ring.tail ≡ ring_slots c + n_of c.order
   pub head : ring.head ≡ ring_slots c
   pub threshold : ring.threshold ≡ reset_level c
-  pub slots : IsFilled c opening (n_of c.order) ring.slots
+  pub slots : SlotsAreFilled c opening (n_of c.order) ring.slots
 
 -- ring 0 of the start, and so many rings more
 pub record IsStart (c : Setup) (opening : List (List ℕ)) (more : ℕ)

@@ -10,7 +10,7 @@ use Rattle.scq_core.specs.declared.phase.Phase.{Phase}
 use Rattle.scq_core.specs.declared.phase.Phase.TheVariants.{Idle, AtE1, AtE2, AtE3, AtE4, AtE5}
 use Rattle.scq_core.specs.declared.phase.Phase.TheVariants.{AtE6, AtD1, AtD2, AtD3, AtD4, AtD5}
 use Rattle.scq_core.specs.declared.phase.Phase.TheVariants.{AtD6, AtD7, AtD8, AtD9, AtD10}
-use Rattle.scq_core.specs.Machine.{Cells, Part, Machine, Location, written}
+use Rattle.scq_core.specs.Machine.{Cells, SeatPart, Machine, Location, written}
 use Rattle.scq_core.specs.Table.{ring_slots, cycle, slot, zero_level, reset_level, holds_index}
 use Rattle.scq_core.specs.Start.{unused}
 use Rattle.scq_core.specs.Stances.{stance_of, entered_ring, one_on}
@@ -93,7 +93,7 @@ pub record IsSteady (c : Setup) (m : Machine) : Type 0 where
   pub heads : (r : ℕ) → ring_slots c ≤ m.cells.head r
 
 -- the sum of a number over the parts of the seats below k
-abbrev pub total : (Part → ℕ) → (ℕ → Part) → ℕ → ℕ
+abbrev pub total : (SeatPart → ℕ) → (ℕ → SeatPart) → ℕ → ℕ
 total f part zero = 0
 total f part (suc k) = f (part k) + total f part k
 

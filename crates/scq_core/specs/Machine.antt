@@ -23,7 +23,7 @@ pub record Cells : Type 0 where
 
 -- a seat's part: what it is in the middle of, the indices in its hand, the spent ticket that it
 -- keeps, and its record
-pub record Part : Type 0 where
+pub record SeatPart : Type 0 where
   pub phase : Phase
   pub hand : List ℕ
   pub spent : Option ℕ
@@ -31,7 +31,7 @@ pub record Part : Type 0 where
 
 pub record Machine : Type 0 where
   pub cells : Cells
-  pub part : ℕ → Part
+  pub part : ℕ → SeatPart
   pub opening : List (List ℕ)
 
 -- where a word of a ring stands: at Tail, Head or Threshold, or in a slot

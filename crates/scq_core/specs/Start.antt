@@ -5,7 +5,7 @@ use Rattle.scq_word.specs.declared.setup.Setup.{Setup}
 use Rattle.scq_word.specs.Sizes.{n_of}
 use Rattle.scq_word.specs.Words.{mark_of, packed}
 use Rattle.scq_core.specs.declared.phase.Phase.TheVariants.{Idle}
-use Rattle.scq_core.specs.Machine.{Cells, Part, Machine}
+use Rattle.scq_core.specs.Machine.{Cells, SeatPart, Machine}
 use Rattle.scq_core.specs.Table.{zero_level, reset_level, ring_slots, slot}
 
 -- the word of an entry that was never used
@@ -39,7 +39,7 @@ start_cells c opening =
           };
     }
 
-abbrev pub idle_part : Part
+abbrev pub idle_part : SeatPart
 idle_part = record { phase = Idle; hand = []; spent = None; calls = [] }
 
 abbrev pub start_of : Setup → List (List ℕ) → Machine

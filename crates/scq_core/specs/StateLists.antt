@@ -4,7 +4,7 @@ use Rattle.scq_word.specs.declared.setup.Setup.{Setup}
 use Rattle.scq_core.specs.declared.slot.Slot.{Slot}
 use Rattle.scq_core.specs.declared.slot.Cell.{Cell}
 use Rattle.scq_core.specs.declared.slot.Cell.TheVariants.{Entry}
-use Rattle.scq_core.specs.Machine.{Cells, Part, Machine}
+use Rattle.scq_core.specs.Machine.{Cells, SeatPart, Machine}
 use Rattle.scq_core.specs.Table.{ring_slots, zero_level}
 use Rattle.scq_core.specs.Start.{unused, idle_part}
 use Rattle.scq_core.specs.Reach.{IsReachable}
@@ -14,7 +14,7 @@ use Rattle.scq_core.specs.Rings.{RingLists}
 pub record StateLists : Type 0 where
   pub setup : Setup
   pub rings : List RingLists
-  pub seats : List Part
+  pub seats : List SeatPart
   pub opening : List (List ℕ)
 
 -- past the last slot and the last ring stands what was never used
@@ -53,7 +53,7 @@ cells_of c rings =
     }
 
 -- the part of the seat of a number
-abbrev pub part_in : List Part → ℕ → Part
+abbrev pub part_in : List SeatPart → ℕ → SeatPart
 part_in seats k = slice_index_or seats k idle_part
 
 -- the state of the machine

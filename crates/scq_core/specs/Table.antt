@@ -26,7 +26,7 @@ use Rattle.scq_core.specs.declared.step.Step.{Step}
 use Rattle.scq_core.specs.declared.step.Step.TheVariants.{E1, E1Again, E2, E3, E4, E5, E6, D1, D2}
 use Rattle.scq_core.specs.declared.step.Step.TheVariants.{D3, D4, D5, D6, D7, D8, D9, D10}
 use Rattle.scq_core.specs.Updated.{updated}
-use Rattle.scq_core.specs.Machine.{Cells, Part, Machine, Location, location_at, read, beside}
+use Rattle.scq_core.specs.Machine.{Cells, SeatPart, Machine, Location, location_at, read, beside}
 use Rattle.scq_core.specs.Machine.{written}
 
 -- the word that stands for a Threshold of 0
@@ -79,7 +79,7 @@ turn_at c hand spent (AtD9 r h from to) D9 = Some (AtD9 r h from to)
 turn_at c hand spent (AtD10 r h leaving) D10 = Some (AtD10 r h leaving)
 turn_at c hand spent phase step = None
 
-abbrev pub turn_of : Setup → Part → Step → Option Phase
+abbrev pub turn_of : Setup → SeatPart → Step → Option Phase
 turn_of c p step = turn_at c p.hand p.spent p.phase step
 
 -- the one step that a seat in the middle of a call makes next
@@ -174,19 +174,19 @@ stores (AtE4 r i w t e) x y = if x == e then w else y
 stores turn x y = y
 
 -- a seat's part where its call goes on
-abbrev pub goes_on : Phase → Part → Part
+abbrev pub goes_on : Phase → SeatPart → SeatPart
 goes_on phase p = record p { phase = phase }
 
 -- a seat's part where its call ends so
-abbrev pub ends : Ended → Part → Part
+abbrev pub ends : Ended → SeatPart → SeatPart
 ends ended p = record p { phase = Idle; calls = p.calls ++ ended ∷ [] }
 
 -- a seat's part where its call drew a ticket at or past the limit
-abbrev pub spends : ℕ → ℕ → Bool → Part → Part
+abbrev pub spends : ℕ → ℕ → Bool → SeatPart → SeatPart
 spends r ticket is_put p = record (ends (Spent r ticket is_put) p) { spent = Some ticket }
 
 -- the part of a seat after its turn, which found the word x and beside it the content y
-abbrev pub after : Setup → Phase → ℕ → List ℕ → Part → Part
+abbrev pub after : Setup → Phase → ℕ → List ℕ → SeatPart → SeatPart
 after c Idle x y p = p
 after c (AtE1 r i w l) x y p =
     if nat_le c.limit x then spends r x true p else goes_on (AtE2 r i w x 0) p

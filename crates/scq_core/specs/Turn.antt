@@ -13,7 +13,7 @@ use Rattle.scq_core.specs.declared.step.Step.{Step}
 use Rattle.scq_core.specs.declared.step.Step.TheVariants.{E1, E4, D1, D4}
 use Rattle.scq_core.specs.declared.next.Next.{Next}
 use Rattle.scq_core.specs.declared.next.Next.TheVariants.{Goes, Ends, Spends, Places, Takes}
-use Rattle.scq_core.specs.Machine.{Part, Machine}
+use Rattle.scq_core.specs.Machine.{SeatPart, Machine}
 use Rattle.scq_core.specs.Stances.{stance_of, get_ring}
 use Rattle.scq_core.specs.Table.{step_of, zero_level, reset_level, ring_of, goes_on, ends, spends}
 use Rattle.scq_core.specs.Table.{hand_without}
@@ -78,7 +78,7 @@ has_ended (Places r i w t laid) = false
 has_ended (Takes r h i w) = true
 
 -- a seat's part afterwards
-abbrev pub part_after : Next → Part → Part
+abbrev pub part_after : Next → SeatPart → SeatPart
 part_after (Goes phase) p = goes_on phase p
 part_after (Ends ended) p = ends ended p
 part_after (Spends r t is_put) p = spends r t is_put p

@@ -9,7 +9,7 @@ use std::alloc::Global;
 /// `Nothing` a dequeue: `Nothing` is what callers know as Empty, or Full on the ring of free
 /// indices. A place is the ticket at which an index was placed. `put` says whether the call that
 /// drew a spent ticket was an enqueue.
-#[derive(Debug, Drop)]
+#[derive(Drop)]
 pub enum Ended {
     Done {
         ring: u32,

@@ -5,7 +5,7 @@ ghost use Rattle.scq_core.specs.declared.phase.Phase.TheVariants.{AtE1, AtE2, At
 ghost use Rattle.scq_core.specs.declared.ended.Ended.TheVariants.{Done};
 ghost use Rattle.scq_word.specs.Words.{rank_in};
 ghost use Rattle.scq_word.specs.Entries.{IsIndexOrMark};
-ghost use Rattle.scq_core.specs.Machine.{Part};
+ghost use Rattle.scq_core.specs.Machine.{SeatPart};
 ghost use Rattle.scq_core.specs.Table.{ring_slots, after, stores};
 ghost use Rattle.scq_core.specs.Turn.{copied, ends_call, has_ended, part_after, laid_by, IsOfGet};
 ghost use Rattle.scq_core.specs.Turn.{IsReady};
@@ -18,7 +18,7 @@ use scq_word::{Bytes, Setup, cycle_of, rank, unpack};
 /// What becomes of a seat after a turn: its call goes on or ends, or keeps the ticket that it drew
 /// at or past the limit. Or it has placed an index, which leaves its hand, and `laid` comes to
 /// stand beside the entry; or it takes one, and its call ends so.
-#[derive(Debug, Drop)]
+#[derive(Drop)]
 pub enum Next {
     Goes(Phase),
     Ends(Ended),
@@ -48,7 +48,7 @@ pub enum Next {
 pub fn next_of(setup: &Setup, turn: Phase, found: u64, copy: Bytes) -> Next
     requires { IsReady setup.now turn found }
     ensures part { (beside : List ℕ) → copied turn beside ≡ copy
-        → (p : Part) → after setup.now turn found beside p ≡ part_after result p }
+        → (p : SeatPart) → after setup.now turn found beside p ≡ part_after result p }
     ensures laid { (beside : List ℕ) → copied turn beside ≡ copy
         → unwrap_or (laid_by result) beside ≡ stores turn found beside }
     ensures ends { has_ended result ≡ ends_call setup.now turn found }
@@ -141,7 +141,7 @@ pub fn next_of(setup: &Setup, turn: Phase, found: u64, copy: Bytes) -> Next
 
 /// An enqueue has drawn a ticket, which is the value that it found.
 fn drawn_by_put(setup: &Setup, ring: u32, index: u32, content: Bytes, found: u64) -> Next
-    ensures part { (least : ℕ) (beside : List ℕ) (p : Part)
+    ensures part { (least : ℕ) (beside : List ℕ) (p : SeatPart)
         → after setup.now (AtE1 ring index content least) found beside p ≡ part_after result p }
     ensures laid { laid_by result ≡ None }
     ensures ends { has_ended result ≡ nat_le setup.now.limit found }
@@ -210,7 +210,7 @@ fn seen_by_put(
 ) -> Next
     requires below_limit { ticket < setup.now.limit }
     requires entry { IsIndexOrMark setup.now.order found }
-    ensures part { (least : ℕ) (beside : List ℕ) (p : Part)
+    ensures part { (least : ℕ) (beside : List ℕ) (p : SeatPart)
         → after setup.now (AtE2 ring index content ticket least) found beside p
         ≡ part_after result p }
     ensures laid { laid_by result ≡ None }
@@ -250,7 +250,7 @@ fn next_of_get(setup: &Setup, turn: Phase, found: u64, copy: Bytes) -> Next
     requires ready { IsReady setup.now turn found }
     requires get { IsOfGet turn }
     ensures part { (beside : List ℕ) → copied turn beside ≡ copy
-        → (p : Part) → after setup.now turn found beside p ≡ part_after result p }
+        → (p : SeatPart) → after setup.now turn found beside p ≡ part_after result p }
     ensures laid { (beside : List ℕ) → copied turn beside ≡ copy
         → unwrap_or (laid_by result) beside ≡ stores turn found beside }
     ensures ends { has_ended result ≡ ends_call setup.now turn found }
@@ -386,7 +386,7 @@ fn next_of_get(setup: &Setup, turn: Phase, found: u64, copy: Bytes) -> Next
 /// passed.
 fn seen_by_get(setup: &Setup, ring: u32, ticket: u64, found: u64) -> Next
     requires { IsIndexOrMark setup.now.order found }
-    ensures part { (least : ℕ) (beside : List ℕ) (p : Part)
+    ensures part { (least : ℕ) (beside : List ℕ) (p : SeatPart)
         → after setup.now (AtD3 ring ticket least) found beside p ≡ part_after result p }
     ensures laid { laid_by result ≡ None }
     ensures ends { has_ended result ≡ false }

@@ -18,7 +18,7 @@ use std::alloc::Global;
 ///
 /// `from` and `to` are what a dequeue lifts Tail from and to. `leaving` says that Tail was caught
 /// up, so that the call ends with Nothing whatever Threshold was.
-#[derive(Debug, Drop)]
+#[derive(Drop)]
 pub enum Phase {
     /// In the middle of no call.
     Idle,

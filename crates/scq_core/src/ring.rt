@@ -18,7 +18,7 @@ use std::marker::Model;
 
 /// The words of one ring and the contents beside its entries. Threshold is kept as 2^32 more than
 /// its value, as the running word is.
-#[derive(Debug, Drop)]
+#[derive(Drop)]
 pub struct Ring {
     tail: u64,
     head: u64,

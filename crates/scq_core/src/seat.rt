@@ -19,7 +19,7 @@ use std::mem;
 
 /// A seat's part: what it is in the middle of, the indices in its hand, the spent ticket that it
 /// keeps, and the record of its ended calls.
-#[derive(Debug, Drop)]
+#[derive(Drop)]
 pub struct Seat {
     phase: Phase,
     hand: Vec<u32>,
@@ -28,9 +28,9 @@ pub struct Seat {
 }
 
 impl Model for Seat {
-    ghost use Rattle.scq_core.specs.Machine.{Part};
+    ghost use Rattle.scq_core.specs.Machine.{SeatPart};
 
-    ghost Value = { Part };
+    ghost Value = { SeatPart };
 
     ghost view = { λ s.
         record { phase = s.phase; hand = s.hand.items; spent = s.spent; calls = s.calls.items } };

@@ -6,14 +6,14 @@ use scq_word::{Bytes, NoMemory};
 use std::alloc::Global;
 
 /// The word of an entry, and the content that its put placed with it.
-#[derive(Debug, Drop)]
+#[derive(Drop)]
 pub struct Slot {
     pub word: u64,
     pub content: Bytes,
 }
 
 /// One word of a ring.
-#[derive(Clone, Copy, Debug, PartialEq, Eq)]
+#[derive(Clone, Copy, PartialEq, Eq)]
 pub enum Cell {
     Tail,
     Head,

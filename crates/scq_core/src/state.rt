@@ -20,7 +20,7 @@ use std::alloc::Global;
 use std::marker::Model;
 
 /// A state of the machine that steps reach from the start.
-#[derive(Debug, Drop)]
+#[derive(Drop)]
 pub struct State {
     setup: Setup,
     rings: Vec<Ring>,

@@ -2,7 +2,7 @@
 use Rattle.std.proofs.Common.{◌≡◌, ◌≢◌, refl, subst, true, false, ℕ, Bool, List, Option, Some, None}
 use Rattle.scq_frames.specs.declared.fault.FrameFault.{FrameFault}
 use Rattle.scq_frames.specs.declared.fault.FrameFault.TheVariants as frame
-use Rattle.scq_files.specs.Ends.{AllEndFed, StopsAt}
+use Rattle.scq_files.specs.Ends.{AllEndFed, ReadingStopsAt}
 use Rattle.scq_files.specs.Reading.{SourceOf}
 use Rattle.scq_desk.specs.Faults.{fault_of_workers, HasCause, MemoryIsFirst}
 use Rattle.scq_desk.specs.declared.fault.EndFault.{EndFault}
@@ -11,7 +11,7 @@ use Rattle.scq_desk.specs.declared.fault.EndFault.TheVariants.{Read, TooLong, To
 -- a fault has the cause of the first file's
 pub caused : {S : Type 0} (size : ℕ) (src : SourceOf S) (olds news : List S) (starved : Bool) (first : Option (ℕ × FrameFault)) (fault : EndFault)
     → fault_of_workers starved first ≡ Some fault
-    → ((file : ℕ) (f : FrameFault) → first ≡ Some (file, f) → f ≢ frame.NoMemory → StopsAt size src olds news file f) → HasCause size src olds news fault
+    → ((file : ℕ) (f : FrameFault) → first ≡ Some (file, f) → f ≢ frame.NoMemory → ReadingStopsAt size src olds news file f) → HasCause size src olds news fault
 caused size src olds news true first fault e cause =
     let is : NoMemory ≡ fault = cc in
     subst (HasCause size src olds news) is tt

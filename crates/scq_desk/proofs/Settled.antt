@@ -110,15 +110,15 @@ module _ {W B S : Type 0} where
         (all-behind P desks (All-tail Q d desks each) (All-tail R (pass_at d) passes none))
 
 -- what is there, with what holds of it
-pub record Shown {X : Type 0} (o : Option X) (P : X → Type 0) : Type 0 where
+pub record ThereIs {X : Type 0} (o : Option X) (P : X → Type 0) : Type 0 where
   pub it : X
   pub same : o ≡ Some it
   pub holds : P it
 
-pub some-of : {X : Type 0} (o : Option X) (P : X → Type 0) → IsSome o → IfSome o P → Shown o P
+pub some-of : {X : Type 0} (o : Option X) (P : X → Type 0) → IsSome o → IfSome o P → ThereIs o P
 some-of None P there so = absurd (cc)
 some-of (Some x) P there so = record { it = x; same = refl; holds = so }
 
-pub some-and : {X : Type 0} (o : Option X) (P : X → Type 0) → IsSomeAnd o P → Shown o P
+pub some-and : {X : Type 0} (o : Option X) (P : X → Type 0) → IsSomeAnd o P → ThereIs o P
 some-and None P so = absurd so
 some-and (Some x) P so = record { it = x; same = refl; holds = so }

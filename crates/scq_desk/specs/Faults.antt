@@ -2,7 +2,7 @@
 use Rattle.std.specs.Prelude.{ℕ, Bool, true, false, List, Option, Some, None}
 use Rattle.scq_frames.specs.declared.fault.FrameFault.{FrameFault}
 use Rattle.scq_frames.specs.declared.fault.FrameFault.TheVariants as frame
-use Rattle.scq_files.specs.Ends.{AllEndFed, StopsAt}
+use Rattle.scq_files.specs.Ends.{AllEndFed, ReadingStopsAt}
 use Rattle.scq_files.specs.Reading.{SourceOf}
 use Rattle.scq_desk.specs.declared.fault.EndFault.{EndFault}
 use Rattle.scq_desk.specs.declared.fault.EndFault.TheVariants.{Read, TooLong, TooLarge, NoMemory}
@@ -28,9 +28,9 @@ MemoryIsFirst size src olds news NoMemory = Unit {0}
 
 -- the cause of each fault
 abbrev pub HasCause : {S : Type 0} → ℕ → SourceOf S → List S → List S → EndFault → Type 0
-HasCause size src olds news (Read file) = StopsAt size src olds news file frame.ReadFault
+HasCause size src olds news (Read file) = ReadingStopsAt size src olds news file frame.ReadFault
 HasCause size src olds news (TooLong file line len) =
-    StopsAt size src olds news file (frame.TooLong line len)
+    ReadingStopsAt size src olds news file (frame.TooLong line len)
 HasCause size src olds news (TooLarge file bytes) =
-    StopsAt size src olds news file (frame.TooLarge bytes)
+    ReadingStopsAt size src olds news file (frame.TooLarge bytes)
 HasCause size src olds news NoMemory = Unit {0}

@@ -6,7 +6,7 @@ ghost use Rattle.scq_queue.specs.Passes.{first_passes};
 ghost use Rattle.scq_files.specs.Desks.{AreDealt};
 ghost use Rattle.scq_files.specs.OwnFiles.{IsNew};
 ghost use Rattle.scq_desk.specs.Rooms.{IsLaid, IsRoomFor};
-ghost use Rattle.scq_desk.specs.Seats.{IsFresh};
+ghost use Rattle.scq_desk.specs.Seats.{IsToBegin};
 
 use crate::clearing::{LeftBehind, make_left};
 use crate::making::make_desks;
@@ -91,7 +91,7 @@ pub fn lay_out<L: Drop, W: Sits<Pass<Frame>, L>, S: Source>(
     ensures was { result.0.was.value ≡ sources }
     ensures laid { IsLaid workers result.0 }
     ensures count { length result.1.items ≡ workers }
-    ensures fresh { All (λ d. IsFresh W.pass_of W.has_none queue.now d.worker) result.1.items }
+    ensures fresh { All (λ d. IsToBegin W.pass_of W.has_none queue.now d.worker) result.1.items }
     ensures unread { All (λ d. All IsNew d.files.items) result.1.items }
     ensures dealt { AreDealt 1 result.0.was.value.items result.1.items }
     ensures numbers { (w : ℕ) (d : _) → w < length result.1.items

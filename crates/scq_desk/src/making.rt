@@ -3,7 +3,7 @@ ghost use Rattle.std.specs.Prelude.{◌≡◌, ◌^◌, ◌<◌, ◌≤◌, [], 
 ghost use Rattle.std.specs.Prelude.{vec_capacity};
 ghost use Rattle.std.specs.List.{All};
 ghost use Rattle.scq_queue.specs.Passes.{first_passes};
-ghost use Rattle.scq_desk.specs.Seats.{IsFresh};
+ghost use Rattle.scq_desk.specs.Seats.{IsToBegin};
 
 use crate::seat::{Seat, Sits};
 use scq_block::Frame;
@@ -29,7 +29,7 @@ pub fn make_desks<L, W: Sits<Pass<Frame>, L>, S: Source>(
     requires empty { All (λ list.
         (list.items ≡ []) × (vec_len list ≡ 0) × (files ≤ vec_capacity list)) lists.items }
     ensures count { length desks.new.items ≡ queue.now.setup.seats }
-    ensures fresh { All (λ d. IsFresh W.pass_of W.has_none queue.now d.worker) desks.new.items }
+    ensures fresh { All (λ d. IsToBegin W.pass_of W.has_none queue.now d.worker) desks.new.items }
     ensures passes { map (λ d. W.pass_of d.worker.worker) desks.new.items
         ≡ first_passes queue.now queue.now.setup.seats }
     ensures empty { All (λ d. (d.files.items ≡ []) × (vec_len d.files ≡ 0)

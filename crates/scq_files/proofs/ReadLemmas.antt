@@ -27,7 +27,7 @@ use Rattle.scq_files.specs.declared.own_file.FileEnd.{FileEnd}
 use Rattle.scq_files.specs.declared.own_file.FileEnd.TheVariants.{Unread, Whole, Stopped}
 
 -- these messages were given of those that were ahead before
-pub record HasGiven (before ahead : Option (List Message)) (given : List Message) : Type 0 where
+pub record WereGivenOf (before ahead : Option (List Message)) (given : List Message) : Type 0 where
   pub visible : before ≡ option_map (λ rest. given ++ rest) ahead
 
 -- two fronts are one
@@ -37,8 +37,8 @@ fronts given m None = refl
 fronts given m (Some rest) = ap Some (sym (append_assoc given (m ∷ []) rest))
 
 -- one message more was given
-pub given-next : (before ahead after : Option (List Message)) (given given' : List Message) (m : Message) → HasGiven before ahead given
-    → ahead ≡ option_map (λ rest. (m ∷ []) ++ rest) after → given' ≡ given ++ m ∷ [] → HasGiven before after given'
+pub given-next : (before ahead after : Option (List Message)) (given given' : List Message) (m : Message) → WereGivenOf before ahead given
+    → ahead ≡ option_map (λ rest. (m ∷ []) ++ rest) after → given' ≡ given ++ m ∷ [] → WereGivenOf before after given'
 given-next before ahead after given given' m g next more = record {
   visible = g.visible ∙ ap (option_map (λ rest. given ++ rest)) next ∙ fronts given m after
       ∙ ap (λ (front : List Message). option_map (λ rest. front ++ rest) after) (sym more);
@@ -46,7 +46,7 @@ given-next before ahead after given given' m g next more = record {
 
 -- all were given once none is ahead
 pub given-all : (topics : List (List ℕ × Kind)) (size file : ℕ) (content left : Option (List ℕ)) (ahead : Option (List Message)) (given : List Message)
-    → HasGiven (visible_ahead (topic_of topics) (fresh file size (2 ^ 30)) content) ahead given → ahead ≡ option_map (λ _. []) left
+    → WereGivenOf (visible_ahead (topic_of topics) (fresh file size (2 ^ 30)) content) ahead given → ahead ≡ option_map (λ _. []) left
     → IfSome content (λ content. given ≡ map (numbered file (topic_of topics)) (messages_of content))
 given-all topics size file None left ahead given g none = tt
 given-all topics size file (Some content) left ahead given g none =
@@ -93,9 +93,9 @@ once-along true is start between after stays one two =
     }
 
 -- a file is being read: so far its source gave what the framer has, and that had no trouble
-pub record IsReading {S : Type 0} (topics : List (List ℕ × Kind)) (size : ℕ) (src : SourceOf S) (file : ℕ) (start now : S)
+pub record FileIsBeingRead {S : Type 0} (topics : List (List ℕ × Kind)) (size : ℕ) (src : SourceOf S) (file : ℕ) (start now : S)
     (framer : Framing) (given : List Message) : Type 0 where
-  pub ahead : HasGiven (visible_ahead (topic_of topics) (fresh file size (2 ^ 30)) (src.left start)) (visible_ahead (topic_of topics) framer (src.left now)) given
+  pub ahead : WereGivenOf (visible_ahead (topic_of topics) (fresh file size (2 ^ 30)) (src.left start)) (visible_ahead (topic_of topics) framer (src.left now)) given
   pub all : AreOfUpTo (length topics) file 0 framer.line given
   pub short : All (λ m. length m.payload ≤ size) given
   pub number : framer.file ≡ file
@@ -123,15 +123,15 @@ pub record Answers {S : Type 0} (src : SourceOf S) (before now : S) (old new : F
 
 -- it gave a message more
 pub reading-next : {S : Type 0} (topics : List (List ℕ × Kind)) (size : ℕ) (src : SourceOf S) (file : ℕ) (start before now : S)
-    (old new : Framing) (given given' : List Message) (m : Message) → IsReading topics size src file start before old given → Answers src before now old new
+    (old new : Framing) (given given' : List Message) (m : Message) → FileIsBeingRead topics size src file start before old given → Answers src before now old new
     → visible_ahead (topic_of topics) old (src.left before) ≡ option_map (λ rest. (m ∷ []) ++ rest) (visible_ahead (topic_of topics) new (src.left now))
-    → IsNext old new m → m.topic ≤ length topics → length m.payload ≤ old.size → Found old new (src.left before) (src.left now) (Ok (Some m)) → new.failed ≡ false
-    → src.faults now ≡ src.faults before → given' ≡ given ++ m ∷ [] → IsReading topics size src file start now new given'
-reading-next topics size src file start before now old new given given' m r said gives next known fits found going kept grown =
+    → IsNext (length topics) old new m → Found old new (src.left before) (src.left now) (Ok (Some m)) → new.failed ≡ false
+    → src.faults now ≡ src.faults before → given' ≡ given ++ m ∷ [] → FileIsBeingRead topics size src file start now new given'
+reading-next topics size src file start before now old new given given' m r said gives next found going kept grown =
     let first = fresh file size (2 ^ 30) in
     let all = Gave-found first old new (src.left start) (src.left before) (src.left now) (Ok (Some m)) r.gave found (λ h. absurd (cc)) said.stays (λ e. absurd (cc)) in
     let O : List Message → Type 0 = λ ms. AreOfUpTo (length topics) file 0 new.line ms in
-    let of = of-more (length topics) file 0 old.line given m r.all (next.file ∙ r.number) next.above known in
+    let of = of-more (length topics) file 0 old.line given m r.all (next.file ∙ r.number) next.above next.topic in
     let long : length given' ≡ length given + 1 = ap length grown ∙ length-append given (m ∷ []) in
     let alone : sum_by most_parts (m ∷ []) ≡ most_parts m = omega arith in
     let spread : sum_by most_parts given' ≡ sum_by most_parts given + most_parts m =
@@ -140,7 +140,7 @@ reading-next topics size src file start before now old new given given' m r said
       ahead = given-next _ _ (visible_ahead (topic_of topics) new (src.left now)) _ _ m r.ahead gives grown;
       all = subst O (sym grown) (subst (λ n. AreOfUpTo (length topics) file 0 n (given ++ m ∷ [])) (sym next.line) of);
       short = subst (All (λ (x : Message). length x.payload ≤ size)) (sym grown)
-          (All-push (λ (x : Message). length x.payload ≤ size) given m r.short (omega (arith, fits, r.payload)));
+          (All-push (λ (x : Message). length x.payload ≤ size) given m r.short (omega (arith, next.fits, r.payload)));
       number = said.file ∙ r.number;
       gave = Found-gave first new (src.left start) (src.left now) m all;
       going = going;
@@ -162,7 +162,7 @@ few-given (m ∷ ms) weight few bounded = omega arith
 
 -- it was read to its end
 pub reading-whole : {S : Type 0} (topics : List (List ℕ × Kind)) (size : ℕ) (src : SourceOf S) (file : ℕ) (start before now : S)
-    (old new : Framing) (given : List Message) → IsReading topics size src file start before old given → Answers src
+    (old new : Framing) (given : List Message) → FileIsBeingRead topics size src file start before old given → Answers src
     before now old new
     → visible_ahead (topic_of topics) old (src.left before) ≡ option_map (λ _. []) (src.left before) → Found old new (src.left before) (src.left now) (Ok None)
     → IsTrue new.ended → src.faults now ≡ src.faults before → IsRead topics size src file start now given Whole
@@ -183,7 +183,7 @@ reading-whole topics size src file start before now old new given r said none fo
 
 -- it was read up to a fault
 pub reading-fault : {S : Type 0} (topics : List (List ℕ × Kind)) (size : ℕ) (src : SourceOf S) (file : ℕ) (start before now : S)
-    (old new : Framing) (given : List Message) (fault : FrameFault) → IsReading topics size src file start before old given → Answers src before now old new
+    (old new : Framing) (given : List Message) (fault : FrameFault) → FileIsBeingRead topics size src file start before old given → Answers src before now old new
     → Found old new (src.left before) (src.left now) (Err fault) → (fault ≡ ReadFault → Rose (src.faults before) (src.faults now)) → (fault ≡ ReadFault → old.ended ≡ false)
     → (fault ≢ ReadFault → src.faults now ≡ src.faults before) → ((line len : ℕ) → fault ≡ TooLong line len → (old.line < line) × (old.size < len))
     → ((n : ℕ) → fault ≡ TooLarge n → (n ≡ new.most + 1) × (new.read ≡ n)) → IsRead topics size src file start now given (Stopped fault)
@@ -215,7 +215,7 @@ reading-fault {S} topics size src file start before now old new given fault r sa
 
 -- its worker leaves it
 pub reading-left : {S : Type 0} (topics : List (List ℕ × Kind)) (size : ℕ) (src : SourceOf S) (file : ℕ) (start now : S)
-    (framer : Framing) (given : List Message) → IsReading topics size src file start now framer given
+    (framer : Framing) (given : List Message) → FileIsBeingRead topics size src file start now framer given
     → IsRead topics size src file start now given (Stopped NoMemory)
 reading-left topics size src file start now framer given r = record {
   ends = record {

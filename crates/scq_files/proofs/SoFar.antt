@@ -9,7 +9,7 @@ use Rattle.scq_frames.specs.declared.fault.FrameFault.{FrameFault}
 use Rattle.scq_frames.specs.declared.fault.FrameFault.TheVariants.{ReadFault, TooLong, TooLarge, NoMemory}
 use Rattle.scq_frames.proofs.FindingLemmas.{nothing_moved}
 use Rattle.scq_files.specs.Reading.{EndsSo, IsWhole, IsStopped, SourceOf}
-use Rattle.scq_files.specs.Ends.{EndsFed, HasMoved, StopsAt, end_fault, wanted_memory}
+use Rattle.scq_files.specs.Ends.{EndsFed, HasMoved, ReadingStopsAt, end_fault, wanted_memory}
 use Rattle.scq_files.specs.declared.own_file.FileEnd.{FileEnd}
 use Rattle.scq_files.specs.declared.own_file.FileEnd.TheVariants.{Unread, Whole, Stopped}
 
@@ -43,7 +43,7 @@ pub record SoFar {S : Type 0} (size : ℕ) (src : SourceOf S) (was : List S) (at
   pub count : length sources ≡ at
   pub moved : (k : ℕ) (d : S) → k < at → HasMoved src (slice_index_or was k d) (slice_index_or sources k d)
   pub sound : fault ≡ None → (k : ℕ) (d : S) → k < at → IsWhole size src (slice_index_or was k d) (slice_index_or sources k d)
-  pub cause : (file : ℕ) (f : FrameFault) → fault ≡ Some (file, f) → f ≢ NoMemory → (file ≤ at) × StopsAt size src was sources file f
+  pub cause : (file : ℕ) (f : FrameFault) → fault ≡ Some (file, f) → f ≢ NoMemory → (file ≤ at) × ReadingStopsAt size src was sources file f
   pub fed : starved ≡ false → (k : ℕ) (d : S) → k < at → EndsFed size src (slice_index_or was k d) (slice_index_or sources k d)
 
 -- what holds of the elements so far and of one more
@@ -85,9 +85,9 @@ so-far-more {S} size src was at sources fault starved old new number end s withi
       (subst (λ x. IsWhole size src x new) (sym (is_old d)) ends) k less
 
   cause : (fault : Option (ℕ × FrameFault)) (end : FileEnd) → EndsSo size src old new end → (fault ≡ None → Sound)
-      → ((file : ℕ) (f : FrameFault) → fault ≡ Some (file, f) → f ≢ NoMemory → (file ≤ at) × StopsAt size src was sources file f)
+      → ((file : ℕ) (f : FrameFault) → fault ≡ Some (file, f) → f ≢ NoMemory → (file ≤ at) × ReadingStopsAt size src was sources file f)
       → (file : ℕ) (f : FrameFault) → option_or fault (end_fault number end) ≡ Some (file, f) → f ≢ NoMemory
-      → (file ≤ at + 1) × StopsAt size src was (sources ++ new ∷ []) file f
+      → (file ≤ at + 1) × ReadingStopsAt size src was (sources ++ new ∷ []) file f
   cause (Some x) end ends so was_cause file f is other =
       let c = was_cause file f is other in
       let stops = c.1 in (

@@ -3,7 +3,7 @@ use Rattle.std.specs.Prelude.{◌≡◌, ◌≢◌, ℕ, ◌<◌, Bool, false, L
 use Rattle.std.specs.Prelude.{reverse, slice_index_or, All}
 use Rattle.scq_frames.specs.declared.fault.FrameFault.{FrameFault}
 use Rattle.scq_frames.specs.declared.fault.FrameFault.TheVariants as frame
-use Rattle.scq_files.specs.Ends.{AllEndFed, HasMoved, StopsAt}
+use Rattle.scq_files.specs.Ends.{AllEndFed, HasMoved, ReadingStopsAt}
 use Rattle.scq_files.specs.Files.{files_of}
 use Rattle.scq_files.specs.OwnFiles.{StopsAtAFault, ids_of}
 use Rattle.scq_files.specs.Reading.{EndsSo, IsWhole, SourceOf}
@@ -20,7 +20,7 @@ pub record AreGathered {S : Type 0} (size : ℕ) (src : SourceOf S) (was news : 
   pub sound : fault ≡ None → (k : ℕ) (d : S) → k < length was
       → IsWhole size src (slice_index_or was k d) (slice_index_or news k d)
   pub cause : (file : ℕ) (f : FrameFault) → fault ≡ Some (file, f) → f ≢ frame.NoMemory
-      → StopsAt size src was news file f
+      → ReadingStopsAt size src was news file f
   pub fed : starved ≡ false → AllEndFed size src was news
 
 module _ {W S : Type 0} where

@@ -43,7 +43,7 @@ pub record HasMoved {S : Type 0} (src : SourceOf S) (old new : S) : Type 0 where
 
 -- the files before this one were read to their ends, and the reading of this one stopped at the
 -- fault
-pub record StopsAt {S : Type 0} (size : ℕ) (src : SourceOf S) (olds news : List S) (file : ℕ)
+pub record ReadingStopsAt {S : Type 0} (size : ℕ) (src : SourceOf S) (olds news : List S) (file : ℕ)
     (fault : FrameFault) : Type 0 where
   pub first : 0 < file
   pub last : file ≤ length olds

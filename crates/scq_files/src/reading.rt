@@ -1,5 +1,6 @@
 //! How files are read: message by message, which a handler gets.
-ghost use Rattle.std.specs.Prelude.{◌≡◌, ◌≤◌, [], ◌∷◌, true, false, length, IfOk, IfErr, IsTrue, OnOk, All};
+ghost use Rattle.std.specs.Prelude.{◌≡◌, ◌≤◌, [], ◌∷◌, true, false, length, All};
+ghost use Rattle.std.specs.Prelude.{IfOk, IfErr, IsTrue, OnOk};
 ghost use Rattle.scq_frames.specs.declared.message.Message.{Message as TheMessage};
 ghost use Rattle.scq_files.specs.Given.{given_in};
 ghost use Rattle.scq_files.specs.Handling.{TellsOfWant, WantsAtLast};

@@ -1,11 +1,12 @@
 -- The messages ahead of a framer, when a line or the last line is passed.
-use Rattle.std.proofs.Common.{◌≡◌, ℕ, ◌+◌, ◌≤◌, Bool, Option, Some, None, List, [], ◌∷◌, ◌++◌, length, take, drop, map, refl, sym, ◌∙◌, ap}
+use Rattle.std.proofs.Common.{◌≡◌, ℕ, ◌+◌, ◌≤◌, Bool, Option, Some, None, List, [], ◌∷◌, ◌++◌, length, take, drop, map, refl, sym, ◌∙◌, ap, subst}
 use Rattle.std.specs.Prelude.{IsTrue, IfNone, IfSome, sum_by, if◌then◌else◌}
 use Rattle.std.specs.Option.{option_map, option_to_list}
 use Rattle.std.proofs.lemmas.List.{append-nil, map-append}
 use Rattle.scq_frames.specs.Numbered.{numbered}
 use Rattle.scq_frames.specs.Lines.{EndsAt, HasNoLineFeed}
 use Rattle.scq_frames.specs.Text.{message_in, messages_after, payload_of}
+use Rattle.scq_frames.specs.Answers.{GivesFirst}
 use Rattle.scq_frames.specs.Framing.{bytes_ahead, Framing, visible_ahead, weight_of}
 use Rattle.scq_frames.specs.declared.message.Message.{Message}
 use Rattle.scq_frames.proofs.TextLemmas.{messages_after-ended, messages_after-last, messages_after-nil}
@@ -50,6 +51,19 @@ module _ (number : List ℕ → ℕ) where
     pub gave : option_to_list given ≡ map (numbered old.file number) (message_in (old.line + 1) (take len old.held))
     pub after : new ≡ record old { line = old.line + 1; held = drop (len + 1) old.held; weight = old.weight + sum_by weight_of (option_to_list given) }
 
+  -- where the search for its end left the framer as it was
+  pub passed-line : (old new was : Framing) (len : ℕ) (given : Option Message) → old ≡ was → EndsAt was.held len
+      → length (payload_of (take len old.held)) ≤ old.size
+      → option_to_list given ≡ map (numbered old.file number) (message_in (old.line + 1) (take len old.held))
+      → new ≡ record old { line = old.line + 1; held = drop (len + 1) old.held; weight = old.weight + sum_by weight_of (option_to_list given) }
+      → Passed old new len given
+  passed-line old new was len given same ends fits gave after = record {
+    ends = subst (λ (f : Framing). EndsAt f.held len) (sym same) ends;
+    fits = fits;
+    gave = gave;
+    after = after;
+  }
+
   -- what was ahead is what the line gave, and what is ahead behind it
   pub gives-line : (first old new : Framing) (before after : Option (List ℕ)) (len : ℕ) (given : Option Message)
       → visible_ahead number first before ≡ visible_ahead number old after → Passed old new len given
@@ -77,6 +91,17 @@ module _ (number : List ℕ → ℕ) where
     pub none : IfNone given (new ≡ old)
     pub some : IfSome given (λ m. new ≡ record old { line = old.line + 1; held = []; weight = old.weight + weight_of m })
 
+  pub passed-last : (old new was : Framing) (given : Option Message) → old ≡ was → IsTrue old.ended → HasNoLineFeed was.held 0 (length was.held)
+      → option_to_list given ≡ map (numbered old.file number) (message_in (old.line + 1) old.held) → IfNone given (new ≡ old)
+      → IfSome given (λ m. new ≡ record old { line = old.line + 1; held = []; weight = old.weight + weight_of m }) → PassedLast old new given
+  passed-last old new was given same ended clear gave none some = record {
+    ended = ended;
+    clear = subst (λ (f : Framing). HasNoLineFeed f.held 0 (length f.held)) (sym same) clear;
+    gave = gave;
+    none = none;
+    some = some;
+  }
+
   nothing_behind : (old new : Framing) (given : Option Message) (after : Option (List ℕ)) → PassedLast old new given
       → visible_ahead number new after ≡ option_map (λ _. []) after
   nothing_behind old new None after p =
@@ -91,7 +116,7 @@ module _ (number : List ℕ → ℕ) where
   last-only first old before after given new ahead p =
       ahead ∙ visible_ahead-last old after p.ended p.clear ∙ ap (λ (ms : List Message). option_map (λ _. ms) after) (sym p.gave)
 
-  pub gives-last : (first old new : Framing) (before after : Option (List ℕ)) (given : Option Message)
+  gives-last : (first old new : Framing) (before after : Option (List ℕ)) (given : Option Message)
       → visible_ahead number first before ≡ visible_ahead number old after → PassedLast old new given
       → visible_ahead number first before ≡ option_map (λ rest. option_to_list given ++ rest) (visible_ahead number new after)
   gives-last first old new before after given ahead p =
@@ -103,24 +128,40 @@ module _ (number : List ℕ → ℕ) where
       joined None = refl
       joined (Some left) = ap Some (sym (append-nil (option_to_list given)))
 
-  -- where the end gave nothing, nothing was ahead
-  pub none-last : (first old new : Framing) (before after : Option (List ℕ)) (given : Option Message)
-      → visible_ahead number first before ≡ visible_ahead number old after → PassedLast old new given
-      → IfNone given (visible_ahead number first before ≡ option_map (λ _. []) before)
-  none-last first old new before after (Some m) ahead p = tt
-  none-last first old new before after None ahead p = empty before after (last-only first old before after None new ahead p)
-    where
-      empty : (before after : Option (List ℕ)) → visible_ahead number first before ≡ option_map (λ _. []) after
-          → visible_ahead number first before ≡ option_map (λ _. []) before
-      empty None after e = refl
-      empty (Some left) None e = cc
-      empty (Some left) (Some rest) e = e
+  -- a message was passed, which is the first of those ahead
+  pub first-line : (first old new : Framing) (before after : Option (List ℕ)) (len : ℕ) (given : Option Message) (m : Message)
+      → visible_ahead number first before ≡ visible_ahead number old after → Passed old new len given → given ≡ Some m
+      → GivesFirst number first new before after (Some m)
+  first-line first old new before after len given m ahead passed some = record {
+    gives = subst (λ (o : Option Message). visible_ahead number first before
+        ≡ option_map (λ rest. option_to_list o ++ rest) (visible_ahead number new after)) some (gives-line first old new before after len given ahead passed);
+    none = tt;
+    over = tt;
+  }
 
-  -- the same, under other names of what was given and of the framer
-  pub gives-again : (visible : Option (List Message)) (after : Option (List ℕ)) (new new' : Framing) (given given' : Option Message) → new' ≡ new
-      → given' ≡ given
-      → visible ≡ option_map (λ rest. option_to_list given ++ rest) (visible_ahead number new after)
-      → visible ≡ option_map (λ rest. option_to_list given' ++ rest) (visible_ahead number new' after)
-  gives-again visible after new new' given given' framer message gives =
-      gives ∙ ap (λ (f : Framing). option_map (λ rest. option_to_list given ++ rest) (visible_ahead number f after)) (sym framer)
-      ∙ ap (λ (o : Option Message). option_map (λ rest. option_to_list o ++ rest) (visible_ahead number new' after)) (sym message)
+  -- the last line was passed, or the end gave nothing, and then nothing was ahead
+  pub first-last : (first old new : Framing) (before after : Option (List ℕ)) (given : Option Message)
+      → visible_ahead number first before ≡ visible_ahead number old after → PassedLast old new given → GivesFirst number first new before after given
+  first-last first old new before after given ahead p = record {
+    gives = gives-last first old new before after given ahead p;
+    none = none-last given ahead p;
+    over = over given p;
+  }
+    where
+      none-last : (given : Option Message) → visible_ahead number first before ≡ visible_ahead number old after → PassedLast old new given
+          → IfNone given (visible_ahead number first before ≡ option_map (λ _. []) before)
+      none-last (Some m) ahead p = tt
+      none-last None ahead p = empty before after (last-only first old before after None new ahead p)
+        where
+          empty : (before after : Option (List ℕ)) → visible_ahead number first before ≡ option_map (λ _. []) after
+              → visible_ahead number first before ≡ option_map (λ _. []) before
+          empty None after e = refl
+          empty (Some left) None e = cc
+          empty (Some left) (Some rest) e = e
+
+      over : (given : Option Message) → PassedLast old new given → IfNone given (IsTrue new.ended × (new.held ≡ []))
+      over (Some m) p = tt
+      over None p = (
+        ap (λ (f : Framing). f.ended) p.none ∙ p.ended,
+        ap (λ (f : Framing). f.held) p.none ∙ no_line (old.line + 1) old.file old.held p.gave,
+      )

@@ -11,7 +11,7 @@ use Rattle.scq_frames.specs.declared.fault.FrameFault.{FrameFault}
 use Rattle.scq_frames.specs.declared.fault.FrameFault.TheVariants.{ReadFault, TooLong, TooLarge, NoMemory}
 use Rattle.scq_frames.specs.Lines.{EndsAt, HasNoLineFeed}
 use Rattle.scq_frames.specs.Text.{Framed, message_in, messages_after}
-use Rattle.scq_frames.specs.Trouble.{counted, whole_lines}
+use Rattle.scq_frames.specs.Trouble.{counted_bytes, whole_lines}
 use Rattle.scq_frames.specs.Framing.{Framing, Fetched}
 use Rattle.scq_frames.specs.Finding.{limit_left, MayFollow, Finds, IsTooLong}
 use Rattle.scq_frames.specs.Coming.{counted_ahead, BeginsWithLong, Comes, IsNeeded, Found}
@@ -43,10 +43,10 @@ counted_ahead-line f len weight failed more ends within =
     let behind = drop (len + 1) f.held ++ more in
     let rest : limit_left f - (length (take len f.held) + 1) ≡ f.most + length (drop (len + 1) f.held) - f.read =
     omega (arith, ends.within, length-drop (len + 1) f.held) in
-    ap (λ (l : List ℕ). messages_after f.line (counted (limit_left f) failed l)) (ended_parts f.held more len ends)
+    ap (λ (l : List ℕ). messages_after f.line (counted_bytes (limit_left f) failed l)) (ended_parts f.held more len ends)
     ∙ ap (messages_after f.line) (counted-line (limit_left f) failed (take len f.held) behind (omega (arith, ends.within)))
-    ∙ messages_after-line f.line (take len f.held) (counted (limit_left f - (length (take len f.held) + 1)) failed behind) (line-clear f.held len ends)
-    ∙ ap (λ (n : ℕ). message_in (f.line + 1) (take len f.held) ++ messages_after (f.line + 1) (counted n failed behind)) rest
+    ∙ messages_after-line f.line (take len f.held) (counted_bytes (limit_left f - (length (take len f.held) + 1)) failed behind) (line-clear f.held len ends)
+    ∙ ap (λ (n : ℕ). message_in (f.line + 1) (take len f.held) ++ messages_after (f.line + 1) (counted_bytes n failed behind)) rest
 
 -- a line without a message was passed
 pub Quiet-line : (first old : Framing) (bytes : List ℕ) (len weight : ℕ) → Quiet first old bytes → EndsAt old.held len → old.read ≤ old.most
@@ -62,7 +62,7 @@ Quiet-line first old bytes len weight q ends within none = record {
 -- where no line is whole, no message is, should a read fail next
 pub none_whole : (f : Framing) → HasNoLineFeed f.held 0 (length f.held) → f.read ≤ f.most → counted_ahead f true [] ≡ []
 none_whole f clear within =
-    ap (λ (l : List ℕ). messages_after f.line (counted (limit_left f) true l)) (append-nil f.held)
+    ap (λ (l : List ℕ). messages_after f.line (counted_bytes (limit_left f) true l)) (append-nil f.held)
     ∙ ap (messages_after f.line) (counted-failed (limit_left f) f.held clear (omega arith)) ∙ messages_after-nil f.line
 
 -- so none is of what came since the call began
@@ -90,7 +90,7 @@ Quiet-fetched first old new mid after bytes q fetched clear going within few sam
   same = λ failed more may.
       ap (λ (l : List ℕ). map bare (counted_ahead first failed l)) (append_assoc bytes fetched.bytes more)
       ∙ q.same failed (fetched.bytes ++ more) (λ h. absurd (true≢false (sym h ∙ going)))
-      ∙ ahead-fetched (λ size limit line text. map bare (messages_after line (counted limit failed text))) old new mid after fetched within same more;
+      ∙ ahead-fetched (λ size limit line text. map bare (messages_after line (counted_bytes limit failed text))) old new mid after fetched within same more;
   needed = needed-fetched first old new mid after bytes q fetched clear going within few;
 }
 
@@ -124,9 +124,9 @@ Comes-long first old new len at count bytes q ends within stays long = λ failed
 
 -- at the end, what is held is the last line
 last_ahead : (f : Framing) → HasNoLineFeed f.held 0 (length f.held) → f.read ≤ f.most → counted_ahead f false [] ≡ message_in (f.line + 1) f.held
-unfolding counted
+unfolding counted_bytes
 last_ahead f clear within =
-    ap (λ (l : List ℕ). messages_after f.line (counted (limit_left f) false l)) (append-nil f.held)
+    ap (λ (l : List ℕ). messages_after f.line (counted_bytes (limit_left f) false l)) (append-nil f.held)
     ∙ ap (λ (t : Bool). messages_after f.line (cond t (whole_lines (take (limit_left f) f.held)) f.held)) (le-ltb (limit_left f) (length f.held) (omega arith))
     ∙ messages_after-last f.line f.held clear
 

@@ -21,7 +21,7 @@ use Rattle.scq_frames.proofs.FindingLemmas.{Gave, Gave-start, moved-moved, troub
 use Rattle.scq_frames.proofs.ComingLemmas.{Quiet, Quiet-start, Quiet-fetched, needed-fetched, Comes-long, Comes-long_last, Comes-read_err, Found-err}
 
 -- of a line that has not ended these many payload bytes came so far, too many, and none of the line is held
-pub record Counts {S : Type 0} (left : S → Option (List ℕ)) (faults : S → ℕ) (first now : Framing) (source after : S) (count : ℕ) : Type 0 where
+pub record CountsLongLine {S : Type 0} (left : S → Option (List ℕ)) (faults : S → ℕ) (first now : Framing) (source after : S) (count : ℕ) : Type 0 where
   pub line : List ℕ
   pub clear : HasNoLineFeed line 0 (length line)
   pub grows : (more : List ℕ) → length (payload_of (line ++ more)) ≡ count + length more
@@ -79,9 +79,9 @@ ends-more line more len clear ends = record {
 pub Counts-start : {S : Type 0} (left : S → Option (List ℕ)) (faults : S → ℕ) (first now : Framing) (source : S) (count : ℕ) → now ≡ record first { held = [] }
     → HasNoLineFeed first.held 0 (length first.held) → count ≡ length (payload_of first.held) → first.size < count → count ≤ first.read
     → first.ended ≡ false → first.read ≤ first.most → first.most ≤ 2 ^ 30
-    → Counts left faults first now source source count
+    → CountsLongLine left faults first now source source count
 Counts-start left faults first now source count same clear is long small going within limit =
-    subst (λ (f : Framing). Counts left faults first f source source count) (sym same) (record {
+    subst (λ (f : Framing). CountsLongLine left faults first f source source count) (sym same) (record {
       line = first.held;
       clear = clear;
       grows = λ more. payload-grows first.held more (omega (arith, is, long)) ∙ ap (λ (n : ℕ). n + length more) (sym is);
@@ -151,7 +151,7 @@ pub Found-dropped : (first new : Framing) (held : List ℕ) (before after : Opti
 Found-dropped first new held before after fault f = Found-holding first (holding new held) new.held before after fault f
 
 module _ {S : Type 0} (left : S → Option (List ℕ)) (faults : S → ℕ) (first now new : Framing) (source mid after : S) (count : ℕ)
-    (s : Counts left faults first now source mid count)
+    (s : CountsLongLine left faults first now source mid count)
     (same : new ≡ record now { held = new.held; read = new.read; ended = new.ended }) (fetched : Fetched now new (left mid) (left after))
     (few : new.read ≤ now.read + 4096) where
   -- the framers as if they held the whole line
@@ -241,9 +241,9 @@ module _ {S : Type 0} (left : S → Option (List ℕ)) (faults : S → ℕ) (fir
   -- the line goes on
   pub Counts-more : (next : Framing) → next ≡ record new { held = [] } → HasNoLineFeed new.held 0 (length new.held) → new.ended ≡ false → new.read ≤ new.most
       → faults after ≡ faults mid → visible_size new (left after) ≡ visible_size now (left mid)
-      → Counts left faults first next source after (count + length new.held)
+      → CountsLongLine left faults first next source after (count + length new.held)
   Counts-more next empty clear going within kept size =
-      subst (λ (f : Framing). Counts left faults first f source after (count + length new.held)) (sym empty) (record {
+      subst (λ (f : Framing). CountsLongLine left faults first f source after (count + length new.held)) (sym empty) (record {
         line = s.line ++ new.held;
         clear = clear-more s.line new.held s.clear clear;
         grows =

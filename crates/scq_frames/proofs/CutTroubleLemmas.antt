@@ -8,7 +8,7 @@ use Rattle.std.proofs.Math.Seq.{take-append-add}
 use Rattle.std.proofs.lemmas.Bool.{cases_lt, lt-ltb, le-ltb}
 use Rattle.std.proofs.lemmas.List.Elements.{All-head, All-tail}
 use Rattle.scq_frames.specs.Text.{Framed, messages_after, is_line_feed}
-use Rattle.scq_frames.specs.Trouble.{Trouble, LongPayload, ManyBytes, whole_lines, counted, first_too_long, trouble_after}
+use Rattle.scq_frames.specs.Trouble.{Trouble, LongPayload, ManyBytes, whole_lines, counted_bytes, first_too_long, trouble_after}
 use Rattle.scq_frames.proofs.CutLemmas.{bare, bare-overlooks, Overlooks, IsTopic, messages-cut}
 
 list_any-front : (a rest : List ℕ) → All (λ b. is_line_feed b ≡ false) a → list_any is_line_feed (a ++ rest) ≡ list_any is_line_feed rest
@@ -54,8 +54,8 @@ past-cut most a b rest within =
 counted-cut : {Y : Type 0} (g : List ℕ → Y) (a b : List ℕ) (topic : IsTopic (a ++ b)) (front : IsTopic a)
     → ((rest : List ℕ) → g ((a ++ b) ++ rest) ≡ g (a ++ rest))
     → (most : ℕ) (failed : Bool) (rest : List ℕ) → length a + length b ≤ most
-    → g (counted most failed ((a ++ b) ++ rest)) ≡ g (counted (most - length b) failed (a ++ rest))
-unfolding counted
+    → g (counted_bytes most failed ((a ++ b) ++ rest)) ≡ g (counted_bytes (most - length b) failed (a ++ rest))
+unfolding counted_bytes
 counted-cut {Y} g a b topic front same most failed rest within =
     let k : ℕ = most - (length a + length b) in
     let limit : most ≡ length (a ++ b) + k = omega (arith, within, length-append a b) in
@@ -86,7 +86,7 @@ module _ (a b : List ℕ) (topic : IsTopic (a ++ b)) (front : IsTopic a) (some :
     (within : length a + length b ≤ most) where
   -- the messages that count
   pub counted_messages-cut : {X : Type 0} (named : ℕ) (h : Framed → X) → Overlooks named h → named ≤ length a
-      → map h (messages_after passed (counted most failed ((a ++ b) ++ rest))) ≡ map h (messages_after passed (counted (most - length b) failed (a ++ rest)))
+      → map h (messages_after passed (counted_bytes most failed ((a ++ b) ++ rest))) ≡ map h (messages_after passed (counted_bytes (most - length b) failed (a ++ rest)))
   counted_messages-cut named h over long =
       counted-cut (λ (l : List ℕ). map h (messages_after passed l)) a b topic front (messages-cut named h over a b topic front long some passed) most failed
       rest within
@@ -96,11 +96,11 @@ module _ (a b : List ℕ) (topic : IsTopic (a ++ b)) (front : IsTopic a) (some :
       → trouble_after size most failed passed ((a ++ b) ++ rest) ≡ trouble_after size (most - length b) failed passed (a ++ rest)
   unfolding trouble_after
   trouble_after-cut size =
-      let first : first_too_long size (messages_after passed (counted most failed ((a ++ b) ++ rest)))
-      ≡ first_too_long size (messages_after passed (counted (most - length b) failed (a ++ rest))) =
-      first_too_long-bare size (messages_after passed (counted most failed ((a ++ b) ++ rest)))
+      let first : first_too_long size (messages_after passed (counted_bytes most failed ((a ++ b) ++ rest)))
+      ≡ first_too_long size (messages_after passed (counted_bytes (most - length b) failed (a ++ rest))) =
+      first_too_long-bare size (messages_after passed (counted_bytes most failed ((a ++ b) ++ rest)))
       ∙ ap (first_too_long size) (counted_messages-cut 0 bare (bare-overlooks 0) (omega arith))
-      ∙ sym (first_too_long-bare size (messages_after passed (counted (most - length b) failed (a ++ rest)))) in
+      ∙ sym (first_too_long-bare size (messages_after passed (counted_bytes (most - length b) failed (a ++ rest)))) in
       ap (λ (o : Option Trouble). option_or o (cond (nat_lt most (length ((a ++ b) ++ rest))) (Some ManyBytes) None)) first
-      ∙ ap (λ (t : Bool). option_or (first_too_long size (messages_after passed (counted (most - length b) failed (a ++ rest))))
+      ∙ ap (λ (t : Bool). option_or (first_too_long size (messages_after passed (counted_bytes (most - length b) failed (a ++ rest))))
       (cond t (Some ManyBytes) None)) (past-cut most a b rest within)

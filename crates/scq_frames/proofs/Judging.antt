@@ -4,7 +4,7 @@ use Rattle.std.specs.Prelude.{IsTrue, nat_lt, if◌then◌else◌}
 use Rattle.std.specs.Option.{option_map, option_or}
 use Rattle.std.proofs.lemmas.List.{take-append-le, append-nil, append_assoc}
 use Rattle.std.proofs.lemmas.Bool.{lt-ltb, cond-true}
-use Rattle.scq_frames.specs.Trouble.{LongPayload, ManyBytes, counted, trouble_after, whole_lines, first_too_long}
+use Rattle.scq_frames.specs.Trouble.{LongPayload, ManyBytes, counted_bytes, trouble_after, whole_lines, first_too_long}
 use Rattle.scq_frames.specs.Text.{Framed, messages_after}
 use Rattle.scq_frames.specs.declared.message.Message.{Message}
 use Rattle.scq_frames.specs.declared.fault.FrameFault.{FrameFault}
@@ -16,8 +16,8 @@ use Rattle.scq_frames.proofs.FindingLemmas.{Gave, FoundSince, moved-moved}
 use Rattle.scq_frames.specs.Judged.{file_trouble, Judged}
 
 -- past the limit nothing matters
-counted-more : (most : ℕ) (failed : Bool) (text more : List ℕ) → most < length text → counted most failed (text ++ more) ≡ whole_lines (take most text)
-unfolding counted
+counted-more : (most : ℕ) (failed : Bool) (text more : List ℕ) → most < length text → counted_bytes most failed (text ++ more) ≡ whole_lines (take most text)
+unfolding counted_bytes
 counted-more most true text more many = ap whole_lines (take-append-le most text more (omega arith))
 counted-more most false text more many =
     ap (λ (b : Bool). if b then whole_lines (take most (text ++ more)) else (text ++ more))

@@ -3,7 +3,7 @@ use Rattle.std.proofs.Common.{◌≡◌, refl, Some, None, true, false, [], ◌�
 use Rattle.std.specs.Prelude.{codes}
 use Rattle.scq_frames.specs.Text.{messages_of, messages_after}
 use Rattle.scq_frames.specs.Parts.{parts_of, part_bytes}
-use Rattle.scq_frames.specs.Trouble.{trouble_of, trouble_after, counted, LongPayload, ManyBytes}
+use Rattle.scq_frames.specs.Trouble.{trouble_of, trouble_after, counted_bytes, LongPayload, ManyBytes}
 
 row-empty : messages_of [] ≡ []
 unfolding messages_after
@@ -26,23 +26,23 @@ unfolding messages_after
 row-spaces = refl
 
 row-long-first : trouble_of 2 9 false (codes "x 123\nxx") ≡ Some (LongPayload 1 3)
-unfolding trouble_after counted messages_after
+unfolding trouble_after counted_bytes messages_after
 row-long-first = refl
 
 row-unended : trouble_of 2 9 false (codes "a\nx 123") ≡ Some (LongPayload 2 3)
-unfolding trouble_after counted messages_after
+unfolding trouble_after counted_bytes messages_after
 row-unended = refl
 
 row-failed : trouble_of 2 9 true (codes "a\nx 123") ≡ None
-unfolding trouble_after counted messages_after
+unfolding trouble_after counted_bytes messages_after
 row-failed = refl
 
 row-past : trouble_of 2 5 false (codes "a\nx 123") ≡ Some ManyBytes
-unfolding trouble_after counted messages_after
+unfolding trouble_after counted_bytes messages_after
 row-past = refl
 
 row-many : trouble_of 16 4 false (codes "a\nb\nc") ≡ Some ManyBytes
-unfolding trouble_after counted messages_after
+unfolding trouble_after counted_bytes messages_after
 row-many = refl
 
 row-one-part : parts_of 16 (codes "1234567890123456") ≡ 1

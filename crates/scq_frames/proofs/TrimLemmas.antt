@@ -10,7 +10,7 @@ use Rattle.scq_topics.specs.Runs.{is_space}
 use Rattle.scq_frames.specs.Numbered.{numbered}
 use Rattle.scq_frames.specs.Lines.{HasNoLineFeed}
 use Rattle.scq_frames.specs.Text.{Framed, messages_after, is_line_feed}
-use Rattle.scq_frames.specs.Trouble.{counted, trouble_after}
+use Rattle.scq_frames.specs.Trouble.{counted_bytes, trouble_after}
 use Rattle.scq_frames.specs.Framing.{Framing, visible_ahead}
 use Rattle.scq_frames.specs.Finding.{limit_left, trouble_ahead}
 use Rattle.scq_frames.specs.Coming.{counted_ahead}
@@ -144,11 +144,11 @@ module _ (f : Framing) (held : List ℕ) (most : ℕ) (some : 0 < most) (p : Par
   counted_ahead-cut : {X : Type 0} (h : Framed → X) → Overlooks most h
       → map h (counted_ahead f failed more) ≡ map h (counted_ahead (holding f held) failed more)
   counted_ahead-cut h over =
-      ap (λ (l : List ℕ). map h (messages_after f.line (counted (limit_left f) failed l))) text
+      ap (λ (l : List ℕ). map h (messages_after f.line (counted_bytes (limit_left f) failed l))) text
       ∙ counted_messages-cut p.front p.gone p.all p.first (omega (arith, some, p.long)) (limit_left f) failed f.line (p.rest ++ more) inside most h over
       (omega (arith, p.long))
-      ∙ ap (λ (n : ℕ). map h (messages_after f.line (counted n failed (p.front ++ (p.rest ++ more))))) limit
-      ∙ ap (λ (l : List ℕ). map h (messages_after f.line (counted (limit_left (holding f held)) failed l))) (sym text_cut)
+      ∙ ap (λ (n : ℕ). map h (messages_after f.line (counted_bytes n failed (p.front ++ (p.rest ++ more))))) limit
+      ∙ ap (λ (l : List ℕ). map h (messages_after f.line (counted_bytes (limit_left (holding f held)) failed l))) (sym text_cut)
 
   trouble_ahead-cut : trouble_ahead f failed more ≡ trouble_ahead (holding f held) failed more
   trouble_ahead-cut =

@@ -10,7 +10,7 @@ use Rattle.std.proofs.lemmas.Bool.{cases_lt, cond-true, cond-false, lt-ltb, le-l
 use Rattle.scq_frames.specs.Lines.{HasNoLineFeed}
 use Rattle.scq_frames.specs.Text.{Framed, message_in, messages_after, is_line_feed}
 use Rattle.scq_topics.specs.Runs.{is_space}
-use Rattle.scq_frames.specs.Trouble.{Trouble, LongPayload, ManyBytes, whole_lines, counted, first_too_long, trouble_after}
+use Rattle.scq_frames.specs.Trouble.{Trouble, LongPayload, ManyBytes, whole_lines, counted_bytes, first_too_long, trouble_after}
 use Rattle.scq_frames.proofs.TextLemmas.{messages_after-line, messages_after-last, messages_after-nil, no_line_feed}
 
 any-line_feed : (line rest : List ℕ) → list_any is_line_feed (line ++ 10 ∷ rest) ≡ true
@@ -60,8 +60,8 @@ past-line most line rest within =
 
 -- a whole line within the limit counts, and what follows counts by what is left of the limit
 pub counted-line : (most : ℕ) (failed : Bool) (line rest : List ℕ) → length line + 1 ≤ most
-    → counted most failed (line ++ 10 ∷ rest) ≡ line ++ 10 ∷ counted (most - (length line + 1)) failed rest
-unfolding counted
+    → counted_bytes most failed (line ++ 10 ∷ rest) ≡ line ++ 10 ∷ counted_bytes (most - (length line + 1)) failed rest
+unfolding counted_bytes
 counted-line most failed line rest within =
     let k : ℕ = most - (length line + 1) in
     let text = line ++ 10 ∷ rest in
@@ -85,13 +85,13 @@ trouble_after-line size most failed passed line rest clear within =
     let k : ℕ = most - (length line + 1) in
     let text = line ++ 10 ∷ rest in
     let first = first_too_long size (message_in (passed + 1) line) in
-    let found : first_too_long size (messages_after passed (counted most failed text))
-    ≡ option_or first (first_too_long size (messages_after (passed + 1) (counted k failed rest))) =
+    let found : first_too_long size (messages_after passed (counted_bytes most failed text))
+    ≡ option_or first (first_too_long size (messages_after (passed + 1) (counted_bytes k failed rest))) =
     ap (λ l. first_too_long size (messages_after passed l)) (counted-line most failed line rest within)
-    ∙ ap (first_too_long size) (messages_after-line passed line (counted k failed rest) clear)
-    ∙ first_too_long-append size (message_in (passed + 1) line) (messages_after (passed + 1) (counted k failed rest)) in
+    ∙ ap (first_too_long size) (messages_after-line passed line (counted_bytes k failed rest) clear)
+    ∙ first_too_long-append size (message_in (passed + 1) line) (messages_after (passed + 1) (counted_bytes k failed rest)) in
     ap (λ (o : Option Trouble). option_or o (cond (nat_lt most (length text)) (Some ManyBytes) None)) found
-    ∙ ap (λ (t : Bool). option_or (option_or first (first_too_long size (messages_after (passed + 1) (counted k failed rest))))
+    ∙ ap (λ (t : Bool). option_or (option_or first (first_too_long size (messages_after (passed + 1) (counted_bytes k failed rest))))
     (cond t (Some ManyBytes) None)) (past-line most line rest within)
     ∙ option_or-assoc first _ _
 
@@ -108,15 +108,15 @@ first_too_long-long size number (b ∷ bs) long = cond-true _ _ _ (lt-ltb size (
 -- within the limit, the last line counts where the end was read
 pub trouble_after-last : (size most passed : ℕ) (held : List ℕ) → HasNoLineFeed held 0 (length held) → length held ≤ most
     → trouble_after size most false passed held ≡ first_too_long size (message_in (passed + 1) held)
-unfolding trouble_after counted
+unfolding trouble_after counted_bytes
 trouble_after-last size most passed held clear within =
     let fits : nat_lt most (length held) ≡ false = le-ltb most (length held) within in
     ap (λ (t : Bool). option_or (first_too_long size (messages_after passed (cond t (whole_lines (take most held)) held))) (cond t (Some ManyBytes) None)) fits
     ∙ option_or-none _ ∙ ap (first_too_long size) (messages_after-last passed held clear)
 
 -- and it does not count behind a failed read
-pub counted-failed : (most : ℕ) (held : List ℕ) → HasNoLineFeed held 0 (length held) → length held ≤ most → counted most true held ≡ []
-unfolding counted
+pub counted-failed : (most : ℕ) (held : List ℕ) → HasNoLineFeed held 0 (length held) → length held ≤ most → counted_bytes most true held ≡ []
+unfolding counted_bytes
 counted-failed most held clear within = ap whole_lines (take_all most held within) ∙ whole_lines-none held clear
 
 pub trouble_after-failed : (size most passed : ℕ) (held : List ℕ) → HasNoLineFeed held 0 (length held) → length held ≤ most
@@ -130,8 +130,8 @@ trouble_after-failed size most passed held clear within =
     ∙ ap (λ (t : Bool). cond t (Some ManyBytes) None) fits
 
 -- where no line ends within the limit, and there are more bytes, none counts
-pub counted-many : (most : ℕ) (failed : Bool) (text : List ℕ) → HasNoLineFeed text 0 most → most < length text → counted most failed text ≡ []
-unfolding counted
+pub counted-many : (most : ℕ) (failed : Bool) (text : List ℕ) → HasNoLineFeed text 0 most → most < length text → counted_bytes most failed text ≡ []
+unfolding counted_bytes
 counted-many most failed text clear past =
     let front : HasNoLineFeed (take most text) 0 (length (take most text)) =
     λ k low high is. clear k low (omega (arith, length-take most text)) (sym (get_or-take most text k 0 (omega (arith, length-take most text))) ∙ is) in

@@ -8,7 +8,7 @@ use Rattle.scq_frames.specs.declared.fault.FrameFault.{FrameFault}
 use Rattle.scq_frames.specs.declared.fault.FrameFault.TheVariants.{ReadFault, TooLong, TooLarge}
 use Rattle.scq_frames.specs.declared.fault.FrameFault.TheVariants.{NoMemory}
 use Rattle.scq_frames.specs.Text.{Framed, messages_after}
-use Rattle.scq_frames.specs.Trouble.{counted}
+use Rattle.scq_frames.specs.Trouble.{counted_bytes}
 use Rattle.scq_frames.specs.Framing.{Framing}
 use Rattle.scq_frames.specs.Finding.{limit_left, MayFollow, Finds}
 
@@ -16,7 +16,7 @@ use Rattle.scq_frames.specs.Finding.{limit_left, MayFollow, Finds}
 -- a failed read
 abbrev pub counted_ahead : Framing → Bool → List ℕ → List Framed
 counted_ahead f failed bytes =
-    messages_after f.line (counted (limit_left f) failed (f.held ++ bytes))
+    messages_after f.line (counted_bytes (limit_left f) failed (f.held ++ bytes))
 
 -- the first message is of this line, and its payload has so many bytes
 abbrev pub BeginsWithLong : ℕ → ℕ → List Framed → Type 0

@@ -1,6 +1,6 @@
 -- What contracts see of a framer, and what its calls do.
-use Rattle.std.specs.Prelude.{◌≡◌, ℕ, ◌+◌, ◌-◌, ◌*◌, ◌<◌, Bool, false, IsTrue, IfSome, List, []}
-use Rattle.std.specs.Prelude.{◌++◌, Option, Result, Ok, Err, length, map, max, if◌then◌else◌}
+use Rattle.std.specs.Prelude.{◌≡◌, ℕ, ◌+◌, ◌-◌, ◌*◌, ◌<◌, ◌≤◌, Bool, false, IsTrue, IfSome, List}
+use Rattle.std.specs.Prelude.{[], ◌++◌, Option, Result, Ok, Err, length, map, max, if◌then◌else◌}
 use Rattle.std.specs.Option.{option_map, option_to_list}
 use Rattle.scq_outside.specs.Counts.{Rose}
 use Rattle.scq_frames.specs.declared.message.Message.{Message}
@@ -55,12 +55,15 @@ abbrev pub given_by : Result (Option Message) FrameFault → List Message
 given_by (Ok given) = option_to_list given
 given_by (Err fault) = []
 
--- a message that was given is of the framer's file, and its line is the last one passed
-pub record IsNext (old new : Framing) (m : Message) : Type 0 where
+-- a message that was given is of the framer's file, its line is the last one passed, its topic is
+-- one of so many or undeclared, and its payload is no longer than may be
+pub record IsNext (known : ℕ) (old new : Framing) (m : Message) : Type 0 where
   pub file : m.file ≡ old.file
   pub above : old.line < m.line
   pub line : new.line ≡ m.line
   pub weight : new.weight ≡ old.weight + weight_of m
+  pub topic : m.topic ≤ known
+  pub fits : length m.payload ≤ old.size
 
 -- a call's source answered its end once where the framer came to know it in that call, and else not
 -- at all: none is read again behind its end
@@ -83,8 +86,11 @@ fresh file size most = record {
   weight = 0;
 }
 
--- a read put these many bytes behind those held, and the source has that much less left
-pub record Reads (old new : List ℕ) (before after : Option (List ℕ)) (k : ℕ) : Type 0 where
+-- a read put these many bytes, at most `most`, behind those held, and the source has that much less
+-- left
+pub record Reads (most : ℕ) (old new : List ℕ) (before after : Option (List ℕ)) (k : ℕ)
+    : Type 0 where
+  pub few : k ≤ most
   pub bytes : List ℕ
   pub held : new ≡ old ++ bytes
   pub count : length bytes ≡ k

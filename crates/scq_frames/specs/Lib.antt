@@ -5,6 +5,8 @@ pub mod Trimming
 pub mod Numbered
 pub mod Bounds
 pub mod Framing
+pub mod Answers
+pub mod Room
 pub mod Finding
 pub mod Coming
 pub mod FramerState

@@ -20,8 +20,8 @@ lines_of_parts (last ∷ []) = last_line last
 lines_of_parts (part ∷ next ∷ more) = part ∷ lines_of_parts (next ∷ more)
 
 -- the lines of a text: each part that an LF ends, and what follows the last LF where it has bytes
-abbrev pub lines_of : List ℕ → List (List ℕ)
-lines_of text = lines_of_parts (slice_split is_line_feed text)
+abbrev pub text_lines : List ℕ → List (List ℕ)
+text_lines text = lines_of_parts (slice_split is_line_feed text)
 
 -- a message as a text has it: its line's number, from 1, its topic's bytes and its payload
 pub record Framed : Type 0 where
@@ -55,7 +55,7 @@ messages_from number (line ∷ more) = message_in number line ++ messages_from (
 
 -- the messages of a text that follows so many lines
 unfoldable pub messages_after : ℕ → List ℕ → List Framed
-messages_after passed text = messages_from (passed + 1) (lines_of text)
+messages_after passed text = messages_from (passed + 1) (text_lines text)
 
 -- the messages of a text
 abbrev pub messages_of : List ℕ → List Framed

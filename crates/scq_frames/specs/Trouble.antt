@@ -18,8 +18,8 @@ whole_lines (b ∷ bs) = if list_any is_line_feed (b ∷ bs) then b ∷ whole_li
 
 -- the bytes whose lines count: of a text that is too large, and of one whose source failed behind
 -- it, the lines that end within the limit, and of another one all
-unfoldable pub counted : ℕ → Bool → List ℕ → List ℕ
-counted most failed text =
+unfoldable pub counted_bytes : ℕ → Bool → List ℕ → List ℕ
+counted_bytes most failed text =
     if failed || nat_lt most (length text) then whole_lines (take most text) else text
 
 -- the first message whose payload is too long
@@ -32,7 +32,7 @@ first_too_long size (m ∷ ms) =
 -- the trouble of a text that follows so many lines
 unfoldable pub trouble_after : ℕ → ℕ → Bool → ℕ → List ℕ → Option Trouble
 trouble_after size most failed passed text =
-    option_or (first_too_long size (messages_after passed (counted most failed text)))
+    option_or (first_too_long size (messages_after passed (counted_bytes most failed text)))
     (if nat_lt most (length text) then Some ManyBytes else None)
 
 -- the trouble of what a source gave, to its end or before a read failed

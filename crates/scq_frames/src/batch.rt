@@ -14,7 +14,7 @@ use std::marker::Model;
 
 /// Parts of one file that are to go in one value, in the order in which they were added. Contracts
 /// see them as a list. They are kept as the value's bytes.
-#[derive(Debug, Drop)]
+#[derive(Drop)]
 pub struct Batch {
     file: u32,
     bytes: Vec<u8>,

@@ -16,7 +16,7 @@ use byteorder::{BigEndian, ByteOrder};
 pub const HEAD: usize = 24;
 
 /// A part of a message, whose bytes stay where they are: parts are numbered from 1.
-#[derive(Clone, Copy, Debug)]
+#[derive(Clone, Copy)]
 pub struct View<'a> {
     pub file: u32,
     pub line: u32,

@@ -1,8 +1,7 @@
-ghost use Rattle.std.specs.Prelude.{◌≡◌, ◌≢◌, ◌⊎◌, ℕ, List, ◌+◌, ◌^◌, ◌<◌, ◌≤◌, ◌++◌, [], ◌∷◌};
-ghost use Rattle.std.specs.Prelude.{length, take, drop, false, map, IsTrue, Err, IfOk, IfErr};
-ghost use Rattle.std.specs.Prelude.{IfSome, IfNone, OnOk, OnErr, IsErrOf, is_err, sum_by};
-ghost use Rattle.std.specs.Option.{option_map, option_to_list};
-ghost use Rattle.scq_outside.specs.Counts.{Rose};
+ghost use Rattle.std.specs.Prelude.{◌≡◌, ◌≢◌, ◌⊎◌, ℕ, List, ◌+◌, ◌^◌, ◌<◌, ◌≤◌, [], length, take};
+ghost use Rattle.std.specs.Prelude.{drop, false, map, IsTrue, Err, IfOk, IfErr, IfSome, IfNone};
+ghost use Rattle.std.specs.Prelude.{OnOk, OnErr, IsErrOf, sum_by};
+ghost use Rattle.std.specs.Option.{option_to_list};
 ghost use Rattle.scq_topics.specs.Topics.{HaveShortNames, topic_of};
 ghost use Rattle.scq_frames.specs.Numbered.{numbered};
 ghost use Rattle.scq_frames.specs.Text.{message_in, payload_of};
@@ -10,8 +9,9 @@ ghost use Rattle.scq_frames.specs.Finding.{IsTooLong};
 ghost use Rattle.scq_frames.specs.Coming.{Found};
 ghost use Rattle.scq_frames.specs.Lines.{EndsAt, HasNoLineFeed};
 ghost use Rattle.scq_frames.specs.Trimming.{IsTrimmed};
-ghost use Rattle.scq_frames.specs.Framing.{EndsOnce, Fetched, IsNext, NothingLeft, fresh, given_by};
-ghost use Rattle.scq_frames.specs.Framing.{visible_ahead, visible_size, weight_of, work_left};
+ghost use Rattle.scq_frames.specs.Framing.{Fetched, IsNext, NothingLeft, fresh, visible_ahead};
+ghost use Rattle.scq_frames.specs.Framing.{weight_of, work_left};
+ghost use Rattle.scq_frames.specs.Answers.{GivesFirst, GoesOn, HasFault, ReadsFrom};
 
 use crate::cut::{message_of_line, split_line};
 use crate::window::{READ, Window};
@@ -88,66 +88,22 @@ impl Framer {
     ) -> Result<Option<Message>, FrameFault>
         requires { self.old.failed ≡ false }
 
-        // Where what the source has left is visible, the message is the first of those ahead, and
-        // those that are ahead now are the rest. Of these answers None comes exactly where none is
-        // ahead.
-        ensures gives { IfOk result (λ given.
-            visible_ahead (topic_of topics.now) self.old (S.left source.old)
-            ≡ option_map (λ rest.
-            option_to_list given
-            ++ rest) (visible_ahead (topic_of topics.now) self.new (S.left source.new))) }
-        ensures none { IfOk result (λ given.
-            IfNone given (visible_ahead (topic_of topics.now) self.old (S.left source.old)
-            ≡ option_map (λ _. []) (S.left source.old))) }
-
-        // None says, for every source, that the end was read. Later calls leave the source as it
-        // is, and answer None once nothing is held either.
-        ensures over { IfOk result (λ given.
-            IfNone given (IsTrue self.new.ended × (self.new.held ≡ []))) }
-        ensures end { (IsTrue self.old.ended → NothingLeft (S.left source.old))
-            → IsTrue self.new.ended → NothingLeft (S.left source.new) }
-        ensures ended { IsTrue self.old.ended → (source.new ≡ source.old) × IsTrue self.new.ended }
-        ensures again { IsTrue self.old.ended → self.old.held ≡ [] → result ≡ Ok None }
-
-        // No source is read again behind its end: the end is answered just once, in the call after
-        // which it is known.
-        ensures ends { EndsOnce self.old.ended self.new.ended (S.ends source.old)
-            (S.ends source.new) }
-
-        // Of every source, also where nothing is visible, the messages are of the framer's file,
-        // their lines rise, and their weights are at most one more than the limit. No other answer
-        // adds any.
-        ensures next { IfOk result (λ given. IfSome given (IsNext self.old self.new)) }
-        ensures topic { IfOk result (λ given. IfSome given (λ m. m.topic ≤ length topics.now)) }
-        ensures fits { IfOk result (λ given. IfSome given (λ m. length m.payload ≤ self.old.size)) }
-        ensures weight { self.new.weight ≡ self.old.weight + sum_by weight_of (given_by result) }
-        ensures rises { self.old.line ≤ self.new.line }
-        ensures bounded { self.new.weight ≤ self.new.most + 1 }
-        ensures limits { (self.new.file ≡ self.old.file) × (self.new.size ≡ self.old.size)
-            × (self.new.most ≡ self.old.most) }
-        ensures size { visible_size self.new (S.left source.new)
-            ≡ visible_size self.old (S.left source.old) }
-        ensures read { OnOk result (self.new.read ≤ self.new.most) }
+        // However the source gives its bytes, the messages are those ahead, one by one, where what
+        // it has left is visible. Of every source their lines rise, and their weights are bounded.
+        ensures gives { IfOk result (GivesFirst (topic_of topics.now) self.old self.new
+            (S.left source.old) (S.left source.new)) }
+        ensures next { IfOk result (λ given.
+            IfSome given (IsNext (length topics.now) self.old self.new)) }
 
         // A fault is the trouble of what the source gave, and without one there is none so far. A
         // long payload is found only once its line has ended, and each fault behind the messages in
         // front of it. No byte is read too early.
         ensures found { Found self.old self.new (S.left source.old) (S.left source.new) result }
-        ensures read_fault { IsErrOf result FrameFault.ReadFault
-            → Rose (S.faults source.old) (S.faults source.new) }
-        ensures never_falls { S.faults source.old ≤ S.faults source.new }
-        ensures going { IsErrOf result FrameFault.ReadFault → self.old.ended ≡ false }
-        ensures kept { result ≢ Err FrameFault.ReadFault
-            → S.faults source.new ≡ S.faults source.old }
-        ensures too_long { (line len : ℕ) → IsErrOf result (FrameFault.TooLong line len)
-            → (self.old.line < line) × (self.old.size < len) }
-        ensures too_large { (bytes : ℕ) → IsErrOf result (FrameFault.TooLarge bytes)
-            → (bytes ≡ self.new.most + 1) × (self.new.read ≡ bytes) }
-        ensures failed { self.new.failed ≡ is_err result }
+        ensures fault { IfErr result (HasFault self.old self.new) }
 
-        // Held are at most the bytes of a payload, those of a topic that is longer than any name
-        // with its space, and what one read gives: the others of a line are counted.
-        ensures held { length self.new.held ≤ self.new.size + 4130 }
+        ensures source { ReadsFrom S.Source (IsErrOf result FrameFault.ReadFault)
+            self.old self.new source.old source.new }
+        ensures goes_on { GoesOn self.old self.new result }
     {
         self.failed = true;
         let given = loop {
@@ -313,21 +269,11 @@ impl Framer {
         } }
         ensures found { Found self.old self.new (S.left source.old) (S.left source.new)
             (Err result) }
-        ensures size { visible_size self.new (S.left source.new)
-            ≡ visible_size self.old (S.left source.old) }
-        ensures end { IsTrue self.new.ended → NothingLeft (S.left source.new) }
-        ensures ends { EndsOnce self.old.ended self.new.ended (S.ends source.old)
-            (S.ends source.new) }
         ensures held { length self.new.held ≤ self.new.size + 4130 }
-
-        ensures read_fault { result ≡ FrameFault.ReadFault
-            → Rose (S.faults source.old) (S.faults source.new) }
-        ensures never_falls { S.faults source.old ≤ S.faults source.new }
-        ensures kept { result ≢ FrameFault.ReadFault → S.faults source.new ≡ S.faults source.old }
-        ensures too_long { (line len : ℕ) → result ≡ FrameFault.TooLong line len
-            → (self.old.line < line) × (self.old.size < len) }
-        ensures too_large { (bytes : ℕ) → result ≡ FrameFault.TooLarge bytes
-            → (bytes ≡ self.new.most + 1) × (self.new.read ≡ bytes) }
+        ensures fault { HasFault self.old self.new result }
+        ensures source { ReadsFrom S.Source (result ≡ FrameFault.ReadFault)
+            self.old self.new source.old source.new }
+        ensures end { IsTrue self.new.ended → NothingLeft (S.left source.new) }
     {
         let number = self.line + 1;
         let mut len = self.payload_len();
@@ -388,20 +334,13 @@ impl Framer {
         ensures ahead { (number : List ℕ → ℕ) →
             OnOk result (visible_ahead number self.old (S.left source.old)
             ≡ visible_ahead number self.new (S.left source.new)) }
-        ensures size { visible_size self.new (S.left source.new)
-            ≡ visible_size self.old (S.left source.old) }
+        ensures source { ReadsFrom S.Source (IsErrOf result FrameFault.ReadFault)
+            self.old self.new source.old source.new }
         ensures end { IsTrue self.new.ended → NothingLeft (S.left source.new) }
-        ensures ends { EndsOnce self.old.ended self.new.ended (S.ends source.old)
-            (S.ends source.new) }
         ensures within { OnOk result (self.new.read ≤ self.new.most) }
         ensures held { length self.new.held ≤ self.new.size + 4130 }
         ensures falls { OnOk result (work_left self.new < work_left self.old) }
 
-        ensures read_fault { IsErrOf result FrameFault.ReadFault
-            → Rose (S.faults source.old) (S.faults source.new) }
-        ensures never_falls { S.faults source.old ≤ S.faults source.new }
-        ensures kept { result ≢ Err FrameFault.ReadFault
-            → S.faults source.new ≡ S.faults source.old }
         ensures too_large { (bytes : ℕ) → IsErrOf result (FrameFault.TooLarge bytes)
             → (bytes ≡ self.new.most + 1) × (self.new.read ≡ bytes)
             × (self.old.read ≡ self.old.most) }

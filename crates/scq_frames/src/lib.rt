@@ -4,9 +4,9 @@
 //! `Framer::next`: it gives, one by one and with nothing between, the messages of what its source
 //! gave, for every cutting of reads, and each fault is the first trouble of what the source gave,
 //! behind the messages in front of it and whatever follows; those of `parts_of`, `encode` and
-//! `decode`: the parts of a message, the bytes of one, and the part that bytes begin with; and those
-//! of `Batch` and `next_part`: the parts that stand one behind the other in a buffer are those that
-//! were put there, in their order.
+//! `decode`: the parts of a message, the bytes of one, and the part that bytes begin with; and
+//! those of `Batch` and `next_part`: the parts that stand one behind the other in a buffer are
+//! those that were put there, in their order.
 #![tactic(auto)]
 
 mod batch;

@@ -1,8 +1,8 @@
 //! The room in which a window's bytes stand: how more of it is made, and how it is read into.
-ghost use Rattle.std.specs.Prelude.{◌≡◌, ◌≢◌, ◌⊎◌, ℕ, ◌+◌, ◌-◌, ◌*◌, ◌<◌, ◌≤◌, ◌++◌, take, drop};
-ghost use Rattle.std.specs.Prelude.{slice_range, vec_len, Ok, IfOk, IfSome, OnOk, OnErr, []};
-ghost use Rattle.std.specs.Option.{option_map};
-ghost use Rattle.scq_outside.specs.Counts.{Rose};
+ghost use Rattle.std.specs.Prelude.{◌≡◌, ◌⊎◌, ◌+◌, ◌-◌, ◌*◌, ◌<◌, ◌≤◌, drop, slice_range, vec_len};
+ghost use Rattle.std.specs.Prelude.{Ok, IfOk, OnOk, OnErr, IsErr};
+ghost use Rattle.scq_outside.specs.Counts.{RoseWhere};
+ghost use Rattle.scq_frames.specs.Room.{CameTo, IsSameBefore};
 
 use scq_outside::{Failed, Source};
 use scq_word::NoMemory;
@@ -64,19 +64,13 @@ pub fn read_at<S: Source>(
 ) -> Result<usize, Failed>
     requires some { 0 < most }
     requires within { at + most ≤ vec_len room.old }
-    ensures before { take at room.new.items ≡ take at room.old.items }
-    ensures len { vec_len room.new ≡ vec_len room.old }
-    ensures most { IfOk result (λ k. k ≤ most) }
-    ensures moved { IfOk result (λ k.
-        S.left source.old ≡ option_map (λ rest. slice_range room.new.items at (at + k)
-        ++ rest) (S.left source.new)) }
-    ensures end { IfOk result (λ k. k ≡ 0 → IfSome (S.left source.old) (λ bytes. bytes ≡ [])) }
-    ensures kept { OnOk result (S.faults source.new ≡ S.faults source.old) }
+    ensures before { IsSameBefore at room.old.items room.new.items }
+    ensures came { IfOk result
+        (CameTo at most room.new.items (S.left source.old) (S.left source.new)) }
     ensures unmoved { OnErr result (S.left source.new ≡ S.left source.old) }
-    ensures rose { OnErr result (Rose (S.faults source.old) (S.faults source.new)) }
+    ensures faults { RoseWhere (IsErr result) (S.faults source.old) (S.faults source.new) }
     ensures never_falls { S.faults source.old ≤ S.faults source.new }
-    ensures ended { result ≡ Ok 0 → Rose (S.ends source.old) (S.ends source.new) }
-    ensures not_ended { result ≢ Ok 0 → S.ends source.new ≡ S.ends source.old }
+    ensures ends { RoseWhere (result ≡ Ok 0) (S.ends source.old) (S.ends source.new) }
 {
     source.read(&mut room[at..at + most])
 }

@@ -1,9 +1,7 @@
-ghost use Rattle.std.specs.Prelude.{◌≡◌, ℕ, ◌+◌, ◌-◌, ◌<◌, ◌≤◌, ◌++◌, [], length, take, drop};
-ghost use Rattle.std.specs.Prelude.{slice_range, vec_len, Ok, IfOk, IfErr, IfSome, IfNone, OnOk};
-ghost use Rattle.std.specs.Prelude.{OnErr, IsErrOf, ◌⊎◌, ◌≢◌};
-ghost use Rattle.std.specs.Option.{option_map};
-ghost use Rattle.scq_outside.specs.Counts.{Rose};
+ghost use Rattle.std.specs.Prelude.{◌≡◌, ◌⊎◌, ◌+◌, ◌-◌, ◌<◌, ◌≤◌, ◌++◌, [], length, take, drop};
+ghost use Rattle.std.specs.Prelude.{Ok, IfOk, IfErr, IfSome, IfNone, OnErr, IsErrOf};
 ghost use Rattle.std.specs.List.{before_first};
+ghost use Rattle.scq_outside.specs.Counts.{RoseWhere};
 ghost use Rattle.scq_topics.specs.Runs.{is_space};
 ghost use Rattle.scq_frames.specs.Lines.{EndsAt, HasNoLineFeed};
 ghost use Rattle.scq_frames.specs.Trimming.{IsTrimmed};
@@ -129,23 +127,16 @@ impl Window {
     pub fn read<S: Source>(&mut self, source: &mut S, most: usize) -> Result<usize, FrameFault>
         requires some { 0 < most }
         requires small { most ≤ 4096 }
-        ensures most { IfOk result (λ k. k ≤ most) }
         ensures reads { IfOk result
-            (Reads self.old self.new (S.left source.old) (S.left source.new)) }
-
-        // After a fault nothing moved.
-        ensures faults { IfErr result (λ fault.
+            (Reads most self.old self.new (S.left source.old) (S.left source.new)) }
+        ensures fault { IfErr result (λ fault.
             (fault ≡ FrameFault.ReadFault) ⊎ (fault ≡ FrameFault.NoMemory)) }
-        ensures held { OnErr result (self.new ≡ self.old) }
-        ensures left { OnErr result (S.left source.new ≡ S.left source.old) }
-
-        ensures rose { IsErrOf result FrameFault.ReadFault
-            → Rose (S.faults source.old) (S.faults source.new) }
+        ensures unmoved { OnErr result ((self.new ≡ self.old)
+            × (S.left source.new ≡ S.left source.old)) }
+        ensures faults { RoseWhere (IsErrOf result FrameFault.ReadFault)
+            (S.faults source.old) (S.faults source.new) }
         ensures never_falls { S.faults source.old ≤ S.faults source.new }
-        ensures kept { result ≢ Err FrameFault.ReadFault
-            → S.faults source.new ≡ S.faults source.old }
-        ensures ended { result ≡ Ok 0 → Rose (S.ends source.old) (S.ends source.new) }
-        ensures not_ended { result ≢ Ok 0 → S.ends source.new ≡ S.ends source.old }
+        ensures ends { RoseWhere (result ≡ Ok 0) (S.ends source.old) (S.ends source.new) }
     {
         let held = self.end - self.start;
         let from = make_room(&mut self.room, self.start, self.end, most)?;

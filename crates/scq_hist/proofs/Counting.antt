@@ -1,7 +1,7 @@
 -- Counts, and that a count is at most another exactly where there is a one-to-one map. Plan: a map sends a list of different
 -- members into the other list, and each that is sent takes one position away; back, members at one position of the two lists are partners
 use Rattle.std.proofs.Common.{◌≡◌, ℕ, suc, ◌+◌, ◌-◌, ◌≤◌, ◌⊎◌, inl, inr, List, [], ◌∷◌, length, refl, sym, ap, ◌∙◌, subst, arith}
-use Rattle.scq_hist.specs.Counts.{AtMostAsMany, Member, Distinct, IsCount}
+use Rattle.scq_hist.specs.Counts.{AtMostAsMany, StandsIn, Distinct, IsCount}
 
 pub count_none : {X : Type 0} (A : X → Type 0) → ((x : X) → A x → ⊥) → IsCount A 0
 count_none {X} A empty = record { members = []; many = refl; sound = λ x h. absurd h; complete = λ x h. absurd (empty x h); distinct = tt }
@@ -30,9 +30,9 @@ count_same {X} A B c n to from = record {
 pub record Removed {Y : Type 0} (ys : List Y) (y : Y) : Type 0 where
   pub others : List Y
   pub many : length ys ≡ suc (length others)
-  pub keeps : (z : Y) → Member ys z → (y ≡ z) ⊎ Member others z
+  pub keeps : (z : Y) → StandsIn ys z → (y ≡ z) ⊎ StandsIn others z
 
-removed : {Y : Type 0} (ys : List Y) (y : Y) → Member ys y → Removed ys y
+removed : {Y : Type 0} (ys : List Y) (y : Y) → StandsIn ys y → Removed ys y
 removed {Y} [] y h = absurd h
 removed {Y} (z ∷ zs) y (inl e) = record {
   others = zs;
@@ -49,16 +49,16 @@ removed {Y} (z ∷ zs) y (inr h) =
 
 -- different members with different partners in a list are at most as many as that list has
 pigeons : {X Y : Type 0} (A : X → Type 0) (partner : (x : X) → A x → Y) (one : (x y : X) (h : A x) (k : A y) → partner x h ≡ partner y k → x ≡ y)
-    → (xs : List X) (ys : List Y) → Distinct xs → ((x : X) → Member xs x → (h : A x) × Member ys (partner x h)) → length xs ≤ length ys
+    → (xs : List X) (ys : List Y) → Distinct xs → ((x : X) → StandsIn xs x → (h : A x) × StandsIn ys (partner x h)) → length xs ≤ length ys
 pigeons {X} {Y} A partner one [] ys d each = omega arith
 pigeons {X} {Y} A partner one (x ∷ xs) ys d each =
-    let first : (h : A x) × Member ys (partner x h) = each x (inl refl) in
+    let first : (h : A x) × StandsIn ys (partner x h) = each x (inl refl) in
     let w = removed ys (partner x first.0) first.1 in
     let rest : length xs ≤ length w.others = pigeons A partner one xs w.others d.1 (λ z m.
     let mine = each z (inr m) in (
       mine.0,
       elim (w.keeps (partner z mine.0) mine.1) [
-        | inl e ↦ absurd (d.0 (subst (λ v. Member xs v) (sym (one x z first.0 mine.0 e)) m))
+        | inl e ↦ absurd (d.0 (subst (λ v. StandsIn xs v) (sym (one x z first.0 mine.0 e)) m))
         | inr k ↦ k
       ],
     )) in
@@ -70,27 +70,27 @@ le_from_map {X} {Y} A B a b m n f =
     let x = m.many in let y = n.many in omega arith
 
 -- the member of ys that stands where x stands in xs
-opposite : {X Y : Type 0} (xs : List X) (ys : List Y) → length xs ≤ length ys → (x : X) → Member xs x → Y
+opposite : {X Y : Type 0} (xs : List X) (ys : List Y) → length xs ≤ length ys → (x : X) → StandsIn xs x → Y
 opposite {X} {Y} [] ys le x h = absurd h
 opposite {X} {Y} (z ∷ zs) [] le x h = absurd (omega arith)
 opposite {X} {Y} (z ∷ zs) (y ∷ ys) le x (inl e) = y
 opposite {X} {Y} (z ∷ zs) (y ∷ ys) le x (inr h) = opposite zs ys (omega arith) x h
 
-opposite_in : {X Y : Type 0} (xs : List X) (ys : List Y) (le : length xs ≤ length ys) (x : X) (h : Member xs x) → Member ys (opposite xs ys le x h)
+opposite_in : {X Y : Type 0} (xs : List X) (ys : List Y) (le : length xs ≤ length ys) (x : X) (h : StandsIn xs x) → StandsIn ys (opposite xs ys le x h)
 unfolding opposite
 opposite_in {X} {Y} [] ys le x h = absurd h
 opposite_in {X} {Y} (z ∷ zs) [] le x h = absurd (omega arith)
 opposite_in {X} {Y} (z ∷ zs) (y ∷ ys) le x (inl e) = inl refl
 opposite_in {X} {Y} (z ∷ zs) (y ∷ ys) le x (inr h) = inr (opposite_in zs ys (omega arith) x h)
 
-opposite_one : {X Y : Type 0} (xs : List X) (ys : List Y) (le : length xs ≤ length ys) → Distinct ys → (x z : X) (h : Member xs x) (k : Member xs z)
+opposite_one : {X Y : Type 0} (xs : List X) (ys : List Y) (le : length xs ≤ length ys) → Distinct ys → (x z : X) (h : StandsIn xs x) (k : StandsIn xs z)
     → opposite xs ys le x h ≡ opposite xs ys le z k → x ≡ z
 unfolding opposite
 opposite_one {X} {Y} [] ys le d x z h k e = absurd h
 opposite_one {X} {Y} (w ∷ ws) [] le d x z h k e = absurd (omega arith)
 opposite_one {X} {Y} (w ∷ ws) (y ∷ ys) le d x z (inl h) (inl k) e = sym h ∙ k
-opposite_one {X} {Y} (w ∷ ws) (y ∷ ys) le d x z (inl h) (inr k) e = absurd (d.0 (subst (λ v. Member ys v) (sym e) (opposite_in ws ys (omega arith) z k)))
-opposite_one {X} {Y} (w ∷ ws) (y ∷ ys) le d x z (inr h) (inl k) e = absurd (d.0 (subst (λ v. Member ys v) e (opposite_in ws ys (omega arith) x h)))
+opposite_one {X} {Y} (w ∷ ws) (y ∷ ys) le d x z (inl h) (inr k) e = absurd (d.0 (subst (λ v. StandsIn ys v) (sym e) (opposite_in ws ys (omega arith) z k)))
+opposite_one {X} {Y} (w ∷ ws) (y ∷ ys) le d x z (inr h) (inl k) e = absurd (d.0 (subst (λ v. StandsIn ys v) e (opposite_in ws ys (omega arith) x h)))
 opposite_one {X} {Y} (w ∷ ws) (y ∷ ys) le d x z (inr h) (inr k) e = opposite_one ws ys (omega arith) d.1 x z h k e
 
 pub map_from_le : {X Y : Type 0} (A : X → Type 0) (B : Y → Type 0) (a b : ℕ) → IsCount A a → IsCount B b → a ≤ b → AtMostAsMany A B
@@ -113,14 +113,14 @@ record Sifted {X : Type 0} (xs : List X) (B : X → Type 0) : Type 0 where
   pub ins : List X
   pub outs : List X
   pub many : length xs ≡ length ins + length outs
-  pub in_sound : (x : X) → Member ins x → Member xs x × B x
-  pub out_sound : (x : X) → Member outs x → Member xs x × (¬ B x)
-  pub in_all : (x : X) → Member xs x → B x → Member ins x
-  pub out_all : (x : X) → Member xs x → (¬ B x) → Member outs x
+  pub in_sound : (x : X) → StandsIn ins x → StandsIn xs x × B x
+  pub out_sound : (x : X) → StandsIn outs x → StandsIn xs x × (¬ B x)
+  pub in_all : (x : X) → StandsIn xs x → B x → StandsIn ins x
+  pub out_all : (x : X) → StandsIn xs x → (¬ B x) → StandsIn outs x
   pub in_distinct : Distinct ins
   pub out_distinct : Distinct outs
 
-sift : {X : Type 0} (B : X → Type 0) (xs : List X) → Distinct xs → ((x : X) → Member xs x → B x ⊎ (¬ B x)) → Sifted xs B
+sift : {X : Type 0} (B : X → Type 0) (xs : List X) → Distinct xs → ((x : X) → StandsIn xs x → B x ⊎ (¬ B x)) → Sifted xs B
 sift {X} B [] d decide = record {
   ins = [];
   outs = [];

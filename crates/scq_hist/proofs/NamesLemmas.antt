@@ -4,7 +4,7 @@ use Rattle.std.specs.Option.{option_eq}
 use Rattle.std.proofs.lemmas.Bool.Decides.{nat_tests}
 use Rattle.std.proofs.lemmas.Option.{slice_get_read}
 use Rattle.scq_hist.specs.Calls.{under_way, Names, IsGot, IsGetOf}
-use Rattle.scq_hist.specs.Aspects.{IsLawful, IsLawfulAt, IsOnceAt, IsAnswer, Suits}
+use Rattle.scq_hist.specs.Aspects.{IsLawful, IsLawfulAt, IsOnceAt, IsAnswer, SuitsCall}
 use Rattle.scq_hist.specs.Lookups.{got_name, call_start, IsFirstNamed, EndsNoGet}
 use Rattle.scq_hist.specs.declared.events.Call.{Call}
 use Rattle.scq_hist.specs.declared.events.Call.TheVariants.{Put, Get}
@@ -32,6 +32,10 @@ named_there events e event name at n =
 pub read : (events : List Event) (i : ℕ) (event seen : Event) → i < length events → seen ≡ get_or events i seen → seen ≡ event → slice_get events i ≡ Some event
 read events i event seen lt is e = slice_get_read events (length events) i seen refl lt is ∙ ap Some e
 
+pub names_read : (events : List Event) (e : ℕ) (event : Event) (name : PutName) → e < length events → event ≡ get_or events e event
+    → Some name ≡ got_name event → Names events e name
+names_read events e event name lt is named = names_there events e event name (read events e event event lt is refl) (sym named)
+
 -- one End names one put
 pub same_name : (events : List Event) (e : ℕ) (a b : PutName) → Names events e a → Names events e b → a ≡ b
 same_name events e a b n m = let x = n.ends in let y = m.ends in cc
@@ -50,7 +54,7 @@ first_is_new events e name (Some f) n h = (
       let here : f ≡ e = omega arith in grind (arith, nat_tests),
 )
 
-suits_got : (call : Call) (name : PutName) (content : List ℕ) → Suits call (Got name content) → (queue : ℕ) × (call ≡ Get queue)
+suits_got : (call : Call) (name : PutName) (content : List ℕ) → SuitsCall call (Got name content) → (queue : ℕ) × (call ≡ Get queue)
 suits_got (Put q c) name content h = absurd h
 suits_got (Get q) name content h = (q, refl)
 
@@ -77,7 +81,7 @@ get_from_first events name s e lawful first start =
     }
 
 -- a get that ends where the first End names another put has got none
-pub no_get : (events : List Event) (e : ℕ) (name : PutName) (r : Option ℕ) → Names events e name
+no_get : (events : List Event) (e : ℕ) (name : PutName) (r : Option ℕ) → Names events e name
     → MatchOption r (¬ IsGot events name) (IsFirstNamed events name) → option_eq eqb r (Some e) ≡ false → EndsNoGet events e
 no_get events e name r n h other = record {
   none = λ m s get.
@@ -87,7 +91,16 @@ no_get events e name r n h other = record {
       let same = (first_is_new events e name r n h).1 new in absurd cc;
 }
 
-pub first_here : (events : List Event) (e : ℕ) (name : PutName) (r : Option ℕ) → Names events e name
+first_here : (events : List Event) (e : ℕ) (name : PutName) (r : Option ℕ) → Names events e name
     → MatchOption r (¬ IsGot events name) (IsFirstNamed events name) → option_eq eqb r (Some e) ≡ true → IsFirstNamed events name e
 first_here events e name r n h same =
     record { names = n; first = λ d lt. (λ before. ((first_is_new events e name r n h).0 same name d n lt before)) }
+
+-- the event that is read there names the put newly, or it doesn't
+pub first_read : (events : List Event) (e : ℕ) (event : Event) (name : PutName) (r : Option ℕ) → e < length events → event ≡ get_or events e event
+    → Some name ≡ got_name event → MatchOption r (¬ IsGot events name) (IsFirstNamed events name) → IsTrue (option_eq eqb r (Some e)) → IsFirstNamed events name e
+first_read events e event name r lt is named first same = first_here events e name r (names_read events e event name lt is named) first same
+
+pub no_get_read : (events : List Event) (e : ℕ) (event : Event) (name : PutName) (r : Option ℕ) → e < length events → event ≡ get_or events e event
+    → Some name ≡ got_name event → MatchOption r (¬ IsGot events name) (IsFirstNamed events name) → option_eq eqb r (Some e) ≡ false → EndsNoGet events e
+no_get_read events e event name r lt is named first other = no_get events e name r (names_read events e event name lt is named) first other

@@ -2,13 +2,16 @@
 -- two positions is decided for all
 use Rattle.std.proofs.Common.{Bool, ◌≡◌, ℕ, ◌↔◌, List, IsTrue, subst}
 use Rattle.scq_hist.specs.Calls.{IsPut, IsFinishedAt, IsGetOf}
-use Rattle.scq_hist.specs.Aspects.{AllClaimed, Precedes, IsInOrderAt}
-use Rattle.scq_hist.specs.Tallies.{IsPutGotAt, NoPutGotAt}
+use Rattle.scq_hist.specs.Aspects.{AllClaimed, Precedes, IsInOrderAt, IsRightWithin, IsEmptyRightAt}
+use Rattle.scq_hist.specs.Tallies.{IsPutGotAt, NoPutGotAt, IsEmptyAt}
+use Rattle.scq_hist.specs.declared.events.Call.TheVariants.{Get}
 use Rattle.scq_hist.specs.declared.events.Event.{Event}
 use Rattle.scq_hist.specs.declared.events.PutName.TheVariants.{Of}
+use Rattle.scq_hist.specs.declared.events.Reply.TheVariants.{Nothing}
 use Rattle.scq_hist.proofs.NamesLemmas.{same_name}
 use Rattle.scq_hist.proofs.Puts.{SamePut, same_put}
 use Rattle.scq_hist.proofs.TallyLemmas.{names_from_get}
+use Rattle.scq_hist.proofs.UnderWay.{same_call}
 
 -- a get that ends at position e has got one put, which starts at one position
 same_got : (events : List Event) (e queue start s seat number r t : ℕ) (content : List ℕ) (put : IsPutGotAt events e queue start)
@@ -39,6 +42,17 @@ pub claims_decide : (opening : List (List ℕ)) (events : List Event) (e queue s
 claims_decide opening events e queue start b put test = (
   λ h. in_order_from_claims opening events e queue start put (test.0 h),
   λ h. test.1 (claims_from_in_order opening events e queue start put h),
+)
+
+-- the one Empty that ends there decides
+pub empty_decides : (opening : List (List ℕ)) (events : List Event) (e queue s : ℕ) (b : Bool) → IsEmptyAt events e queue s
+    → (IsTrue b ↔ IsRightWithin opening events queue s e) → IsTrue b ↔ IsEmptyRightAt opening events e
+empty_decides opening events e queue s b here test = (
+  λ t r k q call.
+      let same = same_call events here.seat k s r e (Get queue) (Get q) Nothing Nothing here.call call in
+      let queues : queue ≡ q = (let calls = same.calls in cc) in
+      subst (λ n. IsRightWithin opening events n r e) queues (subst (λ n. IsRightWithin opening events queue n e) same.starts (test.0 t)),
+  λ h. test.1 (h s here.seat queue here.call),
 )
 
 pub no_put_in_order : (opening : List (List ℕ)) (events : List Event) (e : ℕ) → NoPutGotAt events e → IsInOrderAt opening events e

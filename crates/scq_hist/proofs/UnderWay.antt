@@ -4,7 +4,8 @@ use Rattle.std.proofs.Common.{◌≡◌, ℕ, zero, suc, ◌<◌, ◌≤◌, ◌
 use Rattle.std.proofs.lemmas.Bool.{cases_order, cases_lt, cond-true}
 use Rattle.std.proofs.lemmas.Bool.Decides.{eqb_tells}
 use Rattle.std.proofs.lemmas.Option.{slice_get_within, none-some}
-use Rattle.scq_hist.specs.Calls.{under_way, under_way_after}
+use Rattle.scq_hist.specs.Calls.{under_way, under_way_after, IsCall}
+use Rattle.scq_hist.specs.Lookups.{HasUnderWay, StartsCall, StartsNoCall}
 use Rattle.scq_hist.specs.declared.events.Call.{Call}
 use Rattle.scq_hist.specs.declared.events.Event.{Event}
 use Rattle.scq_hist.specs.declared.events.Event.TheVariants.{Start, End}
@@ -53,6 +54,31 @@ restarted events seat a (suc b) s idle le h =
         | inr w ↦ restarted events seat a b s idle le2 w
       ]
     ]
+
+-- one event ends one call
+pub record SameCall (seat k s r : ℕ) (call other : Call) : Type 0 where
+  pub seats : seat ≡ k
+  pub starts : s ≡ r
+  pub calls : call ≡ other
+
+pub same_call : (events : List Event) (seat k s r e : ℕ) (call other : Call) (reply said : Reply) → IsCall events seat call s e reply
+    → IsCall events k other r e said → SameCall seat k s r call other
+same_call events seat k s r e call other reply said this that =
+    let x = this.ends in let y = that.ends in
+    let seats : seat ≡ k = cc in
+    let u = this.under_way_till in let v = that.under_way_till in
+    let starts : s ≡ r = cc in
+    let a = this.starts in let b = that.starts in
+    record { seats = seats; starts = starts; calls = cc }
+
+-- what the seat has under way starts there
+pub starts_there : (events : List Event) (seat m s : ℕ) (call : Call) → Some s ≡ under_way events seat m → StartsCall events s call
+    → HasUnderWay events seat m s call
+starts_there events seat m s call is start =
+    let p = started events seat m s (sym is) in let e = p.starts in let here = start.1 in record { is = sym is; starts = cc }
+
+pub must_start : (events : List Event) (seat m s : ℕ) → Some s ≡ under_way events seat m → StartsNoCall events s → ⊥
+must_start events seat m s is none = let p = started events seat m s (sym is) in none p.call (seat, p.starts)
 
 -- a call has one End
 pub one_end : (events : List Event) (seat s d e : ℕ) (q r : Reply) → under_way events seat d ≡ Some s → slice_get events d ≡ Some (End seat q)

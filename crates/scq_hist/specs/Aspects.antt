@@ -16,21 +16,21 @@ use Rattle.scq_hist.specs.declared.events.Reply.{Reply}
 use Rattle.scq_hist.specs.declared.events.Reply.TheVariants.{Done, Got, Nothing, Spent}
 
 -- the reply suits the call
-abbrev pub Suits : Call → Reply → Type 0
-Suits (Put _ _) Done = Unit {0}
-Suits (Put _ _) Spent = Unit {0}
-Suits (Put _ _) _ = ⊥
-Suits (Get _) (Got _ _) = Unit {0}
-Suits (Get _) Nothing = Unit {0}
-Suits (Get _) Spent = Unit {0}
-Suits (Get _) Done = ⊥
+abbrev pub SuitsCall : Call → Reply → Type 0
+SuitsCall (Put _ _) Done = Unit {0}
+SuitsCall (Put _ _) Spent = Unit {0}
+SuitsCall (Put _ _) _ = ⊥
+SuitsCall (Get _) (Got _ _) = Unit {0}
+SuitsCall (Get _) Nothing = Unit {0}
+SuitsCall (Get _) Spent = Unit {0}
+SuitsCall (Get _) Done = ⊥
 
 -- at position e a call ends by a reply that suits it
 pub record IsAnswer (events : List Event) (seat e : ℕ) (reply : Reply) : Type 0 where
   pub s : ℕ
   pub call : Call
   pub is_call : IsCall events seat call s e reply
-  pub suits : Suits call reply
+  pub suits : SuitsCall call reply
 
 -- the event at position i is lawful there: a seat starts a call when it has none under way, and
 -- ends the one that it has

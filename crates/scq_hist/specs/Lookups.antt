@@ -8,6 +8,13 @@ use Rattle.scq_hist.specs.declared.events.PutName.{PutName}
 use Rattle.scq_hist.specs.declared.events.PutName.TheVariants.{Opening, Of}
 use Rattle.scq_hist.specs.declared.events.Reply.TheVariants.{Got}
 
+-- a seat starts this call at position s
+abbrev pub StartsCall : List Event → ℕ → Call → Type 0
+StartsCall events s call = (seat : ℕ) × (slice_get events s ≡ Some (Start seat call))
+
+abbrev pub StartsNoCall : List Event → ℕ → Type 0
+StartsNoCall events s = (call : Call) → ¬ StartsCall events s call
+
 -- the seat has this call under way at moment m, which started at position s
 pub record HasUnderWay (events : List Event) (seat m s : ℕ) (call : Call) : Type 0 where
   pub is : under_way events seat m ≡ Some s

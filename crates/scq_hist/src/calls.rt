@@ -3,12 +3,25 @@
 ghost use Rattle.std.specs.Prelude.{◌≡◌, ◌<◌, ◌≤◌, length, MatchOption};
 ghost use Rattle.scq_hist.specs.Calls.{under_way, puts_before, IsPut};
 ghost use Rattle.scq_hist.specs.Lookups.{HasUnderWay, NoPutBefore, EndsDone, NoDoneAt};
+ghost use Rattle.scq_hist.specs.Lookups.{StartsCall, StartsNoCall};
 
 use crate::events::{Call, Event, PutName, Reply};
 use scq_word::Bytes;
 
+/// The call that starts at this position.
+pub fn call_started(events: &[Event], s: usize) -> Option<&Call>
+    ensures { MatchOption result
+        (StartsNoCall events.now s)
+        (λ call. StartsCall events.now s call.now) }
+{
+    match events.get(s) {
+        Some(Event::Start { call, .. }) => Some(call),
+        _ => None,
+    }
+}
+
 /// The position of the Start of the call that the seat has under way at this moment.
-pub(crate) fn under_way(events: &[Event], seat: u32, moment: usize) -> Option<usize>
+pub fn under_way(events: &[Event], seat: u32, moment: usize) -> Option<usize>
     requires { moment ≤ length events.now }
     ensures { result ≡ under_way events.now seat moment }
 {
@@ -31,14 +44,11 @@ pub(crate) fn call_under_way(events: &[Event], seat: u32, moment: usize) -> Opti
         (λ found. HasUnderWay events.now seat moment found.0 found.1.now) }
 {
     let start = under_way(events, seat, moment)?;
-    match &events[start] {
-        Event::Start { call, .. } => Some((start, call)),
-        Event::End { .. } => None,
-    }
+    Some((start, call_started(events, start)?))
 }
 
 /// How many puts the seat began by this moment, over all queues.
-pub(crate) fn puts_before(events: &[Event], seat: u32, moment: usize) -> u64
+pub fn puts_before(events: &[Event], seat: u32, moment: usize) -> u64
     requires { moment ≤ length events.now }
     ensures count { result ≡ puts_before events.now seat moment }
     ensures few { result ≤ moment }

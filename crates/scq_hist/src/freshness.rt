@@ -1,9 +1,12 @@
 //! Fresh: nothing is taken that was never put.
 
-ghost use Rattle.std.specs.Prelude.{◌≡◌, ◌<◌, ◌↔◌, ℕ, IsTrue, Some, length, slice_get, IfSome};
+ghost use Rattle.std.specs.Prelude.{◌≡◌, ◌<◌, ◌↔◌, ℕ, List, IsTrue, Some, length, slice_get};
+ghost use Rattle.std.specs.Prelude.{IfSome, MatchOption};
 ghost use Rattle.scq_hist.specs.Calls.{IsPut};
 ghost use Rattle.scq_hist.specs.Aspects.{IsLawful, IsBegun, IsFreshAt, IsFresh};
 ghost use Rattle.scq_hist.specs.First.{IsFirstFailing};
+ghost use Rattle.scq_hist.specs.Lookups.{NoPutBefore};
+ghost use Rattle.scq_hist.specs.declared.events.Event.{Event};
 
 use crate::calls::{call_under_way, put_named};
 use crate::events::{Call, Event, PutName, Reply};
@@ -16,12 +19,31 @@ fn same_bytes(a: &Bytes, b: &Bytes) -> bool
 }
 
 /// Whether this opening token is of this queue and content.
-fn is_token(opening: &[Bytes], number: u32, queue: u32, content: &Bytes) -> bool
+pub fn is_token(opening: &[Bytes], number: u32, queue: u32, content: &Bytes) -> bool
     ensures { IsTrue result ↔ ((queue ≡ 0) × (slice_get opening.now number ≡ Some content.now)) }
 {
     match opening.get(number as usize) {
         Some(token) => queue == 0 && same_bytes(token, content),
         None => false,
+    }
+}
+
+/// Whether this put, if there is one, is of this queue and content, and starts before position e.
+pub fn is_earlier_put(
+    put: Option<(usize, u32, &Bytes)>,
+    queue: u32,
+    content: &Bytes,
+    e: usize,
+) -> bool
+    ensures { (events : List Event) (seat number : ℕ)
+        → MatchOption put.entry
+        (NoPutBefore events seat number (length events))
+        (λ put. IsPut events seat number put.1 put.2.now put.0)
+        → (IsTrue result ↔ ((s : ℕ) × (s < e) × IsPut events seat number queue content.now s)) }
+{
+    match put {
+        Some((start, of, put)) if start < e && of == queue => same_bytes(put, content),
+        _ => false,
     }
 }
 
@@ -31,10 +53,7 @@ fn is_put(events: &[Event], seat: u32, number: u64, queue: u32, content: &Bytes,
     ensures { IsTrue result
         ↔ ((s : ℕ) × (s < e) × IsPut events.now seat number queue content.now s) }
 {
-    match put_named(events, seat, number) {
-        Some((start, of, put)) if start < e && of == queue => same_bytes(put, content),
-        _ => false,
-    }
+    is_earlier_put(put_named(events, seat, number), queue, content, e)
 }
 
 /// Whether the put of this name is of this queue and content, and is an opening token or starts

@@ -11,7 +11,7 @@ use crate::calls::under_way;
 use crate::events::{Call, Event, PutName, Reply};
 
 /// The name in an End with Got.
-pub(crate) fn got_name(event: &Event) -> Option<PutName>
+pub fn got_name(event: &Event) -> Option<PutName>
     ensures { result ≡ got_name event.now }
 {
     match event {

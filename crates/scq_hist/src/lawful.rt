@@ -1,14 +1,14 @@
 //! Lawful: the events of each seat are those of calls, one after another.
 
 ghost use Rattle.std.specs.Prelude.{◌↔◌, ◌<◌, IsTrue, length, slice_get};
-ghost use Rattle.scq_hist.specs.Aspects.{Suits, IsLawfulAt, IsLawful};
+ghost use Rattle.scq_hist.specs.Aspects.{SuitsCall, IsLawfulAt, IsLawful};
 
 use crate::calls::{call_under_way, under_way};
 use crate::events::{Call, Event, Reply};
 
 /// Whether a call of this kind may end with the reply.
 fn suits(call: &Call, reply: &Reply) -> bool
-    ensures { IsTrue result ↔ Suits call.now reply.now }
+    ensures { IsTrue result ↔ SuitsCall call.now reply.now }
 {
     match call {
         Call::Put { .. } => matches!(reply, Reply::Done | Reply::Spent),

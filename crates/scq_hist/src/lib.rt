@@ -14,9 +14,11 @@ mod names;
 mod order;
 mod tallies;
 
+pub use calls::{call_started, puts_before, under_way};
 pub use emptiness::{empty_right, first_wrong_empty};
 pub use events::{Call, Event, PutName, Reply};
-pub use freshness::{first_unfresh, fresh};
+pub use freshness::{first_unfresh, fresh, is_earlier_put, is_token};
+pub use gets::got_name;
 pub use lawful::{is_lawful_at, lawful_calls};
 pub use names::{first_repeated, once};
 pub use order::{first_out_of_order, in_order};

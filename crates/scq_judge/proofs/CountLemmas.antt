@@ -5,13 +5,13 @@ use Rattle.std.proofs.lemmas.Bool.Decides.{eqb_tells}
 use Rattle.std.proofs.lemmas.Option.{slice_get_within}
 use Rattle.scq_hist.specs.Aspects.{IsLawful, IsLawfulAt}
 use Rattle.scq_hist.specs.Calls.{under_way}
-use Rattle.scq_hist.specs.Counts.{IsCount, Member}
+use Rattle.scq_hist.specs.Counts.{IsCount, StandsIn}
 use Rattle.scq_hist.specs.declared.events.Call.{Call}
 use Rattle.scq_hist.specs.declared.events.Event.{Event}
 use Rattle.scq_hist.specs.declared.events.Event.TheVariants.{Start, End}
 use Rattle.scq_hist.specs.declared.events.Reply.{Reply}
 use Rattle.scq_hist.proofs.Counting.{count_none, count_more, count_same, count_rest}
-use Rattle.scq_judge.specs.Counted.{IsStarting, IsStart, IsNamed, IsBusy, Overlaps, Before, IsNamedBefore, AreSeen, AreBusy, named_by, is_in}
+use Rattle.scq_judge.specs.Counted.{IsStarting, IsStartAt, IsNamed, IsBusy, Overlaps, Before, IsNamedBefore, AreSeen, AreBusy, named_by, is_seen}
 use Rattle.scq_judge.specs.declared.counting.Named.{Named}
 use Rattle.scq_judge.specs.declared.counting.Seen.{Seen}
 
@@ -35,7 +35,7 @@ pub before_all : (P : ℕ → Type 0) (n i c : ℕ) → n ≤ i → ((s : ℕ) �
 before_all P n i c reached within count =
     count_same (Before P i) P c count (λ s h. h.1) (λ s p. let lt = within s p in (omega arith, p))
 
-pub start_within : (events : List Event) (s : ℕ) → IsStart events s → s < length events
+pub start_within : (events : List Event) (s : ℕ) → IsStartAt events s → s < length events
 start_within events s start = go (slice_get events s) refl start where
   go : (event : Option Event) → slice_get events s ≡ event → IsStarting event → s < length events
   go None at starts = absurd starts
@@ -45,7 +45,7 @@ pub overlap_within : (events : List Event) (s : ℕ) → Overlaps events s → s
 overlap_within events s overlap = start_within events s overlap.start
 
 -- of numbers that events name
-pub seen_none : (named : Named) (events : List Event) (seen : Seen) (c : ℕ) → ((number : ℕ) → is_in seen number ≡ false) → c ≡ 0 → AreSeen named events 0 seen c
+pub seen_none : (named : Named) (events : List Event) (seen : Seen) (c : ℕ) → ((number : ℕ) → is_seen seen number ≡ false) → c ≡ 0 → AreSeen named events 0 seen c
 seen_none named events seen c none is = record {
   each = λ number. (λ t. let f = none number in absurd cc, λ h. let lt = h.before in absurd (omega arith));
   count = subst (IsCount (IsNamedBefore named events 0)) (sym is) (count_none (IsNamedBefore named events 0) (λ number h. let lt = h.before in absurd (omega arith)));
@@ -81,13 +81,13 @@ pub seen_nothing : (named : Named) (events : List Event) (m c : ℕ) (seen : See
 seen_nothing named events m c seen none is = seen_as_before named events m c seen (λ number here. absurd cc) is
 
 pub seen_again : (named : Named) (events : List Event) (m c mine : ℕ) (seen : Seen) → named_by named (slice_get events m) ≡ Some mine
-    → is_in seen mine ≡ true → AreSeen named events m seen c → AreSeen named events (m + 1) seen c
+    → is_seen seen mine ≡ true → AreSeen named events m seen c → AreSeen named events (m + 1) seen c
 seen_again named events m c mine seen here has is =
     seen_as_before named events m c seen
     (λ number at. let same : mine ≡ number = cc in subst (IsNamedBefore named events m) same ((is.each mine).0 has)) is
 
 pub seen_more : (named : Named) (events : List Event) (m c mine : ℕ) (old new : Seen) → named_by named (slice_get events m) ≡ Some mine
-    → is_in old mine ≡ false → ((other : ℕ) → is_in new other ≡ ((mine == other) || is_in old other))
+    → is_seen old mine ≡ false → ((other : ℕ) → is_seen new other ≡ ((mine == other) || is_seen old other))
     → AreSeen named events m old c → AreSeen named events (m + 1) new (c + 1)
 seen_more named events m c mine old new here none now is =
     let fresh : ¬ IsNamedBefore named events m mine = (λ h. let t = (is.each mine).1 h in absurd cc) in
@@ -127,11 +127,11 @@ busy_none events c is = record {
 }
 
 -- how many is 0 exactly where there is none
-first_of : {A : ℕ → Type 0} (xs : List ℕ) → 0 < length xs → ((x : ℕ) → Member xs x → A x) → (x : ℕ) × A x
+first_of : {A : ℕ → Type 0} (xs : List ℕ) → 0 < length xs → ((x : ℕ) → StandsIn xs x → A x) → (x : ℕ) × A x
 first_of {A} [] lt sound = absurd (omega arith)
 first_of {A} (x ∷ xs) lt sound = (x, sound x (inl refl))
 
-not_none : (xs : List ℕ) (x c : ℕ) → Member xs x → length xs ≡ c → 0 < c
+not_none : (xs : List ℕ) (x c : ℕ) → StandsIn xs x → length xs ≡ c → 0 < c
 not_none [] x c m is = absurd m
 not_none (y ∷ ys) x c m is = omega arith
 
@@ -208,15 +208,15 @@ busy_after_end events e busy seat reply lawful at is =
     (less.0, record { count = subst (λ m. IsCount (IsBusy events m) (busy - 1)) (next_moment e) less.1; few = (let few = is.few in omega arith) })
 
 -- no call starts there; one is under way; none is, and the next event tells
-pub no_overlap : (events : List Event) (e : ℕ) (s : Bool) → (IsTrue s ↔ IsStart events e) → s ≡ false → IsTrue s ↔ Overlaps events e
+pub no_overlap : (events : List Event) (e : ℕ) (s : Bool) → (IsTrue s ↔ IsStartAt events e) → s ≡ false → IsTrue s ↔ Overlaps events e
 no_overlap events e s start none = (λ t. absurd (let n = none in cc), λ overlap. absurd (let t = start.1 overlap.start in cc))
 
-pub overlap_busy : (events : List Event) (e busy : ℕ) (s : Bool) → (IsTrue s ↔ IsStart events e) → s ≡ true → AreBusy events e busy → 0 < busy
+pub overlap_busy : (events : List Event) (e busy : ℕ) (s : Bool) → (IsTrue s ↔ IsStartAt events e) → s ≡ true → AreBusy events e busy → 0 < busy
     → IsTrue (ltb 0 busy) ↔ Overlaps events e
 overlap_busy events e busy s start is are some =
     (λ _. record { start = start.0 is; another = inl ((some_busy (IsBusy events e) busy are.count).0 some) }, λ _. lt-ltb 0 busy some)
 
-pub overlap_next : (events : List Event) (e busy : ℕ) (s n : Bool) → (IsTrue s ↔ IsStart events e) → s ≡ true → (IsTrue n ↔ IsStart events (e + 1))
+pub overlap_next : (events : List Event) (e busy : ℕ) (s n : Bool) → (IsTrue s ↔ IsStartAt events e) → s ≡ true → (IsTrue n ↔ IsStartAt events (e + 1))
     → AreBusy events e busy → busy ≤ 0 → IsTrue n ↔ Overlaps events e
 overlap_next events e busy s n start is next are none = (
   λ t. record { start = start.0 is; another = inr (next.0 t) },

@@ -1,24 +1,22 @@
 -- What is at fault, as it is handed on
-use Rattle.std.proofs.Common.{◌≡◌, ◌∙◌, ◌⊎◌, inl, inr, ℕ, zero, suc, ◌+◌, ◌-◌, Bool, List, [], ◌∷◌, ◌++◌, length, map, take, refl, sym, ap, subst, arith, Option, Some, Ok, Err, slice_get, get_or, All}
+use Rattle.std.proofs.Common.{◌≡◌, ◌∙◌, ◌⊎◌, inl, inr, ℕ, zero, suc, ◌+◌, ◌-◌, Bool, List, [], ◌∷◌, ◌++◌, length, map, take, refl, sym, ap, subst, arith, Option, Some, Ok, slice_get, get_or, All}
 use Rattle.std.proofs.Math.Seq.{take-append_seam, take-length}
 use Rattle.std.proofs.lemmas.List.{length-map}
 use Rattle.std.proofs.lemmas.Option.{slice_get_within, slice_get-get_or}
 use Rattle.std.proofs.lemmas.List.Sorted.{All-permutation}
 use Rattle.scq_hist.specs.declared.events.Event.{Event}
-use Rattle.scq_judge.specs.Files.{AreSmall, IsFile, IsLarge}
-use Rattle.scq_judge.specs.Judged.{IsHistoryOf, IsOutOfPlace, IsCause, IsCauseIn, IsSharing, AreSoundBefore, IsUnlawfulAt, fault_of_reading, fault_of_merging}
+use Rattle.scq_judge.specs.Files.{NoneIsLarge, IsFile}
+use Rattle.scq_judge.specs.Judged.{IsHistoryOf, IsOutOfPlace, IsCause, IsCauseIn, IsSharing, AreSoundBefore, IsUnlawfulAt, fault_of_merging}
 use Rattle.scq_judge.specs.Merged.{IsMergeOf, HasEqual, HasStampOfAnother}
-use Rattle.scq_judge.specs.Seats.{HasSeatOfAnother, IsAt}
+use Rattle.scq_judge.specs.Seats.{HasSeatOfAnother, EventIsAt}
 use Rattle.scq_judge.specs.Reads.{AreQuiet, AreReadUntil, AreReadWhole}
-use Rattle.scq_judge.specs.Recording.{Recording, AreOf, AreAllOf, recording_of}
+use Rattle.scq_judge.specs.Recording.{Recording, EventsAreOfFiles, AllAreOfFiles, recording_of}
 use Rattle.scq_judge.specs.declared.judging.JudgeFault.{JudgeFault}
 use Rattle.scq_judge.specs.declared.judging.JudgeFault.TheVariants.{BadLine, Shared as SharedBy, TwoRuns, Unlawful, ReadFault, TooLarge, NoMemory}
 use Rattle.scq_judge.specs.declared.judging.Shared.{Shared}
 use Rattle.scq_judge.specs.declared.judging.Shared.TheVariants.{Stamp, Seat}
 use Rattle.scq_judge.specs.declared.merging.MergeFault.{MergeFault}
 use Rattle.scq_judge.specs.declared.merging.MergeFault.TheVariants as merging
-use Rattle.scq_judge.specs.declared.reading.ReadingFault.{ReadingFault}
-use Rattle.scq_judge.specs.declared.reading.ReadingFault.TheVariants as reading
 use Rattle.scq_judge.specs.declared.recorded.Place.{Place}
 use Rattle.scq_judge.specs.declared.recorded.RunOf.{RunOf}
 use Rattle.scq_judge.specs.declared.recorded.Stamped.{Stamped}
@@ -60,7 +58,7 @@ cause_of_merging recorded (merging.SameStamp place other) same = same place othe
 cause_of_merging recorded merging.NoMemory same = tt
 
 -- what was read is at fault
-pub cause_of_recorded : (lone : Bool) (contents : List (List ℕ)) (recorded : Recording) → AreSmall contents → recording_of lone contents ≡ Ok recorded
+pub cause_of_recorded : (lone : Bool) (contents : List (List ℕ)) (recorded : Recording) → NoneIsLarge contents → recording_of lone contents ≡ Ok recorded
     → (fault : JudgeFault) → IsCauseIn recorded fault → IsCause lone contents fault
 cause_of_recorded lone contents recorded small read (BadLine file line) h = absurd h
 cause_of_recorded lone contents recorded small read (SharedBy what file line g m) h = record { small = small; recorded = recorded; read = read; cause = h }
@@ -71,45 +69,32 @@ cause_of_recorded lone contents recorded small read (TooLarge file) h = absurd h
 cause_of_recorded lone contents recorded small read NoMemory h = tt
 
 -- the last file is at fault, and nothing is before it
-pub sound_before : (lone : Bool) (front : List (List ℕ)) (content : List ℕ) (recorded : Recording) → AreSmall front → recording_of lone front ≡ Ok recorded
+pub sound_before : (lone : Bool) (front : List (List ℕ)) (content : List ℕ) (recorded : Recording) → NoneIsLarge front → recording_of lone front ≡ Ok recorded
     → AreSoundBefore lone (front ++ content ∷ []) (length front + 1)
 sound_before lone front content recorded small read =
     let at : length front + 1 - 1 ≡ length front = omega arith in
     let same : take (length front + 1 - 1) (front ++ content ∷ []) ≡ front =
     ap (λ n. take n (front ++ content ∷ [])) at ∙ take-append_seam front (content ∷ []) in
     record {
-      small = subst AreSmall (sym same) small;
+      small = subst NoneIsLarge (sym same) small;
       recorded = recorded;
       read = ap (recording_of lone) same ∙ read;
     }
 
 -- nothing is at fault in those that were read
-pub sound_all : (lone : Bool) (contents : List (List ℕ)) (file : ℕ) (recorded : Recording) → AreSmall contents → recording_of lone contents ≡ Ok recorded
+pub sound_all : (lone : Bool) (contents : List (List ℕ)) (file : ℕ) (recorded : Recording) → NoneIsLarge contents → recording_of lone contents ≡ Ok recorded
     → file ≡ length contents + 1 → AreSoundBefore lone contents file
 sound_all lone contents file recorded small read next =
     let at : file - 1 ≡ length contents = omega (arith, next) in
     let same : take (file - 1) contents ≡ contents = ap (λ n. take n contents) at ∙ take-length contents in
     record {
-      small = subst AreSmall (sym same) small;
+      small = subst NoneIsLarge (sym same) small;
       recorded = recorded;
       read = ap (recording_of lone) same ∙ read;
     }
 
-pub cause_of_reading : (lone : Bool) (contents : List (List ℕ)) (file : ℕ) (refused : ReadingFault) → AreSoundBefore lone contents file
-    → ((f line : ℕ) → refused ≡ reading.BadLine f line → (f ≡ file) × (recording_of lone contents ≡ Err (record { file = file; line = line })))
-    → ((f : ℕ) → refused ≡ reading.TooLarge f → (f ≡ file) × IsLarge contents file)
-    → ((f : ℕ) → refused ≡ reading.ReadFault f → f ≡ file) → IsCause lone contents (fault_of_reading refused)
-cause_of_reading lone contents file (reading.BadLine f line) sound bad large failed =
-    let told = bad f line refl in
-    subst (λ n. IsCause lone contents (BadLine n line)) (sym told.0) (record { small = sound.small; bad = told.1 })
-cause_of_reading lone contents file (reading.ReadFault f) sound bad large failed = subst (AreSoundBefore lone contents) (sym (failed f refl)) sound
-cause_of_reading lone contents file (reading.TooLarge f) sound bad large failed =
-    let told = large f refl in
-    subst (λ n. IsCause lone contents (TooLarge n)) (sym told.0) (told.1, sound)
-cause_of_reading lone contents file reading.NoMemory sound bad large failed = tt
-
 -- Each event that was read is of one of so many files. So is that of a place which is told.
-file_of_equal : (count : ℕ) (events : List Stamped) (place other : Place) → AreOf count events → HasStampOfAnother events place other
+file_of_equal : (count : ℕ) (events : List Stamped) (place other : Place) → EventsAreOfFiles count events → HasStampOfAnother events place other
     → IsFile count place.file × IsFile count other.file
 file_of_equal count events place other all h =
     at h.merged h.equal (All-permutation (λ s. IsFile count s.place.file) events h.merged h.same all) where
@@ -121,17 +106,17 @@ file_of_equal count events place other all h =
         subst (λ (z : Place). IsFile count z.file) (equal.before d) (each equal.i d (let lt = equal.within in omega arith)),
       )
 
-file_of_at : (count : ℕ) (events : List Stamped) (i seat : ℕ) (place : Place) → AreOf count events → IsAt events i seat place → IsFile count place.file
+file_of_at : (count : ℕ) (events : List Stamped) (i seat : ℕ) (place : Place) → EventsAreOfFiles count events → EventIsAt events i seat place → IsFile count place.file
 file_of_at count events i seat place all at =
     let within = slice_get_within events i at.event at.stands in
     let here : get_or events i at.event ≡ at.event = (let read = slice_get-get_or events i at.event within in let there = at.stands in cc) in
     subst (λ (z : Place). IsFile count z.file) (ap (λ (s : Stamped). s.place) here ∙ sym at.place_is) (all i at.event within)
 
-files_of_shared : (count : ℕ) (events : List Stamped) (what : Shared) (place other : Place) → AreOf count events → IsSharing events what place other
+files_of_shared : (count : ℕ) (events : List Stamped) (what : Shared) (place other : Place) → EventsAreOfFiles count events → IsSharing events what place other
     → IsFile count place.file × IsFile count other.file
 files_of_shared count events Stamp place other all h = file_of_equal count events place other all h
 files_of_shared count events Seat place other all h =
-    (file_of_at count events h.i h.seat place all h.here, file_of_at count events h.k h.seat other all h.there)
+    let at = h.1 in (file_of_at count events h.0 at.seat place all at.here, file_of_at count events at.k at.seat other all at.there)
 
 file_at : (count : ℕ) (merged : List Stamped) (e : ℕ) (place : Place) → All (λ s. IsFile count s.place.file) merged
     → slice_get (map (λ s. s.place) merged) e ≡ Some place → IsFile count place.file
@@ -140,7 +125,7 @@ file_at count (s ∷ ss) zero place all is =
     (let same : s.place ≡ place = cc in subst (λ (z : Place). IsFile count z.file) same (all 0 s (omega arith)))
 file_at count (s ∷ ss) (suc e) place all is = file_at count ss e place (λ k d lt. all (suc k) d (omega arith)) is
 
-file_of_place : (count : ℕ) (recorded : Recording) (place : Place) → AreOf count recorded.events → IsOutOfPlace recorded place → IsFile count place.file
+file_of_place : (count : ℕ) (recorded : Recording) (place : Place) → EventsAreOfFiles count recorded.events → IsOutOfPlace recorded place → IsFile count place.file
 file_of_place count recorded place all h =
     let merged = h.history.merged in
     file_at count merged.merged h.e place
@@ -155,7 +140,7 @@ file_of_run count runs i run all is =
 
 -- all were read where what was read is at fault
 pub until_recorded : {S : Type 0} (faults end_count : S → ℕ) (left : S → Option (List ℕ)) (olds news : List S) (recorded : Recording)
-    → AreAllOf (length olds) recorded → AreReadWhole faults end_count left (length olds) olds news → (fault : JudgeFault) → IsCauseIn recorded fault
+    → AllAreOfFiles (length olds) recorded → AreReadWhole faults end_count left (length olds) olds news → (fault : JudgeFault) → IsCauseIn recorded fault
     → AreReadUntil faults end_count left olds news fault
 until_recorded {S} faults end_count left olds news recorded all whole fault h = by fault h where
   quiet : AreQuiet faults olds news

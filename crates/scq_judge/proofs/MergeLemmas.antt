@@ -3,7 +3,7 @@ use Rattle.std.proofs.Common.{◌≡◌, ℕ, ◌+◌, ◌-◌, ◌<◌, ◌≤�
 use Rattle.std.proofs.lemmas.List.{append-nil, get_or_default}
 use Rattle.std.proofs.lemmas.Bool.{cases_eq, cases_lt, lt-ltb, ltb-true}
 use Rattle.std.specs.List.Sorted.{IsNonDecreasingBy}
-use Rattle.scq_judge.specs.Merged.{RiseBelow, HasEqual, IsAbove, IsPlaceAt}
+use Rattle.scq_judge.specs.Merged.{RiseBelow, HasEqual, StampIsAbove, IsPlaceAt}
 use Rattle.scq_judge.specs.declared.recorded.Place.{Place}
 use Rattle.scq_judge.specs.declared.recorded.Stamped.{Stamped}
 
@@ -27,7 +27,7 @@ rise_all merged i reached is = record { rises = λ k d lt. is.rises k d (omega a
 
 -- the stamps at two positions, as they are read
 pub above_iff : (merged : List Stamped) (i : ℕ) (a b : Stamped) → 1 ≤ i → i < length merged
-    → IsTrue (ltb (get_or merged (i - 1) a).stamp (get_or merged i b).stamp) ↔ IsAbove merged i
+    → IsTrue (ltb (get_or merged (i - 1) a).stamp (get_or merged i b).stamp) ↔ StampIsAbove merged i
 above_iff merged i a b one within = (
   λ t d. rw (get_or_default merged (i - 1) d a (omega arith), get_or_default merged i d b within) (ltb-true _ _ t),
   λ above. lt-ltb _ _ (rw (get_or_default merged i a b within) at (above a)),
@@ -47,7 +47,7 @@ parts_none {A} f done total [] none all = sym (append-nil done) ∙ all
 parts_none {A} f done total (s ∷ old) none all = absurd (omega arith)
 
 -- the stamp isn't above that of the one before it, and none falls
-not_above : (merged : List Stamped) (i : ℕ) (d : Stamped) → 1 ≤ i → i < length merged → ¬ IsAbove merged i
+not_above : (merged : List Stamped) (i : ℕ) (d : Stamped) → 1 ≤ i → i < length merged → ¬ StampIsAbove merged i
     → (get_or merged i d).stamp ≤ (get_or merged (i - 1) d).stamp
 not_above merged i d one within low = elim (cases_lt (get_or merged (i - 1) d).stamp (get_or merged i d).stamp) [
   | inl lt ↦ absurd (low (λ e. rw (get_or_default merged (i - 1) e d (omega arith), get_or_default merged i e d within) lt))
@@ -55,7 +55,7 @@ not_above merged i d one within low = elim (cases_lt (get_or merged (i - 1) d).s
 ]
 
 pub equal_there : (merged : List Stamped) (i : ℕ) (place other : Place) → 1 ≤ i → i < length merged
-    → ¬ IsAbove merged i → IsPlaceAt merged i place → IsPlaceAt merged (i - 1) other
+    → ¬ StampIsAbove merged i → IsPlaceAt merged i place → IsPlaceAt merged (i - 1) other
     → IsNonDecreasingBy (λ s. s.stamp) merged → HasEqual merged place other
 equal_there merged i place other one within low stands before sorted = record {
   i = i - 1;

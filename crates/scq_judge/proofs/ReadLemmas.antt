@@ -1,5 +1,5 @@
 -- The lines of a file as they are taken, and files one after the other
-use Rattle.std.proofs.Common.{◌≡◌, ℕ, zero, suc, ◌+◌, ◌<◌, ◌≤◌, Bool, true, false, List, [], ◌∷◌, ◌++◌, length, length-append, length-drop, get_or, slice_get, take, drop, append_assoc, Option, Some, None, Result, Ok, Err, refl, sym, ◌∙◌, ap, subst, arith}
+use Rattle.std.proofs.Common.{◌≡◌, ℕ, zero, suc, ◌+◌, ◌<◌, ◌≤◌, Bool, true, false, List, [], ◌∷◌, ◌++◌, length, length-append, append-nil, length-drop, get_or, slice_get, take, drop, append_assoc, Option, Some, None, Result, Ok, Err, refl, sym, ◌∙◌, ap, subst, arith}
 use Rattle.std.specs.Prelude.{slice_range, if◌then◌else◌, IfSome, OnOk}
 use Rattle.std.specs.Option.{option_map}
 use Rattle.std.proofs.lemmas.Bool.Decides.{nat_tests}
@@ -11,7 +11,7 @@ use Rattle.scq_lines.specs.Lines.{lines_of}
 use Rattle.scq_lines.proofs.Cutting.{lines_of-some-more, lines_of-none-more}
 use Rattle.scq_judge.specs.Entry.{said_by}
 use Rattle.scq_judge.specs.Files.{IsFile}
-use Rattle.scq_judge.specs.Recording.{Recording, AreAllOf, after_entry, after_lines, after_line, after_file, after_files, event_with, if_file, may_follow, nothing, recording_of, with_entry}
+use Rattle.scq_judge.specs.Recording.{Recording, AllAreOfFiles, after_entry, after_lines, after_line, after_file, after_files, event_with, if_file, entry_may_follow, nothing, recording_of, with_entry}
 use Rattle.scq_judge.specs.declared.entry.Entry.{Entry}
 use Rattle.scq_judge.specs.declared.entry.Entry.TheVariants.{Run, Opening, Happens}
 
@@ -42,7 +42,7 @@ refused_long file lone before r text long none more =
     ap (after_lines file lone before r) b.cut ∙ long_line file lone before r b.line b.lines (let h = b.has in omega arith)
 
 -- the bytes that were read so far, taken
-pub record IsTaken (file : ℕ) (lone : Bool) (begun now : Recording) (lines : ℕ) (front : List ℕ) (before after : Option (List ℕ)) : Type 0 where
+pub record BytesAreTaken (file : ℕ) (lone : Bool) (begun now : Recording) (lines : ℕ) (front : List ℕ) (before after : Option (List ℕ)) : Type 0 where
   pub text : option_map (λ content. after_lines file lone 0 begun (lines_of content)) before
       ≡ option_map (λ rest. after_lines file lone lines now (lines_of (front ++ rest))) after
 
@@ -59,7 +59,7 @@ same_map {A} f g (Some x) same = ap Some (same x)
 pub taken_piece : (file : ℕ) (lone : Bool) (begun old new : Recording) (lines more_lines : ℕ) (front piece rest : List ℕ) (first before after : Option (List ℕ))
     → before ≡ option_map (λ left. piece ++ left) after
     → ((more : List ℕ) → after_lines file lone lines old (lines_of ((front ++ piece) ++ more)) ≡ after_lines file lone more_lines new (lines_of (rest ++ more)))
-    → IsTaken file lone begun old lines front first before → IsTaken file lone begun new more_lines rest first after
+    → BytesAreTaken file lone begun old lines front first before → BytesAreTaken file lone begun new more_lines rest first after
 taken_piece file lone begun old new lines more_lines front piece rest first before after is taken text = record {
   text = text.text ∙ moved (λ left. after_lines file lone lines old (lines_of (front ++ left))) piece before after is
       ∙ same_map (λ left. after_lines file lone lines old (lines_of (front ++ (piece ++ left)))) (λ left. after_lines file lone more_lines new (lines_of (rest ++ left))) after
@@ -90,6 +90,24 @@ is_large None after n most same large = tt
 is_large (Some content) None n most same large = absurd cc
 is_large (Some content) (Some rest) n most same large = (let here : length content ≡ n + length rest = cc in omega arith)
 
+-- nothing is left behind the front, of whose lines this is so
+pub ended : (file : ℕ) (lone : Bool) (begun now : Recording) (lines : ℕ) (front : List ℕ) (first before : Option (List ℕ)) (y : Result Recording ℕ)
+    → BytesAreTaken file lone begun now lines front first before → IfSome before (λ rest. rest ≡ []) → after_lines file lone lines now (lines_of front) ≡ y
+    → IfSome first (λ content. after_lines file lone 0 begun (lines_of content) ≡ y)
+ended file lone begun now lines front first before y text none is =
+    at_end (λ content. after_lines file lone 0 begun (lines_of content)) (λ rest. after_lines file lone lines now (lines_of (front ++ rest))) first before
+    text.text y none (ap (λ t. after_lines file lone lines now (lines_of t)) (append-nil front) ∙ is)
+
+-- a line of the next piece is refused
+pub refused_piece : (file : ℕ) (lone : Bool) (begun now : Recording) (lines : ℕ) (front piece : List ℕ) (first before after : Option (List ℕ)) (l : ℕ)
+    → before ≡ option_map (λ rest. piece ++ rest) after → BytesAreTaken file lone begun now lines front first before
+    → ((more : List ℕ) → after_lines file lone lines now (lines_of ((front ++ piece) ++ more)) ≡ Err l)
+    → IfSome first (λ content. after_lines file lone 0 begun (lines_of content) ≡ Err l)
+refused_piece file lone begun now lines front piece first before after l is text bad =
+    in_any_case (λ content. after_lines file lone 0 begun (lines_of content)) (λ rest. after_lines file lone lines now (lines_of (front ++ (piece ++ rest))))
+    first after (text.text ∙ moved (λ rest. after_lines file lone lines now (lines_of (front ++ rest))) piece before after is) (Err l)
+    (λ rest. ap (λ t. after_lines file lone lines now (lines_of t)) (sym (append_assoc front piece rest)) ∙ bad rest)
+
 -- the lengths, where a piece more was read
 pub longer : (first before after : Option (List ℕ)) (piece : List ℕ) (n m : ℕ) → option_map length first ≡ option_map (λ rest. n + length rest) before
     → before ≡ option_map (λ rest. piece ++ rest) after → m ≡ n + length piece → option_map length first ≡ option_map (λ rest. m + length rest) after
@@ -113,7 +131,7 @@ on_ok (Err e) P Q to p = p
 
 -- the events that are added are of the file that is read
 pub files_more : (count file number : ℕ) (lone : Bool) (r next : Recording) (line : List ℕ) → IsFile count file → after_line file lone number r line ≡ Some next
-    → AreAllOf count r → AreAllOf count next
+    → AllAreOfFiles count r → AllAreOfFiles count next
 files_more count file number lone r next line is read all = by (said_by line) read where
   if_some : (b : Bool) (x : Recording) → (if b then Some x else None) ≡ Some next → x ≡ next
   if_some true x e = cc
@@ -123,17 +141,17 @@ files_more count file number lone r next line is read all = by (said_by line) re
   event_of None event = is
   event_of (Some stamp) event = is
 
-  by : (o : Option Entry) → after_entry file lone number r o ≡ Some next → AreAllOf count next
+  by : (o : Option Entry) → after_entry file lone number r o ≡ Some next → AllAreOfFiles count next
   by None e = absurd cc
   by (Some (Run run)) e =
-      subst (λ (z : Recording). AreAllOf count z) (if_some (may_follow file lone r.last (Run run)) (with_entry file number r (Run run)) e)
+      subst (λ (z : Recording). AllAreOfFiles count z) (if_some (entry_may_follow file lone r.last (Run run)) (with_entry file number r (Run run)) e)
       (record { runs = All-push (λ run. IsFile count run.file) r.runs (record { file = file; number = run }) all.runs is; events = all.events })
   by (Some (Opening content)) e =
-      subst (λ (z : Recording). AreAllOf count z) (if_some (may_follow file lone r.last (Opening content)) (with_entry file number r (Opening content)) e)
+      subst (λ (z : Recording). AllAreOfFiles count z) (if_some (entry_may_follow file lone r.last (Opening content)) (with_entry file number r (Opening content)) e)
       (record { runs = all.runs; events = all.events })
   by (Some (Happens stamp event)) e =
-      subst (λ (z : Recording). AreAllOf count z)
-      (if_some (may_follow file lone r.last (Happens stamp event)) (with_entry file number r (Happens stamp event)) e)
+      subst (λ (z : Recording). AllAreOfFiles count z)
+      (if_some (entry_may_follow file lone r.last (Happens stamp event)) (with_entry file number r (Happens stamp event)) e)
       (record {
         runs = all.runs;
         events = All-push (λ s. IsFile count s.place.file) r.events (event_with file number stamp event) all.events (event_of stamp event);

@@ -1,18 +1,19 @@
 -- Sources as they are read, one after the other
-use Rattle.std.proofs.Common.{◌≡◌, ◌≢◌, ◌∙◌, inl, inr, ℕ, zero, suc, ◌+◌, ◌-◌, ◌<◌, ◌≤◌, List, [], ◌∷◌, ◌++◌, length, take, get_or, slice_get, append_assoc, Option, Some, None, Result, Ok, Err, refl, sym, ap, subst, arith, below_more}
-use Rattle.std.specs.Prelude.{IfErr, IfSome, IsErrOf}
+use Rattle.std.proofs.Common.{◌≡◌, ◌≢◌, ◌∙◌, inl, inr, ℕ, zero, suc, ◌+◌, ◌-◌, ◌<◌, ◌≤◌, Bool, List, [], ◌∷◌, ◌++◌, length, take, get_or, slice_get, append_assoc, Option, Some, None, Result, Ok, Err, refl, sym, ap, subst, arith, below_more}
+use Rattle.std.specs.Prelude.{IfErr, IfSome}
 use Rattle.std.specs.Option.{option_map}
 use Rattle.std.proofs.Math.Seq.{get_or-append_seam}
 use Rattle.std.proofs.lemmas.List.{get_or_append_left, length-append}
 use Rattle.scq_outside.specs.Counts.{Rose}
 use Rattle.scq_outside.specs.Taking.{Took}
 use Rattle.scq_judge.specs.Files.{HaveContents, most_bytes}
-use Rattle.scq_judge.specs.Reads.{HasGiven, OfEach, CountsFault}
-use Rattle.scq_judge.specs.declared.reading.ReadingFault.{ReadingFault}
-use Rattle.scq_judge.specs.declared.reading.ReadingFault.TheVariants.{BadLine, ReadFault, TooLarge, NoMemory}
+use Rattle.scq_judge.specs.Reads.{HasGiven, OfEach, CountsFault, IsFileFault, IsLineFault}
+use Rattle.scq_judge.specs.Recording.{Recording, after_file}
+use Rattle.scq_judge.specs.declared.judging.JudgeFault.{JudgeFault}
+use Rattle.scq_judge.specs.declared.judging.JudgeFault.TheVariants.{BadLine, Shared, TwoRuns, Unlawful, ReadFault, TooLarge, NoMemory}
 
 -- a source gave bytes, and no read failed so far
-pub record HasTaken {S : Type 0} (faults end_count : S → ℕ) (left : S → Option (List ℕ)) (old now : S) : Type 0 where
+pub record HasGivenSoFar {S : Type 0} (faults end_count : S → ℕ) (left : S → Option (List ℕ)) (old now : S) : Type 0 where
   pub bytes : List ℕ
   pub took : Took bytes (left old) (left now)
   pub quiet : faults now ≡ faults old
@@ -51,26 +52,50 @@ few_in_all (Some content) (Some rest) size same small none =
     let nothing : length rest ≡ 0 = ap length none in
     omega arith
 
--- a fault other than of reading
-pub counts_none : (fault : ReadingFault) (old new : ℕ) → ((f : ℕ) → fault ≡ ReadFault f → ⊥) → new ≡ old → CountsFault fault old new
-counts_none (BadLine f l) old new other same = same
-counts_none (ReadFault f) old new other same = absurd (other f refl)
-counts_none (TooLarge f) old new other same = same
-counts_none NoMemory old new other same = same
+-- a fault of a line isn't one of reading
+counts_none : (file : ℕ) (IsBad : ℕ → Type 0) (fault : JudgeFault) (old new : ℕ) → IsLineFault file IsBad fault → new ≡ old → CountsFault fault old new
+counts_none file IsBad (BadLine f l) old new h same = same
+counts_none file IsBad (Shared what f l g m) old new h same = same
+counts_none file IsBad (TwoRuns f r g s) old new h same = same
+counts_none file IsBad (Unlawful f l) old new h same = same
+counts_none file IsBad (ReadFault f) old new h same = absurd h
+counts_none file IsBad (TooLarge f) old new h same = same
+counts_none file IsBad NoMemory old new h same = same
 
-pub counts_none_of : {T : Type 0} (r : Result T ReadingFault) (old new : ℕ) → ((f : ℕ) → ¬ IsErrOf r (ReadFault f)) → new ≡ old
+pub counts_none_of : {T : Type 0} (file : ℕ) (IsBad : ℕ → Type 0) (r : Result T JudgeFault) (old new : ℕ) → IfErr r (IsLineFault file IsBad) → new ≡ old
     → IfErr r (λ fault. CountsFault fault old new)
-counts_none_of (Ok x) old new other same = tt
-counts_none_of (Err fault) old new other same = counts_none fault old new (λ f is. other f (ap Err is)) same
+counts_none_of file IsBad (Ok x) old new h same = tt
+counts_none_of file IsBad (Err fault) old new h same = counts_none file IsBad fault old new h same
+
+-- what is so of the number of a line
+pub line_fault : (file : ℕ) (IsBad Is : ℕ → Type 0) (fault : JudgeFault) → ((l : ℕ) → IsBad l → Is l) → IsLineFault file IsBad fault → IsLineFault file Is fault
+line_fault file IsBad Is (BadLine f l) so h = (h.0, so l h.1)
+line_fault file IsBad Is (Shared what f l g m) so h = h
+line_fault file IsBad Is (TwoRuns f r g s) so h = h
+line_fault file IsBad Is (Unlawful f l) so h = h
+line_fault file IsBad Is (ReadFault f) so h = h
+line_fault file IsBad Is (TooLarge f) so h = h
+line_fault file IsBad Is NoMemory so h = h
+
+-- a fault of a line is one of its file
+pub file_fault : (file : ℕ) (lone : Bool) (before : Recording) (content : Option (List ℕ)) (fault : JudgeFault)
+    → IsLineFault file (λ l. IfSome content (λ content. after_file file lone before content ≡ Err l)) fault → IsFileFault file lone before content fault
+file_fault file lone before content (BadLine f l) h = h
+file_fault file lone before content (Shared what f l g m) h = h
+file_fault file lone before content (TwoRuns f r g s) h = h
+file_fault file lone before content (Unlawful f l) h = h
+file_fault file lone before content (ReadFault f) h = absurd h
+file_fault file lone before content (TooLarge f) h = absurd h
+file_fault file lone before content NoMemory h = h
 
 module _ {S : Type 0} (faults end_count : S → ℕ) (left : S → Option (List ℕ)) where
   -- before the first read
-  pub taken_nothing : (source : S) → HasTaken faults end_count left source source
+  pub taken_nothing : (source : S) → HasGivenSoFar faults end_count left source source
   taken_nothing source = record { bytes = []; took = took_nothing (left source); quiet = refl; none = refl }
 
   -- a read more
-  pub taken_more : (old mid new : S) (piece : List ℕ) → HasTaken faults end_count left old mid → Took piece (left mid) (left new) → faults new ≡ faults mid
-      → end_count new ≡ end_count mid → HasTaken faults end_count left old new
+  pub taken_more : (old mid new : S) (piece : List ℕ) → HasGivenSoFar faults end_count left old mid → Took piece (left mid) (left new) → faults new ≡ faults mid
+      → end_count new ≡ end_count mid → HasGivenSoFar faults end_count left old new
   taken_more old mid new piece had took quiet none = record {
     bytes = had.bytes ++ piece;
     took = took_more (left old) (left mid) (left new) had.bytes piece had.took took;
@@ -78,11 +103,11 @@ module _ {S : Type 0} (faults end_count : S → ℕ) (left : S → Option (List 
     none = none ∙ had.none;
   }
 
-  pub given_so : (old new : S) → HasTaken faults end_count left old new → HasGiven faults left old new
+  pub given_so : (old new : S) → HasGivenSoFar faults end_count left old new → HasGiven faults left old new
   given_so old new had = record { bytes = had.bytes; took = had.took; counted = inl had.quiet }
 
   -- the last read
-  pub given_last : (old mid new : S) (piece : List ℕ) → HasTaken faults end_count left old mid → Took piece (left mid) (left new) → faults new ≡ faults mid
+  pub given_last : (old mid new : S) (piece : List ℕ) → HasGivenSoFar faults end_count left old mid → Took piece (left mid) (left new) → faults new ≡ faults mid
       → HasGiven faults left old new
   given_last old mid new piece had took quiet = record {
     bytes = had.bytes ++ piece;
@@ -91,7 +116,7 @@ module _ {S : Type 0} (faults end_count : S → ℕ) (left : S → Option (List 
   }
 
   -- a read that failed
-  pub given_failing : (old mid new : S) → HasTaken faults end_count left old mid → left new ≡ left mid → Rose (faults mid) (faults new)
+  pub given_failing : (old mid new : S) → HasGivenSoFar faults end_count left old mid → left new ≡ left mid → Rose (faults mid) (faults new)
       → HasGiven faults left old new
   given_failing old mid new had unmoved rose = record {
     bytes = had.bytes;

@@ -17,8 +17,8 @@ abbrev pub IsStarting : Option Event → Type 0
 IsStarting (Some (Start seat call)) = Unit {0}
 IsStarting _ = ⊥
 
-abbrev pub IsStart : List Event → ℕ → Type 0
-IsStart events s = IsStarting (slice_get events s)
+abbrev pub IsStartAt : List Event → ℕ → Type 0
+IsStartAt events s = IsStarting (slice_get events s)
 
 -- the seat that starts a call by this event, or the queue of the call
 abbrev pub named_by : Named → Option Event → Option ℕ
@@ -40,8 +40,8 @@ pub record IsBusy (events : List Event) (m seat : ℕ) : Type 0 where
 -- the call that starts at position s overlaps another: one is under way when it starts, or starts
 -- next. (Where neither is so, the next event is its own End.)
 pub record Overlaps (events : List Event) (s : ℕ) : Type 0 where
-  pub start : IsStart events s
-  pub another : ((seat : ℕ) × IsBusy events s seat) ⊎ IsStart events (s + 1)
+  pub start : IsStartAt events s
+  pub another : ((seat : ℕ) × IsBusy events s seat) ⊎ IsStartAt events (s + 1)
 
 -- For private calls: what is true of a position before m
 abbrev pub Before : (ℕ → Type 0) → ℕ → ℕ → Type 0
@@ -53,12 +53,12 @@ pub record IsNamedBefore (named : Named) (events : List Event) (m number : ℕ) 
   pub before : s < m
   pub is : named_by named (slice_get events s) ≡ Some number
 
-abbrev pub is_in : Seen → ℕ → Bool
-is_in seen number = is_some (get nat_cmp seen.numbers number)
+abbrev pub is_seen : Seen → ℕ → Bool
+is_seen seen number = is_some (get nat_cmp seen.numbers number)
 
 pub record AreSeen (named : Named) (events : List Event) (m : ℕ) (seen : Seen)
     (c : ℕ) : Type 0 where
-  pub each : (number : ℕ) → IsTrue (is_in seen number) ↔ IsNamedBefore named events m number
+  pub each : (number : ℕ) → IsTrue (is_seen seen number) ↔ IsNamedBefore named events m number
   pub count : IsCount (IsNamedBefore named events m) c
   pub few : c ≤ m
 

@@ -17,10 +17,10 @@ abbrev pub wide : Bounds
 wide = record { seat = 2 ^ 32 - 1; queue = 2 ^ 32 - 1; token = 2 ^ 32 - 1 }
 
 -- a line without a stamp, and one whose stamp was read
-abbrev pub bare : Option Line → Option Entry
-bare (Some (line.Opening content)) = Some (Opening content)
-bare (Some (line.Happens event)) = Some (Happens None event)
-bare None = None
+abbrev pub without_stamp : Option Line → Option Entry
+without_stamp (Some (line.Opening content)) = Some (Opening content)
+without_stamp (Some (line.Happens event)) = Some (Happens None event)
+without_stamp None = None
 
 abbrev pub stamped : ℕ → Option Line → Option Entry
 stamped stamp (Some (line.Happens event)) = Some (Happens (Some stamp) event)
@@ -32,14 +32,14 @@ run_in (number ∷ []) = option_map Run (number_of number)
 run_in _ = None
 
 -- a first field that is a number is a stamp
-abbrev pub entry_in : Option ℕ → List ℕ → List (List ℕ) → Option Entry
-entry_in None field more =
-    if bytes_eq field (codes "run") then run_in more else bare (said wide (field ∷ more))
-entry_in (Some stamp) field more = stamped stamp (said wide more)
+abbrev pub said_entry : Option ℕ → List ℕ → List (List ℕ) → Option Entry
+said_entry None field more =
+    if bytes_eq field (codes "run") then run_in more else without_stamp (said wide (field ∷ more))
+said_entry (Some stamp) field more = stamped stamp (said wide more)
 
 abbrev pub entry_of : List (List ℕ) → Option Entry
 entry_of [] = None
-entry_of (field ∷ more) = entry_in (number_of field) field more
+entry_of (field ∷ more) = said_entry (number_of field) field more
 
 -- the most bytes of a line, which is more than any line of the form has
 abbrev pub most_line : ℕ

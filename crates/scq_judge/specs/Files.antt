@@ -19,8 +19,8 @@ abbrev pub most_bytes : ℕ
 most_bytes = 2 ^ 31 - 2
 
 -- no file has more
-abbrev pub AreSmall : List (List ℕ) → Type 0
-AreSmall contents = All (λ content. length content ≤ most_bytes) contents
+abbrev pub NoneIsLarge : List (List ℕ) → Type 0
+NoneIsLarge contents = All (λ content. length content ≤ most_bytes) contents
 
 -- the file of this number has more
 pub record IsLarge (contents : List (List ℕ)) (file : ℕ) : Type 0 where

@@ -5,7 +5,7 @@ use Rattle.std.specs.Prelude.{take, slice_get}
 use Rattle.scq_hist.specs.Aspects.{IsLawful, IsLawfulAt}
 use Rattle.scq_hist.specs.First.{IsFirstFailing}
 use Rattle.scq_hist.specs.declared.events.Event.{Event}
-use Rattle.scq_judge.specs.Files.{AreSmall, IsLarge}
+use Rattle.scq_judge.specs.Files.{NoneIsLarge, IsLarge}
 use Rattle.scq_judge.specs.Merged.{IsMergeOf, HasStampOfAnother}
 use Rattle.scq_judge.specs.Recording.{Recording, recording_of}
 use Rattle.scq_judge.specs.Runs.{AreOfOneRun, IsOfAnotherRun}
@@ -20,8 +20,6 @@ use Rattle.scq_judge.specs.declared.judging.Shared.{Shared}
 use Rattle.scq_judge.specs.declared.judging.Shared.TheVariants.{Stamp, Seat}
 use Rattle.scq_judge.specs.declared.merging.MergeFault.{MergeFault}
 use Rattle.scq_judge.specs.declared.merging.MergeFault.TheVariants as merging
-use Rattle.scq_judge.specs.declared.reading.ReadingFault.{ReadingFault}
-use Rattle.scq_judge.specs.declared.reading.ReadingFault.TheVariants as reading
 use Rattle.scq_judge.specs.declared.recorded.Place.{Place}
 use Rattle.scq_judge.specs.declared.recorded.Stamped.{Stamped}
 
@@ -87,14 +85,14 @@ IsCauseIn recorded _ = ⊥
 -- and tell this report
 pub record IsJudged (names : List (List ℕ)) (room : Option ℕ) (contents : List (List ℕ))
     (text : List ℕ) : Type 0 where
-  pub small : AreSmall contents
+  pub small : NoneIsLarge contents
   pub recorded : Recording
   pub read : recording_of (length names == 1) contents ≡ Ok recorded
   pub reported : IsReported names room recorded text
 
 -- or are at fault so
 pub record IsCaused (lone : Bool) (contents : List (List ℕ)) (fault : JudgeFault) : Type 0 where
-  pub small : AreSmall contents
+  pub small : NoneIsLarge contents
   pub recorded : Recording
   pub read : recording_of lone contents ≡ Ok recorded
   pub cause : IsCauseIn recorded fault
@@ -102,13 +100,13 @@ pub record IsCaused (lone : Bool) (contents : List (List ℕ)) (fault : JudgeFau
 -- nothing is at fault in the files before this one: none has too many bytes, and each line is
 -- understood
 pub record AreSoundBefore (lone : Bool) (contents : List (List ℕ)) (file : ℕ) : Type 0 where
-  pub small : AreSmall (take (file - 1) contents)
+  pub small : NoneIsLarge (take (file - 1) contents)
   pub recorded : Recording
   pub read : recording_of lone (take (file - 1) contents) ≡ Ok recorded
 
 -- this line is the first that isn't understood, and no file before has too many bytes
 pub record IsFirstBad (lone : Bool) (contents : List (List ℕ)) (file line : ℕ) : Type 0 where
-  pub small : AreSmall (take (file - 1) contents)
+  pub small : NoneIsLarge (take (file - 1) contents)
   pub bad : recording_of lone contents ≡ Err (record { file = file; line = line })
 
 -- what is at fault in the contents of the files that were read, of which the last is the fault's
@@ -133,13 +131,7 @@ IsUnlawfulAt events places (Unlawful file line) =
     × (slice_get places e ≡ Some (record { file = file; line = line }))
 IsUnlawfulAt events places _ = ⊥
 
--- the faults of reading and of merging
-abbrev pub fault_of_reading : ReadingFault → JudgeFault
-fault_of_reading (reading.BadLine file line) = BadLine file line
-fault_of_reading (reading.ReadFault file) = ReadFault file
-fault_of_reading (reading.TooLarge file) = TooLarge file
-fault_of_reading reading.NoMemory = NoMemory
-
+-- the fault of merging
 abbrev pub fault_of_merging : MergeFault → JudgeFault
 fault_of_merging (merging.SameStamp place other) = shared_by Stamp place other
 fault_of_merging merging.NoMemory = NoMemory

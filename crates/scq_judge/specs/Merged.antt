@@ -11,7 +11,7 @@ pub record RiseBelow (merged : List Stamped) (n : ℕ) : Type 0 where
       → (slice_index_or merged i d).stamp < (slice_index_or merged (i + 1) d).stamp
 
 -- the same events, each once, in the order of their stamps, which are all different
-pub record IsMerged (events merged : List Stamped) : Type 0 where
+pub record AreMergedByStamp (events merged : List Stamped) : Type 0 where
   pub same : IsPermutation events merged
   pub rise : RiseBelow merged (length merged)
 
@@ -19,7 +19,7 @@ pub record IsMerged (events merged : List Stamped) : Type 0 where
 pub record IsMergeOf (stamped : List Stamped) (events : List Event)
     (places : List Place) : Type 0 where
   pub merged : List Stamped
-  pub is_merged : IsMerged stamped merged
+  pub is_merged : AreMergedByStamp stamped merged
   pub events_are : events ≡ map (λ s. s.event) merged
   pub places_are : places ≡ map (λ s. s.place) merged
 
@@ -33,8 +33,8 @@ pub record HasEqual (merged : List Stamped) (place other : Place) : Type 0 where
   pub before : (d : Stamped) → (slice_index_or merged i d).place ≡ other
 
 -- For private calls: the stamp at position i is above the one before it; and the place there
-abbrev pub IsAbove : List Stamped → ℕ → Type 0
-IsAbove merged i =
+abbrev pub StampIsAbove : List Stamped → ℕ → Type 0
+StampIsAbove merged i =
     (d : Stamped) → (slice_index_or merged (i - 1) d).stamp < (slice_index_or merged i d).stamp
 
 abbrev pub IsPlaceAt : List Stamped → ℕ → Place → Type 0

@@ -1,18 +1,16 @@
 -- How the sources of recordings were read. They have a count of faults and one of the ends that
 -- they answered, and what they have left may be visible
-use Rattle.std.specs.Prelude.{◌≡◌, ◌⊎◌, ℕ, ◌-◌, ◌<◌, Bool, List, Option, IfSome, [], length}
-use Rattle.std.specs.Prelude.{slice_index_or, Ok}
+use Rattle.std.specs.Prelude.{◌≡◌, ◌⊎◌, ℕ, ◌-◌, ◌<◌, ◌≤◌, Bool, List, Option, IfSome, [], length}
+use Rattle.std.specs.Prelude.{slice_index_or, Ok, Err}
 use Rattle.scq_outside.specs.Counts.{Rose}
 use Rattle.scq_outside.specs.Taking.{Took}
-use Rattle.scq_judge.specs.Files.{AreSmall, HaveContents, IsFile}
+use Rattle.scq_judge.specs.Files.{NoneIsLarge, HaveContents, IsFile, most_bytes}
 use Rattle.scq_judge.specs.Judged.{IsCause}
-use Rattle.scq_judge.specs.Recording.{Recording, AreAllOf, recording_of}
+use Rattle.scq_judge.specs.Recording.{Recording, AllAreOfFiles, after_file, recording_of}
 use Rattle.scq_judge.specs.declared.judging.JudgeFault.{JudgeFault}
 use Rattle.scq_judge.specs.declared.judging.JudgeFault.TheVariants.{BadLine, Shared, TwoRuns}
 use Rattle.scq_judge.specs.declared.judging.JudgeFault.TheVariants.{Unlawful, ReadFault, TooLarge}
 use Rattle.scq_judge.specs.declared.judging.JudgeFault.TheVariants.{NoMemory}
-use Rattle.scq_judge.specs.declared.reading.ReadingFault.{ReadingFault}
-use Rattle.scq_judge.specs.declared.reading.ReadingFault.TheVariants as reading
 
 -- a source gave some bytes, and has the others left. At most one of its reads failed, and its count
 -- of faults says so
@@ -91,8 +89,8 @@ pub record HaveBeenRead {S : Type 0} (faults end_count : S → ℕ) (left : S
   pub count : reader.files ≡ length olds
   pub many : length news ≡ length olds
   pub told : (contents : List (List ℕ)) → HaveContents left olds contents
-      → AreSmall contents × (recording_of reader.lone contents ≡ Ok reader.recorded)
-  pub files : AreAllOf (length olds) reader.recorded
+      → NoneIsLarge contents × (recording_of reader.lone contents ≡ Ok reader.recorded)
+  pub files : AllAreOfFiles (length olds) reader.recorded
   pub whole : AreReadWhole faults end_count left (length olds) olds news
   pub given : OfEach (length olds) (HasGiven faults left) olds news
 
@@ -105,7 +103,7 @@ IsOfOneFile NoMemory = Unit {0}
 IsOfOneFile _ = ⊥
 
 -- the reading of these sources stopped at the last of them, by this fault
-pub record HasStopped {S : Type 0} (faults end_count : S → ℕ) (left : S
+pub record ReadingStopped {S : Type 0} (faults end_count : S → ℕ) (left : S
     → Option (List ℕ)) (lone : Bool) (olds news : List S) (fault : JudgeFault) : Type 0 where
   pub many : length news ≡ length olds
   pub own : IsOfOneFile fault
@@ -116,6 +114,30 @@ pub record HasStopped {S : Type 0} (faults end_count : S → ℕ) (left : S
 
 -- For private calls: the count of faults of the one source that was read rose exactly where a read
 -- of it failed
-abbrev pub CountsFault : ReadingFault → ℕ → ℕ → Type 0
-CountsFault (reading.ReadFault file) old new = Rose old new
+abbrev pub CountsFault : JudgeFault → ℕ → ℕ → Type 0
+CountsFault (ReadFault file) old new = Rose old new
 CountsFault _ old new = new ≡ old
+
+-- a file of which this was left, where that is visible, was read behind what was read before, and
+-- isn't too large
+pub record FileIsAdded (file : ℕ) (lone : Bool) (before : Recording)
+    (left : Option (List ℕ)) (after : Recording) : Type 0 where
+  pub read : IfSome left (λ content. after_file file lone before content ≡ Ok after)
+  pub small : IfSome left (λ content. length content ≤ most_bytes)
+
+-- a line of the file is the first that isn't understood, and so is told of its number; or memory
+-- ran out
+abbrev pub IsLineFault : ℕ → (ℕ → Type 0) → JudgeFault → Type 0
+IsLineFault file IsBad (BadLine f line) = (f ≡ file) × IsBad line
+IsLineFault file IsBad NoMemory = Unit {0}
+IsLineFault file IsBad _ = ⊥
+
+-- the fault of a file of which this was left, where that is visible, behind what was read before
+abbrev pub IsFileFault : ℕ → Bool → Recording → Option (List ℕ) → JudgeFault → Type 0
+IsFileFault file lone before left (BadLine f line) =
+    (f ≡ file) × IfSome left (λ content. after_file file lone before content ≡ Err line)
+IsFileFault file lone before left (ReadFault f) = f ≡ file
+IsFileFault file lone before left (TooLarge f) =
+    (f ≡ file) × IfSome left (λ content. most_bytes < length content)
+IsFileFault file lone before left NoMemory = Unit {0}
+IsFileFault file lone before left _ = ⊥

@@ -29,16 +29,16 @@ nothing = record { runs = []; opening = []; events = []; last = NoEvent }
 -- whether an entry may follow in the file of this number. Opening tokens stand at the head of file
 -- 1, and then the run's number, once, before the file's events; stamps rise; events without stamps
 -- are those of a lone file, which has no others
-abbrev pub may_follow : ℕ → Bool → Last → Entry → Bool
-may_follow file lone NoEvent (Run number) = true
-may_follow file lone NoEvent (Opening content) = file == 1
-may_follow file lone NoEvent (Happens None event) = lone
-may_follow file lone NoEvent (Happens (Some stamp) event) = true
-may_follow file lone Headed (Happens None event) = lone
-may_follow file lone Headed (Happens (Some stamp) event) = true
-may_follow file lone Bare (Happens None event) = true
-may_follow file lone (Stamp last) (Happens (Some stamp) event) = nat_lt last stamp
-may_follow file lone _ _ = false
+abbrev pub entry_may_follow : ℕ → Bool → Last → Entry → Bool
+entry_may_follow file lone NoEvent (Run number) = true
+entry_may_follow file lone NoEvent (Opening content) = file == 1
+entry_may_follow file lone NoEvent (Happens None event) = lone
+entry_may_follow file lone NoEvent (Happens (Some stamp) event) = true
+entry_may_follow file lone Headed (Happens None event) = lone
+entry_may_follow file lone Headed (Happens (Some stamp) event) = true
+entry_may_follow file lone Bare (Happens None event) = true
+entry_may_follow file lone (Stamp last) (Happens (Some stamp) event) = nat_lt last stamp
+entry_may_follow file lone _ _ = false
 
 -- an event of this file and line. The numbers of their lines are the stamps of events without any
 abbrev pub event_with : ℕ → ℕ → Option ℕ → Event → Stamped
@@ -62,7 +62,7 @@ with_entry file line r (Happens stamp event) =
 abbrev pub after_entry : ℕ → Bool → ℕ → Recording → Option Entry → Option Recording
 after_entry file lone line r None = None
 after_entry file lone line r (Some entry) =
-    if may_follow file lone r.last entry then Some (with_entry file line r entry) else None
+    if entry_may_follow file lone r.last entry then Some (with_entry file line r entry) else None
 
 -- after a line, or none where it isn't understood there
 abbrev pub after_line : ℕ → Bool → ℕ → Recording → List ℕ → Option Recording
@@ -106,9 +106,9 @@ abbrev pub recording_of : Bool → List (List ℕ) → Result Recording Place
 recording_of lone contents = after_files lone 1 nothing contents
 
 -- For private calls: each event is of one of so many files, and so is each number of a run
-abbrev pub AreOf : ℕ → List Stamped → Type 0
-AreOf count events = All (λ s. IsFile count s.place.file) events
+abbrev pub EventsAreOfFiles : ℕ → List Stamped → Type 0
+EventsAreOfFiles count events = All (λ s. IsFile count s.place.file) events
 
-pub record AreAllOf (count : ℕ) (r : Recording) : Type 0 where
+pub record AllAreOfFiles (count : ℕ) (r : Recording) : Type 0 where
   pub runs : All (λ run. IsFile count run.file) r.runs
-  pub events : AreOf count r.events
+  pub events : EventsAreOfFiles count r.events

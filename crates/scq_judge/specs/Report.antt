@@ -1,18 +1,16 @@
 -- What is said of a merged history
 use Rattle.std.specs.Prelude.{◌≡◌, ℕ, ◌+◌, List, [], ◌++◌, Option, Some, None, length, codes}
 use Rattle.std.specs.Prelude.{decimal}
-use Rattle.scq_hist.specs.Aspects.{IsFreshAt, IsOnceAt, IsInOrderAt, IsEmptyRightAt}
 use Rattle.scq_hist.specs.Counts.{IsCount}
 use Rattle.scq_hist.specs.declared.events.Event.{Event}
 use Rattle.scq_check.specs.Failures.{AreFailures}
 use Rattle.scq_check.specs.Full.{IsFullRightAt}
-use Rattle.scq_check.specs.Refused.{IsAcceptedAt}
-use Rattle.scq_check.specs.Verdicts.{HaveCounterparts}
+use Rattle.scq_check.specs.Verdicts.{AreBreaches}
 use Rattle.scq_check.specs.declared.counterparts.Origin.{Origin}
 use Rattle.scq_check.specs.declared.counterparts.Origin.TheVariants.{Nobody, Token, Start}
 use Rattle.scq_check.specs.declared.failures.Failures.{Failures}
 use Rattle.scq_check.specs.declared.waiting.Waiting.{Waiting}
-use Rattle.scq_judge.specs.Counted.{IsStart, IsNamed, Overlaps}
+use Rattle.scq_judge.specs.Counted.{IsStartAt, IsNamed, Overlaps}
 use Rattle.scq_judge.specs.declared.counting.Named.TheVariants.{Seat, Queue}
 use Rattle.scq_judge.specs.declared.judging.Report.{Report}
 use Rattle.scq_judge.specs.Telling.{Told, event_at_text, token_text}
@@ -28,17 +26,12 @@ AreWrongRefusals (Some room) opening history (Some failures) =
 -- overlapping calls there are
 pub record IsReport (room : Option ℕ) (opening : List (List ℕ)) (history : List Event)
     (report : Report) : Type 0 where
-  pub fresh : AreFailures (IsFreshAt opening history) report.breaches.fresh
-  pub once : AreFailures (IsOnceAt history) report.breaches.once
-  pub in_order : AreFailures (IsInOrderAt opening history) report.breaches.in_order
-  pub empty_right : AreFailures (IsEmptyRightAt opening history) report.breaches.empty_right
-  pub accepted : AreFailures (IsAcceptedAt history) report.breaches.accepted
-  pub against : HaveCounterparts opening history report.breaches
+  pub breaches : AreBreaches opening history report.breaches
   pub full : AreWrongRefusals room opening history report.full
   pub events : report.counts.events ≡ length history
   pub queues : IsCount (IsNamed Queue history) report.counts.queues
   pub seats : IsCount (IsNamed Seat history) report.counts.seats
-  pub calls : IsCount (IsStart history) report.counts.calls
+  pub calls : IsCount (IsStartAt history) report.counts.calls
   pub overlapping : IsCount (Overlaps history) report.counts.overlapping
 
 -- the verdict on an aspect: its name, and ` holds` or ` fails at` the first event that breaks it,

@@ -9,57 +9,58 @@ use Rattle.scq_judge.specs.declared.recorded.Stamped.{Stamped}
 use Rattle.scq_judge.specs.declared.seats.Homes.{Homes}
 
 -- the seat of an event
-abbrev pub seat_of : Event → ℕ
-seat_of (Start seat call) = seat
-seat_of (End seat reply) = seat
+abbrev pub event_seat : Event → ℕ
+event_seat (Start seat call) = seat
+event_seat (End seat reply) = seat
 
 -- an event of this seat stands at position i, with this place
-pub record IsAt (events : List Stamped) (i seat : ℕ) (place : Place) : Type 0 where
+pub record EventIsAt (events : List Stamped) (i seat : ℕ) (place : Place) : Type 0 where
   pub event : Stamped
   pub stands : slice_get events i ≡ Some event
-  pub seat_is : seat ≡ seat_of event.event
+  pub seat_is : seat ≡ event_seat event.event
   pub place_is : place ≡ event.place
 
 -- each seat's events stand in one file
 abbrev pub HaveOwnFiles : List Stamped → Type 0
 HaveOwnFiles events =
-    (i k seat : ℕ) (a b : Place) → IsAt events i seat a → IsAt events k seat b → a.file ≡ b.file
+    (i k seat : ℕ) (a b : Place) → EventIsAt events i seat a → EventIsAt events k seat b
+    → a.file ≡ b.file
 
--- the event of this place is of a seat that has one of the other place, in another file
-pub record HasSeatOfAnother (events : List Stamped) (place other : Place) : Type 0 where
-  pub i : ℕ
+-- the event of this place, at position i, is of a seat that has one of the other place, in another
+-- file
+pub record IsAwayFrom (events : List Stamped) (i : ℕ) (place other : Place) : Type 0 where
   pub k : ℕ
   pub seat : ℕ
-  pub here : IsAt events i seat place
-  pub there : IsAt events k seat other
+  pub here : EventIsAt events i seat place
+  pub there : EventIsAt events k seat other
   pub apart : ¬ (other.file ≡ place.file)
+
+-- so is that of this place, wherever it stands
+abbrev pub HasSeatOfAnother : List Stamped → Place → Place → Type 0
+HasSeatOfAnother events place other = (i : ℕ) × IsAwayFrom events i place other
 
 -- For private calls: no event of the seat stands before position i; and those that do stand in the
 -- file of this place, which is that of one of them
 pub record NoneBefore (events : List Stamped) (i seat : ℕ) : Type 0 where
-  pub none : (k : ℕ) (place : Place) → k < i → ¬ IsAt events k seat place
+  pub none : (k : ℕ) (place : Place) → k < i → ¬ EventIsAt events k seat place
 
-pub record IsHome (events : List Stamped) (i seat : ℕ) (home : Place) : Type 0 where
+pub record IsSeatHome (events : List Stamped) (i seat : ℕ) (home : Place) : Type 0 where
   pub k : ℕ
   pub before : k < i
-  pub there : IsAt events k seat home
-  pub all : (k : ℕ) (place : Place) → k < i → IsAt events k seat place → place.file ≡ home.file
+  pub there : EventIsAt events k seat home
+  pub all : (k : ℕ) (place : Place) → k < i → EventIsAt events k seat place → place.file ≡ home.file
 
 -- so of each seat
 pub record AreHomes (events : List Stamped) (i : ℕ) (homes : Homes) : Type 0 where
   pub each : (seat : ℕ)
-      → MatchOption (get nat_cmp homes.known seat) (NoneBefore events i seat) (IsHome events i seat)
+      → MatchOption (get nat_cmp homes.known seat) (NoneBefore events i seat)
+      (IsSeatHome events i seat)
 
 -- the event at position i stands in the file of its seat's events before it
 abbrev pub IsAtHome : List Stamped → ℕ → Type 0
-IsAtHome events i = (k seat : ℕ) (a b : Place) → k < i → IsAt events k seat a → IsAt events i seat b
-    → a.file ≡ b.file
+IsAtHome events i = (k seat : ℕ) (a b : Place) → k < i → EventIsAt events k seat a
+    → EventIsAt events i seat b → a.file ≡ b.file
 
--- the event at position i is of a seat whose first is at the other place, in another file
-pub record IsAway (events : List Stamped) (i : ℕ) (other : Place) : Type 0 where
-  pub k : ℕ
-  pub seat : ℕ
-  pub place : Place
-  pub here : IsAt events i seat place
-  pub there : IsAt events k seat other
-  pub apart : ¬ (other.file ≡ place.file)
+-- the event at position i is of a seat that has one of the other place, in another file
+abbrev pub IsAway : List Stamped → ℕ → Place → Type 0
+IsAway events i other = (place : Place) × IsAwayFrom events i place other

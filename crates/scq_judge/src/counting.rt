@@ -4,8 +4,8 @@ ghost use Rattle.std.specs.Prelude.{◌≡◌, ◌+◌, ◌<◌, ◌≤◌, ◌�
 ghost use Rattle.std.specs.Prelude.{OnOk, length, slice_get};
 ghost use Rattle.scq_hist.specs.Aspects.{IsLawful};
 ghost use Rattle.scq_hist.specs.Counts.{IsCount};
-ghost use Rattle.scq_judge.specs.Counted.{IsStart, IsNamed, Overlaps, Before, AreSeen, AreBusy};
-ghost use Rattle.scq_judge.specs.Counted.{named_by, is_in};
+ghost use Rattle.scq_judge.specs.Counted.{IsStartAt, IsNamed, Overlaps, Before, AreSeen, AreBusy};
+ghost use Rattle.scq_judge.specs.Counted.{named_by, is_seen};
 
 use scq_hist::{Call, Event};
 use scq_word::NoMemory;
@@ -38,7 +38,7 @@ pub(crate) struct Seen {
 
 impl Seen {
     fn new(alloc: Global) -> Seen
-        ensures { (number : ℕ) → is_in result number ≡ false }
+        ensures { (number : ℕ) → is_seen result number ≡ false }
     {
         Seen {
             numbers: BTreeMap::new(alloc),
@@ -46,14 +46,14 @@ impl Seen {
     }
 
     fn has(&self, number: u32) -> bool
-        ensures { result ≡ is_in self.now number }
+        ensures { result ≡ is_seen self.now number }
     {
         self.numbers.get(&number).is_some()
     }
 
     fn add(&mut self, number: u32) -> Result<(), NoMemory>
         ensures { OnOk result ((other : ℕ)
-            → is_in self.new other ≡ ((number == other) || is_in self.old other)) }
+            → is_seen self.new other ≡ ((number == other) || is_seen self.old other)) }
     {
         self.numbers.insert(number, true)?;
         Ok(())
@@ -67,7 +67,7 @@ pub(crate) fn count(alloc: Global, events: &[Event]) -> Result<Counts, NoMemory>
     ensures queues { IfOk result (λ counts.
         IsCount (IsNamed Named.Queue events.now) counts.queues) }
     ensures seats { IfOk result (λ counts. IsCount (IsNamed Named.Seat events.now) counts.seats) }
-    ensures calls { IfOk result (λ counts. IsCount (IsStart events.now) counts.calls) }
+    ensures calls { IfOk result (λ counts. IsCount (IsStartAt events.now) counts.calls) }
     ensures overlapping { IfOk result (λ counts. IsCount (Overlaps events.now) counts.overlapping) }
 {
     Ok(Counts {
@@ -145,7 +145,7 @@ fn add_named(
 
 // Whether a call starts at this position.
 fn is_start(events: &[Event], e: usize) -> bool
-    ensures { IsTrue result ↔ IsStart events.now e }
+    ensures { IsTrue result ↔ IsStartAt events.now e }
 {
     match events.get(e) {
         Some(Event::Start { .. }) => true,
@@ -155,7 +155,7 @@ fn is_start(events: &[Event], e: usize) -> bool
 
 // How many calls start.
 fn count_calls(events: &[Event]) -> usize
-    ensures { IsCount (IsStart events.now) result }
+    ensures { IsCount (IsStartAt events.now) result }
 {
     let mut calls = 0;
     for e in 0..events.len() {
@@ -168,9 +168,9 @@ fn count_calls(events: &[Event]) -> usize
 fn calls_after(calls: usize, events: &[Event], e: usize) -> usize
     requires within { e < length events.now }
     requires few { calls ≤ e }
-    requires count { IsCount (Before (IsStart events.now) e) calls }
+    requires count { IsCount (Before (IsStartAt events.now) e) calls }
     ensures few { result ≤ e + 1 }
-    ensures count { IsCount (Before (IsStart events.now) (e + 1)) result }
+    ensures count { IsCount (Before (IsStartAt events.now) (e + 1)) result }
 {
     if is_start(events, e) {
         calls + 1

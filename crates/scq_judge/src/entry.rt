@@ -3,7 +3,7 @@
 ghost use Rattle.std.specs.Prelude.{◌≡◌, ◌∷◌, codes, IfOk};
 ghost use Rattle.std.specs.Str.{bytes_eq};
 ghost use Rattle.scq_lines.specs.Lines.{fields_after};
-ghost use Rattle.scq_judge.specs.Entry.{bare, run_in, stamped, said_by};
+ghost use Rattle.scq_judge.specs.Entry.{without_stamp, run_in, stamped, said_by};
 
 use scq_check::{Bounds, Line, read_fields};
 use scq_hist::Event;
@@ -68,7 +68,7 @@ fn run(rest: &[u8]) -> Option<Entry>
 }
 
 fn bare(line: Option<Line>) -> Option<Entry>
-    ensures { result ≡ bare line }
+    ensures { result ≡ without_stamp line }
 {
     match line {
         Some(Line::Opening { content }) => Some(Entry::Opening { content }),

@@ -11,7 +11,6 @@ ghost use Rattle.scq_judge.specs.Report.{AreWrongRefusals, IsReport};
 
 use crate::counting::{Counts, count};
 use crate::merging::{MergeFault, Merged, merge};
-use crate::reading::ReadingFault;
 use crate::recorded::{Place, Recorded};
 use crate::runs::first_other_run;
 use crate::seats::first_apart;
@@ -20,7 +19,7 @@ use crate::text::report_text;
 use scq_check::{Breaches, Failures, find_breaches, find_wrong_refusals, first_unlawful};
 use scq_hist::Event;
 use scq_word::{Bytes, NoMemory};
-use std::alloc::Global;
+use std::alloc::{AllocError, Global};
 use thiserror::Error;
 
 /// What is said of a history: the events that break each aspect, where they are judged the refusals
@@ -42,7 +41,7 @@ pub enum Shared {
 }
 
 /// Why recordings were not judged. Files and lines are numbered from 1.
-#[derive(Clone, Copy, Debug, PartialEq, Eq, Error)]
+#[derive(Clone, Copy, Debug, Error)]
 pub enum JudgeFault {
     /// The line is not of the form, or may not stand there.
     #[error("file {file} line {line}: not understood")]
@@ -96,18 +95,13 @@ impl From<NoMemory> for JudgeFault {
     }
 }
 
-impl From<ReadingFault> for JudgeFault {
-    ghost use Rattle.scq_judge.specs.Judged.{fault_of_reading};
+impl From<AllocError> for JudgeFault {
+    ghost use Rattle.scq_judge.specs.declared.judging.JudgeFault.TheVariants.{NoMemory as Wanted};
 
-    ghost from_gives = { λ refused fault. fault ≡ fault_of_reading refused };
+    ghost from_gives = { λ _ fault. fault ≡ Wanted };
 
-    fn from(refused: ReadingFault) -> JudgeFault {
-        match refused {
-            ReadingFault::BadLine { file, line } => JudgeFault::BadLine { file, line },
-            ReadingFault::ReadFault { file } => JudgeFault::ReadFault { file },
-            ReadingFault::TooLarge { file } => JudgeFault::TooLarge { file },
-            ReadingFault::NoMemory => JudgeFault::NoMemory,
-        }
+    fn from(_: AllocError) -> JudgeFault {
+        JudgeFault::NoMemory
     }
 }
 

@@ -3,7 +3,7 @@
 ghost use Rattle.std.specs.Prelude.{◌≡◌, ◌<◌, ◌≤◌, ◌↔◌, IsTrue, map, length, IfOk, OnOk};
 ghost use Rattle.std.specs.Prelude.{MatchOption, IsErrOf};
 ghost use Rattle.std.specs.List.Sorted.{IsPermutation, IsNonDecreasingBy};
-ghost use Rattle.scq_judge.specs.Merged.{RiseBelow, HasEqual, IsAbove, IsPlaceAt, IsMergeOf};
+ghost use Rattle.scq_judge.specs.Merged.{RiseBelow, HasEqual, StampIsAbove, IsPlaceAt, IsMergeOf};
 ghost use Rattle.scq_judge.specs.Merged.{HasStampOfAnother};
 
 use crate::recorded::{Place, Recorded, Stamped};
@@ -80,7 +80,7 @@ fn first_equal(stamped: &[Stamped]) -> Option<(Place, Place)>
 fn is_above(stamped: &[Stamped], i: usize) -> bool
     requires later { 1 ≤ i }
     requires within { i < length stamped.now }
-    ensures { IsTrue result ↔ IsAbove stamped.now i }
+    ensures { IsTrue result ↔ StampIsAbove stamped.now i }
 {
     stamped[i - 1].stamp < stamped[i].stamp
 }

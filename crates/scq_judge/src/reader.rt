@@ -3,7 +3,7 @@
 ghost use Rattle.std.specs.Prelude.{◌≡◌, ℕ, ◌+◌, ◌<◌, ◌^◌, List, [], ◌∷◌, ◌++◌, map, string_bytes};
 ghost use Rattle.std.specs.Prelude.{IfOk, IfErr, OnOk};
 ghost use Rattle.scq_judge.specs.Judged.{IsCauseIn, IsReported};
-ghost use Rattle.scq_judge.specs.Reads.{HaveBeenRead, HasStopped};
+ghost use Rattle.scq_judge.specs.Reads.{HaveBeenRead, ReadingStopped};
 ghost use Rattle.scq_judge.specs.Recording.{nothing};
 
 use crate::judging::{JudgeFault, judge_recorded};
@@ -56,20 +56,16 @@ impl Reader {
             (news ++ source.new ∷ []) self.new) }
         ensures stopped { IfErr result (λ fault. (olds news : List S)
             → HaveBeenRead S.faults S.ends S.left olds news self.old
-            → HasStopped S.faults S.ends S.left self.old.lone (olds ++ source.old ∷ [])
+            → ReadingStopped S.faults S.ends S.left self.old.lone (olds ++ source.old ∷ [])
             (news ++ source.new ∷ []) fault) }
     {
         let reading = Reading {
             file: self.files + 1,
             lone: self.lone,
         };
-        match reading.read(alloc, &mut self.recorded, source) {
-            Ok(()) => {
-                self.files += 1;
-                Ok(())
-            }
-            Err(fault) => Err(JudgeFault::from(fault)),
-        }
+        reading.read(alloc, &mut self.recorded, source)?;
+        self.files += 1;
+        Ok(())
     }
 
     /// The report of the history that the recordings are merged to, as text. Where it is told for

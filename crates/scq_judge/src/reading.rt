@@ -1,55 +1,27 @@
 //! Recordings read from their files, piece by piece.
 
 ghost use Rattle.std.specs.Prelude.{◌≡◌, ◌+◌, ◌<◌, ◌≤◌, ◌^◌, ◌∷◌, ◌++◌, ℕ, List, None, Ok, Err};
-ghost use Rattle.std.specs.Prelude.{length, IfOk, IfErr, IfSome, OnOk, IsErrOf};
+ghost use Rattle.std.specs.Prelude.{length, IfOk, IfErr, OnOk};
 ghost use Rattle.scq_lines.specs.Lines.{lines_of};
 ghost use Rattle.memchr.specs.Find.{IsFirstByte, is_byte};
-ghost use Rattle.scq_judge.specs.Recording.{after_lines, after_file, AreAllOf};
-ghost use Rattle.scq_judge.specs.Files.{IsFile, most_bytes};
-ghost use Rattle.scq_judge.specs.Reads.{CountsFault, HasGiven, IsReadWhole};
+ghost use Rattle.scq_judge.specs.Recording.{after_lines, AllAreOfFiles};
+ghost use Rattle.scq_judge.specs.Files.{IsFile};
+ghost use Rattle.scq_judge.specs.Reads.{CountsFault, HasGiven, FileIsAdded, IsFileFault};
+ghost use Rattle.scq_judge.specs.Reads.{IsLineFault};
+ghost use Rattle.scq_judge.specs.Reads.{IsReadWhole};
 
 use crate::entry::MOST_LINE;
-use crate::recorded::{LineFault, Place, Recorded};
+use crate::judging::JudgeFault;
+use crate::recorded::{Place, Recorded};
 use memchr::memchr;
 use scq_outside::{Failed, Source};
-use scq_word::NoMemory;
-use std::alloc::{AllocError, Global};
+use std::alloc::Global;
 
 /// The most bytes that one read is asked for.
 const PIECE: usize = 65536;
 
 /// The most bytes of a file.
 const MOST_BYTES: u64 = (1 << 31) - 2;
-
-/// Why recordings were not read to their ends. Files and lines are numbered from 1.
-#[derive(Clone, Copy)]
-pub(crate) enum ReadingFault {
-    /// The line is not of the form, or may not stand there.
-    BadLine { file: u32, line: u32 },
-    ReadFault { file: u32 },
-    TooLarge { file: u32 },
-    NoMemory,
-}
-
-impl From<NoMemory> for ReadingFault {
-    ghost use Rattle.scq_judge.specs.declared.reading.ReadingFault.TheVariants.{NoMemory as Wanted};
-
-    ghost from_gives = { λ _ fault. fault ≡ Wanted };
-
-    fn from(_: NoMemory) -> ReadingFault {
-        ReadingFault::NoMemory
-    }
-}
-
-impl From<AllocError> for ReadingFault {
-    ghost use Rattle.scq_judge.specs.declared.reading.ReadingFault.TheVariants.{NoMemory as Wanted};
-
-    ghost from_gives = { λ _ fault. fault ≡ Wanted };
-
-    fn from(_: AllocError) -> ReadingFault {
-        ReadingFault::NoMemory
-    }
-}
 
 /// A file that is read: its number, and whether it is the only one.
 #[derive(Clone, Copy)]
@@ -73,26 +45,19 @@ impl Reading {
         recorded: &mut Recorded,
         before: u32,
         text: &[u8],
-    ) -> Result<(), ReadingFault>
+    ) -> Result<(), JudgeFault>
         requires { before + 1 < 2 ^ 32 }
         ensures read { OnOk result ((lines : List (List ℕ))
             → after_lines self.file self.lone before recorded.old (text.now ∷ lines)
             ≡ after_lines self.file self.lone (before + 1) recorded.new lines) }
-        ensures files { (count : ℕ) → IsFile count self.file → AreAllOf count recorded.old
-            → OnOk result (AreAllOf count recorded.new) }
-        ensures bad_line { (f l : ℕ) → IsErrOf result (ReadingFault.BadLine f l)
-            → (f ≡ self.file) × ((lines : List (List ℕ))
-            → after_lines self.file self.lone before recorded.old (text.now ∷ lines) ≡ Err l) }
-        ensures read_fault { (f : ℕ) → ¬ IsErrOf result (ReadingFault.ReadFault f) }
-        ensures large { (f : ℕ) → ¬ IsErrOf result (ReadingFault.TooLarge f) }
+        ensures files { (count : ℕ) → IsFile count self.file → AllAreOfFiles count recorded.old
+            → OnOk result (AllAreOfFiles count recorded.new) }
+        ensures refused { IfErr result (IsLineFault self.file (λ l. (lines : List (List ℕ))
+            → after_lines self.file self.lone before recorded.old (text.now ∷ lines) ≡ Err l)) }
     {
         let file = self.file;
         let line = before + 1;
-        match recorded.add_line(alloc, self.lone, Place { file, line }, text) {
-            Ok(()) => Ok(()),
-            Err(LineFault::NotUnderstood) => Err(ReadingFault::BadLine { file, line }),
-            Err(LineFault::NoMemory) => Err(ReadingFault::NoMemory),
-        }
+        recorded.add_line(alloc, self.lone, Place { file, line }, text)
     }
 
     /// Takes the whole lines of these bytes, which follow so many lines of the file.
@@ -102,23 +67,20 @@ impl Reading {
         recorded: &mut Recorded,
         before: u32,
         bytes: &'a [u8],
-    ) -> Result<Taken<'a>, ReadingFault>
+    ) -> Result<Taken<'a>, JudgeFault>
         requires room { before + length bytes.now < 2 ^ 31 }
         ensures taken { IfOk result (λ taken. (more : List ℕ)
             → after_lines self.file self.lone before recorded.old (lines_of (bytes.now ++ more))
             ≡ after_lines self.file self.lone taken.lines recorded.new
             (lines_of (taken.rest.now ++ more))) }
-        ensures files { (count : ℕ) → IsFile count self.file → AreAllOf count recorded.old
-            → OnOk result (AreAllOf count recorded.new) }
+        ensures files { (count : ℕ) → IsFile count self.file → AllAreOfFiles count recorded.old
+            → OnOk result (AllAreOfFiles count recorded.new) }
         ensures few { IfOk result (λ taken.
             taken.lines + length taken.rest.now ≤ before + length bytes.now) }
         ensures front { IfOk result (λ taken. IsFirstByte (is_byte 10) taken.rest.now None) }
-        ensures bad_line { (f l : ℕ) → IsErrOf result (ReadingFault.BadLine f l)
-            → (f ≡ self.file) × ((more : List ℕ)
+        ensures refused { IfErr result (IsLineFault self.file (λ l. (more : List ℕ)
             → after_lines self.file self.lone before recorded.old (lines_of (bytes.now ++ more))
-            ≡ Err l) }
-        ensures read_fault { (f : ℕ) → ¬ IsErrOf result (ReadingFault.ReadFault f) }
-        ensures large { (f : ℕ) → ¬ IsErrOf result (ReadingFault.TooLarge f) }
+            ≡ Err l)) }
     {
         let mut lines = before;
         let mut rest = bytes;
@@ -131,7 +93,7 @@ impl Reading {
                 }
                 None => {
                     if rest.len() > MOST_LINE {
-                        return Err(ReadingFault::BadLine {
+                        return Err(JudgeFault::BadLine {
                             file: self.file,
                             line: lines + 1,
                         });
@@ -149,18 +111,15 @@ impl Reading {
         recorded: &mut Recorded,
         before: u32,
         bytes: &[u8],
-    ) -> Result<(), ReadingFault>
+    ) -> Result<(), JudgeFault>
         requires room { before < 2 ^ 31 }
         requires front { IsFirstByte (is_byte 10) bytes.now None }
         ensures read { OnOk result (after_lines self.file self.lone before recorded.old
             (lines_of bytes.now) ≡ Ok recorded.new) }
-        ensures files { (count : ℕ) → IsFile count self.file → AreAllOf count recorded.old
-            → OnOk result (AreAllOf count recorded.new) }
-        ensures bad_line { (f l : ℕ) → IsErrOf result (ReadingFault.BadLine f l)
-            → (f ≡ self.file)
-            × (after_lines self.file self.lone before recorded.old (lines_of bytes.now) ≡ Err l) }
-        ensures read_fault { (f : ℕ) → ¬ IsErrOf result (ReadingFault.ReadFault f) }
-        ensures large { (f : ℕ) → ¬ IsErrOf result (ReadingFault.TooLarge f) }
+        ensures files { (count : ℕ) → IsFile count self.file → AllAreOfFiles count recorded.old
+            → OnOk result (AllAreOfFiles count recorded.new) }
+        ensures refused { IfErr result (IsLineFault self.file (λ l.
+            after_lines self.file self.lone before recorded.old (lines_of bytes.now) ≡ Err l)) }
     {
         if bytes.is_empty() {
             return Ok(());
@@ -174,19 +133,13 @@ impl Reading {
         alloc: Global,
         recorded: &mut Recorded,
         source: &mut S,
-    ) -> Result<(), ReadingFault>
-        ensures read { OnOk result (IfSome (S.left source.old) (λ content.
-            after_file self.file self.lone recorded.old content ≡ Ok recorded.new)) }
-        ensures small { OnOk result
-            (IfSome (S.left source.old) (λ content. length content ≤ most_bytes)) }
-        ensures files { (count : ℕ) → IsFile count self.file → AreAllOf count recorded.old
-            → OnOk result (AreAllOf count recorded.new) }
-        ensures bad_line { (f l : ℕ) → IsErrOf result (ReadingFault.BadLine f l) → (f ≡ self.file)
-            × IfSome (S.left source.old) (λ content.
-            after_file self.file self.lone recorded.old content ≡ Err l) }
-        ensures large { (f : ℕ) → IsErrOf result (ReadingFault.TooLarge f) → (f ≡ self.file)
-            × IfSome (S.left source.old) (λ content. most_bytes < length content) }
-        ensures read_fault { (f : ℕ) → IsErrOf result (ReadingFault.ReadFault f) → f ≡ self.file }
+    ) -> Result<(), JudgeFault>
+        ensures added { OnOk result
+            (FileIsAdded self.file self.lone recorded.old (S.left source.old) recorded.new) }
+        ensures files { (count : ℕ) → IsFile count self.file → AllAreOfFiles count recorded.old
+            → OnOk result (AllAreOfFiles count recorded.new) }
+        ensures refused { IfErr result
+            (IsFileFault self.file self.lone recorded.old (S.left source.old)) }
         ensures whole { OnOk result (IsReadWhole S.faults S.ends S.left source.old source.new) }
         ensures counted { IfErr result (λ fault.
             CountsFault fault (S.faults source.old) (S.faults source.new)) }
@@ -199,14 +152,14 @@ impl Reading {
         let mut size = 0;
         'reads: loop {
             let Ok(count) = source.read(&mut piece) else {
-                return Err(ReadingFault::ReadFault { file: self.file });
+                return Err(JudgeFault::ReadFault { file: self.file });
             };
             if count == 0 {
                 return self.take_last(alloc, recorded, lines, &front);
             }
             size += count as u64;
             if size > MOST_BYTES {
-                return Err(ReadingFault::TooLarge { file: self.file });
+                return Err(JudgeFault::TooLarge { file: self.file });
             }
             front.extend_from_slice(&piece[..count])?;
             let taken = self.take_lines(alloc, recorded, lines, &front)?;

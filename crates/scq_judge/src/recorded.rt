@@ -1,15 +1,18 @@
 //! What has been read of recordings.
 
-ghost use Rattle.std.specs.Prelude.{◌≡◌, [], ◌∷◌, ◌++◌, Some, None, OnOk, IsErrOf};
+ghost use Rattle.std.specs.Prelude.{◌≡◌, [], ◌∷◌, ◌++◌, Some, None, OnOk, IfErr};
 ghost use Rattle.scq_judge.specs.Entry.{said_by};
-ghost use Rattle.scq_judge.specs.Recording.{nothing, may_follow, with_entry, event_with};
+ghost use Rattle.scq_judge.specs.Recording.{nothing, entry_may_follow, with_entry, event_with};
 ghost use Rattle.scq_judge.specs.Recording.{after_line, after_entry};
+ghost use Rattle.scq_judge.specs.Reads.{IsLineFault};
+ghost use Rattle.scq_judge.specs.declared.judging.JudgeFault.TheVariants.{BadLine};
 ghost use Rattle.scq_judge.specs.declared.recorded.Last.TheVariants.{NoEvent};
 
 use crate::entry::{Entry, read_entry};
+use crate::judging::JudgeFault;
 use scq_hist::Event;
 use scq_word::{Bytes, NoMemory};
-use std::alloc::{AllocFailed, Global};
+use std::alloc::Global;
 use std::marker::Model;
 
 /// Where a line stands: its file and its number, both from 1.
@@ -68,38 +71,18 @@ impl Model for Recorded {
     } };
 }
 
-/// Why a line was not taken.
-#[derive(Clone, Copy)]
-pub(crate) enum LineFault {
-    NotUnderstood,
-    NoMemory,
-}
-
-impl From<NoMemory> for LineFault {
-    ghost use Rattle.scq_judge.specs.declared.recorded.LineFault.TheVariants.{NoMemory as Wanted};
-
-    ghost from_gives = { λ _ fault. fault ≡ Wanted };
-
-    fn from(_: NoMemory) -> LineFault {
-        LineFault::NoMemory
-    }
-}
-
-impl<T: Drop> From<AllocFailed<T>> for LineFault {
-    ghost use Rattle.scq_judge.specs.declared.recorded.LineFault.TheVariants.{NoMemory as Wanted};
-
-    ghost from_gives = { λ _ fault. fault ≡ Wanted };
-
-    fn from(_: AllocFailed<T>) -> LineFault {
-        LineFault::NoMemory
-    }
+fn not_understood(place: Place) -> JudgeFault
+    ensures { result ≡ BadLine place.file place.line }
+{
+    let Place { file, line } = place;
+    JudgeFault::BadLine { file, line }
 }
 
 /// Whether an entry may follow in this file. Opening tokens stand at the head of file 1, and then
 /// the run's number, once, before the file's events; stamps rise; events without stamps are those
 /// of a lone file, which has no others.
 fn may_follow(file: u32, lone: bool, last: Last, entry: &Entry) -> bool
-    ensures { result ≡ may_follow file lone last entry.now }
+    ensures { result ≡ entry_may_follow file lone last entry.now }
 {
     match (last, entry) {
         (Last::NoEvent, Entry::Run { .. }) => true,
@@ -146,17 +129,17 @@ impl Recorded {
         lone: bool,
         place: Place,
         line: &[u8],
-    ) -> Result<(), LineFault>
+    ) -> Result<(), JudgeFault>
         ensures read { OnOk result (after_line place.file lone place.line self.old line.now
             ≡ Some self.new) }
-        ensures not_understood { IsErrOf result LineFault.NotUnderstood
-            → after_line place.file lone place.line self.old line.now ≡ None }
+        ensures refused { IfErr result (IsLineFault place.file (λ l. (l ≡ place.line)
+            × (after_line place.file lone place.line self.old line.now ≡ None))) }
     {
         let Some(entry) = read_entry(alloc, line)? else {
-            return Err(LineFault::NotUnderstood);
+            return Err(not_understood(place));
         };
         if !may_follow(place.file, lone, self.last, &entry) {
-            return Err(LineFault::NotUnderstood);
+            return Err(not_understood(place));
         }
         self.add(place, entry)?;
         Ok(())

@@ -3,7 +3,8 @@
 ghost use Rattle.std.specs.Prelude.{◌≡◌, ◌+◌, ◌<◌, ℕ, List, length, IfOk, OnOk, MatchOption};
 ghost use Rattle.std.specs.BTreeMap.{get};
 ghost use Rattle.std.specs.Ordering.{nat_cmp};
-ghost use Rattle.scq_judge.specs.Seats.{seat_of, IsAt, HaveOwnFiles, HasSeatOfAnother, AreHomes};
+ghost use Rattle.scq_judge.specs.Seats.{event_seat, EventIsAt, HaveOwnFiles, HasSeatOfAnother};
+ghost use Rattle.scq_judge.specs.Seats.{AreHomes};
 ghost use Rattle.scq_judge.specs.Seats.{IsAtHome, IsAway};
 ghost use Rattle.scq_judge.specs.declared.recorded.Stamped.{Stamped as TheStamped};
 
@@ -27,7 +28,7 @@ pub(crate) struct Homes {
 }
 
 fn seat_of(event: &Event) -> u32
-    ensures { result ≡ seat_of event.now }
+    ensures { result ≡ event_seat event.now }
 {
     match event {
         Event::Start { seat, .. } => *seat,
@@ -38,7 +39,7 @@ fn seat_of(event: &Event) -> u32
 // The seat and the place of the event at this position.
 fn at(events: &[Stamped], i: usize) -> (u32, Place)
     requires { i < length events.now }
-    ensures { IsAt events.now i result.0 result.1 }
+    ensures { EventIsAt events.now i result.0 result.1 }
 {
     let stamped = &events[i];
     (seat_of(&stamped.event), stamped.place)

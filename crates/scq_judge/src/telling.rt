@@ -1,8 +1,7 @@
 //! What is said of places, events and opening tokens.
 
-ghost use Rattle.std.specs.Prelude.{◌≡◌, ◌+◌, ◌<◌, ◌≤◌, ◌^◌, ◌++◌, ◌-◌, [], Some, decimal, length};
-ghost use Rattle.std.specs.Prelude.{map, slice_get, slice_index_or, string_bytes, IfSome, OnOk};
-ghost use Rattle.scq_hist.specs.Calls.{under_way, puts_before};
+ghost use Rattle.std.specs.Prelude.{◌≡◌, ◌+◌, ◌<◌, ◌^◌, ◌++◌, ◌-◌, [], Some, decimal, length};
+ghost use Rattle.std.specs.Prelude.{map, slice_get, slice_index_or, string_bytes, OnOk};
 ghost use Rattle.scq_check.specs.Calls.{own_start};
 ghost use Rattle.scq_judge.specs.Telling.{byte_text, hex_digit, name_text, line_text, place_text};
 ghost use Rattle.scq_judge.specs.Telling.{put_name_text, got_name_text, seat_text, call_text};
@@ -10,7 +9,7 @@ ghost use Rattle.scq_judge.specs.Telling.{call_at_text, event_at_text, token_tex
 
 use crate::recorded::Place;
 use itoa::Buffer;
-use scq_hist::{Call, Event, PutName, Reply};
+use scq_hist::{Call, Event, PutName, Reply, puts_before, under_way};
 use scq_word::NoMemory;
 
 /// What places and events are told by: the names of the files, the place of each event, and the
@@ -144,42 +143,6 @@ fn own_start(events: &[Event], e: usize) -> usize
         Event::Start { .. } => e,
         Event::End { seat, .. } => under_way(events, *seat, e).unwrap_or(e),
     }
-}
-
-// The position of the Start of the call that the seat has under way at this moment.
-fn under_way(events: &[Event], seat: u32, moment: usize) -> Option<usize>
-    requires { moment ≤ length events.now }
-    ensures start { result ≡ under_way events.now seat moment }
-    ensures within { IfSome result (λ s. s < moment) }
-{
-    let mut started = None;
-    for (i, event) in events[..moment].iter().enumerate() {
-        match event {
-            Event::Start { seat: k, .. } if *k == seat => started = Some(i),
-            Event::End { seat: k, .. } if *k == seat => started = None,
-            _ => {}
-        }
-    }
-    started
-}
-
-// How many puts the seat began by this moment.
-fn puts_before(events: &[Event], seat: u32, moment: usize) -> u64
-    requires { moment ≤ length events.now }
-    ensures count { result ≡ puts_before events.now seat moment }
-    ensures few { result ≤ moment }
-{
-    let mut puts = 0;
-    for event in &events[..moment] {
-        match event {
-            Event::Start {
-                seat: k,
-                call: Call::Put { .. },
-            } if *k == seat => puts += 1,
-            _ => {}
-        }
-    }
-    puts
 }
 
 // The call that starts at this position by this event.

@@ -36,9 +36,9 @@ starts_by seat (Begins call) = Start seat call ∷ []
 starts_by seat act = []
 
 -- one more put of the seat where one begins
-abbrev pub puts_by : ℕ → Act → List ℕ → List ℕ
-puts_by seat (Begins (Put q w)) puts = slice_set puts seat (slice_index puts seat + 1)
-puts_by seat act puts = puts
+abbrev pub puts_after_act : ℕ → Act → List ℕ → List ℕ
+puts_after_act seat (Begins (Put q w)) puts = slice_set puts seat (slice_index puts seat + 1)
+puts_after_act seat act puts = puts
 
 -- the put of this name stands at the place, where the exchange has succeeded
 abbrev pub names_by : Act → Phase → PutName → (ℕ → ℕ → Option PutName) → ℕ → ℕ → Option PutName

@@ -30,7 +30,7 @@ abbrev pub attempts_in_flight : Setup → Machine → ℕ → ℕ
 attempts_in_flight c m r = total (λ p. in_flight r p.phase) m.part c.seats
 
 -- a seat's record has a put that ended at this place of the ring
-pub record IsDone (m : Machine) (r p : ℕ) : Type 0 where
+pub record SomePutEndedAt (m : Machine) (r p : ℕ) : Type 0 where
   pub seat : ℕ
   pub content : List ℕ
   pub ended : Contains (m.part seat).calls (Done r p content)
@@ -43,7 +43,7 @@ pub record IsOpening (c : Setup) (r p : ℕ) : Type 0 where
 
 -- the put at this place has ended, or is an opening put
 abbrev pub IsFinished : Setup → Machine → ℕ → ℕ → Type 0
-IsFinished c m r p = IsDone m r p ⊎ IsOpening c r p
+IsFinished c m r p = SomePutEndedAt m r p ⊎ IsOpening c r p
 
 -- with q attempts in flight, Threshold is at least (p - Head) + q + 2 for each finished place p at
 -- or past Head. Both sides are raised by Head and by what the word of 0 is
@@ -91,6 +91,6 @@ pub record TicketsBounded (c : Setup) (m : Machine) : Type 0 where
       → min (m.cells.tail r) c.limit + 1 ≤ ticket_bound c.order c.seats (enqueues c m r)
 
 -- where the bound of a ring is within the limit, no call on that ring has ended for want of tickets
-pub record NoneSpent (c : Setup) (m : Machine) : Type 0 where
+pub record NoneSpentWithinLimit (c : Setup) (m : Machine) : Type 0 where
   pub none : (r : ℕ) → ticket_bound c.order c.seats (enqueues c m r) ≤ c.limit
       → (k t : ℕ) (is_put : Bool) → Contains (m.part k).calls (Spent r t is_put) → ⊥

@@ -25,25 +25,25 @@ abbrev pub steps_past : Setup → ℕ → ℕ
 steps_past c ticket = (c.limit - ticket) * ticket_steps c
 
 -- as many for each ticket from this one on
-abbrev pub steps_from : Setup → ℕ → ℕ
-steps_from c least = (c.limit - least + 1) * ticket_steps c
+abbrev pub ticket_steps_from : Setup → ℕ → ℕ
+ticket_steps_from c least = (c.limit - least + 1) * ticket_steps c
 
 -- the most steps of a call
 abbrev pub call_steps : Setup → ℕ
-call_steps c = steps_from c 0 + 1
+call_steps c = ticket_steps_from c 0 + 1
 
 -- at most so many steps are left to a call that is at this phase: fewer with one ticket as the rank
 -- rises, fewer in a catch-up as Tail rises, and fewer from ticket to ticket
 abbrev pub steps_left : Setup → Phase → ℕ
 steps_left c Idle = 0
-steps_left c (AtE1 r i w l) = steps_from c l
+steps_left c (AtE1 r i w l) = ticket_steps_from c l
 steps_left c (AtE2 r i w t l) = steps_past c t + 3 * (top c - l) + 5
 steps_left c (AtE3 r i w t e) = steps_past c t + 3 * (top c - rank_in (ring_slots c) e) + 4
 steps_left c (AtE4 r i w t e) = steps_past c t + 3 * (top c - rank_in (ring_slots c) e) + 3
 steps_left c (AtE5 r i w t) = 2
 steps_left c (AtE6 r i w t) = 1
 steps_left c (AtD1 r) = call_steps c
-steps_left c (AtD2 r l) = steps_from c l
+steps_left c (AtD2 r l) = ticket_steps_from c l
 steps_left c (AtD3 r h l) = steps_past c h + 3 * top c + 2 * (top c - l) + 8
 steps_left c (AtD4 r h) = 1
 steps_left c (AtD5 r h e) = steps_past c h + 3 * top c + 2 * (top c - rank_in (ring_slots c) e) + 7

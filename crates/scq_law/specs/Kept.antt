@@ -8,7 +8,7 @@ use Rattle.scq_core.specs.declared.ended.Ended.{Ended}
 use Rattle.scq_core.specs.declared.ended.Ended.TheVariants.{Done, Got}
 use Rattle.scq_core.specs.declared.phase.Phase.{Phase}
 use Rattle.scq_core.specs.Stances.{stance_of, placed_ring, one_on}
-use Rattle.scq_core.specs.Machine.{Cells, Part, Machine}
+use Rattle.scq_core.specs.Machine.{Cells, SeatPart, Machine}
 use Rattle.scq_core.specs.Table.{ring_slots}
 use Rattle.scq_core.specs.Laws.{total}
 use Rattle.scq_law.specs.Bounds.{tally, openings}
@@ -41,11 +41,11 @@ abbrev pub has_placed : ℕ → Phase → ℕ
 has_placed r phase = one_on r (placed_ring (stance_of phase))
 
 -- how many gets of a seat took an index from this ring
-abbrev pub gets_of : ℕ → Part → ℕ
+abbrev pub gets_of : ℕ → SeatPart → ℕ
 gets_of r p = tally (was_got r) p.calls
 
 -- how many puts of a seat placed an index on this ring
-abbrev pub puts_of : ℕ → Part → ℕ
+abbrev pub puts_of : ℕ → SeatPart → ℕ
 puts_of r p = tally (was_done r) p.calls + has_placed r p.phase
 
 -- on each ring, what is left and what gets took is what puts placed, the opening puts among them

@@ -8,6 +8,7 @@ pub mod Later
 pub mod Acts
 pub mod Names
 pub mod Replay
+pub mod ReplayLaws
 pub mod Recording
 pub mod History
 pub mod Plain

@@ -184,8 +184,8 @@ abbrev pub IsNoLater : ℕ × ℕ × ℕ → ℕ × ℕ × ℕ → Type 0
 IsNoLater f g = (f.0 < g.0) ⊎ ((f.0 ≡ g.0) × ((f.1 < g.1) ⊎ ((f.1 ≡ g.1) × (f.2 ≤ g.2))))
 
 -- each member's key comes before the next one's or is the same
-abbrev pub AreInOrder : List Member → Type 0
-AreInOrder members =
+abbrev pub AreInKeyOrder : List Member → Type 0
+AreInKeyOrder members =
     AllAdjacentBelow (λ (x y : Member). IsNoLater x.key y.key) members (length members)
 
 -- the members of the order of ring r, each once and with its key, in some order

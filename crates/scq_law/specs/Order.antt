@@ -26,7 +26,7 @@ pub record Key : Type 0 where
 abbrev pub key : ℕ → ℕ → ℕ → Key
 key point kind place = record { point = point; kind = kind; place = place }
 
-pub record IsBefore (f g : Key) : Type 0 where
+pub record IsEarlier (f g : Key) : Type 0 where
   pub before : (f.point < g.point)
       ⊎ ((f.point ≡ g.point) × ((f.kind < g.kind) ⊎ ((f.kind ≡ g.kind) × (f.place < g.place))))
 
@@ -61,7 +61,7 @@ pub record IsLinearization (run : Run) (r : ℕ) (order : List Ordered) : Type 0
   -- and stands before those of later keys
   pub sorted : (a b : ℕ) (x y : Ordered) (f g : Key) → a < b → slice_get order a ≡ Some x
       → slice_get order b ≡ Some y → HasKey run r x f → HasKey run r y g
-      → IsBefore f g
+      → IsEarlier f g
 
 -- What the order promises.
 

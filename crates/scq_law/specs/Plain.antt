@@ -31,12 +31,12 @@ call_of_ended (ended.Nothing r) = Get r
 call_of_ended (ended.Spent r t true) = Put r []
 call_of_ended (ended.Spent r t false) = Get r
 
-abbrev pub is_put : Ended → Bool
-is_put (ended.Done r p w) = true
-is_put (ended.Spent r t put) = put
-is_put _ = false
+abbrev pub ends_put : Ended → Bool
+ends_put (ended.Done r p w) = true
+ends_put (ended.Spent r t put) = put
+ends_put _ = false
 
 -- the name of a seat's put that is its call of this number, from 0: a seat's puts are numbered from
 -- 1
 abbrev pub name_of_put : List Ended → ℕ → ℕ → PutName
-name_of_put calls seat call = Of seat (count_by is_put (take (call + 1) calls))
+name_of_put calls seat call = Of seat (count_by ends_put (take (call + 1) calls))

@@ -1,7 +1,7 @@
 -- For private calls: how the variables of a replay show what is recorded of its steps.
 use Rattle.std.specs.Prelude.{◌≡◌, ℕ, ◌+◌, ◌^◌, ◌<◌, List, ◌++◌, length, slice_index}
 use Rattle.scq_word.specs.declared.setup.Setup.{Setup}
-use Rattle.scq_core.specs.Machine.{Part}
+use Rattle.scq_core.specs.Machine.{SeatPart}
 use Rattle.scq_core.specs.StateLists.{machine_of}
 use Rattle.scq_hist.specs.declared.events.Event.{Event}
 use Rattle.scq_hist.specs.declared.events.PutName.{PutName}
@@ -9,7 +9,7 @@ use Rattle.scq_hist.specs.declared.events.PutName.TheVariants.{Of}
 use Rattle.scq_law.specs.declared.act.Act.{Act}
 use Rattle.scq_law.specs.declared.recording.Recording.{Recording}
 use Rattle.scq_law.specs.Run.{Recorded, end_of}
-use Rattle.scq_law.specs.Acts.{starts_by, puts_by, names_by, resets_by, fails_by, ended_in}
+use Rattle.scq_law.specs.Acts.{starts_by, puts_after_act, names_by, resets_by, fails_by, ended_in}
 use Rattle.scq_law.specs.Names.{name_at, placer_in}
 use Rattle.scq_law.specs.Replay.{Counts}
 
@@ -26,21 +26,21 @@ pub record Shows (c : Setup) (recorded : Recorded) (t : Recording) : Type 0 wher
   pub fails : Counts c.rings t.fails.items recorded.fails
 
 -- each count can rise by one
-pub record HasRoom (t : Recording) : Type 0 where
+pub record CountsCanRise (t : Recording) : Type 0 where
   pub puts : (k : ℕ) → slice_index t.puts.items k + 1 < 2 ^ 64
   pub resets : (r : ℕ) → slice_index t.resets.items r + 1 < 2 ^ 64
   pub fails : (r : ℕ) → slice_index t.fails.items r + 1 < 2 ^ 64
 
-abbrev pub finishes_by : ℕ → (ℕ → ℕ → PutName) → Part → List Event
+abbrev pub finishes_by : ℕ → (ℕ → ℕ → PutName) → SeatPart → List Event
 finishes_by seat placer p = end_of seat placer (ended_in p.phase p.calls)
 
 -- what a turn adds, after which its seat's part is p
-pub record AddsTurn (c : Setup) (seat : ℕ) (act : Act) (p : Part)
+pub record AddsTurn (c : Setup) (seat : ℕ) (act : Act) (p : SeatPart)
     (old new : Recording) : Type 0 where
   pub state : new.state ≡ old.state
   pub events : new.events.items ≡ old.events.items ++ starts_by seat act
       ++ finishes_by seat (placer_in c (name_at new.names.items)) p
-  pub puts : new.puts.items ≡ puts_by seat act old.puts.items
+  pub puts : new.puts.items ≡ puts_after_act seat act old.puts.items
   pub rings : length new.names.items ≡ length old.names.items
   pub names : (r q : ℕ)
       → name_at new.names.items r q

@@ -12,7 +12,7 @@ pub record Counts (many : ℕ) (counts : List ℕ) (count : ℕ → ℕ) : Type 
   pub each : (k : ℕ) → slice_index counts k ≡ count k
 
 -- the steps are a run, and this is what is recorded of it
-pub record ShowsRun (c : Setup) (opening : List (List ℕ)) (steps : List (ℕ × Step))
+pub record ReplaysRun (c : Setup) (opening : List (List ℕ)) (steps : List (ℕ × Step))
     (replayed : Replayed) : Type 0 where
   pub recorded : Recorded
   pub run : IsRun c opening steps recorded

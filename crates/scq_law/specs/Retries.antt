@@ -13,16 +13,16 @@ use Rattle.scq_core.specs.Laws.{IsAbove}
 -- what a turn finds: a counter or a rank no lower than its least; at an exchange the word that was
 -- loaded or one of a higher rank; at the exchange of a catch-up a Tail no lower than the one
 -- loaded, and after it has failed a higher one
-abbrev pub Finds : Setup → Phase → ℕ → Type 0
-Finds c (AtE1 r i w l) x = l ≤ x
-Finds c (AtE2 r i w t l) x = l ≤ rank_in (ring_slots c) x
-Finds c (AtE4 r i w t e) x = IsAbove (ring_slots c) e x
-Finds c (AtD2 r l) x = l ≤ x
-Finds c (AtD3 r h l) x = l ≤ rank_in (ring_slots c) x
-Finds c (AtD5 r h e) x = IsAbove (ring_slots c) e x
-Finds c (AtD7 r h from to) x = from ≤ x
-Finds c (AtD9 r h from to) x = from < x
-Finds c turn x = Unit {0}
+abbrev pub FindsAtLeast : Setup → Phase → ℕ → Type 0
+FindsAtLeast c (AtE1 r i w l) x = l ≤ x
+FindsAtLeast c (AtE2 r i w t l) x = l ≤ rank_in (ring_slots c) x
+FindsAtLeast c (AtE4 r i w t e) x = IsAbove (ring_slots c) e x
+FindsAtLeast c (AtD2 r l) x = l ≤ x
+FindsAtLeast c (AtD3 r h l) x = l ≤ rank_in (ring_slots c) x
+FindsAtLeast c (AtD5 r h e) x = IsAbove (ring_slots c) e x
+FindsAtLeast c (AtD7 r h from to) x = from ≤ x
+FindsAtLeast c (AtD9 r h from to) x = from < x
+FindsAtLeast c turn x = Unit {0}
 
 -- from a turn to the phase after it. With one ticket, which stays: the rank that was loaded is no
 -- lower than the least and below the ticket's cycle, a look at Head keeps the word that was loaded,
@@ -53,7 +53,7 @@ Rises c turn phase = Unit {0}
 -- both, of each enabled turn
 pub record RetriesRise (c : Setup) (m : Machine) : Type 0 where
   pub finds : (k : ℕ) (s : Step) (turn : Phase) → turn_of c (m.part k) s ≡ Some turn
-      → Finds c turn (read m.cells (location_of c turn))
+      → FindsAtLeast c turn (read m.cells (location_of c turn))
   pub rises : (k : ℕ) (s : Step) (turn : Phase) → turn_of c (m.part k) s ≡ Some turn
       → Rises c turn (after c turn (read m.cells (location_of c turn))
       (beside m.cells (location_of c turn)) (m.part k)).phase

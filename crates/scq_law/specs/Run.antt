@@ -54,9 +54,9 @@ abbrev pub end_of : ℕ → (ℕ → ℕ → PutName) → Option Ended → List 
 end_of seat placer None = []
 end_of seat placer (Some call) = End seat (recorded_reply placer call) ∷ []
 
-abbrev pub finishes : ℕ → (ℕ → ℕ → PutName) → Phase → List Ended → List Event
-finishes seat placer Idle calls = end_of seat placer (slice_get calls (length calls - 1))
-finishes seat placer phase calls = []
+abbrev pub end_if_idle : ℕ → (ℕ → ℕ → PutName) → Phase → List Ended → List Event
+end_if_idle seat placer Idle calls = end_of seat placer (slice_get calls (length calls - 1))
+end_if_idle seat placer phase calls = []
 
 -- one more where a put begins
 abbrev pub puts_after : ℕ → Phase → Phase → (ℕ → ℕ) → ℕ → ℕ
@@ -96,7 +96,7 @@ recorded_after c seat turn recorded =
     record {
       state = state;
       events = recorded.events ++ starts seat before.phase turn
-          ++ finishes seat placer after.phase after.calls;
+          ++ end_if_idle seat placer after.phase after.calls;
       puts = puts_after seat before.phase turn recorded.puts;
       placer = placer;
       resets = resets_after (is_reset turn after.phase) recorded.resets;
@@ -110,14 +110,14 @@ recorded_by c recorded x =
     recorded_after c x.0 turn recorded) (turn_of c (recorded.state.part x.0) x.1)
 
 -- the name of no put, since a seat's puts are numbered from 1
-abbrev pub nobody : PutName
-nobody = Of 0 0
+abbrev pub name_of_none : PutName
+name_of_none = Of 0 0
 
 -- at the start opening put j stands in ring 0, at the place j behind the number of slots
 abbrev pub first_placer : Setup → ℕ → ℕ → PutName
 first_placer c r p =
     if (r == 0) && nat_le (ring_slots c) p && nat_lt p (ring_slots c + n_of c.order)
-    then Opening (p - ring_slots c) else nobody
+    then Opening (p - ring_slots c) else name_of_none
 
 -- what is recorded before the first step
 abbrev pub recorded_first : Setup → List (List ℕ) → Recorded

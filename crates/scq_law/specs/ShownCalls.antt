@@ -13,9 +13,9 @@ use Rattle.scq_law.specs.Run.{Recorded, recorded_reply}
 use Rattle.scq_law.specs.Plain.{call_of_ended}
 
 -- the call that a reply ends, where one is under way
-abbrev pub answered : Option Call → Reply → List (Call × Reply)
-answered None reply = []
-answered (Some call) reply = (call, reply) ∷ []
+abbrev pub ended_call : Option Call → Reply → List (Call × Reply)
+ended_call None reply = []
+ended_call (Some call) reply = (call, reply) ∷ []
 
 -- the calls of a seat that end in these events, each with its reply, where this call is under way
 -- before them
@@ -24,7 +24,7 @@ calls_from k under [] = []
 calls_from k under (Start seat call ∷ events) =
     calls_from k (if seat == k then Some call else under) events
 calls_from k under (End seat reply ∷ events) =
-    (if seat == k then answered under reply else [])
+    (if seat == k then ended_call under reply else [])
     ++ calls_from k (if seat == k then None else under) events
 
 -- those of a history, in order

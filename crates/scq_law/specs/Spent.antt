@@ -4,12 +4,12 @@ use Rattle.std.specs.List.{Contains}
 use Rattle.scq_word.specs.declared.setup.Setup.{Setup}
 use Rattle.scq_core.specs.declared.ended.Ended.{Ended}
 use Rattle.scq_core.specs.declared.ended.Ended.TheVariants.{Spent}
-use Rattle.scq_core.specs.Machine.{Part, Machine}
+use Rattle.scq_core.specs.Machine.{SeatPart, Machine}
 use Rattle.scq_word.specs.Bounds.{ticket_bound}
 use Rattle.scq_law.specs.Bounds.{enqueues}
 
 -- the record ends with a call of this ring that ended with Spent and this ticket
-pub record EndedSpent (p : Part) (r t : ℕ) : Type 0 where
+pub record EndedSpent (p : SeatPart) (r t : ℕ) : Type 0 where
   pub before : List Ended
   pub is_put : Bool
   pub calls : p.calls ≡ before ++ Spent r t is_put ∷ []

@@ -11,7 +11,7 @@ use Rattle.scq_law.specs.Places.{Maker, IsPlacedBy, IsTaken, IsUntaken}
 
 -- the word of this place's slot has its cycle and an index below n, and this content stands beside
 -- it
-pub record StandsAt (c : Setup) (m : Cells) (r p : ℕ) (w : List ℕ) : Type 0 where
+pub record StandsInSlot (c : Setup) (m : Cells) (r p : ℕ) (w : List ℕ) : Type 0 where
   pub cycle : cycle_in (ring_slots c) (word_at c m r p) ≡ cycle c p
   pub index : index_in (ring_slots c) (word_at c m r p) < n_of c.order
   pub content : m.entries.content r (slot c p) ≡ w
@@ -33,4 +33,4 @@ pub record EntriesMatchPlaces (c : Setup) (m : Machine) : Type 0 where
       → is_none_in (ring_slots c) (m.cells.entries.word r s) ≡ false → StandsFor c m r s
   -- each place has been taken, or its index and content stand in its slot
   pub stands : (r p : ℕ) (w : List ℕ) (a : Maker) → IsPlacedBy c m r p w a
-      → IsTaken m r p w ⊎ StandsAt c m.cells r p w
+      → IsTaken m r p w ⊎ StandsInSlot c m.cells r p w

@@ -11,7 +11,7 @@ use scq_word::{Bytes, NoMemory};
 use std::alloc::Global;
 
 /// What a turn may add to what is recorded of its run, whatever word it finds.
-#[derive(Debug, Drop)]
+#[derive(Drop)]
 pub(crate) enum Act {
     /// It begins a call.
     Begins(Call),

@@ -9,7 +9,7 @@ ghost use Rattle.scq_core.specs.Reach.{IsReachable};
 ghost use Rattle.scq_core.specs.Laws.{CountersBounded, ThresholdFloor};
 ghost use Rattle.scq_law.specs.Run.{Recorded, IsRun};
 ghost use Rattle.scq_law.specs.Bounds.{WithinWindow, ThresholdCovers, FailsBounded, TicketsBounded};
-ghost use Rattle.scq_law.specs.Bounds.{NoneSpent};
+ghost use Rattle.scq_law.specs.Bounds.{NoneSpentWithinLimit};
 ghost use Rattle.scq_law.specs.Spent.{SpentKept};
 
 /// Tail, as far as it is below the limit, is at most `2n - 1` past Head on each ring of `n`
@@ -53,7 +53,7 @@ pub fn tickets_are_bounded()
 /// While a ring's bound for the enqueues begun is within the limit, no call on that ring has ended
 /// with Spent, whatever became of the other rings.
 pub fn none_is_spent_within_the_bound()
-    ensures { (c : Setup) (m : Machine) → IsReachable c m → NoneSpent c m }
+    ensures { (c : Setup) (m : Machine) → IsReachable c m → NoneSpentWithinLimit c m }
 {}
 
 /// A seat that keeps a spent ticket ended its last call with it, on a ring whose bound for the

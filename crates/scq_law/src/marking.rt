@@ -16,7 +16,7 @@ use scq_word::{Bytes, NoMemory, Setup};
 use std::alloc::Global;
 
 /// The state that the steps so far have led to, and what is marked of them.
-#[derive(Debug, Drop)]
+#[derive(Drop)]
 pub(crate) struct Marking {
     pub(crate) state: State,
     pub(crate) marks: Marks,

@@ -25,14 +25,14 @@ const PUT: u8 = 1;
 const GET: u8 = 2;
 
 /// A step by which a dequeue decided that the ring is empty: the Head there, and its point.
-#[derive(Clone, Copy, Debug, PartialEq, Eq)]
+#[derive(Clone, Copy)]
 pub(crate) struct Decision {
     pub(crate) head: u64,
     pub(crate) point: u64,
 }
 
 /// A member of the order, with its key: the point, what it is, and the place.
-#[derive(Clone, Copy, Debug, PartialEq, Eq)]
+#[derive(Clone, Copy)]
 pub(crate) struct Member {
     pub(crate) key: (u64, u8, u64),
     pub(crate) ordered: Ordered,
@@ -53,7 +53,7 @@ impl Member {
 
 /// What is marked of the steps so far. A point is how many steps were made with the one that is
 /// marked.
-#[derive(Debug, Drop)]
+#[derive(Drop)]
 pub(crate) struct Marks {
     pub(crate) ring: u32,
     /// Where each place was drawn for an enqueue, and for a dequeue.

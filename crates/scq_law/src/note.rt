@@ -8,7 +8,7 @@ ghost use Rattle.scq_law.specs.Notes.{note_of};
 use scq_core::{Phase, State, Step};
 
 /// What a turn is to the order of one ring, as the state before it says.
-#[derive(Clone, Copy, Debug, PartialEq, Eq)]
+#[derive(Clone, Copy)]
 pub(crate) enum Note {
     /// An enqueue draws this place.
     DrawsPut { place: u64 },

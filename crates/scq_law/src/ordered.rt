@@ -6,7 +6,7 @@ use scq_word::NoMemory;
 use thiserror::Error;
 
 /// A member of a ring's one-thread order.
-#[derive(Clone, Copy, Debug, PartialEq, Eq)]
+#[derive(Clone, Copy, PartialEq, Eq)]
 pub enum Ordered {
     /// An opening put of ring 0, by its index.
     Opening { number: u32 },

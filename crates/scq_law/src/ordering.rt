@@ -9,7 +9,7 @@ ghost use Rattle.scq_core.specs.StateLists.{machine_of};
 ghost use Rattle.scq_law.specs.Places.{AllIdle};
 ghost use Rattle.scq_law.specs.Replay.{StopsAt};
 ghost use Rattle.scq_law.specs.declared.marks.Member.{Member as TheMember};
-ghost use Rattle.scq_law.specs.Notes.{AreInOrder, IsMarkedRun};
+ghost use Rattle.scq_law.specs.Notes.{AreInKeyOrder, IsMarkedRun};
 ghost use Rattle.scq_law.specs.Order.{IsLinearization, IsOneOrder};
 ghost use Rattle.scq_law.specs.RunSteps.{run_of, IsFinishedRun, IsUnfinished, IsLowestBusy};
 
@@ -96,7 +96,7 @@ fn busy_seat(state: &State) -> Option<u32>
 /// Puts members in the order of their keys.
 fn sort_members(members: &mut Vec<Member>) -> Result<(), NoMemory>
     ensures same { OnOk result (IsPermutation members.old.items members.new.items) }
-    ensures sorted { OnOk result (AreInOrder members.new.items) }
+    ensures sorted { OnOk result (AreInKeyOrder members.new.items) }
 {
     members.sort_by_key(|member| member.key)?;
     Ok(())

@@ -7,9 +7,10 @@ ghost use Rattle.scq_core.specs.StateLists.{machine_of};
 ghost use Rattle.scq_core.specs.Reach.{IsReachable};
 ghost use Rattle.scq_law.specs.Run.{Recorded, recorded_reply, first_placer, recorded_by};
 ghost use Rattle.scq_law.specs.Run.{recorded_first};
-ghost use Rattle.scq_law.specs.Acts.{IsOnRing, starts_by, puts_by, names_by, resets_by, fails_by};
+ghost use Rattle.scq_law.specs.Acts.{IsOnRing, starts_by, puts_after_act, names_by, resets_by};
+ghost use Rattle.scq_law.specs.Acts.{fails_by};
 ghost use Rattle.scq_law.specs.Names.{name_at, placer_in};
-ghost use Rattle.scq_law.specs.Recording.{Shows, HasRoom, AddsTurn, finishes_by};
+ghost use Rattle.scq_law.specs.Recording.{Shows, CountsCanRise, AddsTurn, finishes_by};
 
 use crate::act::{Act, act_of, ended};
 use scq_core::{ApplyFault, Ended, Phase, State, Step};
@@ -26,7 +27,7 @@ const NOBODY: PutName = PutName::Of { seat: 0, number: 0 };
 
 /// What is recorded of a run so far: its state and history, how many puts each seat has begun, and
 /// for each ring the puts that placed there, and its resets and fails.
-#[derive(Debug, Drop)]
+#[derive(Drop)]
 pub(crate) struct Recording {
     pub(crate) state: State,
     pub(crate) events: Vec<Event>,
@@ -60,7 +61,7 @@ impl Recording {
     /// One more step.
     pub(crate) fn make(&mut self, setup: &Setup, seat: u32, step: &Step) -> Result<(), ApplyFault>
         requires seat { seat < setup.now.seats }
-        requires room { HasRoom self.old }
+        requires room { CountsCanRise self.old }
         requires shown { (recorded : Recorded) × Shows setup.now recorded self.old
             × IsReachable setup.now recorded.state }
         ensures ok { (recorded : Recorded) → Shows setup.now recorded self.old
@@ -85,7 +86,7 @@ impl Recording {
         requires names { IsOnRing (vec_len self.old.names) act }
         requires resets { IsOnRing (vec_len self.old.resets) act }
         requires fails { IsOnRing (vec_len self.old.fails) act }
-        requires room { HasRoom self.old }
+        requires room { CountsCanRise self.old }
         ensures { OnOk result
             (AddsTurn setup.now seat act
             ((machine_of self.old.state).part seat) self.old self.new) }
@@ -119,7 +120,7 @@ fn no_names(alloc: Global, rings: usize) -> Result<Vec<Names>, NoMemory>
 fn count_put(puts: &mut Vec<u64>, seat: u32, act: &Act)
     requires seat { seat < vec_len puts.old }
     requires room { slice_index puts.old.items seat + 1 < 2 ^ 64 }
-    ensures { puts.new.items ≡ puts_by seat act.now puts.old.items }
+    ensures { puts.new.items ≡ puts_after_act seat act.now puts.old.items }
 {
     if let Act::Begins(Call::Put { .. }) = act {
         puts[seat as usize] += 1;

@@ -10,7 +10,7 @@ use thiserror::Error;
 /// What is recorded of a run: the state that it led to, its history, and for each ring how many
 /// puts have ended with Done there, and how many attempts to dequeue have failed since the last of
 /// these, or since the start.
-#[derive(Debug, Drop)]
+#[derive(Drop)]
 pub struct Replayed {
     pub state: State,
     pub events: Vec<Event>,

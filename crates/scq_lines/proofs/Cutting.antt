@@ -8,7 +8,7 @@ use Rattle.std.proofs.lemmas.List.Elements.{All-head, All-tail}
 use Rattle.std.proofs.lemmas.List.Splits.{slice_split_at, slice_split_none}
 use Rattle.std.proofs.lemmas.Grind.{get_or_default_zero}
 use Rattle.memchr.specs.Find.{IsFirstByte, is_byte}
-use Rattle.scq_lines.specs.Lines.{lines_of, fields_of, fields_after, is_space}
+use Rattle.scq_lines.specs.Lines.{lines_of, fields_of, fields_after, ends_field}
 
 -- none of the bytes is this one
 abbrev IsOther : ℕ → ℕ → Type 0
@@ -97,14 +97,14 @@ lines_of-none-more (b ∷ bs) more some none = begins b bs more (none_at_all 10 
 -- the first field and what follows it
 fields_cut : (line : List ℕ) (n : ℕ) → IsFirstByte (is_byte 32) line (Some n) → fields_of line ≡ take n line ∷ fields_of (drop (n + 1) line)
 fields_cut line n found =
-    ap fields_of (cut_at 32 line n found) ∙ slice_split_at is_space (take n line) 32 (drop (n + 1) line) (none_before 32 line n found) refl
+    ap fields_of (cut_at 32 line n found) ∙ slice_split_at ends_field (take n line) 32 (drop (n + 1) line) (none_before 32 line n found) refl
 
 pub fields_after-some : (line : List ℕ) (n : ℕ) → IsFirstByte (is_byte 32) line (Some n)
     → fields_after line ≡ fields_of (slice_range line (n + 1) (length line))
 fields_after-some line n found = ap (drop 1) (fields_cut line n found) ∙ ap fields_of (sym (take_rest line (n + 1)))
 
 pub fields_after-none : (line : List ℕ) → IsFirstByte (is_byte 32) line None → fields_after line ≡ []
-fields_after-none line none = ap (drop 1) (slice_split_none is_space line (none_at_all 32 line none))
+fields_after-none line none = ap (drop 1) (slice_split_none ends_field line (none_at_all 32 line none))
 
 -- what follows the first field begins with the space that ends it
 pub fields_of-some : (line : List ℕ) (n : ℕ) → IsFirstByte (is_byte 32) line (Some n)
@@ -115,4 +115,4 @@ fields_of-some line n found =
     (sym (ap fields_after (take_rest line n ∙ drop_more line n 0 found.0.high ∙ ap (λ (b : ℕ). b ∷ drop (n + 1) line) (eqb-true _ 32 found.1))))
 
 pub fields_of-none : (line : List ℕ) → IsFirstByte (is_byte 32) line None → fields_of line ≡ line ∷ fields_after []
-fields_of-none line none = slice_split_none is_space line (none_at_all 32 line none)
+fields_of-none line none = slice_split_none ends_field line (none_at_all 32 line none)

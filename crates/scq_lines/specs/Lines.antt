@@ -16,12 +16,12 @@ lines_of (byte ∷ bytes) =
     if byte == 10 then [] ∷ lines_of bytes else onto_first byte (lines_of bytes)
 
 -- a byte ends a field where it is a space
-abbrev pub is_space : ℕ → Bool
-is_space byte = byte == 32
+abbrev pub ends_field : ℕ → Bool
+ends_field byte = byte == 32
 
 -- the fields of a line stand one space apart
 abbrev pub fields_of : List ℕ → List (List ℕ)
-fields_of line = slice_split is_space line
+fields_of line = slice_split ends_field line
 
 -- the fields of a line but the first
 abbrev pub fields_after : List ℕ → List (List ℕ)
@@ -52,8 +52,8 @@ is_hex most field =
 
 -- the content that a field says, of at most so many bytes: `-` for none, or two lower-case
 -- hexadecimal digits for each byte
-abbrev pub content_of : ℕ → List ℕ → Option (List ℕ)
-content_of most field =
+abbrev pub field_content : ℕ → List ℕ → Option (List ℕ)
+field_content most field =
     if bytes_eq field (codes "-") then Some []
     else if is_hex most field then result_ok (decode_of field)
     else None

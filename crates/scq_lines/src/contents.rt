@@ -1,7 +1,7 @@
 //! The contents that fields say.
 
 ghost use Rattle.std.specs.Prelude.{◌≡◌, IfOk};
-ghost use Rattle.scq_lines.specs.Lines.{content_of, is_hex, is_lower_digit};
+ghost use Rattle.scq_lines.specs.Lines.{field_content, is_hex, is_lower_digit};
 
 use hex::FromHexError;
 use scq_word::{Bytes, NoMemory};
@@ -10,7 +10,7 @@ use std::alloc::Global;
 /// The content that a field says, of at most so many bytes: `-` for none, or two lower-case
 /// hexadecimal digits for each byte.
 pub fn content(alloc: Global, most: u32, field: &[u8]) -> Result<Option<Bytes>, NoMemory>
-    ensures { IfOk result (λ content. content ≡ content_of most field.now) }
+    ensures { IfOk result (λ content. content ≡ field_content most field.now) }
 {
     if field == b"-".as_slice() {
         return Ok(Some(Bytes::copy_of(alloc, b"")?));

@@ -19,16 +19,16 @@ abbrev pub first_call : List ℕ → List ℕ → Calls
 first_call pieces fails = record { pieces = pieces; fails = fails; made = 0 }
 
 -- the number of the next call: numbers stand still at the last value of a u64
-abbrev pub next_number : Calls → ℕ
-next_number calls = min (calls.made + 1) last_count
+abbrev pub next_call_number : Calls → ℕ
+next_call_number calls = min (calls.made + 1) last_count
 
 -- after the next call
 abbrev pub next_call : Calls → Calls
-next_call calls = record calls { made = next_number calls }
+next_call calls = record calls { made = next_call_number calls }
 
 -- the next call fails
 abbrev pub fails_next : Calls → Bool
-fails_next calls = list_any (λ k. k == next_number calls) calls.fails
+fails_next calls = list_any (λ k. k == next_call_number calls) calls.fails
 
 -- the most bytes that the next call moves, where so many are wanted
 abbrev pub granted : Calls → ℕ → ℕ

@@ -1,5 +1,5 @@
 -- What a call took of a source.
-use Rattle.std.specs.Prelude.{◌≡◌, ℕ, ◌+◌, ◌≤◌, ◌++◌, List, Option, length}
+use Rattle.std.specs.Prelude.{◌≡◌, ℕ, ◌+◌, ◌≤◌, ◌++◌, List, [], Option, IfSome, length}
 use Rattle.std.specs.Option.{option_map}
 use Rattle.scq_outside.specs.declared.read_all_fault.ReadAllFault.{ReadAllFault}
 use Rattle.scq_outside.specs.declared.read_all_fault.ReadAllFault.TheVariants.{ReadFault, TooLarge}
@@ -8,6 +8,12 @@ use Rattle.scq_outside.specs.declared.read_all_fault.ReadAllFault.TheVariants.{N
 -- these bytes were taken from the front of what was left, where that is visible
 abbrev pub Took : List ℕ → Option (List ℕ) → Option (List ℕ) → Type 0
 Took bytes old new = old ≡ option_map (λ rest. bytes ++ rest) new
+
+-- these bytes are all that was left, at most so many, and nothing is left behind them
+pub record TookAll (most : ℕ) (old new : Option (List ℕ)) (bytes : List ℕ) : Type 0 where
+  pub took : Took bytes old new
+  pub end : IfSome new (λ left. left ≡ [])
+  pub fits : length bytes ≤ most
 
 -- so many bytes were taken where reading a whole source of at most `most` bytes ended with this
 -- fault

@@ -1,8 +1,7 @@
 //! A source read to its end.
-ghost use Rattle.std.specs.Prelude.{◌≡◌, ◌≢◌, ℕ, ◌^◌, ◌<◌, ◌≤◌, List, [], length, Err, IfOk, IfErr};
-ghost use Rattle.std.specs.Prelude.{OnOk, OnErr, IfSome, IsErrOf};
-ghost use Rattle.scq_outside.specs.Counts.{Rose};
-ghost use Rattle.scq_outside.specs.Taking.{Took, TookUntil};
+ghost use Rattle.std.specs.Prelude.{◌≡◌, ◌^◌, ◌<◌, IfOk, IfErr, OnOk, OnErr, IsErrOf};
+ghost use Rattle.scq_outside.specs.Counts.{RoseWhere, Rose};
+ghost use Rattle.scq_outside.specs.Taking.{TookAll, TookUntil};
 
 use crate::{ReadAllFault, Source};
 use scq_word::{Bytes, NoMemory};
@@ -15,15 +14,12 @@ const PIECE: usize = 4096;
 /// most.
 pub fn read_all<S: Source>(alloc: Global, source: &mut S, most: u64) -> Result<Bytes, ReadAllFault>
     requires { most < 2 ^ 31 }
-    ensures all { IfOk result (λ bytes. Took bytes (S.left source.old) (S.left source.new)) }
-    ensures end { OnOk result (IfSome (S.left source.new) (λ left. left ≡ [])) }
-    ensures fits { IfOk result (λ bytes. length bytes ≤ most) }
+    ensures all { IfOk result (TookAll most (S.left source.old) (S.left source.new)) }
+    ensures until { IfErr result (TookUntil most (S.left source.old) (S.left source.new)) }
     ensures ended { OnOk result (Rose (S.ends source.old) (S.ends source.new)) }
     ensures not_ended { OnErr result (S.ends source.new ≡ S.ends source.old) }
-    ensures until { IfErr result (TookUntil most (S.left source.old) (S.left source.new)) }
-    ensures read_fault { IsErrOf result ReadAllFault.ReadFault
-        → Rose (S.faults source.old) (S.faults source.new) }
-    ensures kept { result ≢ Err ReadAllFault.ReadFault → S.faults source.new ≡ S.faults source.old }
+    ensures faults { RoseWhere (IsErrOf result ReadAllFault.ReadFault)
+        (S.faults source.old) (S.faults source.new) }
 {
     let limit = most as usize + 1;
     let mut bytes = Vec::new(alloc);

@@ -3,18 +3,18 @@ use Rattle.std.proofs.Common.{◌≡◌, ◌∙◌, refl, arith, ℕ, zero, suc,
 use Rattle.std.proofs.lemmas.List.{length-append}
 use Rattle.std.proofs.lemmas.List.Elements.{All-nil, All-push}
 use Rattle.atomic_table.specs.Seated.{TableId}
-use Rattle.scq_park.specs.Crews.{Post, first_post, first_posts, AreInOrder, AreAll}
+use Rattle.scq_park.specs.Crews.{Post, first_post, first_posts, AreInWorkerOrder, AreAll}
 
 firsts_length : (crew : List TableId) (n : ℕ) → length (first_posts crew n) ≡ n
 firsts_length crew zero = refl
 firsts_length crew (suc n) = length-append (first_posts crew n) (first_post crew n ∷ []) ∙ omega (arith, firsts_length crew n)
 
 -- the next stand behind others
-in_order_more : (w : ℕ) (ps : List Post) (p : Post) → AreInOrder w ps → p.worker ≡ w + length ps → AreInOrder w (ps ++ p ∷ [])
+in_order_more : (w : ℕ) (ps : List Post) (p : Post) → AreInWorkerOrder w ps → p.worker ≡ w + length ps → AreInWorkerOrder w (ps ++ p ∷ [])
 in_order_more w [] p are is = (is ∙ omega arith, tt)
 in_order_more w (q ∷ ps) p are is = (are.0, in_order_more (suc w) ps p are.1 (is ∙ omega arith))
 
-firsts_order : (crew : List TableId) (n : ℕ) → AreInOrder 0 (first_posts crew n)
+firsts_order : (crew : List TableId) (n : ℕ) → AreInWorkerOrder 0 (first_posts crew n)
 firsts_order crew zero = tt
 firsts_order crew (suc n) =
     in_order_more 0 (first_posts crew n) (first_post crew n) (firsts_order crew n) (omega (arith, firsts_length crew n))

@@ -1,18 +1,18 @@
 -- Each step of a parker, each cut and each join of its passes keeps its rule. A step changes one pass, so each total changes by what
 -- that pass does.
-use Rattle.std.proofs.Common.{◌≡◌, ℕ, zero, suc, ◌+◌, ◌<◌, ◌≤◌, true, false, List, [], ◌∷◌, ◌++◌, set, refl, sym, ◌∙◌, ap, subst, arith}
+use Rattle.std.proofs.Common.{◌≡◌, ℕ, zero, suc, ◌+◌, ◌<◌, ◌≤◌, Bool, true, false, List, [], ◌∷◌, ◌++◌, set, refl, sym, ◌∙◌, ap, subst, arith}
 use mathlib.Core.Option.{some, some-injective, some-ne-none}
 use lib.ListN.{get_elem?}
 use Rattle.crossbeam_utils.specs.Register.{TurnsAt, Turns, Forks, Merges}
-use Rattle.scq_park.specs.Rule.{Deeds, deeds, once_woken, once_rested, one_part_less, added, total, IsIdleWithoutPart, AreIdleWithoutPart, IsCovered}
+use Rattle.scq_park.specs.Rule.{Deeds, deeds, once_woken, once_rested, one_part_less, added, total_deeds, worth, IsIdleWithoutPart, AreIdleWithoutPart, IsCovered}
 
 -- a total after a change of one pass, and with one pass more
-total-set : (f : Deeds → ℕ) (vs : List Deeds) (i : ℕ) (v w : Deeds) → get_elem? vs i ≡ some v → total f (set vs i w) + f v ≡ total f vs + f w
+total-set : (f : Deeds → ℕ) (vs : List Deeds) (i : ℕ) (v w : Deeds) → get_elem? vs i ≡ some v → total_deeds f (set vs i w) + f v ≡ total_deeds f vs + f w
 total-set f [] i v w at = absurd (some-ne-none v (sym at))
 total-set f (x ∷ xs) zero v w at = let same = ap f (some-injective x v at) in omega arith
 total-set f (x ∷ xs) (suc i) v w at = let rest = total-set f xs i v w at in omega arith
 
-total-snoc : (f : Deeds → ℕ) (vs : List Deeds) (w : Deeds) → total f (vs ++ w ∷ []) ≡ total f vs + f w
+total-snoc : (f : Deeds → ℕ) (vs : List Deeds) (w : Deeds) → total_deeds f (vs ++ w ∷ []) ≡ total_deeds f vs + f w
 total-snoc f [] w = omega arith
 total-snoc f (x ∷ xs) w = let rest = total-snoc f xs w in omega arith
 
@@ -32,15 +32,15 @@ idle_at (x ∷ xs) zero v at all = subst (λ (u : Deeds). IsIdleWithoutPart u) (
 idle_at (x ∷ xs) (suc i) v at all = idle_at xs i v at all.1
 
 -- where no pass has a part, none did anything; and where one has all parts, no other did
-none_did : (vs : List Deeds) → AreIdleWithoutPart vs → total (λ v. v.parts) vs ≡ 0 → (total (λ v. v.woke) vs ≡ 0) × (total (λ v. v.rested) vs ≡ 0)
+none_did : (vs : List Deeds) → AreIdleWithoutPart vs → total_deeds (λ v. v.parts) vs ≡ 0 → (total_deeds (λ v. v.woke) vs ≡ 0) × (total_deeds (λ v. v.rested) vs ≡ 0)
 none_did [] all nil = (refl, refl)
 none_did (x ∷ xs) all nil =
     let rest = none_did xs all.1 (omega (arith, nil)) in
     let one = all.0 (omega (arith, nil)) in
     (let w = rest.0 in let o = one.0 in omega arith, let r = rest.1 in let o = one.1 in omega arith)
 
-one_did : (vs : List Deeds) (i : ℕ) (v : Deeds) → get_elem? vs i ≡ some v → AreIdleWithoutPart vs → total (λ v. v.parts) vs ≡ v.parts
-    → (total (λ v. v.woke) vs ≡ v.woke) × (total (λ v. v.rested) vs ≡ v.rested)
+one_did : (vs : List Deeds) (i : ℕ) (v : Deeds) → get_elem? vs i ≡ some v → AreIdleWithoutPart vs → total_deeds (λ v. v.parts) vs ≡ v.parts
+    → (total_deeds (λ v. v.woke) vs ≡ v.woke) × (total_deeds (λ v. v.rested) vs ≡ v.rested)
 one_did [] i v at all whole = absurd (some-ne-none v (sym at))
 one_did (x ∷ xs) zero v at all whole =
     let same : x ≡ v = some-injective x v at in
@@ -55,7 +55,7 @@ one_did (x ∷ xs) (suc i) v at all whole =
     let one = all.0 (omega (arith, whole, most)) in
     (let w = rest.0 in let o = one.0 in omega arith, let r = rest.1 in let o = one.1 in omega arith)
   where
-    part_of : (us : List Deeds) (j : ℕ) (u : Deeds) → get_elem? us j ≡ some u → u.parts ≤ total (λ v. v.parts) us
+    part_of : (us : List Deeds) (j : ℕ) (u : Deeds) → get_elem? us j ≡ some u → u.parts ≤ total_deeds (λ v. v.parts) us
     part_of [] j u here = absurd (some-ne-none u (sym here))
     part_of (y ∷ ys) zero u here = let same = ap (λ (z : Deeds). z.parts) (some-injective y u here) in omega arith
     part_of (y ∷ ys) (suc j) u here = let more = part_of ys j u here in omega arith
@@ -64,59 +64,36 @@ one_did (x ∷ xs) (suc i) v at all whole =
 pub opens : IsCovered false (deeds 8192 0 0 ∷ [])
 opens = record { covered = omega arith; whole = omega arith; idle = ((λ nil. absurd (omega (arith, nil))), tt) }
 
--- a wake sets the token, and is counted
-pub wakes : (id : ℕ) (v : Deeds) → 0 < v.parts → Turns IsCovered id v (λ _. true) (λ v _ _ w. w ≡ once_woken v)
-wakes id v some_part x vs kept at =
-    let w = once_woken v in
-    let parts = total-set (λ u. u.parts) vs id v w at in
-    let woke = total-set (λ u. u.woke) vs id v w at in
-    let rested = total-set (λ u. u.rested) vs id v w at in
-    let was = kept.covered in
-    let whole = kept.whole in (
-      w,
-      record {
-        covered = omega arith;
-        whole = omega arith;
-        idle = idle-set vs id w kept.idle (λ nil. absurd (omega (arith, nil, some_part)));
-      },
-      refl,
-    )
-
--- a rest takes a token that is set, and is counted
-pub rests : (id : ℕ) (v : Deeds) → 0 < v.parts → TurnsAt IsCovered id v true false (λ v _ _ w. w ≡ once_rested v)
-rests id v some_part vs kept at =
-    let w = once_rested v in
-    let parts = total-set (λ u. u.parts) vs id v w at in
-    let woke = total-set (λ u. u.woke) vs id v w at in
-    let rested = total-set (λ u. u.rested) vs id v w at in
-    let was = kept.covered in
-    let whole = kept.whole in (
-      w,
-      record {
-        covered = omega arith;
-        whole = omega arith;
-        idle = idle-set vs id w kept.idle (λ nil. absurd (omega (arith, nil, some_part)));
-      },
-      refl,
-    )
-
--- a pass with all parts sees that the rests are at most the wakes
-pub settles : (id : ℕ) (v : Deeds) → v.parts ≡ 8192 → Turns IsCovered id v (λ _. true) (λ v _ _ _. v.rested ≤ v.woke)
-settles id v all x vs kept at =
-    let w = once_woken v in
+-- a step by which a pass keeps its parts, and wakes or rests as the token allows, keeps the rule
+turned : (token later : Bool) (vs : List Deeds) (id : ℕ) (v w : Deeds) → IsCovered token vs → get_elem? vs id ≡ some v → w.parts ≡ v.parts → 0 < v.parts
+    → w.rested + worth later + v.woke ≤ v.rested + worth token + w.woke → IsCovered later (set vs id w)
+turned token later vs id v w kept at same some_part fits =
     let parts = total-set (λ u. u.parts) vs id v w at in
     let woke = total-set (λ u. u.woke) vs id v w at in
     let rested = total-set (λ u. u.rested) vs id v w at in
     let was = kept.covered in
     let whole = kept.whole in
-    let alone = one_did vs id v at kept.idle (whole ∙ sym all) in (
-      w,
-      record {
-        covered = omega arith;
-        whole = omega arith;
-        idle = idle-set vs id w kept.idle (λ nil. absurd (omega (arith, nil, all)));
-      },
-      (let a = alone.0 in let b = alone.1 in omega arith),
+    record {
+      covered = omega (arith, fits);
+      whole = omega (arith, same);
+      idle = idle-set vs id w kept.idle (λ nil. absurd (omega (arith, nil, same, some_part)));
+    }
+
+-- a wake sets the token, and is counted
+pub wakes : (id : ℕ) (v : Deeds) → 0 < v.parts → Turns IsCovered id v (λ _. true) (λ v _ _ w. w ≡ once_woken v)
+wakes id v some_part x vs kept at = (once_woken v, turned x true vs id v (once_woken v) kept at refl some_part (omega arith), refl)
+
+-- a rest takes a token that is set, and is counted
+pub rests : (id : ℕ) (v : Deeds) → 0 < v.parts → TurnsAt IsCovered id v true false (λ v _ _ w. w ≡ once_rested v)
+rests id v some_part vs kept at = (once_rested v, turned true false vs id v (once_rested v) kept at refl some_part (omega arith), refl)
+
+-- a pass with all parts sees that the rests are at most the wakes
+pub settles : (id : ℕ) (v : Deeds) → v.parts ≡ 8192 → Turns IsCovered id v (λ _. true) (λ v _ _ _. v.rested ≤ v.woke)
+settles id v all x vs kept at =
+    let alone = one_did vs id v at kept.idle (kept.whole ∙ sym all) in (
+      once_woken v,
+      turned x true vs id v (once_woken v) kept at refl (omega (arith, all)) (omega arith),
+      (let was = kept.covered in let a = alone.0 in let b = alone.1 in omega arith),
     )
 
 -- one part is cut off

@@ -37,14 +37,14 @@ abbrev pub with_rest : Post → Post
 with_rest p = record p { rests = p.rests + 1 }
 
 -- these stands are of the workers from a number on, in order
-abbrev pub AreInOrder : ℕ → List Post → Type 0
-AreInOrder w [] = Unit {0}
-AreInOrder w (p ∷ ps) = (p.worker ≡ w) × AreInOrder (suc w) ps
+abbrev pub AreInWorkerOrder : ℕ → List Post → Type 0
+AreInWorkerOrder w [] = Unit {0}
+AreInWorkerOrder w (p ∷ ps) = (p.worker ≡ w) × AreInWorkerOrder (suc w) ps
 
 -- these are the stands of all workers of a crew, in order
 pub record AreAll (crew : List TableId) (posts : List Post) : Type 0 where
   pub own : All (λ (p : Post). p.crew ≡ crew) posts
-  pub order : AreInOrder 0 posts
+  pub order : AreInWorkerOrder 0 posts
   pub many : length posts ≡ length crew
 
 -- a count stands still at the last value of 64 bits

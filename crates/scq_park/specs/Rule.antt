@@ -26,9 +26,9 @@ abbrev pub added : Deeds → Deeds → Deeds
 added v w = deeds (v.parts + w.parts) (v.woke + w.woke) (v.rested + w.rested)
 
 -- f of each pass, added up
-abbrev pub total : (Deeds → ℕ) → List Deeds → ℕ
-total f [] = 0
-total f (v ∷ vs) = f v + total f vs
+abbrev pub total_deeds : (Deeds → ℕ) → List Deeds → ℕ
+total_deeds f [] = 0
+total_deeds f (v ∷ vs) = f v + total_deeds f vs
 
 -- the token, as a number
 abbrev pub worth : Bool → ℕ
@@ -45,6 +45,6 @@ AreIdleWithoutPart (v ∷ vs) = IsIdleWithoutPart v × AreIdleWithoutPart vs
 
 -- the rests and the token together are at most the wakes, each summed over all passes
 pub record IsCovered (token : Bool) (passes : List Deeds) : Type 0 where
-  pub covered : total (λ v. v.rested) passes + worth token ≤ total (λ v. v.woke) passes
-  pub whole : total (λ v. v.parts) passes ≡ 8192
+  pub covered : total_deeds (λ v. v.rested) passes + worth token ≤ total_deeds (λ v. v.woke) passes
+  pub whole : total_deeds (λ v. v.parts) passes ≡ 8192
   pub idle : AreIdleWithoutPart passes

@@ -1,8 +1,8 @@
 //! The end of a crew: all passes come back to the parkers that they are of.
 ghost use Rattle.std.specs.Prelude.{◌≡◌, ◌+◌, ◌<◌, ◌≤◌, [], length, map, All, vec_len};
 ghost use Rattle.std.specs.Prelude.{vec_capacity};
-ghost use Rattle.scq_park.specs.Kept.{parkers_of, AreFor, with_row, gathered, told, told_by};
-ghost use Rattle.scq_park.specs.Kept.{EachEnds, ends};
+ghost use Rattle.scq_park.specs.Kept.{parkers_of, AreFor, with_row, gathered, told, told_by_post};
+ghost use Rattle.scq_park.specs.Kept.{EachEnds, rests_between};
 
 use crate::passes::{RestPass, WakePass};
 use crate::rested::Rested;
@@ -27,7 +27,7 @@ pub fn gather(mut stands: Vec<Stand>, wakers: &mut Vec<Waker>, owns: &mut Vec<Re
     requires empty { owns.old.items ≡ [] }
     requires room { vec_len stands ≤ vec_capacity owns.old }
     ensures wakers { wakers.new.items ≡ gathered wakers.old.items stands.items }
-    ensures owns { map told owns.new.items ≡ map told_by stands.items }
+    ensures owns { map told owns.new.items ≡ map told_by_post stands.items }
     ensures wide { All (λ s. length s.wakes ≡ length s.crew) stands.items }
 {
     stands.reverse();
@@ -51,7 +51,7 @@ pub fn all_ended(
     requires ends { EachEnds wakers.items owns.items }
     requires empty { rested.items ≡ [] }
     requires room { vec_len owns ≤ vec_capacity rested }
-    ensures counts { result.items ≡ ends wakers.items owns.items }
+    ensures counts { result.items ≡ rests_between wakers.items owns.items }
     ensures woken { All (λ r. r.rests ≤ r.wakes) result.items }
 {
     wakers.reverse();

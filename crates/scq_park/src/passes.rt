@@ -3,7 +3,7 @@ ghost use Rattle.std.specs.Prelude.{◌≡◌, ◌+◌, ◌-◌, ◌<◌, ◌≤
 ghost use Rattle.std.specs.Arc.{arc_value};
 ghost use Rattle.scq_park.specs.Rule.{deeds, once_woken, once_rested, one_part_less, added};
 ghost use Rattle.scq_park.specs.Crews.{counted};
-ghost use Rattle.scq_park.specs.Kept.{tally, one_rested};
+ghost use Rattle.scq_park.specs.Kept.{parker_deeds, one_rested};
 
 use crate::rested::Rested;
 use crate::rule::{Joins, Leaves, Parker, Rests, Settles, Shares, Unparker, View, Wakes};
@@ -21,11 +21,11 @@ pub struct WakePass {
 impl Model for WakePass {
     ghost use Rattle.std.specs.Prelude.{◌≡◌};
     ghost use Rattle.scq_park.specs.Crews.{counted};
-    ghost use Rattle.scq_park.specs.Kept.{Tally, tally};
+    ghost use Rattle.scq_park.specs.Kept.{ParkerDeeds, parker_deeds};
 
-    ghost Value = { Tally };
+    ghost Value = { ParkerDeeds };
 
-    ghost view = { λ p. tally p.pass.table_id p.pass.me.0 };
+    ghost view = { λ p. parker_deeds p.pass.table_id p.pass.me.0 };
 
     ghost invariant = { λ p. p.wakes ≡ counted p.pass.me.0.woke };
 }
@@ -40,11 +40,11 @@ pub struct RestPass {
 impl Model for RestPass {
     ghost use Rattle.std.specs.Prelude.{◌≡◌};
     ghost use Rattle.scq_park.specs.Crews.{counted};
-    ghost use Rattle.scq_park.specs.Kept.{Tally, tally};
+    ghost use Rattle.scq_park.specs.Kept.{ParkerDeeds, parker_deeds};
 
-    ghost Value = { Tally };
+    ghost Value = { ParkerDeeds };
 
-    ghost view = { λ p. tally p.pass.table_id p.pass.me.0 };
+    ghost view = { λ p. parker_deeds p.pass.table_id p.pass.me.0 };
 
     ghost invariant = { λ p. p.rests ≡ counted p.pass.me.0.rested };
 }
@@ -85,7 +85,7 @@ impl WakePass {
     pub fn wake(&mut self, unparker: &Unparker)
         requires own { self.old.parker ≡ (arc_value unparker.now.state).shared.table_id }
         requires parts { 0 < self.old.deeds.parts }
-        ensures { self.new ≡ tally self.old.parker (once_woken self.old.deeds) }
+        ensures { self.new ≡ parker_deeds self.old.parker (once_woken self.old.deeds) }
     {
         unparker.unpark_as::<Wakes>(&mut self.pass);
         count(&mut self.wakes);
@@ -95,8 +95,8 @@ impl WakePass {
     pub fn cut(&mut self, unparker: &Unparker) -> WakePass
         requires own { self.old.parker ≡ (arc_value unparker.now.state).shared.table_id }
         requires parts { 1 < self.old.deeds.parts }
-        ensures left { self.new ≡ tally self.old.parker (one_part_less self.old.deeds) }
-        ensures cut { result ≡ tally self.old.parker (deeds 1 0 0) }
+        ensures left { self.new ≡ parker_deeds self.old.parker (one_part_less self.old.deeds) }
+        ensures cut { result ≡ parker_deeds self.old.parker (deeds 1 0 0) }
     {
         WakePass {
             pass: share(unparker, &mut self.pass),
@@ -109,7 +109,7 @@ impl WakePass {
         requires own { self.old.parker ≡ (arc_value unparker.now.state).shared.table_id }
         requires other { other.parker ≡ self.old.parker }
         requires parts { 0 < self.old.deeds.parts }
-        ensures { self.new ≡ tally self.old.parker (added self.old.deeds other.deeds) }
+        ensures { self.new ≡ parker_deeds self.old.parker (added self.old.deeds other.deeds) }
     {
         let WakePass { pass, wakes } = other;
         take_in(unparker, &mut self.pass, pass);
@@ -140,7 +140,7 @@ impl RestPass {
     pub fn rest<R: Wait>(&mut self, rt: &R, parker: &Parker)
         requires own { self.old.parker ≡ (arc_value parker.now.unparker.state).shared.table_id }
         requires parts { 0 < self.old.deeds.parts }
-        ensures { self.new ≡ tally self.old.parker (once_rested self.old.deeds) }
+        ensures { self.new ≡ parker_deeds self.old.parker (once_rested self.old.deeds) }
     {
         parker.park_as::<Rests, R>(rt, &mut self.pass);
         count(&mut self.rests);

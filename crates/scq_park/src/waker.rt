@@ -2,7 +2,7 @@
 ghost use Rattle.std.specs.Prelude.{◌≡◌, ◌<◌, ◌≤◌, IfOk};
 ghost use Rattle.scq_park.specs.Rule.{deeds, once_woken, once_rested, one_part_less, added};
 ghost use Rattle.scq_park.specs.Crews.{counted};
-ghost use Rattle.scq_park.specs.Kept.{tally, one_rested};
+ghost use Rattle.scq_park.specs.Kept.{parker_deeds, one_rested};
 
 use crate::passes::{RestPass, WakePass, share};
 use crate::rested::Rested;
@@ -22,9 +22,9 @@ pub struct Waker {
 impl Model for Waker {
     ghost use Rattle.std.specs.Prelude.{◌≡◌};
     ghost use Rattle.std.specs.Arc.{arc_value};
-    ghost use Rattle.scq_park.specs.Kept.{Tally};
+    ghost use Rattle.scq_park.specs.Kept.{ParkerDeeds};
 
-    ghost Value = { Tally };
+    ghost Value = { ParkerDeeds };
 
     ghost view = { λ w. w.rest };
 
@@ -41,9 +41,9 @@ pub struct Sleeper {
 impl Model for Sleeper {
     ghost use Rattle.std.specs.Prelude.{◌≡◌};
     ghost use Rattle.std.specs.Arc.{arc_value};
-    ghost use Rattle.scq_park.specs.Kept.{Tally};
+    ghost use Rattle.scq_park.specs.Kept.{ParkerDeeds};
 
-    ghost Value = { Tally };
+    ghost Value = { ParkerDeeds };
 
     ghost view = { λ s. s.own };
 
@@ -53,7 +53,7 @@ impl Model for Sleeper {
 /// A new parker: what its worker is woken by and what it rests on.
 pub fn new_pair(alloc: Global) -> Result<(Waker, Sleeper), NoMemory>
     ensures waker { IfOk result (λ pair. pair.0.deeds ≡ deeds 8191 0 0) }
-    ensures sleeper { IfOk result (λ pair. pair.1 ≡ tally pair.0.parker (deeds 1 0 0)) }
+    ensures sleeper { IfOk result (λ pair. pair.1 ≡ parker_deeds pair.0.parker (deeds 1 0 0)) }
 {
     let (parker, mut pass) = Parker::ruled(alloc)?;
     let unparker = parker.unparker().clone()?;
@@ -77,7 +77,7 @@ impl Waker {
     pub fn wake(&self, link: &mut WakePass)
         requires own { link.old.parker ≡ self.now.parker }
         requires parts { 0 < link.old.deeds.parts }
-        ensures { link.new ≡ tally link.old.parker (once_woken link.old.deeds) }
+        ensures { link.new ≡ parker_deeds link.old.parker (once_woken link.old.deeds) }
     {
         link.wake(&self.unparker);
     }
@@ -85,8 +85,8 @@ impl Waker {
     /// A pass to its parker.
     pub fn cut(&mut self) -> WakePass
         requires parts { 1 < self.old.deeds.parts }
-        ensures left { self.new ≡ tally self.old.parker (one_part_less self.old.deeds) }
-        ensures cut { result ≡ tally self.old.parker (deeds 1 0 0) }
+        ensures left { self.new ≡ parker_deeds self.old.parker (one_part_less self.old.deeds) }
+        ensures cut { result ≡ parker_deeds self.old.parker (deeds 1 0 0) }
     {
         self.rest.cut(&self.unparker)
     }
@@ -95,7 +95,7 @@ impl Waker {
     pub fn take(&mut self, link: WakePass)
         requires own { link.parker ≡ self.old.parker }
         requires parts { 0 < self.old.deeds.parts }
-        ensures { self.new ≡ tally self.old.parker (added self.old.deeds link.deeds) }
+        ensures { self.new ≡ parker_deeds self.old.parker (added self.old.deeds link.deeds) }
     {
         self.rest.take(&self.unparker, link);
     }
@@ -118,7 +118,7 @@ impl Sleeper {
     /// Waits until its token is set, and takes it.
     pub fn rest<R: Wait>(&mut self, rt: &R)
         requires parts { 0 < self.old.deeds.parts }
-        ensures { self.new ≡ tally self.old.parker (once_rested self.old.deeds) }
+        ensures { self.new ≡ parker_deeds self.old.parker (once_rested self.old.deeds) }
     {
         self.own.rest(rt, &self.parker);
     }

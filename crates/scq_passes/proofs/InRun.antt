@@ -12,7 +12,7 @@ use Rattle.scq_band.specs.Standing.{Identity}
 use Rattle.scq_band.proofs.DelayedCalls.{call_delayed}
 use Rattle.scq_band.specs.Buffers.{opening_of}
 use Rattle.scq_queue.specs.Passes.{PassStanding, HeldStanding, HasGot, WasGivenBack, FoundNothing, caller_of}
-use Rattle.scq_passes.specs.Leaving.{FoundTopicEmpty, HasOnlyCalled}
+use Rattle.scq_passes.specs.Leaving.{MetTopicEmpty, HasOnlyCalled}
 
 -- calls that stand in the run, and more of the same seat behind them, are calls in the run
 pub calls-along : (c : Setup) (opening : List (List ℕ)) (old mid new : Caller) → mid.seat ≡ old.seat
@@ -97,7 +97,7 @@ module _ {B : Type 0} {contents : B → List ℕ} {queue : Identity B} where
   ]
 
   -- who found a topic empty made some
-  pub only-found : (topic : ℕ) (p q : PassStanding B) → FoundTopicEmpty topic p q
+  pub only-found : (topic : ℕ) (p q : PassStanding B) → MetTopicEmpty topic p q
       → (q ≡ p) ⊎ HasOnlyCalled contents queue p q → HasOnlyCalled contents queue p q
   only-found topic p q found meanwhile = elim meanwhile [
     | inl none ↦

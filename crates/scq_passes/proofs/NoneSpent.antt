@@ -66,14 +66,14 @@ module _ {B : Type 0} where
   abbrev pub passes_of : List (ℕ × PassStanding B) → List (PassStanding B)
   passes_of works = map (λ (w : ℕ × PassStanding B). w.1) works
 
-  abbrev pub messages_of : List (ℕ × PassStanding B) → ℕ
-  messages_of works = sum_by (λ (w : ℕ × PassStanding B). w.0) works
+  abbrev pub message_count : List (ℕ × PassStanding B) → ℕ
+  message_count works = sum_by (λ (w : ℕ × PassStanding B). w.0) works
 
   abbrev AllHaveFewCalls : List (ℕ × PassStanding B) → Type 0
   AllHaveFewCalls works = All (λ (w : ℕ × PassStanding B). HasFewCalls 1 w.0 w.1) works
 
   -- all sends are at most as many as all messages, and so are all takes
-  few-sends : (works : List (ℕ × PassStanding B)) → AllHaveFewCalls works → length (all_sends (passes_of works)) ≤ messages_of works
+  few-sends : (works : List (ℕ × PassStanding B)) → AllHaveFewCalls works → length (all_sends (passes_of works)) ≤ message_count works
   few-sends works each =
       let all : length (all_sends (passes_of works)) ≡ sum_by (λ (w : ℕ × PassStanding B). length (sends_of w.1.calls)) works =
       length-flat_map (λ (p : PassStanding B). sends_of p.calls) (passes_of works)
@@ -88,14 +88,14 @@ module _ {B : Type 0} where
       ∙ sum_by-map (λ (p : PassStanding B). length (takes_of p.calls)) (λ (w : ℕ × PassStanding B). w.1) works
 
   -- the puts that were begun on a ring
-  begun-few : (works : List (ℕ × PassStanding B)) → AllHaveFewCalls works → length (all_takes (passes_of works)) ≤ messages_of works → (r : ℕ)
-      → sum_by (tally (was_put r)) (map (λ (p : PassStanding B). p.calls) (passes_of works)) ≤ messages_of works + length works
+  begun-few : (works : List (ℕ × PassStanding B)) → AllHaveFewCalls works → length (all_takes (passes_of works)) ≤ message_count works → (r : ℕ)
+      → sum_by (tally (was_put r)) (map (λ (p : PassStanding B). p.calls) (passes_of works)) ≤ message_count works + length works
   begun-few works each takes r =
       let first = sum_by-map (tally (was_put r)) (λ (p : PassStanding B). p.calls) (passes_of works) in
       let all = sum_by-map (λ (p : PassStanding B). tally (was_put r) p.calls) (λ (w : ℕ × PassStanding B). w.1) works in
       let few = by r in
       omega arith where
-        by : (r : ℕ) → sum_by (λ (w : ℕ × PassStanding B). tally (was_put r) w.1.calls) works ≤ messages_of works + length works
+        by : (r : ℕ) → sum_by (λ (w : ℕ × PassStanding B). tally (was_put r) w.1.calls) works ≤ message_count works + length works
         by zero =
             let these = sums (λ (w : ℕ × PassStanding B). tally (was_put 0) w.1.calls) (λ (w : ℕ × PassStanding B). length (takes_of w.1.calls)) works
             (λ k d less. (each k d less).returns) in
@@ -105,24 +105,24 @@ module _ {B : Type 0} where
 
   -- no pass met Spent
   pub none-spent : (c : Setup) (works : List (ℕ × PassStanding B)) → c.limit ≡ 2 ^ 60 → length works ≤ c.seats
-      → messages_of works ≤ 2 ^ 36 → AllHaveFewCalls works → EachTakeIsASend (passes_of works) → NoPlaceIsTakenTwice (passes_of works)
+      → message_count works ≤ 2 ^ 36 → AllHaveFewCalls works → EachTakeIsASend (passes_of works) → NoPlaceIsTakenTwice (passes_of works)
       → NoneIsKeptWithinTheLimit c (passes_of works) → NoneSpent (passes_of works)
   none-spent c works limit workers messages each sent once limits =
       let few = few-takes (passes_of works) sent once in
       let sends = few-sends works each in
-      let takes : length (all_takes (passes_of works)) ≤ messages_of works = omega arith in
-      none-spent-within c (passes_of works) (messages_of works + length works) limit (omega (arith, few_seats c)) (λ r low. begun-few works each takes r)
+      let takes : length (all_takes (passes_of works)) ≤ message_count works = omega arith in
+      none-spent-within c (passes_of works) (message_count works + length works) limit (omega (arith, few_seats c)) (λ r low. begun-few works each takes r)
       limits
 
   -- each pass has few sends, takes and Full replies
-  pub all-bounded : (works : List (ℕ × PassStanding B)) (most : ℕ) → messages_of works ≤ most → AllHaveFewCalls works → EachTakeIsASend (passes_of works)
+  pub all-bounded : (works : List (ℕ × PassStanding B)) (most : ℕ) → message_count works ≤ most → AllHaveFewCalls works → EachTakeIsASend (passes_of works)
       → NoPlaceIsTakenTwice (passes_of works)
       → (k : ℕ) (d : ℕ × PassStanding B) → k < length works → IsBounded most (get_or works k d).1
   all-bounded works most messages each sent once k d less =
       let its = each k d less in
       let sends = its.sends in
       let fulls = its.fulls in
-      let mine : (get_or works k d).0 ≤ messages_of works = get_or-le-sum_by (λ (w : ℕ × PassStanding B). w.0) works k d less in
+      let mine : (get_or works k d).0 ≤ message_count works = get_or-le-sum_by (λ (w : ℕ × PassStanding B). w.0) works k d less in
       let few = few-takes (passes_of works) sent once in
       let all = few-sends works each in
       let here : length (takes_of (get_or works k d).1.calls) ≤ sum_by (λ (w : ℕ × PassStanding B). length (takes_of w.1.calls)) works =

@@ -11,7 +11,7 @@ use Rattle.scq_band.specs.Standing.{Identity}
 use Rattle.scq_queue.specs.Passes.{PassStanding, after_look, having_seen, caller_of}
 use Rattle.scq_queue.proofs.Records.{takes-append}
 use Rattle.scq_passes.specs.Records.{Puts}
-use Rattle.scq_passes.specs.Leaving.{TookNothing, FoundTopicEmpty, HasOnlyCalled, IsSweep}
+use Rattle.scq_passes.specs.Leaving.{TookNothing, MetTopicEmpty, HasOnlyCalled, IsSweep}
 use Rattle.scq_passes.specs.Taking.{HasEmptiedAll}
 use Rattle.scq_passes.specs.Waiting.{TookMore}
 use Rattle.scq_passes.specs.Calls.{HasTakenFollowed}
@@ -19,7 +19,7 @@ use Rattle.scq_passes.proofs.Kept.{taken-calls}
 
 module _ {B : Type 0} where
   -- the topic was found empty just now
-  pub found-now : (topic : ℕ) (p q : PassStanding B) → q.calls ≡ p.calls ++ Nothing (suc topic) ∷ [] → FoundTopicEmpty topic p q
+  pub found-now : (topic : ℕ) (p q : PassStanding B) → q.calls ≡ p.calls ++ Nothing (suc topic) ∷ [] → MetTopicEmpty topic p q
   found-now topic p q is = record {
     before = [];
     after = [];
@@ -32,7 +32,7 @@ module _ {B : Type 0} where
   found-takes topic p q is = ap takes_of is ∙ takes-append p.calls (Nothing (suc topic) ∷ []) ∙ append-nil (takes_of p.calls)
 
   -- so it was also where more was taken before, or since
-  pub found-later : {By : Puts} (topic : ℕ) (p q r : PassStanding B) → FoundTopicEmpty topic p q → HasTakenFollowed By q r → FoundTopicEmpty topic p r
+  pub found-later : {By : Puts} (topic : ℕ) (p q r : PassStanding B) → MetTopicEmpty topic p q → HasTakenFollowed By q r → MetTopicEmpty topic p r
   found-later topic p q r found more = record {
     before = found.before;
     after = found.after ++ more.block;
@@ -40,7 +40,7 @@ module _ {B : Type 0} where
         ∙ append_assoc ((p.calls ++ found.before) ++ Nothing (suc topic) ∷ []) found.after more.block;
   }
 
-  pub found-earlier : {By : Puts} (topic : ℕ) (p q r : PassStanding B) → HasTakenFollowed By p q → FoundTopicEmpty topic q r → FoundTopicEmpty topic p r
+  pub found-earlier : {By : Puts} (topic : ℕ) (p q r : PassStanding B) → HasTakenFollowed By p q → MetTopicEmpty topic q r → MetTopicEmpty topic p r
   found-earlier topic p q r more found = record {
     before = more.block ++ found.before;
     after = found.after;

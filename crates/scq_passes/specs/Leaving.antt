@@ -18,7 +18,7 @@ module _ {B : Type 0} where
   TookNothing old new = takes_of new.calls ≡ takes_of old.calls
 
   -- it found a topic empty meanwhile
-  pub record FoundTopicEmpty (topic : ℕ) (old new : PassStanding B) : Type 0 where
+  pub record MetTopicEmpty (topic : ℕ) (old new : PassStanding B) : Type 0 where
     pub before : List Ended
     pub after : List Ended
     pub calls : new.calls ≡ ((old.calls ++ before) ++ Nothing (suc topic) ∷ []) ++ after
@@ -48,7 +48,7 @@ module _ {B : Type 0} where
         (caller_of old) (caller_of asked) found
     pub taken : HasTakenFollowed By asked new
     pub only : HasOnlyCalled contents queue asked new
-    pub empty : (topic : ℕ) → topic < topics → FoundTopicEmpty topic asked new
+    pub empty : (topic : ℕ) → topic < topics → MetTopicEmpty topic asked new
     pub once : TookInVain topics asked new
     pub last : (topic : ℕ) → suc topic ≡ topics → EndsAtEmpty topic new
 

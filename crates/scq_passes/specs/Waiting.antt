@@ -24,8 +24,8 @@ module _ {B : Type 0} where
   abbrev pub TookMore : PassStanding B → PassStanding B → Type 0
   TookMore old new = length (takes_of old.calls) < length (takes_of new.calls)
 
-  -- a worker that reads its files: it took in vain at most once for each topic and each Full, and so
-  -- often behind each send
+  -- a worker that reads its files: it took in vain at most once for each topic and each Full, and
+  -- so often behind each send
   abbrev pub HelpsInVain : ℕ → ℕ → PassStanding B → Type 0
   HelpsInVain topics behind p =
       vain_takes p.calls ≤ topics * length p.fulls + behind * length (sends_of p.calls)

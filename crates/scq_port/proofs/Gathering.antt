@@ -12,18 +12,18 @@ use Rattle.scq_queue.specs.Closing.{AreTheHeld}
 use Rattle.scq_queue.proofs.Leaving.{get_before, get_last}
 use Rattle.scq_port.specs.declared.port_buffer.PortBuffer.{PortBuffer}
 use Rattle.scq_port.specs.Ports.{PortQueue, Value}
-use Rattle.scq_port.specs.Ends.{Laid, IsPassOf, AreAll}
+use Rattle.scq_port.specs.Ends.{Laid, IsPassOf, AreAllPasses}
 use Rattle.scq_port.specs.Kept.{AreAdded}
 
 -- of the slots below i those passes were gathered, with these values. Where none was missing, each stands in the place of its number
-pub record AreGathered (queue : PortQueue) (slots : List Laid) (i : ℕ) (passes : List (PassStanding PortBuffer)) (values : List Value) : Type 0 where
+pub record PassesAreGathered (queue : PortQueue) (slots : List Laid) (i : ℕ) (passes : List (PassStanding PortBuffer)) (values : List Value) : Type 0 where
   pub few : length passes ≤ i
   pub each : length passes ≡ i → (k : ℕ) → k < i
       → (p : PassStanding PortBuffer) × (get_elem? slots k ≡ some (Some p)) × (slice_get passes k ≡ Some p) × IsPassOf queue k p
   pub held : length passes ≡ i → AreTheHeld queue passes values
 
 pub gathered_none : (queue : PortQueue) (slots : List Laid) (passes : List (PassStanding PortBuffer)) (values : List Value) → passes ≡ [] → values ≡ []
-    → AreGathered queue slots 0 passes values
+    → PassesAreGathered queue slots 0 passes values
 gathered_none queue slots passes values none empty =
     record {
       few = subst (λ (l : List (PassStanding PortBuffer)). length l ≤ 0) (sym none) (omega arith);
@@ -37,7 +37,7 @@ gathered_none queue slots passes values none empty =
 
 -- a pass was missing
 pub gathered_less : (queue : PortQueue) (slots : List Laid) (i : ℕ) (passes more : List (PassStanding PortBuffer)) (values after : List Value)
-    → AreGathered queue slots i passes values → more ≡ passes → AreGathered queue slots (i + 1) more after
+    → PassesAreGathered queue slots i passes values → more ≡ passes → PassesAreGathered queue slots (i + 1) more after
 gathered_less queue slots i passes more values after before same =
     record { few = omega (arith, few); each = λ full. absurd (missing full); held = λ full. absurd (missing full) }
   where
@@ -49,8 +49,8 @@ gathered_less queue slots i passes more values after before same =
 
 -- one more was there
 pub gathered_more : (queue : PortQueue) (slots : List Laid) (i : ℕ) (passes more : List (PassStanding PortBuffer)) (values after : List Value)
-    (q : PassStanding PortBuffer) → AreGathered queue slots i passes values → get_elem? slots i ≡ some (Some q) → IsPassOf queue i q
-    → more ≡ passes ++ q ∷ [] → AreAdded queue q values after → AreGathered queue slots (i + 1) more after
+    (q : PassStanding PortBuffer) → PassesAreGathered queue slots i passes values → get_elem? slots i ≡ some (Some q) → IsPassOf queue i q
+    → more ≡ passes ++ q ∷ [] → AreAdded queue q values after → PassesAreGathered queue slots (i + 1) more after
 gathered_more queue slots i passes more values after q before here is new added =
     record {
       few = let few = before.few in omega (arith, few, many);
@@ -100,8 +100,8 @@ in_range (y ∷ ys) (suc k) x at = let low = in_range ys k x at in omega (arith,
 
 -- all slots were looked at, and none was missing
 pub gathered_all : (queue : PortQueue) (slots : List Laid) (count : ℕ) (passes : List (PassStanding PortBuffer)) (values : List Value)
-    (its : PassStanding PortBuffer) → AreGathered queue slots count passes values → count ≡ queue.setup.seats → (length passes < count → ⊥)
-    → its.number < count → get_elem? slots its.number ≡ some (Some its) → AreAll queue its passes values
+    (its : PassStanding PortBuffer) → PassesAreGathered queue slots count passes values → count ≡ queue.setup.seats → (length passes < count → ⊥)
+    → its.number < count → get_elem? slots its.number ≡ some (Some its) → AreAllPasses queue its passes values
 gathered_all queue slots count passes values its gathered seats none low there =
     record {
       all = full ∙ seats;

@@ -5,13 +5,13 @@ use Rattle.std.proofs.lemmas.Bool.{cases_eq}
 use Rattle.std.proofs.lemmas.List.{reverse-append, append_assoc}
 use Rattle.scq_law.specs.Hands.{times}
 use Rattle.scq_queue.specs.Passes.{PassStanding, IsHeldBy, WasGivenBack, without, after_put, after_spent_put, having_seen}
-use Rattle.scq_queue.proofs.HeldOnce.{IsAlike}
+use Rattle.scq_queue.proofs.HeldOnce.{IsAlike, contains_times}
 use Rattle.scq_port.specs.declared.port_buffer.PortBuffer.{PortBuffer}
-use Rattle.scq_port.specs.Ports.{PortQueue, Value, bytes_of}
-use Rattle.scq_port.specs.Calls.{values_of, GaveBack, HasEnded}
+use Rattle.scq_port.specs.Ports.{PortQueue, Value, buffer_bytes}
+use Rattle.scq_port.specs.Calls.{values_of, GaveBack, HasPassEnded}
 use Rattle.scq_port.specs.Kept.{Keeps, LetsGo, StandsAt}
 use Rattle.scq_queue.proofs.Leaving.{get_before, get_last, not_last}
-use Rattle.scq_port.proofs.Lists.{contains_times, less_here, less_other, get_past, none_at_all}
+use Rattle.scq_port.proofs.Lists.{less_here, less_other, get_past, none_at_all}
 
 cases_spent : (o : Option ℕ) → (o ≡ None) ⊎ ((t : ℕ) × (o ≡ Some t))
 cases_spent None = inl refl
@@ -131,9 +131,9 @@ values_last slots o = ap (λ (l : List (Option Value)). filter_map (λ (x : Opti
 
 -- one more was given back
 gave_more : (hs : List Value) (h : Value) (first old new : PassStanding PortBuffer) → GaveBack hs first old
-    → WasGivenBack (bytes_of h.buffer) h.index old new → GaveBack (hs ++ h ∷ []) first new
+    → WasGivenBack (buffer_bytes h.buffer) h.index old new → GaveBack (hs ++ h ∷ []) first new
 gave_more [] h first old new is back =
-    (new, subst (λ (p : PassStanding PortBuffer). WasGivenBack (bytes_of h.buffer) h.index p new) is back, refl)
+    (new, subst (λ (p : PassStanding PortBuffer). WasGivenBack (buffer_bytes h.buffer) h.index p new) is back, refl)
 gave_more (x ∷ xs) h first old new is back = (is.0, is.1, gave_more xs h is.0 old new is.2 back)
 
 -- how far the giving back has come: these values were given back, and those that still stand there weren't
@@ -161,7 +161,7 @@ goes_past all_slots slots first p was =
 
 -- the last value was given back
 pub goes_back : (all_slots slots : List (Option Value)) (h : Value) (first old new : PassStanding PortBuffer)
-    → Goes all_slots first (slots ++ Some h ∷ []) old → old.spent ≡ None → WasGivenBack (bytes_of h.buffer) h.index old new
+    → Goes all_slots first (slots ++ Some h ∷ []) old → old.spent ≡ None → WasGivenBack (buffer_bytes h.buffer) h.index old new
     → Goes all_slots first slots new
 goes_back all_slots slots h first old new was none back =
     record {
@@ -178,7 +178,7 @@ goes_back all_slots slots h first old new was none back =
 pub ends_refused : (all_slots slots : List (Option Value)) (h : Value) (first old new : PassStanding PortBuffer) (ticket hold : ℕ)
     → Goes all_slots first (slots ++ Some h ∷ []) old
     → (old.spent ≡ None → (new ≡ having_seen new.seen (after_spent_put 0 ticket old)) × (first.queue.setup.limit ≤ ticket))
-    → ((t : ℕ) → old.spent ≡ Some t → new ≡ old) → HasEnded (record { pass = first; slots = all_slots; hold = hold }) new
+    → ((t : ℕ) → old.spent ≡ Some t → new ≡ old) → HasPassEnded (record { pass = first; slots = all_slots; hold = hold }) new
 ends_refused all_slots slots h first old new ticket hold was drew kept =
     record {
       given = was.given;
@@ -208,7 +208,7 @@ ends_refused all_slots slots h first old new ticket hold was drew kept =
 
 -- no place is left
 pub ends_all : (all_slots slots : List (Option Value)) (first p : PassStanding PortBuffer) (hold : ℕ) → Goes all_slots first slots p → length slots ≡ 0
-    → (p.spent ≡ None → p.held ≡ []) → HasEnded (record { pass = first; slots = all_slots; hold = hold }) p
+    → (p.spent ≡ None → p.held ≡ []) → HasPassEnded (record { pass = first; slots = all_slots; hold = hold }) p
 ends_all all_slots [] first p hold was empty home =
     record {
       given = was.given;

@@ -6,11 +6,11 @@ use Rattle.std.proofs.lemmas.Bool.{cases_eq}
 use Rattle.scq_law.specs.Hands.{times}
 use Rattle.scq_word.specs.Sizes.{n_of}
 use Rattle.scq_queue.specs.Passes.{PassStanding, IsHeldBy, without, after_put, after_get, having_seen}
-use Rattle.scq_queue.proofs.HeldOnce.{IsAlike}
+use Rattle.scq_queue.proofs.HeldOnce.{IsAlike, contains_times}
 use Rattle.scq_port.specs.declared.port_buffer.PortBuffer.{PortBuffer}
 use Rattle.scq_port.specs.Ports.{PortQueue, Value}
 use Rattle.scq_port.specs.Kept.{Keeps, StandsAt}
-use Rattle.scq_port.proofs.Lists.{set_here, set_other, times_contains, contains_times, more_here, more_other, less_here, less_other, less_length}
+use Rattle.scq_port.proofs.Lists.{set_here, set_other, times_contains, more_here, more_other, less_here, less_other, less_length}
 
 -- the place of an index below n is there
 place_there : (slots : List (Option Value)) (i : ℕ) → i < length slots → (x : Option Value) × (slice_get slots i ≡ Some x)

@@ -4,7 +4,6 @@ use Rattle.std.specs.Prelude.{Some, None, slice_get, slice_set, ◌==◌, if◌t
 use Rattle.std.specs.List.{Contains}
 use Rattle.std.proofs.lemmas.Bool.{cases_eq}
 use Rattle.scq_law.specs.Hands.{times}
-use Rattle.scq_band.proofs.GoingHome.{contains_behind}
 use Rattle.scq_band.proofs.Slots.{times-append}
 use Rattle.scq_queue.specs.Passes.{without}
 
@@ -32,17 +31,6 @@ pub times_contains : (xs : List ℕ) (i : ℕ) → Contains xs i → 0 < times i
 times_contains [] i there = absurd (let low = there.1 in omega (arith, low))
 times_contains (x ∷ xs) i (zero, low, is) = rw (eq-eqb x i is) (omega arith)
 times_contains (x ∷ xs) i (suc k, low, is) = let rest = times_contains xs i (k, omega (arith, low), is) in omega (arith, rest)
-
--- what stands in a list more than not at all is in it
-pub contains_times : (xs : List ℕ) (i : ℕ) → 0 < times i xs → Contains xs i
-contains_times [] i some = absurd (omega arith)
-contains_times (x ∷ xs) i some =
-    elim (cases_eq x i) [
-      | inl same ↦ (0, omega arith, same)
-      | inr other ↦
-          let seen = rw (ne_eqb x i other) at some in
-          contains_behind x i xs (contains_times xs i (omega (arith, seen)))
-    ]
 
 -- an index that came, and the others
 pub more_here : (held : List ℕ) (i : ℕ) → times i (held ++ i ∷ []) ≡ times i held + 1

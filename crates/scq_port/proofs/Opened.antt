@@ -8,16 +8,16 @@ use Rattle.scq_queue.specs.Passes.{PassStanding, first_pass, first_passes}
 use Rattle.scq_port.specs.declared.port_buffer.PortBuffer.{PortBuffer}
 use Rattle.scq_port.specs.Ports.{PortQueue, PortStanding}
 use Rattle.scq_port.specs.Calls.{new_port}
-use Rattle.scq_port.specs.Kept.{IsFresh}
+use Rattle.scq_port.specs.Kept.{HoldsNothing}
 use Rattle.scq_queue.proofs.Leaving.{get_last}
 use Rattle.scq_port.proofs.Unpacking.{before_last}
 
 -- the passes of a new queue hold nothing, from the last to the first
-pub all_fresh : (queue : PortQueue) (n : ℕ) → All (IsFresh queue) (reverse (first_passes queue n))
+pub all_fresh : (queue : PortQueue) (n : ℕ) → All (HoldsNothing queue) (reverse (first_passes queue n))
 all_fresh queue zero = λ k d low. absurd (omega (arith, low))
 all_fresh queue (suc n) =
-    subst (λ (l : List (PassStanding PortBuffer)). All (IsFresh queue) l) (sym (reverse-append (first_passes queue n) (first_pass queue n ∷ [])))
-    (All-cons (IsFresh queue) (first_pass queue n) (reverse (first_passes queue n)) (record { own = refl; awake = refl; none = refl }) (all_fresh queue n))
+    subst (λ (l : List (PassStanding PortBuffer)). All (HoldsNothing queue) l) (sym (reverse-append (first_passes queue n) (first_pass queue n ∷ [])))
+    (All-cons (HoldsNothing queue) (first_pass queue n) (reverse (first_passes queue n)) (record { own = refl; awake = refl; none = refl }) (all_fresh queue n))
 
 pub first_passes_length : (queue : PortQueue) (n : ℕ) → length (first_passes queue n) ≡ n
 first_passes_length queue zero = refl

@@ -28,8 +28,8 @@ use Rattle.scq_queue.specs.contracts.held.Held as held
 use Rattle.scq_queue.specs.contracts.held.Held.TheInside as held_inside
 use Rattle.scq_queue.specs.contracts.queue.Queue as queue
 use Rattle.scq_queue.specs.contracts.queue.Queue.TheInside as queue_inside
-use Rattle.scq_queue.proofs.PassesSent.{pass_sent}
-use Rattle.scq_queue.proofs.QueuesShared.{queue_sync}
+use Rattle.scq_queue.proofs.PassesSent.{bool_sent, counts_sent, pass_sent}
+use Rattle.scq_queue.proofs.QueuesShared.{bool_sync, counts_sync, queue_sync}
 use Rattle.scq_band.proofs.SeatsShared.{vec_sync, seat_sync}
 use Rattle.std.specs.contracts.snapshot.Snapshot as snapshot
 use Rattle.scq_queue.specs.contracts.fulls.Fulls as fulls
@@ -65,12 +65,6 @@ setup_sent = search (sendable, crossing.crosses) depth 20
 
 ring_sent : IsSend ring.the_row
 ring_sent = search (sendable, crossing.crosses) depth 20
-
-bool_sent : IsSend bool
-bool_sent = search sendable
-
-counts_sent : IsSend counts.the_row
-counts_sent = declared_send counts.the_type (u64_sent, (u64_sent, (u64_sent, tt)))
 
 table_sent : IsSend (table.the_row (slot.the_row buffer.the_row) view.the_row (key.the_row buffer.the_row) rule.the_row alloc.the_row (rules.ghosts buffer.the_row buffers.ghosts rules.no_dict) ghosts)
 table_sent =
@@ -160,15 +154,6 @@ end_table_sync =
         ),
       ),
     )
-
-u64_sync : IsSync u64
-u64_sync = search sendable
-
-bool_sync : IsSync bool
-bool_sync = search sendable
-
-counts_sync : IsSync counts.the_row
-counts_sync = declared_sync counts.the_type (u64_sync, (u64_sync, (u64_sync, tt)))
 
 fulls_sync : IsSync (snapshot.the_row fulls.the_row)
 fulls_sync = search (sendable, crossing.crosses)

@@ -13,8 +13,8 @@ use Rattle.scq_queue.specs.Passes.{PassStanding, lists_of, known_on, WasLent, Ha
 use Rattle.scq_queue.specs.Passes.{FoundNothing, FoundFull, having_seen, caller_of, after_put}
 use Rattle.scq_queue.specs.Passes.{after_spent_put, after_spent_get, after_look, first_passes}
 use Rattle.scq_port.specs.declared.port_buffer.PortBuffer.{PortBuffer}
-use Rattle.scq_port.specs.Numbers.{number_bytes, numbers_below}
-use Rattle.scq_port.specs.Ports.{PortStanding, PortQueue, Value, HasValue, bytes_of}
+use Rattle.scq_port.specs.Numbers.{four_bytes, numbers_below}
+use Rattle.scq_port.specs.Ports.{PortStanding, PortQueue, Value, HasValue, buffer_bytes}
 
 -- the port holds the values that it held
 pub record HoldsAsBefore (old new : PortStanding) : Type 0 where
@@ -30,7 +30,7 @@ pub record Came (old new : PortStanding) (h : Value) : Type 0 where
   pub index : h.index < n_of old.pass.queue.setup.order
 
 -- a value that the port held went
-pub record Went (old new : PortStanding) (h : Value) : Type 0 where
+pub record ValueWent (old new : PortStanding) (h : Value) : Type 0 where
   pub was : HasValue old h
   pub slots : new.slots ≡ slice_set old.slots h.index None
   pub hold : new.hold ≡ old.hold
@@ -38,35 +38,36 @@ pub record Went (old new : PortStanding) (h : Value) : Type 0 where
 -- the call is one in the run of all passes of the queue
 abbrev pub IsInRun : PortStanding → PortStanding → Type 0
 IsInRun old new =
-    IsCallInRun old.pass.queue.setup (opening_of bytes_of old.pass.queue.given) (caller_of old.pass)
-    (caller_of new.pass)
+    IsCallInRun old.pass.queue.setup (opening_of buffer_bytes old.pass.queue.given)
+    (caller_of old.pass) (caller_of new.pass)
 
 -- the value contains the number of its index
 abbrev pub HasItsNumber : Value → Type 0
-HasItsNumber h = bytes_of h.buffer ≡ number_bytes h.index
+HasItsNumber h = buffer_bytes h.buffer ≡ four_bytes h.index
 
 -- the value of an index was lent, and contains this index as its number
 pub record IsLent (index : ℕ) (old new : PortStanding) : Type 0 where
   pub value : Value
   pub is : value.index ≡ index
   pub number : HasItsNumber value
-  pub lent : WasLent bytes_of old.pass new.pass value
+  pub lent : WasLent buffer_bytes old.pass new.pass value
   pub came : Came old new value
   pub lists : lists_of new.pass ≡ lists_of old.pass
   pub unspent : old.pass.spent ≡ None
   pub run : IsInRun old new
 
 -- the value of an index was taken from a topic, at a place, and contains this index as its number
-pub record IsTaken (topic place index : ℕ) (old new : PortStanding) : Type 0 where
+pub record ValueIsTaken (topic place index : ℕ) (old new : PortStanding) : Type 0 where
   pub value : Value
   pub is : value.index ≡ index
   pub number : HasItsNumber value
   pub there : topic + 1 < old.pass.queue.setup.rings
-  pub got : HasGot bytes_of (suc topic) place old.pass new.pass value
+  pub got : HasGot buffer_bytes (suc topic) place old.pass new.pass value
   pub low : place < old.pass.queue.setup.limit
   pub known : (known_on topic old.pass).head ≤ place
   pub came : Came old new value
-  pub lists : lists_of new.pass ≡ with_take topic place (bytes_of value.buffer) (lists_of old.pass)
+  pub lists : lists_of new.pass
+      ≡ with_take topic place (buffer_bytes value.buffer) (lists_of old.pass)
   pub unspent : old.pass.spent ≡ None
   pub run : IsInRun old new
 
@@ -78,20 +79,21 @@ pub record IsSent (index topic place : ℕ) (old new : PortStanding) : Type 0 wh
   pub awake : old.pass.retired ≡ None
   pub sent : new.pass
       ≡ having_seen new.pass.seen
-      (after_put (suc topic) index place (bytes_of value.buffer) old.pass)
+      (after_put (suc topic) index place (buffer_bytes value.buffer) old.pass)
   pub low : place < old.pass.queue.setup.limit
   pub above : (known_on topic old.pass).seen < place
-  pub went : Went old new value
-  pub lists : lists_of new.pass ≡ with_send topic place (bytes_of value.buffer) (lists_of old.pass)
+  pub went : ValueWent old new value
+  pub lists : lists_of new.pass
+      ≡ with_send topic place (buffer_bytes value.buffer) (lists_of old.pass)
   pub unspent : old.pass.spent ≡ None
   pub run : IsInRun old new
 
 -- the value of an index was given back
-pub record IsGivenBack (index : ℕ) (old new : PortStanding) : Type 0 where
+pub record ValueIsGivenBack (index : ℕ) (old new : PortStanding) : Type 0 where
   pub value : Value
   pub is : value.index ≡ index
-  pub given : WasGivenBack (bytes_of value.buffer) index old.pass new.pass
-  pub went : Went old new value
+  pub given : WasGivenBack (buffer_bytes value.buffer) index old.pass new.pass
+  pub went : ValueWent old new value
   pub lists : lists_of new.pass ≡ lists_of old.pass
   pub unspent : old.pass.spent ≡ None
   pub run : IsInRun old new
@@ -99,8 +101,8 @@ pub record IsGivenBack (index : ℕ) (old new : PortStanding) : Type 0 where
 -- no buffer was free, with this head of the free ring
 pub record WasFull (head : ℕ) (old new : PortStanding) : Type 0 where
   pub found : FoundFull head old.pass new.pass
-  pub in_run : WasEmptyInRun old.pass.queue.setup (opening_of bytes_of old.pass.queue.given) 0 head
-      (caller_of old.pass) (caller_of new.pass)
+  pub in_run : WasEmptyInRun old.pass.queue.setup (opening_of buffer_bytes old.pass.queue.given)
+      0 head (caller_of old.pass) (caller_of new.pass)
   pub lists : lists_of new.pass ≡ with_full head (lists_of old.pass)
   pub holds : HoldsAsBefore old new
   pub unspent : old.pass.spent ≡ None
@@ -109,7 +111,7 @@ pub record WasFull (head : ℕ) (old new : PortStanding) : Type 0 where
 pub record WasEmpty (topic head : ℕ) (old new : PortStanding) : Type 0 where
   pub there : topic + 1 < old.pass.queue.setup.rings
   pub found : FoundNothing (suc topic) head old.pass new.pass
-  pub in_run : WasEmptyInRun old.pass.queue.setup (opening_of bytes_of old.pass.queue.given)
+  pub in_run : WasEmptyInRun old.pass.queue.setup (opening_of buffer_bytes old.pass.queue.given)
       (suc topic) head (caller_of old.pass) (caller_of new.pass)
   pub lists : lists_of new.pass ≡ lists_of old.pass
   pub holds : HoldsAsBefore old new
@@ -152,7 +154,7 @@ pub record HoldsNoSuch (index : ℕ) (old new : PortStanding) : Type 0 where
   pub none : Contains old.pass.held index → ⊥
 
 -- the port has retired
-pub record HasRetired (old new : PortStanding) : Type 0 where
+pub record PortHasRetired (old new : PortStanding) : Type 0 where
   pub same : new ≡ old
   pub calls : ℕ
   pub retired : old.pass.retired ≡ Some calls
@@ -178,7 +180,7 @@ retired_port x = record x { pass = retired_pass x.pass }
 pub record HasAsked (found : ℕ) (old new : PortStanding) : Type 0 where
   pub looked : new ≡ record old { pass = having_seen new.pass.seen (after_look found old.pass) }
   pub in_run : IsReadingInRun old.pass.queue.setup
-      (opening_of bytes_of old.pass.queue.given) old.pass.retired
+      (opening_of buffer_bytes old.pass.queue.given) old.pass.retired
       (caller_of old.pass) (caller_of new.pass) found
   pub told : AllWereSeenRetired old.pass.queue.setup old.pass.seen → found ≡ 0
 
@@ -187,7 +189,7 @@ pub record HasCounted (topic count : ℕ) (old new : PortStanding) : Type 0 wher
   pub there : HasTopic topic old
   pub seen : new ≡ record old { pass = having_seen new.pass.seen old.pass }
   pub at_most : count ≤ n_of old.pass.queue.setup.order
-  pub in_run : WasCountedInRun old.pass.queue.setup (opening_of bytes_of old.pass.queue.given)
+  pub in_run : WasCountedInRun old.pass.queue.setup (opening_of buffer_bytes old.pass.queue.given)
       (suc topic)
       count (caller_of old.pass) (caller_of new.pass)
 
@@ -199,13 +201,13 @@ values_of slots = filter_map (λ (o : Option Value). o) (reverse slots)
 abbrev pub GaveBack : List Value → PassStanding PortBuffer → PassStanding PortBuffer → Type 0
 GaveBack [] old new = new ≡ old
 GaveBack (h ∷ hs) old new =
-    (between : PassStanding PortBuffer) × WasGivenBack (bytes_of h.buffer) h.index old between
+    (between : PassStanding PortBuffer) × WasGivenBack (buffer_bytes h.buffer) h.index old between
     × GaveBack hs between new
 
 -- what a port's end made of its pass. The values that it held were given back, from that of the
 -- last index on: all of them, where the pass keeps no spent ticket, and then it holds nothing; else
 -- those before the first that was refused
-pub record HasEnded (old : PortStanding) (new : PassStanding PortBuffer) : Type 0 where
+pub record HasPassEnded (old : PortStanding) (new : PassStanding PortBuffer) : Type 0 where
   pub given : List Value
   pub left : List Value
   pub all : given ++ left ≡ values_of old.slots
@@ -230,5 +232,5 @@ new_port hold p =
 pub record AreOpened (c : Setup) (hold : ℕ) (opened : List PortStanding) : Type 0 where
   pub queue : PortQueue
   pub setup : queue.setup ≡ c
-  pub buffers : map bytes_of queue.given ≡ numbers_below (n_of c.order)
+  pub buffers : map buffer_bytes queue.given ≡ numbers_below (n_of c.order)
   pub ports : opened ≡ map (new_port hold) (first_passes queue c.seats)

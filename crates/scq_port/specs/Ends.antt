@@ -70,7 +70,7 @@ HasLaid k slots later =
 
 -- all passes of a queue, in the order of their numbers, one of which is this; and just the values
 -- that they hold
-pub record AreAll (queue : PortQueue) (its : PassStanding PortBuffer)
+pub record AreAllPasses (queue : PortQueue) (its : PassStanding PortBuffer)
     (passes : List (PassStanding PortBuffer)) (values : List Value) : Type 0 where
   pub all : length passes ≡ queue.setup.seats
   pub each : (k : ℕ) (p : PassStanding PortBuffer) → slice_get passes k ≡ Some p

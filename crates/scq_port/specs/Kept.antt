@@ -35,6 +35,13 @@ pub record Keeps (queue : PortQueue) (p : PassStanding PortBuffer) (slots : List
 abbrev pub KeepsHand : PortQueue → PassStanding PortBuffer → Hand → Type 0
 KeepsHand queue p hand = Keeps queue p hand.slots.items hand.used hand.hold
 
+-- the same of the same pass after a call, which retired nothing
+pub record StillKeeps (queue : PortQueue) (old new : PassStanding PortBuffer) (hand : Hand)
+    : Type 0 where
+  pub keeps : KeepsHand queue new hand
+  pub number : new.number ≡ old.number
+  pub retired : new.retired ≡ old.retired
+
 -- a port's pass and values, how many topics its queue has, the number of its pass, and whether that
 -- hasn't retired
 pub record IsPort (queue : PortQueue) (p : PassStanding PortBuffer) (hand : Hand)
@@ -50,7 +57,7 @@ abbrev pub seen_as : PassStanding PortBuffer → Hand → PortStanding
 seen_as p hand = record { pass = p; slots = hand.slots.items; hold = hand.hold }
 
 -- a pass of the queue, awake, that holds nothing
-pub record IsFresh (queue : PortQueue) (p : PassStanding PortBuffer) : Type 0 where
+pub record HoldsNothing (queue : PortQueue) (p : PassStanding PortBuffer) : Type 0 where
   pub own : p.queue ≡ queue
   pub awake : p.retired ≡ None
   pub none : p.held ≡ []

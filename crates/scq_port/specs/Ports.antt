@@ -7,8 +7,8 @@ use Rattle.scq_port.specs.declared.port_buffer.PortBuffer.{PortBuffer}
 use Rattle.scq_port.specs.Numbers.{numbers_below}
 
 -- what a buffer contains: the four bytes of its number
-abbrev pub bytes_of : PortBuffer → List ℕ
-bytes_of b = b.number
+abbrev pub buffer_bytes : PortBuffer → List ℕ
+buffer_bytes b = b.number
 
 -- a value that a port holds, and a queue of such buffers
 abbrev pub Value : Type 0
@@ -19,7 +19,7 @@ PortQueue = Identity PortBuffer
 
 -- the buffer that the queue was given for each index contains its number
 abbrev pub AreNumbered : PortQueue → Type 0
-AreNumbered queue = map bytes_of queue.given ≡ numbers_below (n_of queue.setup.order)
+AreNumbered queue = map buffer_bytes queue.given ≡ numbers_below (n_of queue.setup.order)
 
 -- at each index `slots` has the value of this index, where the port holds it
 pub record PortStanding : Type 0 where

@@ -1,6 +1,6 @@
 //! Where ports leave their passes when they close, so that the last one finds all of them.
 ghost use Rattle.std.specs.Prelude.{◌≡◌, ◌<◌, ◌≤◌, [], IfOk, IfSome, vec_capacity};
-ghost use Rattle.scq_port.specs.Ends.{laid_at, IsPassOf, AreAll};
+ghost use Rattle.scq_port.specs.Ends.{laid_at, IsPassOf, AreAllPasses};
 
 use crate::leaving::{Leaving, drop_values};
 use crate::port_buffer::PortBuffer;
@@ -124,7 +124,7 @@ impl Ends {
         requires empty { (passes.items ≡ []) × (values.items ≡ []) }
         requires room { self.table.shared.table_id.slots ≤ vec_capacity passes }
         ensures { IfSome result (λ found.
-            AreAll self.table.shared.key.value last.value found.0.items found.1.items) }
+            AreAllPasses self.table.shared.key.value last.value found.0.items found.1.items) }
     {
         let Ends { table } = self;
         let mut closed = table.close_with(token);

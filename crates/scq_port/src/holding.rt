@@ -1,9 +1,10 @@
 //! The calls of a pass together with the values that it holds.
 ghost use Rattle.std.specs.Prelude.{◌≡◌, ℕ, suc, ◌+◌, ◌<◌, ◌≤◌, [], length, Some, None, Err, IfOk};
 ghost use Rattle.std.specs.Prelude.{◌≢◌};
-ghost use Rattle.scq_port.specs.Calls.{IsLent, IsTaken, IsSent, IsGivenBack, WasFull, WasEmpty};
+ghost use Rattle.scq_port.specs.Calls.{IsLent, ValueIsTaken, IsSent, ValueIsGivenBack, WasFull};
+ghost use Rattle.scq_port.specs.Calls.{WasEmpty};
 ghost use Rattle.scq_port.specs.Calls.{IsSpentGet, IsSpentPut, HoldsNoSuch};
-ghost use Rattle.scq_port.specs.Kept.{KeepsHand, seen_as};
+ghost use Rattle.scq_port.specs.Kept.{KeepsHand, StillKeeps, seen_as};
 ghost use Rattle.scq_port.specs.Ports.{AreNumbered};
 
 use crate::hand::Hand;
@@ -21,9 +22,7 @@ pub(crate) fn lend(
     requires numbers { AreNumbered queue.now }
     requires kept { KeepsHand queue.now pass.old hand.old }
     requires room { hand.old.used < hand.old.hold }
-    ensures kept { KeepsHand queue.now pass.new hand.new }
-    ensures number { pass.new.number ≡ pass.old.number }
-    ensures retired { pass.new.retired ≡ pass.old.retired }
+    ensures kept { StillKeeps queue.now pass.old pass.new hand.new }
     ensures lent { IfOk result (λ index.
         IsLent index (seen_as pass.old hand.old) (seen_as pass.new hand.new)) }
     ensures no_room { result ≢ Err LendRefusal.NoRoom }
@@ -54,11 +53,9 @@ pub(crate) fn take(
     requires kept { KeepsHand queue.now pass.old hand.old }
     requires topic { topic + 1 < queue.now.setup.rings }
     requires room { hand.old.used < hand.old.hold }
-    ensures kept { KeepsHand queue.now pass.new hand.new }
-    ensures number { pass.new.number ≡ pass.old.number }
-    ensures retired { pass.new.retired ≡ pass.old.retired }
+    ensures kept { StillKeeps queue.now pass.old pass.new hand.new }
     ensures taken { IfOk result (λ r.
-        IsTaken topic r.0 r.1 (seen_as pass.old hand.old) (seen_as pass.new hand.new)) }
+        ValueIsTaken topic r.0 r.1 (seen_as pass.old hand.old) (seen_as pass.new hand.new)) }
     ensures tested { (result ≢ Err TakeRefusal.NoTopic) × (result ≢ Err TakeRefusal.NoRoom) }
     ensures empty { (head : ℕ) → result ≡ Err (TakeRefusal.Empty head)
         → WasEmpty topic head (seen_as pass.old hand.old) (seen_as pass.new hand.new) }
@@ -88,9 +85,7 @@ pub(crate) fn send(
     requires kept { KeepsHand queue.now pass.old hand.old }
     requires topic { topic + 1 < queue.now.setup.rings }
     requires awake { pass.old.retired ≡ None }
-    ensures kept { KeepsHand queue.now pass.new hand.new }
-    ensures number { pass.new.number ≡ pass.old.number }
-    ensures retired { pass.new.retired ≡ pass.old.retired }
+    ensures kept { StillKeeps queue.now pass.old pass.new hand.new }
     ensures sent { IfOk result (λ place.
         IsSent index topic place (seen_as pass.old hand.old) (seen_as pass.new hand.new)) }
     ensures tested { (result ≢ Err SendRefusal.NoTopic) × (result ≢ Err SendRefusal.Retired) }
@@ -125,11 +120,9 @@ pub(crate) fn give_back(
     hand: &mut Hand,
 ) -> Result<(), GiveBackRefusal>
     requires kept { KeepsHand queue.now pass.old hand.old }
-    ensures kept { KeepsHand queue.now pass.new hand.new }
-    ensures number { pass.new.number ≡ pass.old.number }
-    ensures retired { pass.new.retired ≡ pass.old.retired }
+    ensures kept { StillKeeps queue.now pass.old pass.new hand.new }
     ensures given { IfOk result (λ _.
-        IsGivenBack index (seen_as pass.old hand.old) (seen_as pass.new hand.new)) }
+        ValueIsGivenBack index (seen_as pass.old hand.old) (seen_as pass.new hand.new)) }
     ensures not_held { result ≡ Err GiveBackRefusal.NotHeld
         → HoldsNoSuch index (seen_as pass.old hand.old) (seen_as pass.new hand.new) }
     ensures spent { (ticket : ℕ) → result ≡ Err (GiveBackRefusal.Spent ticket)

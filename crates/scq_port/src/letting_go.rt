@@ -1,6 +1,6 @@
 //! What becomes of the values that a port holds where it is closed.
 ghost use Rattle.std.specs.Prelude.{◌≡◌};
-ghost use Rattle.scq_port.specs.Calls.{HasEnded};
+ghost use Rattle.scq_port.specs.Calls.{HasPassEnded};
 ghost use Rattle.scq_port.specs.Ends.{IsPassOf};
 ghost use Rattle.scq_port.specs.Kept.{KeepsHand, seen_as};
 
@@ -20,7 +20,7 @@ pub(crate) fn let_go(
     hand: Hand,
 ) -> (Snapshot<Pass<PortBuffer>>, Leaving)
     requires kept { KeepsHand queue.now pass hand }
-    ensures ended { HasEnded (seen_as pass hand) result.0.value }
+    ensures ended { HasPassEnded (seen_as pass hand) result.0.value }
     ensures left { result.1 ≡ result.0.value }
     ensures own { IsPassOf queue.now pass.number result.1 }
 {

@@ -4,9 +4,9 @@ ghost use Rattle.std.specs.Arc.{arc_value};
 ghost use Rattle.scq_word.specs.Sizes.{n_of};
 ghost use Rattle.scq_queue.specs.Passes.{first_passes};
 ghost use Rattle.scq_port.specs.Numbers.{numbers_below};
-ghost use Rattle.scq_port.specs.Ports.{bytes_of};
+ghost use Rattle.scq_port.specs.Ports.{buffer_bytes};
 ghost use Rattle.scq_port.specs.Calls.{AreOpened, new_port};
-ghost use Rattle.scq_port.specs.Kept.{IsFresh};
+ghost use Rattle.scq_port.specs.Kept.{HoldsNothing};
 
 use crate::hand::Hand;
 use crate::owner::Owner;
@@ -19,7 +19,7 @@ use std::sync::Arc;
 
 /// So many buffers, in the order of their numbers.
 fn buffers(alloc: Global, count: u32) -> Result<Vec<PortBuffer>, NoMemory>
-    ensures numbers { IfOk result (λ made. map bytes_of made.items ≡ numbers_below count) }
+    ensures numbers { IfOk result (λ made. map buffer_bytes made.items ≡ numbers_below count) }
     ensures count { IfOk result (λ made. vec_len made ≡ count) }
 {
     let mut made = Vec::with_capacity(alloc, count as usize)?;
@@ -59,7 +59,7 @@ fn port_of(
     requires rings { 2 ≤ setup.rings }
     requires low { number < setup.seats }
     requires number { pass.number ≡ number }
-    requires fresh { IsFresh (arc_value owner.now).queue pass }
+    requires fresh { HoldsNothing (arc_value owner.now).queue pass }
     ensures { IfOk result (λ port. port ≡ new_port hold pass) }
 {
     let owner = Arc::try_clone(owner)?;

@@ -2,9 +2,9 @@
 ghost use Rattle.std.specs.Prelude.{◌≡◌, ◌<◌, ◌≤◌, [], map, IfOk, IfSome, vec_capacity};
 ghost use Rattle.scq_queue.specs.Lists.{counts_of};
 ghost use Rattle.scq_queue.specs.Passes.{lists_of};
-ghost use Rattle.scq_port.specs.Ports.{AreNumbered, bytes_of};
+ghost use Rattle.scq_port.specs.Ports.{AreNumbered, buffer_bytes};
 ghost use Rattle.scq_port.specs.Ends.{laid_at};
-ghost use Rattle.scq_port.specs.Closed.{HasClosed};
+ghost use Rattle.scq_port.specs.Closed.{HasClosedPorts};
 
 use crate::ends::{EndToken, Ends};
 use crate::leaving::Leaving;
@@ -75,8 +75,8 @@ impl Owner {
         requires laid { token.me.0 ≡ laid_at last.value.number last.value }
         requires low { last.value.number < self.queue.setup.seats }
         ensures closed { IfSome result (λ closed.
-            HasClosed self.queue last.value closed.passes.value.items closed.left.items
-            (map bytes_of closed.buffers.items)) }
+            HasClosedPorts self.queue last.value closed.passes.value.items closed.left.items
+            (map buffer_bytes closed.buffers.items)) }
         ensures counts { IfSome result (λ closed.
             closed.counts.items ≡ map (λ p. counts_of (lists_of p)) closed.passes.value.items) }
     {

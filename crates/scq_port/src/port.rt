@@ -5,13 +5,14 @@ ghost use Rattle.std.specs.Arc.{arc_value};
 ghost use Rattle.scq_word.specs.Sizes.{n_of};
 ghost use Rattle.scq_queue.specs.Lists.{counts_of};
 ghost use Rattle.scq_queue.specs.Passes.{lists_of};
-ghost use Rattle.scq_port.specs.Calls.{HasRetired, HasAsked, HasCounted, retired_pass};
-ghost use Rattle.scq_port.specs.Calls.{retired_port, IsLent, IsTaken, IsSent, IsGivenBack, WasFull};
+ghost use Rattle.scq_port.specs.Calls.{PortHasRetired, HasAsked, HasCounted, retired_pass};
+ghost use Rattle.scq_port.specs.Calls.{retired_port, IsLent, ValueIsTaken, IsSent};
+ghost use Rattle.scq_port.specs.Calls.{ValueIsGivenBack, WasFull};
 ghost use Rattle.scq_port.specs.Calls.{WasEmpty, IsSpentGet, IsSpentPut, HasNoRoom, HasTopic};
-ghost use Rattle.scq_port.specs.Calls.{HasNoTopic, HoldsNoSuch, HasEnded};
+ghost use Rattle.scq_port.specs.Calls.{HasNoTopic, HoldsNoSuch, HasPassEnded};
 ghost use Rattle.scq_port.specs.Kept.{KeepsHand, seen_as};
-ghost use Rattle.scq_port.specs.Ports.{bytes_of};
-ghost use Rattle.scq_port.specs.Closed.{HasClosed};
+ghost use Rattle.scq_port.specs.Ports.{buffer_bytes};
+ghost use Rattle.scq_port.specs.Closed.{HasClosedPorts};
 
 use crate::hand::Hand;
 use crate::holding;
@@ -77,7 +78,7 @@ impl Port {
     /// `scq_queue`.
     #[inline(always)]
     pub fn take(&mut self, topic: u32) -> Result<(u64, u32), TakeRefusal>
-        ensures taken { IfOk result (λ r. IsTaken topic r.0 r.1 self.old self.new) }
+        ensures taken { IfOk result (λ r. ValueIsTaken topic r.0 r.1 self.old self.new) }
         ensures no_topic { result ≡ Err TakeRefusal.NoTopic → HasNoTopic topic self.old self.new }
         ensures no_room { result ≡ Err TakeRefusal.NoRoom
             → HasNoRoom self.old self.new × HasTopic topic self.old }
@@ -105,7 +106,7 @@ impl Port {
         ensures sent { IfOk result (λ place. IsSent index topic place self.old self.new) }
         ensures no_topic { result ≡ Err SendRefusal.NoTopic → HasNoTopic topic self.old self.new }
         ensures retired { result ≡ Err SendRefusal.Retired
-            → HasRetired self.old self.new × HasTopic topic self.old }
+            → PortHasRetired self.old self.new × HasTopic topic self.old }
         ensures not_held { result ≡ Err SendRefusal.NotHeld
             → HoldsNoSuch index self.old self.new × HasTopic topic self.old
             × (self.old.pass.retired ≡ None) }
@@ -132,7 +133,7 @@ impl Port {
     /// NotHeld and Spent as with `send`.
     #[inline(always)]
     pub fn give_back(&mut self, index: u32) -> Result<(), GiveBackRefusal>
-        ensures given { IfOk result (λ _. IsGivenBack index self.old self.new) }
+        ensures given { IfOk result (λ _. ValueIsGivenBack index self.old self.new) }
         ensures not_held { result ≡ Err GiveBackRefusal.NotHeld
             → HoldsNoSuch index self.old self.new }
         ensures spent { (ticket : ℕ) → result ≡ Err (GiveBackRefusal.Spent ticket)
@@ -197,10 +198,10 @@ impl Port {
     /// Where the pass keeps a spent ticket, or draws one, what can't be given back goes with it,
     /// and back to the queue where that closes.
     pub fn close(self) -> (Snapshot<Pass<PortBuffer>>, Option<Closed<PortBuffer>>)
-        ensures ended { HasEnded (retired_port self) result.0.value }
+        ensures ended { HasPassEnded (retired_port self) result.0.value }
         ensures closed { IfSome result.1 (λ closed.
-            HasClosed self.pass.queue result.0.value closed.passes.value.items
-            closed.left.items (map bytes_of closed.buffers.items)) }
+            HasClosedPorts self.pass.queue result.0.value closed.passes.value.items
+            closed.left.items (map buffer_bytes closed.buffers.items)) }
         ensures counts { IfSome result.1 (λ closed.
             closed.counts.items ≡ map (λ p. counts_of (lists_of p)) closed.passes.value.items) }
     {
@@ -229,10 +230,10 @@ fn end(
     requires number { pass.number ≡ number }
     requires low { number < (arc_value owner).queue.setup.seats }
     requires awake { awake ≡ is_none pass.retired }
-    ensures ended { HasEnded (seen_as (retired_pass pass) hand) result.0.value }
+    ensures ended { HasPassEnded (seen_as (retired_pass pass) hand) result.0.value }
     ensures closed { IfSome result.1 (λ closed.
-        HasClosed (arc_value owner).queue result.0.value closed.passes.value.items
-        closed.left.items (map bytes_of closed.buffers.items)) }
+        HasClosedPorts (arc_value owner).queue result.0.value closed.passes.value.items
+        closed.left.items (map buffer_bytes closed.buffers.items)) }
     ensures counts { IfSome result.1 (λ closed.
         closed.counts.items ≡ map (λ p. counts_of (lists_of p)) closed.passes.value.items) }
 {

@@ -2,7 +2,7 @@
 //! number; nothing here knows where.
 ghost use Rattle.std.specs.Prelude.{◌≡◌, length};
 ghost use Rattle.std.proofs.Common.{sym, refl, ap, ◌∙◌};
-ghost use Rattle.scq_port.specs.Numbers.{number_bytes};
+ghost use Rattle.scq_port.specs.Numbers.{four_bytes};
 
 use scq_word::Buffer;
 
@@ -18,7 +18,7 @@ pub struct PortBuffer {
 impl PortBuffer {
     /// The buffer of a number.
     pub(crate) fn new(number: u32) -> PortBuffer
-        ensures { result.number ≡ number_bytes number }
+        ensures { result.number ≡ four_bytes number }
     {
         PortBuffer {
             number: number.to_le_bytes(),

@@ -1,7 +1,7 @@
 -- What the seats of all passes say together, in the words of passes.
 use Rattle.std.proofs.Common.{◌≡◌, ℕ, zero, suc, ◌+◌, ◌<◌, List, [], ◌∷◌, ◌++◌, length, map, take, refl, sym, ◌∙◌, ap, subst, inl, inr, arith, eq-eqb, ne_eqb}
-use Rattle.std.specs.List.{Contains}
-use Rattle.std.specs.Prelude.{All, Some, slice_get, sum, sum_by}
+use Rattle.std.specs.List.{Contains, filter_map}
+use Rattle.std.specs.Prelude.{All, Option, Some, slice_get, sum, sum_by}
 use Rattle.std.proofs.lemmas.Bool.{cases_eq}
 use Rattle.std.proofs.lemmas.List.{length-append, length-map}
 use Rattle.std.proofs.lemmas.List.Elements.{All-head, All-tail, All-map}
@@ -13,17 +13,16 @@ use Rattle.scq_word.specs.declared.setup.Setup.{Setup}
 use Rattle.scq_law.specs.Hands.{times}
 use Rattle.scq_law.specs.Bounds.{tally, openings}
 use Rattle.scq_law.specs.Kept.{was_done, was_got}
-use Rattle.scq_band.specs.Standing.{Identity, Standing, IsAsGiven}
+use Rattle.scq_band.specs.Standing.{Identity, Standing, IsAsGiven, caller_of as band_caller}
 use Rattle.scq_band.specs.Closing as band
 use Rattle.scq_band.proofs.ClosedRecords.{map_back, map_on}
 use Rattle.scq_band.proofs.Slots.{times-append}
 use Rattle.scq_queue.specs.Lists.{Placed, sent_by, taken_by, sends_of, takes_of, on_topic}
-use Rattle.scq_band.specs.RunSeen.{Caller}
-use Rattle.scq_queue.specs.Passes.{PassStanding, HeldStanding, caller_of}
+use Rattle.scq_queue.specs.Passes.{PassStanding, HeldStanding}
 use Rattle.scq_queue.specs.Closing.{records_of, all_held, callers_of, WasSent, WasTaken, EachTakeIsASend, NoPlaceIsSentTwice, NoPlaceIsTakenTwice, IsBalance, EachSendPassedIsTaken, IsAllThere, AllRetiredWhereTold, EachSeenRetiredHas, AreTheHeld}
-use Rattle.scq_queue.specs.Kept.{seat_of, value_of, IsGiven}
+use Rattle.scq_queue.specs.Kept.{seat_of_pass, value_of, HasGivenBuffer}
 use Rattle.scq_queue.proofs.Hands.{indices-all_lifted, lifted-all_lifted}
-use Rattle.scq_queue.proofs.Records.{came_by, gives_one, sent_call, taken_call, done_sent, got_taken}
+use Rattle.scq_queue.proofs.Records.{CameBy, came_by, gives_one, sent_call, taken_call, done_sent, got_taken}
 
 -- a sum over passes is one over what each gives
 sum_images : {A C : Type 0} (f : A → C) (g : C → ℕ) (xs : List A) → sum_by g (map f xs) ≡ sum_by (λ x. g (f x)) xs
@@ -103,103 +102,117 @@ images : {A B C : Type 0} (f : A → B) (g : B → C) (xs : List A) → map g (m
 images f g [] = refl
 images f g (x ∷ xs) = ap (λ l. g (f x) ∷ l) (images f g xs)
 
+map_same : {A C : Type 0} (f g : A → C) → ((x : A) → f x ≡ g x) → (xs : List A) → map f xs ≡ map g xs
+map_same f g same [] = refl
+map_same f g same (x ∷ xs) = ap (λ y. y ∷ map f xs) (same x) ∙ ap (λ l. g x ∷ l) (map_same f g same xs)
+
+-- a put of a topic's ring is a send, and a get a take
+abbrev sent_as : Placed → Ended
+sent_as m = Done (suc m.topic) m.place m.bytes
+
+abbrev taken_as : Placed → Ended
+taken_as m = Got (suc m.topic) m.place m.bytes
+
 module _ {B : Type 0} where
-  pub calls_are : (passes : List (PassStanding B)) → band.all_calls (map seat_of passes) ≡ records_of passes
-  calls_are passes = images seat_of (λ (s : Standing B). s.calls) passes
+  module _ (passes : List (PassStanding B)) (seats : List (Standing B)) (are : seats ≡ map seat_of_pass passes) where
+    read_as : {A : Type 0} (f : Standing B → A) → map f seats ≡ map (λ (p : PassStanding B). f (seat_of_pass p)) passes
+    read_as f = ap (λ (l : List (Standing B)). map f l) are ∙ images seat_of_pass f passes
 
-  pub known_are : (passes : List (PassStanding B)) → band.all_known (map seat_of passes) ≡ map (λ (p : PassStanding B). p.numbers) passes
-  known_are passes = images seat_of (λ (s : Standing B). s.numbers) passes
+    pub calls_are : band.all_calls seats ≡ records_of passes
+    calls_are = read_as (λ (s : Standing B). s.calls)
 
-  pub spent_are : (passes : List (PassStanding B)) → band.all_spent (map seat_of passes) ≡ map (λ (p : PassStanding B). p.spent) passes
-  spent_are passes = images seat_of (λ (s : Standing B). s.spent) passes
+    pub known_are : band.all_known seats ≡ map (λ (p : PassStanding B). p.numbers) passes
+    known_are = read_as (λ (s : Standing B). s.numbers)
+
+    pub spent_are : band.all_spent seats ≡ map (λ (p : PassStanding B). p.spent) passes
+    spent_are = read_as (λ (s : Standing B). s.spent)
+
+    pub callers_are : band.callers_of seats ≡ callers_of passes
+    callers_are = read_as (λ (s : Standing B). band_caller s)
+
+    pub hands_are : band.all_hands seats ≡ all_held passes
+    hands_are =
+        read_as (λ (s : Standing B). band.indices_of s.hand)
+        ∙ map_same (λ (p : PassStanding B). band.indices_of (seat_of_pass p).hand) (λ p. p.held) (λ p. indices-all_lifted B p.held) passes
 
   -- a call of a pass, in the records
   called : (passes : List (PassStanding B)) (a x : ℕ) (p : PassStanding B) (e : Ended) → slice_get passes a ≡ Some p → slice_get p.calls x ≡ Some e
-      → band.IsCall (records_of passes) a x e
+      → band.CallEndedSo (records_of passes) a x e
   called passes a x p e its is = (p.calls, map_on (λ (q : PassStanding B). q.calls) passes a p its, is)
 
-  -- a put of a topic's ring is a send, and a get a take
-  pub ended_sent : (passes : List (PassStanding B)) (m : Placed) → band.HasEnded (records_of passes) (Done (suc m.topic) m.place m.bytes) → WasSent passes m
-  ended_sent passes m h =
-      let back = map_back (λ (q : PassStanding B). q.calls) passes h.seat h.is.0 h.is.1 in
-      let p = back.0 in
-      let is : slice_get p.calls h.number ≡ Some (Done (suc m.topic) m.place m.bytes) =
-      subst (λ (calls : List Ended). slice_get calls h.number ≡ Some (Done (suc m.topic) m.place m.bytes)) (sym back.2) h.is.2 in
-      let one = gives_one sent_by p.calls h.number (Done (suc m.topic) m.place m.bytes) m is refl in
-      record { pass = h.seat; number = one.0; is = (p, back.1, one.1) }
+  -- the calls of one kind, where `h` reads what such a call sent or took
+  module _ (h : Ended → Option Placed) (call : Placed → Ended) (gives : (m : Placed) → h (call m) ≡ Some m)
+      (is_call : (e : Ended) (m : Placed) → h e ≡ Some m → e ≡ call m) (passes : List (PassStanding B)) where
+    abbrev By : ℕ → ℕ → Placed → Type 0
+    By pass number m = (p : PassStanding B) × (slice_get passes pass ≡ Some p) × (slice_get (filter_map h p.calls) number ≡ Some m)
 
-  pub ended_taken : (passes : List (PassStanding B)) (m : Placed) → band.HasEnded (records_of passes) (Got (suc m.topic) m.place m.bytes) → WasTaken passes m
-  ended_taken passes m h =
-      let back = map_back (λ (q : PassStanding B). q.calls) passes h.seat h.is.0 h.is.1 in
-      let p = back.0 in
-      let is : slice_get p.calls h.number ≡ Some (Got (suc m.topic) m.place m.bytes) =
-      subst (λ (calls : List Ended). slice_get calls h.number ≡ Some (Got (suc m.topic) m.place m.bytes)) (sym back.2) h.is.2 in
-      let one = gives_one taken_by p.calls h.number (Got (suc m.topic) m.place m.bytes) m is refl in
-      record { pass = h.seat; number = one.0; is = (p, back.1, one.1) }
+    by_ended : (m : Placed) → band.SomeCallEndedSo (records_of passes) (call m) → (pass : ℕ) × (number : ℕ) × By pass number m
+    by_ended m ended =
+        let back = map_back (λ (q : PassStanding B). q.calls) passes ended.seat ended.is.0 ended.is.1 in
+        let is : slice_get back.0.calls ended.number ≡ Some (call m) =
+        subst (λ (calls : List Ended). slice_get calls ended.number ≡ Some (call m)) (sym back.2) ended.is.2 in
+        let one = gives_one h back.0.calls ended.number (call m) m is (gives m) in
+        (ended.seat, one.0, (back.0, back.1, one.1))
 
-  pub sent_ended : (passes : List (PassStanding B)) (m : Placed) → WasSent passes m → band.HasEnded (records_of passes) (Done (suc m.topic) m.place m.bytes)
-  sent_ended passes m w =
-      let p = w.is.0 in
-      let came = came_by sent_by p.calls w.number m w.is.2 in
-      record {
-        seat = w.pass;
-        number = came.at;
-        is = called passes w.pass came.at p _ w.is.1 (came.is ∙ ap (λ (e : Ended). Some e) (sent_call came.call m came.gives));
-      }
+    -- the call of the record by which it came
+    module _ (pass number : ℕ) (m : Placed) (by : By pass number m) where
+      came : CameBy h by.0.calls number m
+      came = came_by h by.0.calls number m by.2
 
-  pub taken_ended : (passes : List (PassStanding B)) (m : Placed) → WasTaken passes m → band.HasEnded (records_of passes) (Got (suc m.topic) m.place m.bytes)
-  taken_ended passes m w =
-      let p = w.is.0 in
-      let came = came_by taken_by p.calls w.number m w.is.2 in
-      record {
-        seat = w.pass;
-        number = came.at;
-        is = called passes w.pass came.at p _ w.is.1 (came.is ∙ ap (λ (e : Ended). Some e) (taken_call came.call m came.gives));
-      }
+      came_call : band.CallEndedSo (records_of passes) pass came.at (call m)
+      came_call = called passes pass came.at by.0 _ by.1 (came.is ∙ ap (λ (e : Ended). Some e) (is_call came.call m came.gives))
+
+      ended_by : band.SomeCallEndedSo (records_of passes) (call m)
+      ended_by = record { seat = pass; number = came.at; is = came_call }
+
+    by_once : (a x b y : ℕ) (m n : Placed) → By a x m → By b y n
+        → ((i j : ℕ) → band.CallEndedSo (records_of passes) a i (call m) → band.CallEndedSo (records_of passes) b j (call n) → (a ≡ b) × (i ≡ j)) → (a ≡ b) × (x ≡ y)
+    by_once a x b y m n first second once =
+        let p = first.0 in
+        let q = second.0 in
+        let one = came a x m first in
+        let other = came b y n second in
+        let same = once one.at other.at (came_call a x m first) (came_call b y n second) in
+        let pass : p ≡ q = let left = first.1 in let right = second.1 in let seat = same.0 in
+        let both : Some p ≡ Some q = sym left ∙ ap (slice_get passes) seat ∙ right in cc in
+        let number : length (filter_map h (take one.at p.calls)) ≡ length (filter_map h (take other.at q.calls)) =
+        ap (λ (u : PassStanding B). length (filter_map h (take one.at u.calls))) pass ∙ ap (λ (k : ℕ). length (filter_map h (take k q.calls))) same.1 in
+        (same.0, one.before ∙ number ∙ sym other.before)
+
+  pub ended_sent : (passes : List (PassStanding B)) (m : Placed) → band.SomeCallEndedSo (records_of passes) (sent_as m) → WasSent passes m
+  ended_sent passes m ended =
+      let by = by_ended sent_by sent_as (λ (n : Placed). refl) sent_call passes m ended in
+      record { pass = by.0; number = by.1; is = by.2 }
+
+  pub ended_taken : (passes : List (PassStanding B)) (m : Placed) → band.SomeCallEndedSo (records_of passes) (taken_as m) → WasTaken passes m
+  ended_taken passes m ended =
+      let by = by_ended taken_by taken_as (λ (n : Placed). refl) taken_call passes m ended in
+      record { pass = by.0; number = by.1; is = by.2 }
 
   module _ (c : Setup) (opening : List (List ℕ)) (passes : List (PassStanding B)) where
     pub takes_are_sends : band.EachGetHasItsPut c opening (records_of passes) → EachTakeIsASend passes
     takes_are_sends gets m taken =
-        elim (gets (suc m.topic) m.place m.bytes (taken_ended passes m taken)) [
+        elim (gets (suc m.topic) m.place m.bytes (ended_by taken_by taken_as (λ (n : Placed). refl) taken_call passes taken.pass taken.number m taken.is)) [
           | inl opened ↦ let no : suc m.topic ≡ 0 = opened.ring in absurd (omega arith)
           | inr ended ↦ ended_sent passes m ended
         ]
 
     pub none_taken_twice : band.NoneIsGotTwice (records_of passes) → NoPlaceIsTakenTwice passes
     none_taken_twice once a x b y m n first second topic place =
-        let p = first.0 in
-        let q = second.0 in
-        let one = came_by taken_by p.calls x m first.2 in
-        let other = came_by taken_by q.calls y n second.2 in
-        let is_one = called passes a one.at p _ first.1 (one.is ∙ ap (λ (e : Ended). Some e) (taken_call one.call m one.gives)) in
-        let is_other : band.IsCall (records_of passes) b other.at (Got (suc m.topic) m.place n.bytes) = rw (topic, place)
-        (called passes b other.at q _ second.1 (other.is ∙ ap (λ (e : Ended). Some e) (taken_call other.call n other.gives))) in
-        let same = once (suc m.topic) m.place m.bytes n.bytes a one.at b other.at is_one is_other in
-        let pass : p ≡ q = let left = first.1 in let right = second.1 in let seat = same.0 in
-        let both : Some p ≡ Some q = sym left ∙ ap (slice_get passes) seat ∙ right in cc in
-        let number : length (takes_of (take one.at p.calls)) ≡ length (takes_of (take other.at q.calls)) =
-        ap (λ (u : PassStanding B). length (takes_of (take one.at u.calls))) pass ∙ ap (λ (k : ℕ). length (takes_of (take k q.calls))) same.1 in
-        (same.0, one.before ∙ number ∙ sym other.before)
+        by_once taken_by taken_as (λ (k : Placed). refl) taken_call passes a x b y m n first second (λ i j one other.
+        let same : band.CallEndedSo (records_of passes) b j (Got (suc m.topic) m.place n.bytes) = rw (topic, place) other in
+        once (suc m.topic) m.place m.bytes n.bytes a i b j one same)
 
     pub none_sent_twice : band.NoneIsPutTwice c opening (records_of passes) → NoPlaceIsSentTwice passes
     none_sent_twice puts a x b y m n first second topic place =
-        let p = first.0 in
-        let q = second.0 in
-        let one = came_by sent_by p.calls x m first.2 in
-        let other = came_by sent_by q.calls y n second.2 in
-        let is_one = called passes a one.at p _ first.1 (one.is ∙ ap (λ (e : Ended). Some e) (sent_call one.call m one.gives)) in
-        let is_other : band.IsCall (records_of passes) b other.at (Done (suc m.topic) m.place n.bytes) = rw (topic, place)
-        (called passes b other.at q _ second.1 (other.is ∙ ap (λ (e : Ended). Some e) (sent_call other.call n other.gives))) in
-        let same = puts.once (suc m.topic) m.place m.bytes n.bytes a one.at b other.at is_one is_other in
-        let pass : p ≡ q = let left = first.1 in let right = second.1 in let seat = same.0 in
-        let both : Some p ≡ Some q = sym left ∙ ap (slice_get passes) seat ∙ right in cc in
-        let number : length (sends_of (take one.at p.calls)) ≡ length (sends_of (take other.at q.calls)) =
-        ap (λ (u : PassStanding B). length (sends_of (take one.at u.calls))) pass ∙ ap (λ (k : ℕ). length (sends_of (take k q.calls))) same.1 in
-        (same.0, one.before ∙ number ∙ sym other.before)
+        by_once sent_by sent_as (λ (k : Placed). refl) sent_call passes a x b y m n first second (λ i j one other.
+        let same : band.CallEndedSo (records_of passes) b j (Done (suc m.topic) m.place n.bytes) = rw (topic, place) other in
+        puts.once (suc m.topic) m.place m.bytes n.bytes a i b j one same)
 
     pub sends_passed : band.EachPutPassedIsGot c opening (records_of passes) (map (λ (p : PassStanding B). p.numbers) passes) → EachSendPassedIsTaken passes
     sends_passed passed m pass p sent its known =
-        ended_taken passes m (passed (suc m.topic) m.place m.bytes (inr (sent_ended passes m sent))
+        ended_taken passes m (passed (suc m.topic) m.place m.bytes
+        (inr (ended_by sent_by sent_as (λ (n : Placed). refl) sent_call passes sent.pass sent.number m sent.is))
         (record { seat = pass; numbers = p.numbers; its = map_on (λ (q : PassStanding B). q.numbers) passes pass p its; passed = known }))
 
     no_opening : (t : ℕ) → openings c (suc t) ≡ 0
@@ -222,49 +235,43 @@ module _ {B : Type 0} where
               omega (arith, sum_is, none, gets, puts);
         }
 
-    pub retired_where_told : band.AllRetiredWhereClosed (map seat_of passes) → AllRetiredWhereTold passes
+    pub retired_where_told : band.AllRetiredWhereClosed (map seat_of_pass passes) → AllRetiredWhereTold passes
     retired_where_told all a b told other its gate others =
-        all a b (seat_of told) (seat_of other) (map_on seat_of passes a told its) gate (map_on seat_of passes b other others)
+        all a b (seat_of_pass told) (seat_of_pass other) (map_on seat_of_pass passes a told its) gate (map_on seat_of_pass passes b other others)
 
-    pub retirees_have : band.EachSeenRetiredHas (map seat_of passes) → EachSeenRetiredHas passes
+    pub retirees_have : band.EachSeenRetiredHas (map seat_of_pass passes) → EachSeenRetiredHas passes
     retirees_have all a b calls one other its others has =
-        all a b calls (seat_of one) (seat_of other) (map_on seat_of passes a one its) (map_on seat_of passes b other others) has
+        all a b calls (seat_of_pass one) (seat_of_pass other) (map_on seat_of_pass passes a one its) (map_on seat_of_pass passes b other others) has
 
   -- the indices in the hands of all seats are those that are held
   pub held_sum : (passes : List (PassStanding B)) (i : ℕ)
-      → sum_by (λ (s : Standing B). times i (band.lifted_of s.hand)) (map seat_of passes) ≡ sum_by (λ (p : PassStanding B). times i p.held) passes
+      → sum_by (λ (s : Standing B). times i (band.lifted_of s.hand)) (map seat_of_pass passes) ≡ sum_by (λ (p : PassStanding B). times i p.held) passes
   held_sum passes i =
-      sum_images seat_of (λ (s : Standing B). times i (band.lifted_of s.hand)) passes
-      ∙ sum_same (λ (p : PassStanding B). times i (band.lifted_of (seat_of p).hand)) (λ p. times i p.held) passes
+      sum_images seat_of_pass (λ (s : Standing B). times i (band.lifted_of s.hand)) passes
+      ∙ sum_same (λ (p : PassStanding B). times i (band.lifted_of (seat_of_pass p).hand)) (λ p. times i p.held) passes
       (λ p. ap (times i) (lifted-all_lifted B p.held))
-
-  pub hands_are : (passes : List (PassStanding B)) → band.all_hands (map seat_of passes) ≡ all_held passes
-  hands_are [] = refl
-  hands_are (p ∷ passes) =
-      ap (λ (l : List ℕ). l ∷ band.all_hands (map seat_of passes)) (indices-all_lifted B p.held)
-      ∙ ap (λ (l : List (List ℕ)). p.held ∷ l) (hands_are passes)
 
   pub indices_out : (held : List (HeldStanding B)) → band.indices_of (map value_of held) ≡ map (λ (h : HeldStanding B). h.index) held
   indices_out held = images value_of (λ (x : ℕ × B). x.0) held
 
   -- the seats of a queue's passes are its band's
   pub seats_own : (queue : Identity B) (passes : List (PassStanding B)) → All (λ (p : PassStanding B). p.queue ≡ queue) passes
-      → All (λ (s : Standing B). s.band ≡ queue) (map seat_of passes)
-  seats_own queue passes all = All-map (λ (s : Standing B). s.band ≡ queue) seat_of passes all
+      → All (λ (s : Standing B). s.band ≡ queue) (map seat_of_pass passes)
+  seats_own queue passes all = All-map (λ (s : Standing B). s.band ≡ queue) seat_of_pass passes all
 
   -- the buffers of held values, with their indices, are those that are lifted
-  same_given : (IsSame : B → B → Type 0) (queue : Identity B) (held : List (HeldStanding B)) → All (IsGiven IsSame) held
+  same_given : (IsSame : B → B → Type 0) (queue : Identity B) (held : List (HeldStanding B)) → All (HasGivenBuffer IsSame) held
       → ((k : ℕ) (h : HeldStanding B) → slice_get held k ≡ Some h → h.queue ≡ queue) → (o : ℕ × B) → Contains (map value_of held) o
       → IsAsGiven IsSame queue.given o.0 o.1
   same_given IsSame queue [] given own o there = absurd (let low = there.1 in omega (arith, low))
   same_given IsSame queue (h ∷ held) given own o (zero, low, is) =
       subst (λ (u : ℕ × B). IsAsGiven IsSame queue.given u.0 u.1) is
-      (subst (λ (q : Identity B). IsAsGiven IsSame q.given h.index h.buffer) (own 0 h refl) (All-head (IsGiven IsSame) h held given))
+      (subst (λ (q : Identity B). IsAsGiven IsSame q.given h.index h.buffer) (own 0 h refl) (All-head (HasGivenBuffer IsSame) h held given))
   same_given IsSame queue (h ∷ held) given own o (suc k, low, is) =
-      same_given IsSame queue held (All-tail (IsGiven IsSame) h held given) (λ j v e. own (suc j) v e) o (k, omega arith, is)
+      same_given IsSame queue held (All-tail (HasGivenBuffer IsSame) h held given) (λ j v e. own (suc j) v e) o (k, omega arith, is)
 
   pub are_lifted : (IsSame : B → B → Type 0) (queue : Identity B) (passes : List (PassStanding B)) (held : List (HeldStanding B)) → AreTheHeld queue passes held
-      → All (IsGiven IsSame) held → band.AreTheLifted IsSame queue (map seat_of passes) (map value_of held)
+      → All (HasGivenBuffer IsSame) held → band.AreTheLifted IsSame queue (map seat_of_pass passes) (map value_of held)
   are_lifted IsSame queue passes held are given =
       record {
         lifted = λ i. ap (times i) (indices_out held) ∙ are.all i ∙ sym (held_sum passes i);
@@ -284,15 +291,6 @@ module _ {B : Type 0} where
   all_is_there c queue passes held left are there =
       let count = held_count queue passes held are in
       ap (λ (n : ℕ). sum left + n) (sym count) ∙ there
-
--- the seats make the calls of the passes
-pub callers_are : {B : Type 0} (passes : List (PassStanding B)) (seats : List (Standing B)) → seats ≡ map seat_of passes
-    → band.callers_of seats ≡ callers_of passes
-callers_are {B} passes seats are = ap (λ (l : List (Standing B)). band.callers_of l) are ∙ over passes
-  where
-    over : (ps : List (PassStanding B)) → band.callers_of (map seat_of ps) ≡ callers_of ps
-    over [] = refl
-    over (p ∷ ps) = ap (λ (l : List Caller). caller_of p ∷ l) (over ps)
 
 -- what holds of all buffers that seats hold, holds of those that are out
 pub all_out : {B : Type 0} (P : ℕ × B → Type 0) (seats : List (Standing B)) (out : List (ℕ × B)) → All P (band.held_buffers seats out) → All P out

@@ -1,6 +1,6 @@
 -- What a pass holds after each call: for those who call, and have to show at the end which values are held.
 use Rattle.std.proofs.Common.{◌≡◌, ℕ, zero, suc, ◌+◌, ◌<◌, ◌≤◌, List, [], ◌∷◌, ◌++◌, length, map, refl, sym, ◌∙◌, ap, subst, inl, inr, arith, eq-eqb, ne_eqb}
-use Rattle.std.specs.Prelude.{Some, None, slice_get}
+use Rattle.std.specs.Prelude.{Some, Err, slice_get}
 use Rattle.std.specs.List.{Contains}
 use Rattle.std.proofs.lemmas.Bool.{cases_eq}
 use Rattle.std.proofs.lemmas.List.{map-append}
@@ -12,14 +12,15 @@ use Rattle.scq_queue.specs.declared.calls.LendRefusal.{LendRefusal}
 use Rattle.scq_queue.specs.declared.calls.LendRefusal.TheVariants.{Full, Spent as NoTicket}
 use Rattle.scq_queue.specs.declared.calls.TakeRefusal.{TakeRefusal}
 use Rattle.scq_queue.specs.declared.calls.TakeRefusal.TheVariants.{Empty, Spent}
-use Rattle.scq_queue.specs.Passes.{PassStanding, HeldStanding, IsHeldBy, FoundNothing, FoundFull, without, after_put, after_get, after_spent_put, after_spent_get, having_seen}
+use Rattle.scq_queue.specs.Passes.{PassStanding, HeldStanding, HasGot, IsHeldBy, without, after_put, after_spent_put, after_spent_get, having_seen}
+use Rattle.scq_queue.specs.Calls.{FoundNoneFree, FoundTopicEmpty, WasSpent, GetWasSpent, PutWasSpent}
 use Rattle.scq_queue.specs.Closing.{AreTheHeld}
 use Rattle.scq_queue.specs.HoldsJust.{AllOf, HoldsJust}
 use Rattle.scq_queue.proofs.Hands.{contains_last}
-use Rattle.scq_queue.proofs.HeldValues.{cases_spent}
+use Rattle.scq_queue.proofs.HeldValues.{cases_spent, failed}
 
 -- an index that stands in a list is one of it
-contains_times : (xs : List ℕ) (i : ℕ) → 0 < times i xs → Contains xs i
+pub contains_times : (xs : List ℕ) (i : ℕ) → 0 < times i xs → Contains xs i
 contains_times [] i some = absurd (omega arith)
 contains_times (x ∷ xs) i some =
     elim (cases_eq x i) [
@@ -93,10 +94,11 @@ module _ {B : Type 0} where
       let rest = all_but_last queue number values h all.2 in
       ((all.0, all.1, rest.0), rest.1, rest.2)
 
-  pub holds_more : (queue : Identity B) (old new : PassStanding B) (values : List (HeldStanding B)) (h : HeldStanding B) (ring place : ℕ) (w : List ℕ)
-      → HoldsJust queue old values → new ≡ having_seen new.seen (after_get ring h.index place w old) → IsHeldBy new h → (Contains old.held h.index → ⊥)
-      → HoldsJust queue new (values ++ h ∷ [])
-  holds_more queue old new values h ring place w before is held came =
+  pub holds_more : (contents : B → List ℕ) (queue : Identity B) (old new : PassStanding B) (values : List (HeldStanding B)) (h : HeldStanding B)
+      (ring place : ℕ) → HoldsJust queue old values → HasGot contents ring place old new h → HoldsJust queue new (values ++ h ∷ [])
+  holds_more contents queue old new values h ring place before got =
+      let is = got.pass in
+      let held = got.held in
       let own : new.queue ≡ queue = ap (λ (p : PassStanding B). p.queue) is ∙ before.own in
       let now : new.held ≡ old.held ++ h.index ∷ [] = ap (λ (p : PassStanding B). p.held) is in
       let number : new.number ≡ old.number = ap (λ (p : PassStanding B). p.number) is in
@@ -108,13 +110,14 @@ module _ {B : Type 0} where
         all =
             subst (λ (k : ℕ). AllOf queue k (values ++ h ∷ [])) (sym number)
             (all-append queue old.number values h before.all (held.queue ∙ own) (held.pass ∙ number));
-        once = subst (λ (l : List ℕ). (j : ℕ) → times j l ≤ 1) (sym now) (once_more old.held h.index came before.once);
+        once = subst (λ (l : List ℕ). (j : ℕ) → times j l ≤ 1) (sym now) (once_more old.held h.index got.came before.once);
       }
 
   -- the last of the values is held by the pass
-  pub last_held : (queue : Identity B) (p : PassStanding B) (values : List (HeldStanding B)) (h : HeldStanding B) → HoldsJust queue p (values ++ h ∷ [])
-      → IsHeldBy p h
-  last_held queue p values h before =
+  pub last_held : (queue : Identity B) (p : PassStanding B) (all values : List (HeldStanding B)) (h : HeldStanding B) → all ≡ values ++ h ∷ []
+      → HoldsJust queue p all → IsHeldBy p h
+  last_held queue p all values h is holds =
+      let before = subst (λ (vs : List (HeldStanding B)). HoldsJust queue p vs) is holds in
       let last = all_but_last queue p.number values h before.all in
       record {
         queue = last.1 ∙ sym before.own;
@@ -124,9 +127,10 @@ module _ {B : Type 0} where
             (contains_last (map (λ (v : HeldStanding B). v.index) values) h.index);
       }
 
-  pub holds_less : (queue : Identity B) (old new : PassStanding B) (values : List (HeldStanding B)) (h : HeldStanding B) (ring place : ℕ) (w : List ℕ)
-      → HoldsJust queue old (values ++ h ∷ []) → new ≡ having_seen new.seen (after_put ring h.index place w old) → HoldsJust queue new values
-  holds_less queue old new values h ring place w before is =
+  pub holds_less : (queue : Identity B) (old new : PassStanding B) (all values : List (HeldStanding B)) (h : HeldStanding B) (ring place : ℕ) (w : List ℕ)
+      → all ≡ values ++ h ∷ [] → HoldsJust queue old all → new ≡ having_seen new.seen (after_put ring h.index place w old) → HoldsJust queue new values
+  holds_less queue old new all values h ring place w ends holds is =
+      let before = subst (λ (vs : List (HeldStanding B)). HoldsJust queue old vs) ends holds in
       let list : List ℕ = map (λ (v : HeldStanding B). v.index) values in
       let was : old.held ≡ list ++ h.index ∷ [] = sym before.same ∙ map-append (λ (v : HeldStanding B). v.index) values (h ∷ []) in
       let once = subst (λ (l : List ℕ). (j : ℕ) → times j l ≤ 1) was before.once in
@@ -151,40 +155,44 @@ module _ {B : Type 0} where
     pub held : new.held ≡ old.held
     pub retired : new.retired ≡ old.retired
 
+  pub alike_itself : (p : PassStanding B) → IsAlike p p
+  alike_itself p = record { queue = refl; number = refl; held = refl; retired = refl }
+
   same_as : (old new t : PassStanding B) → new ≡ t → IsAlike old t → IsAlike old new
   same_as old new t is keeps = subst (λ (p : PassStanding B). IsAlike old p) (sym is) keeps
 
   -- a pass whose call was refused holds what it held
-  pub lend_refused : (old new : PassStanding B) (refusal : LendRefusal) → ((head : ℕ) → refusal ≡ Full head → FoundFull head old new)
-      → ((ticket : ℕ) → refusal ≡ NoTicket ticket → old.spent ≡ None → new ≡ having_seen new.seen (after_spent_get 0 ticket old))
-      → ((ticket : ℕ) → old.spent ≡ Some ticket → new ≡ old) → IsAlike old new
-  lend_refused old new (Full head) full spent kept =
-      same_as old new _ (full head refl).pass (record { queue = refl; number = refl; held = refl; retired = refl })
-  lend_refused old new (NoTicket ticket) full spent kept =
-      elim (cases_spent old.spent) [
-        | inl none ↦ same_as old new _ (spent ticket refl none) (record { queue = refl; number = refl; held = refl; retired = refl })
-        | inr some ↦ same_as old new old (kept some.0 some.1) (record { queue = refl; number = refl; held = refl; retired = refl })
-      ]
+  module _ {X : ℕ → Type 0} {queue : Identity B} (old new : PassStanding B) (kept : (ticket : ℕ) → old.spent ≡ Some ticket → X ticket × (new ≡ old)) where
+    spent_alike : (ticket : ℕ) (after : PassStanding B) → WasSpent queue ticket after old new → IsAlike old after → IsAlike old new
+    spent_alike ticket after spent alike =
+        elim (cases_spent old.spent) [
+          | inl none ↦
+              same_as old new _ (spent.drawn none).0
+              (record { queue = alike.queue; number = alike.number; held = alike.held; retired = alike.retired })
+          | inr some ↦ same_as old new old (kept some.0 some.1).1 (record { queue = refl; number = refl; held = refl; retired = refl })
+        ]
 
-  pub take_refused : (topic : ℕ) (old new : PassStanding B) (refusal : TakeRefusal)
-      → ((head : ℕ) → refusal ≡ Empty head → FoundNothing (suc topic) head old new)
-      → ((ticket : ℕ) → refusal ≡ Spent ticket → old.spent ≡ None → new ≡ having_seen new.seen (after_spent_get (suc topic) ticket old))
-      → ((ticket : ℕ) → old.spent ≡ Some ticket → new ≡ old) → IsAlike old new
-  take_refused topic old new (Empty head) empty spent kept =
-      same_as old new _ (empty head refl).pass (record { queue = refl; number = refl; held = refl; retired = refl })
-  take_refused topic old new (Spent ticket) empty spent kept =
-      elim (cases_spent old.spent) [
-        | inl none ↦ same_as old new _ (spent ticket refl none) (record { queue = refl; number = refl; held = refl; retired = refl })
-        | inr some ↦ same_as old new old (kept some.0 some.1) (record { queue = refl; number = refl; held = refl; retired = refl })
-      ]
+    pub get_refused : (ring ticket : ℕ) → GetWasSpent queue ring ticket old new → IsAlike old new
+    get_refused ring ticket spent =
+        spent_alike ticket (after_spent_get ring ticket old) spent (record { queue = refl; number = refl; held = refl; retired = refl })
 
-  pub put_refused : (ring ticket : ℕ) (old new : PassStanding B) → (old.spent ≡ None → new ≡ having_seen new.seen (after_spent_put ring ticket old))
-      → ((kept : ℕ) → old.spent ≡ Some kept → new ≡ old) → IsAlike old new
-  put_refused ring ticket old new spent kept =
-      elim (cases_spent old.spent) [
-        | inl none ↦ same_as old new _ (spent none) (record { queue = refl; number = refl; held = refl; retired = refl })
-        | inr some ↦ same_as old new old (kept some.0 some.1) (record { queue = refl; number = refl; held = refl; retired = refl })
-      ]
+    pub put_refused : (ring ticket : ℕ) → PutWasSpent queue ring ticket old new → IsAlike old new
+    put_refused ring ticket spent =
+        spent_alike ticket (after_spent_put ring ticket old) spent (record { queue = refl; number = refl; held = refl; retired = refl })
+
+    pub lend_refused : {T : Type 0} {contents : B → List ℕ} (refusal : LendRefusal)
+        → ((head : ℕ) → failed T refusal ≡ Err (Full head) → FoundNoneFree contents queue head old new)
+        → ((ticket : ℕ) → failed T refusal ≡ Err (NoTicket ticket) → GetWasSpent queue 0 ticket old new) → IsAlike old new
+    lend_refused (Full head) full spent =
+        same_as old new _ (full head refl).found.pass (record { queue = refl; number = refl; held = refl; retired = refl })
+    lend_refused (NoTicket ticket) full spent = get_refused 0 ticket (spent ticket refl)
+
+    pub take_refused : {T : Type 0} {contents : B → List ℕ} (topic : ℕ) (refusal : TakeRefusal)
+        → ((head : ℕ) → failed T refusal ≡ Err (Empty head) → FoundTopicEmpty contents queue topic head old new)
+        → ((ticket : ℕ) → failed T refusal ≡ Err (Spent ticket) → GetWasSpent queue (suc topic) ticket old new) → IsAlike old new
+    take_refused topic (Empty head) empty spent =
+        same_as old new _ (empty head refl).found.pass (record { queue = refl; number = refl; held = refl; retired = refl })
+    take_refused topic (Spent ticket) empty spent = get_refused (suc topic) ticket (spent ticket refl)
 
   pub holds_same : (queue : Identity B) (old new : PassStanding B) (values : List (HeldStanding B)) → HoldsJust queue old values → IsAlike old new
       → HoldsJust queue new values
@@ -196,6 +204,13 @@ module _ {B : Type 0} where
         all = subst (λ (k : ℕ). AllOf queue k values) (sym is.number) before.all;
         once = subst (λ (l : List ℕ). (j : ℕ) → times j l ≤ 1) (sym is.held) before.once;
       }
+
+  -- a put was refused, and its value is the last again
+  pub holds_again : (queue : Identity B) (old new : PassStanding B) (all values now : List (HeldStanding B)) (h v : HeldStanding B) → all ≡ values ++ h ∷ []
+      → HoldsJust queue old all → v ≡ h → now ≡ values ++ v ∷ [] → IsAlike old new → HoldsJust queue new now
+  holds_again queue old new all values now h v ends holds back put alike =
+      subst (λ (vs : List (HeldStanding B)). HoldsJust queue new vs)
+      (ends ∙ ap (λ (u : HeldStanding B). values ++ u ∷ []) (sym back) ∙ sym put) (holds_same queue old new all holds alike)
 
   all_at : (queue : Identity B) (number : ℕ) (values : List (HeldStanding B)) → AllOf queue number values → (k : ℕ) (h : HeldStanding B)
       → slice_get values k ≡ Some h → h.queue ≡ queue

@@ -1,6 +1,6 @@
 pub mod Hands
 pub mod Records
-mod HeldValues
+pub mod HeldValues
 pub mod Leaving
 pub mod PassSteps
 mod NewPasses

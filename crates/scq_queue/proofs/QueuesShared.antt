@@ -11,13 +11,13 @@ use Rattle.scq_queue.specs.contracts.heap_buffer.HeapBuffer as heap_buffer
 use Rattle.scq_queue.specs.contracts.queue.Queue as queue
 use Rattle.scq_queue.specs.contracts.queue.Queue.TheInside as queue_inside
 
-u64_sync : IsSync u64
+pub u64_sync : IsSync u64
 u64_sync = search sendable
 
-bool_sync : IsSync bool
+pub bool_sync : IsSync bool
 bool_sync = search sendable
 
-counts_sync : IsSync counts.the_row
+pub counts_sync : IsSync counts.the_row
 counts_sync = declared_sync counts.the_type (u64_sync, (u64_sync, (u64_sync, tt)))
 
 pub queue_sync : (B : RattleType) (buffer : Ghosts B.Denot) → IsSend B → IsSync B → IsSync (queue.the_row B buffer)

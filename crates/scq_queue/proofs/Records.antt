@@ -2,6 +2,7 @@
 use Rattle.std.proofs.Common.{◌≡◌, ◌⊎◌, ℕ, zero, suc, ◌+◌, cond, List, [], ◌∷◌, ◌++◌, length, take, refl, sym, ◌∙◌, ap, inl, inr, arith}
 use Rattle.std.specs.Prelude.{Option, Some, None, ◌==◌, if◌then◌else◌, slice_get}
 use Rattle.std.specs.List.{filter_map}
+use Rattle.std.proofs.lemmas.List.{append-nil}
 use Rattle.std.proofs.lemmas.List.Elements.{filter_map-append}
 use Rattle.std.proofs.lemmas.List.Sums.{sum_by-cons}
 use Rattle.std.proofs.Math.Dec.{eqb-suc-suc, eqb-zero-suc}
@@ -9,7 +10,8 @@ use Rattle.scq_core.specs.declared.ended.Ended.{Ended}
 use Rattle.scq_core.specs.declared.ended.Ended.TheVariants.{Done, Got, Nothing, Spent}
 use Rattle.scq_law.specs.Bounds.{tally}
 use Rattle.scq_law.specs.Kept.{was_done, was_got}
-use Rattle.scq_queue.specs.Lists.{Placed, sent_by, taken_by, sends_of, takes_of, on_topic}
+use Rattle.scq_queue.specs.Lists.{Placed, sent_by, taken_by, sends_of, takes_of, on_topic, with_put, with_got}
+use Rattle.scq_queue.specs.Passes.{PassStanding, lists_of}
 
 -- a record with more calls
 pub sends-append : (xs ys : List Ended) → sends_of (xs ++ ys) ≡ sends_of xs ++ sends_of ys
@@ -17,6 +19,29 @@ sends-append xs ys = filter_map-append sent_by xs ys
 
 pub takes-append : (xs ys : List Ended) → takes_of (xs ++ ys) ≡ takes_of xs ++ takes_of ys
 takes-append xs ys = filter_map-append taken_by xs ys
+
+-- the sends and takes of a record with one call more that is none
+sends_none : (calls : List Ended) (e : Ended) → sent_by e ≡ None → sends_of (calls ++ e ∷ []) ≡ sends_of calls
+sends_none calls e none = sends-append calls (e ∷ []) ∙ rw none (append-nil (sends_of calls))
+
+takes_none : (calls : List Ended) (e : Ended) → taken_by e ≡ None → takes_of (calls ++ e ∷ []) ≡ takes_of calls
+takes_none calls e none = takes-append calls (e ∷ []) ∙ rw none (append-nil (takes_of calls))
+
+-- the lists of a pass with one call more
+module _ {B : Type 0} (p q : PassStanding B) (fulls : q.fulls ≡ p.fulls) where
+  pub same_lists : (e : Ended) → sent_by e ≡ None → taken_by e ≡ None → q.calls ≡ p.calls ++ e ∷ [] → lists_of q ≡ lists_of p
+  same_lists e no_send no_take calls =
+      rw (ap sends_of calls ∙ sends_none p.calls e no_send, ap takes_of calls ∙ takes_none p.calls e no_take, fulls) refl
+
+  pub put_lists : (ring place : ℕ) (w : List ℕ) → q.calls ≡ p.calls ++ Done ring place w ∷ [] → lists_of q ≡ with_put ring place w (lists_of p)
+  put_lists zero place w calls = same_lists (Done 0 place w) refl refl calls
+  put_lists (suc t) place w calls =
+      rw (ap sends_of calls ∙ sends-append p.calls (Done (suc t) place w ∷ []), ap takes_of calls ∙ takes_none p.calls (Done (suc t) place w) refl, fulls) refl
+
+  pub got_lists : (ring place : ℕ) (w : List ℕ) → q.calls ≡ p.calls ++ Got ring place w ∷ [] → lists_of q ≡ with_got ring place w (lists_of p)
+  got_lists zero place w calls = same_lists (Got 0 place w) refl refl calls
+  got_lists (suc t) place w calls =
+      rw (ap sends_of calls ∙ sends_none p.calls (Got (suc t) place w) refl, ap takes_of calls ∙ takes-append p.calls (Got (suc t) place w ∷ []), fulls) refl
 
 -- the call by which a member came into a list: its position, and that the member's number is how many came before
 pub record CameBy (h : Ended → Option Placed) (calls : List Ended) (number : ℕ) (m : Placed) : Type 0 where

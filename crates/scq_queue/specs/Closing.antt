@@ -1,7 +1,7 @@
 -- What all passes say together once a queue is closed. A pass is told by its position among those
 -- that were given, a send or a take by its position among those of its pass.
 use Rattle.std.specs.Prelude.{◌≡◌, ℕ, suc, ◌+◌, ◌<◌, List, map, length, Some, slice_get}
-use Rattle.std.specs.Prelude.{slice_index, All, sum, sum_by}
+use Rattle.std.specs.Prelude.{slice_index, All, sum, sum_by, Bool}
 use Rattle.std.specs.List.{Contains}
 use Rattle.scq_core.specs.declared.ended.Ended.{Ended}
 use Rattle.scq_word.specs.declared.setup.Setup.{Setup}
@@ -9,9 +9,13 @@ use Rattle.scq_word.specs.Sizes.{n_of}
 use Rattle.scq_law.specs.Hands.{times}
 use Rattle.scq_band.specs.RunSeen.{Caller}
 use Rattle.scq_band.specs.Standing.{Identity}
-use Rattle.scq_band.specs.Closing.{EachSpentIsPastTheBound, NoneIsSpentWithinTheLimit}
-use Rattle.scq_queue.specs.Lists.{Placed, sends_of, takes_of, on_topic, fulls_in}
-use Rattle.scq_queue.specs.Passes.{PassStanding, HeldStanding, known_on, caller_of}
+use Rattle.scq_band.specs.Closing.{EachSpentIsPastTheBound, NoneIsSpentWithinTheLimit, AreTheSame}
+use Rattle.scq_band.specs.Closing.{ComesBackAsItWas, EachIsInOneHand, EachLeftIsItsPut}
+use Rattle.scq_queue.specs.declared.counts.Counts.{Counts}
+use Rattle.scq_queue.specs.Lists.{Placed, sends_of, takes_of, on_topic, fulls_in, counts_of}
+use Rattle.scq_queue.specs.Passes.{PassStanding, HeldStanding, known_on, caller_of, lists_of}
+use Rattle.scq_queue.specs.Passes.{was_told}
+use Rattle.scq_queue.specs.Kept.{value_of}
 
 module _ {B : Type 0} where
   -- the records of all passes, and the indices that each holds
@@ -119,3 +123,43 @@ module _ {B : Type 0} where
     pub queue_of : (k : ℕ) (h : HeldStanding B) → slice_get held k ≡ Some h → h.queue ≡ queue
     pub all : (i : ℕ) → times i (map (λ h. h.index) held)
         ≡ sum_by (λ (p : PassStanding B). times i p.held) passes
+
+  -- what comes back: the buffers, in order of index, each the same as the one given, and those that
+  -- were held as they were; of each pass, in order, its counts and whether it was told that all had
+  -- retired; and the passes
+  pub record ComeBack (contents : B → List ℕ) (IsSame : B → B → Type 0) (given : List B)
+      (all : List (PassStanding B)) (values : List (HeldStanding B)) (out : List B)
+      (tallies : List Counts) (told : List Bool) (its : List (PassStanding B)) : Type 0 where
+    pub buffers : AreTheSame IsSame given out
+    pub held : All (ComesBackAsItWas contents out) (map value_of values)
+    pub counts : tallies ≡ map (λ p. counts_of (lists_of p)) all
+    pub saw : told ≡ map (λ p. was_told p.gate) all
+    pub passes : its ≡ all
+
+  -- what all passes sent and took together, where so many indices were left in the rings
+  pub record SentAndTook (c : Setup) (passes : List (PassStanding B)) (left : List ℕ)
+      : Type 0 where
+    pub takes : EachTakeIsASend passes
+    pub sent_once : NoPlaceIsSentTwice passes
+    pub taken_once : NoPlaceIsTakenTwice passes
+    pub balance : IsBalance c passes left
+    pub passed : EachSendPassedIsTaken passes
+    pub fulls : AllFullsStand passes
+
+  -- no value is lost: each is in one hand at most, or left in a ring, with the bytes of the put
+  -- that placed it there
+  pub record NoneIsLost (c : Setup) (opening : List (List ℕ)) (passes : List (PassStanding B))
+      (held : List (HeldStanding B)) (rest : List ℕ) (bytes : List (List ℕ)) : Type 0 where
+    pub all_there : IsAllThere c held rest
+    pub hands : EachIsInOneHand c (all_held passes)
+    pub left : EachLeftIsItsPut c opening (records_of passes) (all_held passes) bytes
+
+  -- what a spent ticket that some pass keeps says of the limit
+  pub record KeptSpeakOfTheLimit (c : Setup) (passes : List (PassStanding B)) : Type 0 where
+    pub kept : EachKeptIsPastTheBound c passes
+    pub limits : NoneIsKeptWithinTheLimit c passes
+
+  -- what passes were told of those that had retired is so
+  pub record RetiredAsTold (passes : List (PassStanding B)) : Type 0 where
+    pub gate : AllRetiredWhereTold passes
+    pub retirees : EachSeenRetiredHas passes

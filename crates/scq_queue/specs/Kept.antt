@@ -35,8 +35,8 @@ module _ {B : Type 0} where
         seen = s.seen;
       }
 
-  abbrev pub seat_of : PassStanding B → Standing B
-  seat_of p =
+  abbrev pub seat_of_pass : PassStanding B → Standing B
+  seat_of_pass p =
       record {
         band = p.queue;
         number = p.number;
@@ -54,8 +54,9 @@ module _ {B : Type 0} where
   abbrev pub AreLifted : Standing B → Type 0
   AreLifted s = s.hand ≡ all_lifted (indices_of s.hand)
 
-  -- the same of a seat after a call, which read no gate
+  -- the same of a seat after a call, which read no gate: it is still this seat of its band
   pub record StaysLifted (s later : Standing B) : Type 0 where
+    pub own : (later.band ≡ s.band) × (later.number ≡ s.number)
     pub lifted : AreLifted later
     pub gate : later.gate ≡ s.gate
 
@@ -78,8 +79,8 @@ module _ {B : Type 0} where
   value_of h = (h.index, h.buffer)
 
   -- a value's buffer is the same as the one that its queue was given for its index
-  abbrev pub IsGiven : (B → B → Type 0) → HeldStanding B → Type 0
-  IsGiven IsSame h = IsAsGiven IsSame h.queue.given h.index h.buffer
+  abbrev pub HasGivenBuffer : (B → B → Type 0) → HeldStanding B → Type 0
+  HasGivenBuffer IsSame h = IsAsGiven IsSame h.queue.given h.index h.buffer
 
   -- what a queue keeps: empty lists with room for all seats, their counts and what each was told
   pub record IsQueue (queue : Identity B) (seats : List (Standing B)) (seat_room : ℕ)

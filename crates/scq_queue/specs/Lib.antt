@@ -1,5 +1,6 @@
 pub mod Lists
 pub mod Passes
+pub mod Calls
 pub mod Closing
 pub mod Kept
 pub mod HoldsJust

@@ -61,6 +61,15 @@ with_take topic place bytes l =
 abbrev pub with_full : ℕ → Lists → Lists
 with_full head l = record l { fulls = l.fulls ++ head ∷ [] }
 
+-- the lists after a put on a ring, and after a get off one; on ring 0 they stay as they were
+abbrev pub with_put : ℕ → ℕ → List ℕ → Lists → Lists
+with_put zero place bytes l = l
+with_put (suc topic) place bytes l = with_send topic place bytes l
+
+abbrev pub with_got : ℕ → ℕ → List ℕ → Lists → Lists
+with_got zero place bytes l = l
+with_got (suc topic) place bytes l = with_take topic place bytes l
+
 -- a count stands still at the last value of 64 bits
 abbrev pub counted : ℕ → ℕ
 counted n = min n (2 ^ 64 - 1)

@@ -162,12 +162,13 @@ module _ {B : Type 0} where
     pub known : (known_free old).head ≤ place
 
   -- a pass that gave a value of an index back: the place on the free ring is below the limit, and
-  -- above the places that the pass knew
+  -- above the places that the pass knew; its lists are as they were
   pub record WasGivenBack (bytes : List ℕ) (index : ℕ) (old new : PassStanding B) : Type 0 where
     pub place : ℕ
     pub pass : new ≡ having_seen new.seen (after_put 0 index place bytes old)
     pub low : place < old.queue.setup.limit
     pub known : (known_free old).seen < place
+    pub lists : lists_of new ≡ lists_of old
 
   -- a pass that found a ring empty: the head that was answered is the larger of the head known
   -- (one past the last ticket, where the pass drew any) and of one more than the finished place

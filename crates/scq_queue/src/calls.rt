@@ -1,13 +1,8 @@
 //! The calls that pass buffers on.
-ghost use Rattle.std.specs.Prelude.{◌≡◌, ℕ, suc, ◌+◌, ◌<◌, ◌≤◌, Some, None, Err, Ok, IfOk, IfErr};
-ghost use Rattle.scq_word.specs.Sizes.{n_of};
-ghost use Rattle.scq_band.specs.Buffers.{opening_of};
-ghost use Rattle.scq_band.specs.RunSeen.{IsCallInRun, WasEmptyInRun};
-ghost use Rattle.scq_band.specs.Standing.{IsAsGiven};
-ghost use Rattle.scq_queue.specs.Lists.{with_send, with_take, with_full};
-ghost use Rattle.scq_queue.specs.Passes.{lists_of, known_on, IsHeldBy, HasGot, WasLent};
-ghost use Rattle.scq_queue.specs.Passes.{WasGivenBack, FoundFull, FoundEmpty, having_seen};
-ghost use Rattle.scq_queue.specs.Passes.{caller_of, after_put, after_spent_put, after_spent_get};
+ghost use Rattle.std.specs.Prelude.{◌≡◌, ℕ, suc, ◌+◌, ◌<◌, Some, None, Err, IfOk, IfErr};
+ghost use Rattle.scq_queue.specs.Passes.{IsHeldBy, WasGivenBack};
+ghost use Rattle.scq_queue.specs.Calls.{CameOff, WasLentOne, WasPutOn, FoundTopicEmpty};
+ghost use Rattle.scq_queue.specs.Calls.{FoundNoneFree, GetWasSpent, PutWasSpent, IsInRun};
 
 use crate::counts::count;
 use crate::fulls::once_more;
@@ -43,34 +38,20 @@ impl<B: Buffer> Queue<B> {
     /// Full where there was none: the free ring's Head is past each place at which the pass knew a
     /// buffer to be given back. In the run of all passes Head was at or past the number answered
     /// after the call's last step, and at a moment inside the call each buffer that was given back
-    /// had been lent, or was claimed by a call under way (the clause `full_in_run`). Spent where
+    /// had been lent, or was claimed by a call under way (the field `in_run`). Spent where
     /// the ticket that was drawn is at or past the limit; the pass keeps it, and answers it from
     /// then on, with no step made.
     #[inline(always)]
     pub fn lend(&self, pass: &mut Pass<B>) -> Result<Held<B>, LendRefusal>
         requires pass { pass.old.queue ≡ self.now }
         ensures own { (pass.new.queue ≡ pass.old.queue) × (pass.new.number ≡ pass.old.number) }
-        ensures lent { IfOk result (λ held. WasLent B.contents pass.old pass.new held) }
-        ensures given { IfOk result (λ held.
-            IsAsGiven B.IsSameBuffer self.now.given held.index held.buffer) }
-        ensures index { IfOk result (λ held. held.index < n_of self.now.setup.order) }
-        ensures lists { IfOk result (λ _. lists_of pass.new ≡ lists_of pass.old) }
+        ensures lent { IfOk result (λ held.
+            WasLentOne B.contents B.IsSameBuffer self.now pass.old pass.new held) }
         ensures full { (head : ℕ) → result ≡ Err (LendRefusal.Full head)
-            → FoundFull head pass.old pass.new }
-        ensures full_in_run { (head : ℕ) → result ≡ Err (LendRefusal.Full head)
-            → WasEmptyInRun self.now.setup (opening_of B.contents self.now.given) 0 head
-            (caller_of pass.old) (caller_of pass.new) }
-        ensures full_lists { (head : ℕ) → result ≡ Err (LendRefusal.Full head)
-            → lists_of pass.new ≡ with_full head (lists_of pass.old) }
+            → FoundNoneFree B.contents self.now head pass.old pass.new }
         ensures spent { (ticket : ℕ) → result ≡ Err (LendRefusal.Spent ticket)
-            → pass.old.spent ≡ None
-            → (pass.new ≡ having_seen pass.new.seen (after_spent_get 0 ticket pass.old))
-            × (self.now.setup.limit ≤ ticket) }
-        ensures spent_lists { (ticket : ℕ) → result ≡ Err (LendRefusal.Spent ticket)
-            → lists_of pass.new ≡ lists_of pass.old }
-        ensures run { pass.old.spent ≡ None
-            → IsCallInRun self.now.setup (opening_of B.contents self.now.given) (caller_of pass.old)
-            (caller_of pass.new) }
+            → GetWasSpent self.now 0 ticket pass.old pass.new }
+        ensures run { pass.old.spent ≡ None → IsInRun B.contents self.now pass.old pass.new }
         ensures kept { (ticket : ℕ) → pass.old.spent ≡ Some ticket
             → (result ≡ Err (LendRefusal.Spent ticket)) × (pass.new ≡ pass.old) }
     {
@@ -104,23 +85,12 @@ impl<B: Buffer> Queue<B> {
         requires held { IsHeldBy pass.old held }
         requires stays { pass.old.retired ≡ None }
         ensures own { (pass.new.queue ≡ pass.old.queue) × (pass.new.number ≡ pass.old.number) }
-        ensures sent { IfOk result (λ place.
-            pass.new ≡ having_seen pass.new.seen
-            (after_put (suc topic) held.index place (B.contents held.buffer) pass.old)) }
-        ensures place { IfOk result (λ place.
-            (place < self.now.setup.limit) × ((known_on topic pass.old).seen < place)) }
-        ensures lists { IfOk result (λ place.
-            lists_of pass.new
-            ≡ with_send topic place (B.contents held.buffer) (lists_of pass.old)) }
+        ensures sent { IfOk result (λ place. WasPutOn self.now (suc topic) place held.index
+            (B.contents held.buffer) pass.old pass.new) }
         ensures back { IfErr result (λ refused. refused.0 ≡ held) }
-        ensures spent { IfErr result (λ refused. pass.old.spent ≡ None
-            → (pass.new ≡ having_seen pass.new.seen
-            (after_spent_put (suc topic) refused.1.ticket pass.old))
-            × (self.now.setup.limit ≤ refused.1.ticket)) }
-        ensures spent_lists { IfErr result (λ _. lists_of pass.new ≡ lists_of pass.old) }
-        ensures run { pass.old.spent ≡ None
-            → IsCallInRun self.now.setup (opening_of B.contents self.now.given) (caller_of pass.old)
-            (caller_of pass.new) }
+        ensures spent { IfErr result (λ refused.
+            PutWasSpent self.now (suc topic) refused.1.ticket pass.old pass.new) }
+        ensures run { pass.old.spent ≡ None → IsInRun B.contents self.now pass.old pass.new }
         ensures kept { (ticket : ℕ) → pass.old.spent ≡ Some ticket
             → (result ≡ Err (held, record { ticket = ticket })) × (pass.new ≡ pass.old) }
     {
@@ -140,33 +110,19 @@ impl<B: Buffer> Queue<B> {
     /// Empty where there was none: the topic's Head is past each place of a send that the pass knew
     /// to be finished. In the run of all passes Head was at or past the number answered after the
     /// call's last step, and at a moment inside the call each send that had ended was taken, or
-    /// claimed by a take under way (the clause `empty_in_run`). Spent as with `lend`.
+    /// claimed by a take under way (the field `in_run`). Spent as with `lend`.
     #[inline(always)]
     pub fn take(&self, pass: &mut Pass<B>, topic: u32) -> Result<(u64, Held<B>), TakeRefusal>
         requires pass { pass.old.queue ≡ self.now }
         requires topic { topic + 1 < self.now.setup.rings }
         ensures own { (pass.new.queue ≡ pass.old.queue) × (pass.new.number ≡ pass.old.number) }
-        ensures took { IfOk result (λ r. HasGot B.contents (suc topic) r.0 pass.old pass.new r.1) }
-        ensures given { IfOk result (λ r.
-            IsAsGiven B.IsSameBuffer self.now.given r.1.index r.1.buffer) }
-        ensures place { IfOk result (λ r.
-            (r.0 < self.now.setup.limit) × ((known_on topic pass.old).head ≤ r.0)) }
-        ensures index { IfOk result (λ r. r.1.index < n_of self.now.setup.order) }
-        ensures lists { IfOk result (λ r.
-            lists_of pass.new ≡ with_take topic r.0 (B.contents r.1.buffer) (lists_of pass.old)) }
+        ensures took { IfOk result (λ r. CameOff B.contents B.IsSameBuffer self.now (suc topic) r.0
+            pass.old pass.new r.1) }
         ensures empty { (head : ℕ) → result ≡ Err (TakeRefusal.Empty head)
-            → FoundEmpty topic head pass.old pass.new }
-        ensures empty_in_run { (head : ℕ) → result ≡ Err (TakeRefusal.Empty head)
-            → WasEmptyInRun self.now.setup (opening_of B.contents self.now.given) (suc topic) head
-            (caller_of pass.old) (caller_of pass.new) }
+            → FoundTopicEmpty B.contents self.now topic head pass.old pass.new }
         ensures spent { (ticket : ℕ) → result ≡ Err (TakeRefusal.Spent ticket)
-            → pass.old.spent ≡ None
-            → (pass.new ≡ having_seen pass.new.seen (after_spent_get (suc topic) ticket pass.old))
-            × (self.now.setup.limit ≤ ticket) }
-        ensures refused_lists { IfErr result (λ _. lists_of pass.new ≡ lists_of pass.old) }
-        ensures run { pass.old.spent ≡ None
-            → IsCallInRun self.now.setup (opening_of B.contents self.now.given) (caller_of pass.old)
-            (caller_of pass.new) }
+            → GetWasSpent self.now (suc topic) ticket pass.old pass.new }
+        ensures run { pass.old.spent ≡ None → IsInRun B.contents self.now pass.old pass.new }
         ensures kept { (ticket : ℕ) → pass.old.spent ≡ Some ticket
             → (result ≡ Err (TakeRefusal.Spent ticket)) × (pass.new ≡ pass.old) }
     {
@@ -189,14 +145,10 @@ impl<B: Buffer> Queue<B> {
         ensures own { (pass.new.queue ≡ pass.old.queue) × (pass.new.number ≡ pass.old.number) }
         ensures given { IfOk result (λ _.
             WasGivenBack (B.contents held.buffer) held.index pass.old pass.new) }
-        ensures lists { lists_of pass.new ≡ lists_of pass.old }
         ensures back { IfErr result (λ refused. refused.0 ≡ held) }
-        ensures spent { IfErr result (λ refused. pass.old.spent ≡ None
-            → (pass.new ≡ having_seen pass.new.seen (after_spent_put 0 refused.1.ticket pass.old))
-            × (self.now.setup.limit ≤ refused.1.ticket)) }
-        ensures run { pass.old.spent ≡ None
-            → IsCallInRun self.now.setup (opening_of B.contents self.now.given) (caller_of pass.old)
-            (caller_of pass.new) }
+        ensures spent { IfErr result (λ refused.
+            PutWasSpent self.now 0 refused.1.ticket pass.old pass.new) }
+        ensures run { pass.old.spent ≡ None → IsInRun B.contents self.now pass.old pass.new }
         ensures kept { (ticket : ℕ) → pass.old.spent ≡ Some ticket
             → (result ≡ Err (held, record { ticket = ticket })) × (pass.new ≡ pass.old) }
     {

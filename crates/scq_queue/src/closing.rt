@@ -1,18 +1,14 @@
 //! The end of a queue: its passes and the values that are still held come back, and its buffers are
 //! handed out.
 ghost use Rattle.std.specs.Prelude.{◌≡◌, ◌≤◌, [], map, All, vec_len, vec_capacity};
-ghost use Rattle.scq_band.specs.Closing.{IsOneRunToTheEnd, AreTheSame, ComesBackAsItWas};
-ghost use Rattle.scq_band.specs.Closing.{EachIsInOneHand, EachLeftIsItsPut};
+ghost use Rattle.scq_band.specs.Closing.{IsOneRunToTheEnd};
 ghost use Rattle.scq_band.specs.Buffers.{opening_of};
 ghost use Rattle.scq_queue.specs.Lists.{counts_of};
 ghost use Rattle.scq_queue.specs.Passes.{lists_of, was_told};
-ghost use Rattle.scq_queue.specs.Closing.{EachTakeIsASend, NoPlaceIsSentTwice, NoPlaceIsTakenTwice};
-ghost use Rattle.scq_queue.specs.Closing.{IsBalance, EachSendPassedIsTaken, IsAllThere};
-ghost use Rattle.scq_queue.specs.Closing.{AllFullsStand, EachKeptIsPastTheBound};
-ghost use Rattle.scq_queue.specs.Closing.{NoneIsKeptWithinTheLimit, AllRetiredWhereTold};
-ghost use Rattle.scq_queue.specs.Closing.{EachSeenRetiredHas, AreTheHeld, records_of, all_held};
-ghost use Rattle.scq_queue.specs.Closing.{callers_of};
-ghost use Rattle.scq_queue.specs.Kept.{seat_of, value_of, IsGiven};
+ghost use Rattle.scq_queue.specs.Closing.{AllFullsStand, AreTheHeld, records_of, all_held};
+ghost use Rattle.scq_queue.specs.Closing.{callers_of, ComeBack, SentAndTook, NoneIsLost};
+ghost use Rattle.scq_queue.specs.Closing.{KeptSpeakOfTheLimit, RetiredAsTold};
+ghost use Rattle.scq_queue.specs.Kept.{seat_of_pass, HasGivenBuffer};
 
 use crate::counts::Counts;
 use crate::held::Held;
@@ -45,7 +41,7 @@ fn unpack<B: Buffer>(
     requires empty { (seats.old.items ≡ []) × (counts.old.items ≡ []) × (saw.old.items ≡ []) }
     requires room { (vec_len passes ≤ vec_capacity seats.old)
         × (vec_len passes ≤ vec_capacity counts.old) × (vec_len passes ≤ vec_capacity saw.old) }
-    ensures seats { seats.new.items ≡ map seat_of passes.items }
+    ensures seats { seats.new.items ≡ map seat_of_pass passes.items }
     ensures counts { counts.new.items ≡ map (λ p. counts_of (lists_of p)) passes.items }
     ensures saw { saw.new.items ≡ map (λ p. was_told p.gate) passes.items }
     ensures fulls { AllFullsStand passes.items }
@@ -67,7 +63,7 @@ fn unpack<B: Buffer>(
 
 /// For contracts alone: each value's buffer is the same as the one given for its index.
 fn all_given<B: Buffer>(held: &[Held<B>])
-    ensures { All (IsGiven B.IsSameBuffer) held.now }
+    ensures { All (HasGivenBuffer B.IsSameBuffer) held.now }
 {
     for value in held {
         value.is_given();
@@ -89,27 +85,13 @@ impl<B: Buffer> Queue<B> {
         ensures run { IsOneRunToTheEnd self.setup (opening_of B.contents self.given)
             (callers_of passes.items) (records_of passes.items)
             (all_held passes.items) (map B.contents result.buffers.items) }
-        ensures buffers { AreTheSame B.IsSameBuffer self.given result.buffers.items }
-        ensures counts { result.counts.items ≡ map (λ p. counts_of (lists_of p)) passes.items }
-        ensures saw { result.saw.items ≡ map (λ p. was_told p.gate) passes.items }
-        ensures passes { result.passes.value.items ≡ passes.items }
-        ensures takes { EachTakeIsASend passes.items }
-        ensures sent_once { NoPlaceIsSentTwice passes.items }
-        ensures taken_once { NoPlaceIsTakenTwice passes.items }
-        ensures balance { IsBalance self.setup passes.items result.left.items }
-        ensures passed { EachSendPassedIsTaken passes.items }
-        ensures all_there { IsAllThere self.setup held.items result.left.items }
-        ensures fulls { AllFullsStand passes.items }
-        ensures hands { EachIsInOneHand self.setup (all_held passes.items) }
-        ensures held { All (ComesBackAsItWas B.contents result.buffers.items)
-            (map value_of held.items) }
-        ensures left { EachLeftIsItsPut self.setup (opening_of B.contents self.given)
-            (records_of passes.items) (all_held passes.items)
-            (map B.contents result.buffers.items) }
-        ensures kept { EachKeptIsPastTheBound self.setup passes.items }
-        ensures limits { NoneIsKeptWithinTheLimit self.setup passes.items }
-        ensures gate { AllRetiredWhereTold passes.items }
-        ensures retirees { EachSeenRetiredHas passes.items }
+        ensures back { ComeBack B.contents B.IsSameBuffer self.given passes.items held.items
+            result.buffers.items result.counts.items result.saw.items result.passes.value.items }
+        ensures sent { SentAndTook self.setup passes.items result.left.items }
+        ensures values { NoneIsLost self.setup (opening_of B.contents self.given) passes.items
+            held.items result.left.items (map B.contents result.buffers.items) }
+        ensures spent { KeptSpeakOfTheLimit self.setup passes.items }
+        ensures retired { RetiredAsTold passes.items }
     {
         let Queue {
             band,

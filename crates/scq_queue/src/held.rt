@@ -1,6 +1,6 @@
 //! A value that a pass holds: a buffer that it was lent, or took.
 ghost use Rattle.std.specs.Prelude.{◌≡◌};
-ghost use Rattle.scq_queue.specs.Kept.{value_of, IsGiven};
+ghost use Rattle.scq_queue.specs.Kept.{value_of, HasGivenBuffer};
 ghost use Rattle.std.specs.Borrow.{sem, Lends, Array, u8 as byte};
 
 use scq_band::{Lifted, Seat};
@@ -54,7 +54,7 @@ impl<B: Buffer> Held<B> {
 
     // For contracts alone.
     pub(crate) fn is_given(&self)
-        ensures { IsGiven B.IsSameBuffer self.now }
+        ensures { HasGivenBuffer B.IsSameBuffer self.now }
     {
         let _ = &self.index;
     }

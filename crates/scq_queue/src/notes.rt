@@ -1,6 +1,6 @@
 //! What a pass knows of the rings, carried to another.
 ghost use Rattle.std.specs.Prelude.{◌≡◌};
-ghost use Rattle.scq_band.specs.Numbers.{joined};
+ghost use Rattle.scq_band.specs.Numbers.{raised_by};
 ghost use Rattle.scq_band.specs.RunSeen.{both_seen};
 
 use crate::pass::Pass;
@@ -45,7 +45,7 @@ impl<B: Buffer> Queue<B> {
         requires pass { pass.old.queue ≡ self.now }
         requires note { note.table ≡ self.now.table }
         ensures { pass.new ≡ record pass.old {
-          numbers = joined pass.old.numbers note.numbers;
+          numbers = raised_by pass.old.numbers note.numbers;
           seen = both_seen pass.old.seen note.seen;
         } }
     {

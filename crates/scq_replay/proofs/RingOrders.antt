@@ -14,17 +14,17 @@ use Rattle.scq_law.specs.Order.{Key, HasKey, of_opening, of_nothing, of_put, of_
 use Rattle.scq_law.specs.RunSteps.{IsFinishedRun}
 use Rattle.scq_law.proofs.Order.RunStates.{get_or_any}
 use Rattle.scq_replay.specs.declared.ordering.Schedule.{Schedule}
-use Rattle.scq_replay.specs.OrderSteps.{run_of_schedule, LeadsTo, IsScheduleOf, IsNumbered}
+use Rattle.scq_replay.specs.OrderSteps.{run_of_schedule, ScheduleLeads, IsScheduleOf, IsNumberedCall}
 use Rattle.scq_replay.specs.OrderText.{IsOrderText, ring_lines, rings_lines}
 use Rattle.scq_replay.proofs.ScheduleRuns.{last_is}
 
 -- the lines of the first rings, each of which has its order
-pub record AreWritten (s : Schedule) (ring : ℕ) (text : List ℕ) : Type 0 where
+pub record OrdersAreWritten (s : Schedule) (ring : ℕ) (text : List ℕ) : Type 0 where
   pub orders : ℕ → List Ordered
   pub each : (r : ℕ) → r < ring → IsFinishedRun (run_of_schedule s) × IsLinearization (run_of_schedule s) r (orders r)
   pub written : text ≡ rings_lines (machine_of s.state) orders ring
 
-pub written_none : (s : Schedule) (text : List ℕ) → text ≡ [] → AreWritten s 0 text
+pub written_none : (s : Schedule) (text : List ℕ) → text ≡ [] → OrdersAreWritten s 0 text
 written_none s text none = record { orders = λ r. []; each = λ r low. absurd (omega arith); written = none }
 
 -- a ring's order plays no part in the lines of those below it
@@ -38,8 +38,8 @@ below_same m orders order ring (suc at) low =
     ap (λ (lines : List ℕ). lines ++ ring_lines m at (updated orders ring order at)) rest
     ∙ ap (λ (own : List Ordered). rings_lines m orders at ++ ring_lines m at own) here
 
-pub written_next : (s : Schedule) (ring : ℕ) (order : List Ordered) (old new : List ℕ) → AreWritten s ring old → IsFinishedRun (run_of_schedule s)
-    → IsLinearization (run_of_schedule s) ring order → new ≡ old ++ ring_lines (machine_of s.state) ring order → AreWritten s (ring + 1) new
+pub written_next : (s : Schedule) (ring : ℕ) (order : List Ordered) (old new : List ℕ) → OrdersAreWritten s ring old → IsFinishedRun (run_of_schedule s)
+    → IsLinearization (run_of_schedule s) ring order → new ≡ old ++ ring_lines (machine_of s.state) ring order → OrdersAreWritten s (ring + 1) new
 written_next s ring order old new before finished linear adds =
     let m = machine_of s.state in
     let orders = updated before.orders ring order in
@@ -65,7 +65,7 @@ written_next s ring order old new before finished linear adds =
 
 -- after the last ring
 pub written_all : (lines : List (List ℕ)) (s : Schedule) (ring : ℕ) (text : List ℕ) → IsScheduleOf lines s → s.state.setup.rings ≤ ring
-    → ring ≤ s.state.setup.rings → AreWritten s ring text → IsOrderText lines text
+    → ring ≤ s.state.setup.rings → OrdersAreWritten s ring text → IsOrderText lines text
 written_all lines s ring text is up down all =
     let same : ring ≡ s.state.setup.rings = omega (arith, up, down) in
     let some = s.state.setup.rings_in_range in
@@ -83,7 +83,7 @@ written_all lines s ring text is up down all =
     }
 
 -- the seat of each step is one of the setup's
-module _ (s : Schedule) (leads : LeadsTo s) where
+module _ (s : Schedule) (leads : ScheduleLeads s) where
   seat_low : (i seat : ℕ) (step : Step) → slice_get s.steps.items i ≡ Some (seat, step) → seat < s.state.setup.seats
   seat_low i seat step there =
       let within = slice_get_within s.steps.items i (seat, step) there in
@@ -93,13 +93,13 @@ module _ (s : Schedule) (leads : LeadsTo s) where
       subst (λ (x : ℕ × Step). x.0 < s.state.setup.seats) same (leads.is_run.seats i (seat, step) within)
 
   -- so is that of a call in an order, which has a number from 1
-  numbered : (r : ℕ) (x : Ordered) (f : Key) → HasKey (run_of_schedule s) r x f → IsNumbered s.state.setup x
+  numbered : (r : ℕ) (x : Ordered) (f : Key) → HasKey (run_of_schedule s) r x f → IsNumberedCall s.state.setup x
   numbered r x f (of_opening j ring low) = tt
   numbered r x f (of_nothing seat call d ended decides) = (seat_low d seat decides.makes.step decides.makes.there, omega arith)
   numbered r x f (of_put seat call p point w ended put) = (seat_low put.drawn seat put.draws.makes.step put.draws.makes.there, omega arith)
   numbered r x f (of_get seat call p point w ended get) = (seat_low get.drawn seat get.draws.makes.step get.draws.makes.there, omega arith)
 
-  pub all_numbered : (r : ℕ) (order : List Ordered) → IsLinearization (run_of_schedule s) r order → All (IsNumbered s.state.setup) order
+  pub all_numbered : (r : ℕ) (order : List Ordered) → IsLinearization (run_of_schedule s) r order → All (IsNumberedCall s.state.setup) order
   all_numbered r order linear k d low =
       let x = get_or order k d in
       let one = linear.only x (k, low, get_or_any order k x d low) in

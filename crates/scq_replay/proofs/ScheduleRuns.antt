@@ -19,12 +19,12 @@ use Rattle.scq_law.proofs.Order.RunStates.{moment}
 use Rattle.scq_law.proofs.Replays.LongerRuns.{run_first, run_last}
 use Rattle.scq_replay.specs.declared.ordering.Schedule.{Schedule}
 use Rattle.scq_replay.specs.declared.replaying.ScheduleFault.{ScheduleFault}
-use Rattle.scq_replay.specs.OrderSteps.{run_of_schedule, LeadsTo, IsScheduleOf, IsAdded}
+use Rattle.scq_replay.specs.OrderSteps.{run_of_schedule, ScheduleLeads, IsScheduleOf, IsAdded}
 use Rattle.scq_replay.specs.OrderText.{SaysSteps}
 use Rattle.scq_replay.specs.Printed.{call_ring, step_line}
 use Rattle.scq_replay.specs.Replay.{turn_of_line, schedule_start, HasSetup, Gives, steps_of}
 use Rattle.scq_replay.specs.Schedule.{turn_in}
-use Rattle.scq_replay.specs.Steps.{IsMade, IsRefused}
+use Rattle.scq_replay.specs.Steps.{IsMade, LineIsRefused}
 use Rattle.scq_replay.proofs.StepsRun as lines_run
 
 abbrev pub no_contents : Setup → List (List ℕ)
@@ -36,12 +36,12 @@ pub record IsSoFar (c : Setup) (lines : List (List ℕ)) (s : Schedule) (number 
   pub numbered : number ≡ length s.steps.items + 1
   pub few : number ≤ 10001
   pub said : map (turn_in c) lines ≡ map Some s.steps.items ++ map (turn_in c) rest
-  pub leads : LeadsTo s
+  pub leads : ScheduleLeads s
   pub printed : List ℕ
-  pub gives : lines_run.IsRun c (schedule_start c) lines (machine_of s.state) number rest printed
+  pub gives : lines_run.LinesAreRun c (schedule_start c) lines (machine_of s.state) number rest printed
 
 -- a run of no steps leads to the start
-leads_first : (s : Schedule) → s.steps.items ≡ [] → machine_of s.state ≡ start_of s.state.setup (no_contents s.state.setup) → LeadsTo s
+leads_first : (s : Schedule) → s.steps.items ≡ [] → machine_of s.state ≡ start_of s.state.setup (no_contents s.state.setup) → ScheduleLeads s
 leads_first s none start =
     let c = s.state.setup in
     record {
@@ -72,8 +72,8 @@ said_in c number line turn few says =
     let here : turn_in c line ≡ Some turn = rw (le-leb number 10000 few) at says in here
 
 -- the run goes on by an enabled step
-leads_next : (s t : Schedule) (x : ℕ × Step) → LeadsTo s → t.state.setup ≡ s.state.setup → x.0 < s.state.setup.seats
-    → step_of s.state.setup (machine_of s.state) x.0 x.1 ≡ Some (machine_of t.state) → t.steps.items ≡ s.steps.items ++ x ∷ [] → LeadsTo t
+leads_next : (s t : Schedule) (x : ℕ × Step) → ScheduleLeads s → t.state.setup ≡ s.state.setup → x.0 < s.state.setup.seats
+    → step_of s.state.setup (machine_of s.state) x.0 x.1 ≡ Some (machine_of t.state) → t.steps.items ≡ s.steps.items ++ x ∷ [] → ScheduleLeads t
 leads_next s t x leads setup low steps adds =
     let c = s.state.setup in
     let here : step_of c leads.recorded.state x.0 x.1 ≡ Some (machine_of t.state) =
@@ -121,11 +121,11 @@ so_far_next c lines s t number line rest more cut so_far few added setup =
 
 -- a line that is refused decides what all of them give
 pub so_far_refused : (text lines : List (List ℕ)) (c : Setup) (s : Schedule) (number : ℕ) (line : List ℕ) (rest more : List (List ℕ)) (fault : ScheduleFault)
-    → HasSetup text c lines → rest ≡ line ∷ more → IsSoFar c lines s number rest → IsRefused s.state.setup number line (machine_of s.state) fault
+    → HasSetup text c lines → rest ≡ line ∷ more → IsSoFar c lines s number rest → LineIsRefused s.state.setup number line (machine_of s.state) fault
     → Gives text (Err fault)
 so_far_refused text lines c s number line rest more fault has cut so_far refused =
-    let here : IsRefused c number line (machine_of s.state) fault =
-    subst (λ (d : Setup). IsRefused d number line (machine_of s.state) fault) so_far.setup refused in
+    let here : LineIsRefused c number line (machine_of s.state) fault =
+    subst (λ (d : Setup). LineIsRefused d number line (machine_of s.state) fault) so_far.setup refused in
     subst (Gives text)
     (lines_run.run_refused c (schedule_start c) lines (machine_of s.state) number line rest more so_far.printed fault cut so_far.gives here)
     (steps_of c lines has)
@@ -147,7 +147,7 @@ so_far_end text lines c s number rest has none so_far =
     }
 
 -- the run ends in the state
-pub last_is : (s : Schedule) → LeadsTo s → last_state (run_of_schedule s) ≡ machine_of s.state
+pub last_is : (s : Schedule) → ScheduleLeads s → last_state (run_of_schedule s) ≡ machine_of s.state
 last_is s leads =
     let run = run_of_schedule s in
     let all : recorded_of run.setup run.opening (take (length run.steps) run.steps) ≡ Some leads.recorded =
@@ -155,7 +155,7 @@ last_is s leads =
     ap (λ (o : Option Recorded). (unwrap_or o (recorded_first run.setup run.opening)).state) all ∙ sym leads.state
 
 -- and it stops nowhere
-pub stops_nowhere : (s : Schedule) (at : ℕ) → LeadsTo s → StopsAt s.state.setup (no_contents s.state.setup) s.steps.items at → ⊥
+pub stops_nowhere : (s : Schedule) (at : ℕ) → ScheduleLeads s → StopsAt s.state.setup (no_contents s.state.setup) s.steps.items at → ⊥
 stops_nowhere s at leads stops =
     let some = moment (run_of_schedule s) leads.recorded leads.is_run (at + 1) in
     let none = stops.here in

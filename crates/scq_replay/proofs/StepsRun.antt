@@ -7,11 +7,11 @@ use Rattle.scq_core.specs.declared.step.Step.{Step}
 use Rattle.scq_core.specs.Table.{step_of}
 use Rattle.scq_replay.specs.declared.replaying.ScheduleFault.{ScheduleFault}
 use Rattle.scq_replay.specs.declared.replaying.ScheduleFault.TheVariants.{Unfinished, NoMemory}
-use Rattle.scq_replay.specs.Replay.{onto, made, taken, turn_of_line, steps_from, schedule_start, Gives, no_setup, steps_of}
-use Rattle.scq_replay.specs.Steps.{IsMade, IsRefused, bad_line, not_enabled}
+use Rattle.scq_replay.specs.Replay.{onto, step_gives, taken, turn_of_line, steps_from, schedule_start, Gives, no_setup, steps_of}
+use Rattle.scq_replay.specs.Steps.{IsMade, LineIsRefused, bad_line, not_enabled}
 
 -- all the lines give what was printed, before what the rest gives
-pub record IsRun (c : Setup) (start : Machine) (lines : List (List ℕ)) (m : Machine) (number : ℕ) (rest : List (List ℕ)) (printed : List ℕ) : Type 0 where
+pub record LinesAreRun (c : Setup) (start : Machine) (lines : List (List ℕ)) (m : Machine) (number : ℕ) (rest : List (List ℕ)) (printed : List ℕ) : Type 0 where
   pub gives : steps_from c start 1 lines ≡ onto printed (steps_from c m number rest)
 
 onto-onto : (a b : List ℕ) (r : Result (List ℕ) ScheduleFault) → onto a (onto b r) ≡ onto (a ++ b) r
@@ -22,12 +22,12 @@ onto-nil : (r : Result (List ℕ) ScheduleFault) → onto [] r ≡ r
 onto-nil (Ok rest) = refl
 onto-nil (Err fault) = refl
 
-pub run_start : (c : Setup) (start : Machine) (lines : List (List ℕ)) (printed : List ℕ) → printed ≡ [] → IsRun c start lines start 1 lines printed
+pub run_start : (c : Setup) (start : Machine) (lines : List (List ℕ)) (printed : List ℕ) → printed ≡ [] → LinesAreRun c start lines start 1 lines printed
 run_start c start lines printed none = record { gives = sym (ap (λ p. onto p (steps_from c start 1 lines)) none ∙ onto-nil (steps_from c start 1 lines)) }
 
 pub run_more : (c : Setup) (start : Machine) (lines : List (List ℕ)) (m next : Machine) (number : ℕ) (line : List ℕ) (rest more : List (List ℕ))
     (old new : List ℕ)
-    → rest ≡ line ∷ more → IsRun c start lines m number rest old → IsMade c number line m next old new → IsRun c start lines next (number + 1) more new
+    → rest ≡ line ∷ more → LinesAreRun c start lines m number rest old → IsMade c number line m next old new → LinesAreRun c start lines next (number + 1) more new
 run_more c start lines m next number line rest more old new cut run made =
     record {
       gives =
@@ -36,7 +36,7 @@ run_more c start lines m next number line rest more old new cut run made =
     }
 
 pub run_refused : (c : Setup) (start : Machine) (lines : List (List ℕ)) (m : Machine) (number : ℕ) (line : List ℕ) (rest more : List (List ℕ)) (old : List ℕ)
-    (fault : ScheduleFault) → rest ≡ line ∷ more → IsRun c start lines m number rest old → IsRefused c number line m fault
+    (fault : ScheduleFault) → rest ≡ line ∷ more → LinesAreRun c start lines m number rest old → LineIsRefused c number line m fault
     → steps_from c start 1 lines ≡ Err fault
 run_refused c start lines m number line rest more old fault cut run (bad_line none) =
     run.gives ∙ ap (λ r. onto old (steps_from c m number r)) cut ∙ (rw none refl)
@@ -50,7 +50,7 @@ of_rest text seat (Err fault) is = is
 
 module _ (c : Setup) (m : Machine) (number : ℕ) (seat : ℕ) (go_on : Machine → Result (List ℕ) ScheduleFault)
     (never : (next : Machine) → go_on next ≡ Err (Unfinished seat) → ⊥) where
-  by_step : (turn : ℕ × Step) (next : Option Machine) → made c m number turn next go_on ≡ Err (Unfinished seat) → ⊥
+  by_step : (turn : ℕ × Step) (next : Option Machine) → step_gives c m number turn next go_on ≡ Err (Unfinished seat) → ⊥
   by_step turn None stops = absurd (cc)
   by_step turn (Some next) goes = never next (of_rest _ seat (go_on next) goes)
 

@@ -17,7 +17,7 @@ abbrev pub run_of_schedule : Schedule → Run
 run_of_schedule s = schedule_run s.state.setup s.steps.items
 
 -- its steps are a run, which leads to its state
-pub record LeadsTo (s : Schedule) : Type 0 where
+pub record ScheduleLeads (s : Schedule) : Type 0 where
   pub recorded : Recorded
   pub is_run : let run = run_of_schedule s in IsRun run.setup run.opening run.steps recorded
   pub state : machine_of s.state ≡ recorded.state
@@ -25,7 +25,7 @@ pub record LeadsTo (s : Schedule) : Type 0 where
 -- that is the run of the steps that the lines say
 pub record IsScheduleOf (lines : List (List ℕ)) (s : Schedule) : Type 0 where
   pub says : SaysSteps lines s.state.setup s.steps.items
-  pub leads : LeadsTo s
+  pub leads : ScheduleLeads s
 
 -- the line of this number says a step that leads from the one state to the other, and it was added
 pub record IsAdded (c : Setup) (number : ℕ) (line : List ℕ) (old new : Schedule) : Type 0 where
@@ -36,6 +36,6 @@ pub record IsAdded (c : Setup) (number : ℕ) (line : List ℕ) (old new : Sched
   pub adds : new.steps.items ≡ old.steps.items ++ turn ∷ []
 
 -- a call has a seat of the setup and a number from 1
-abbrev pub IsNumbered : Setup → Ordered → Type 0
-IsNumbered c (Opening j) = Unit {0}
-IsNumbered c (Call seat number) = (seat < c.seats) × (0 < number)
+abbrev pub IsNumberedCall : Setup → Ordered → Type 0
+IsNumberedCall c (Opening j) = Unit {0}
+IsNumberedCall c (Call seat number) = (seat < c.seats) × (0 < number)

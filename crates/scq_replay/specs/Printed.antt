@@ -38,15 +38,15 @@ step_name D9 = codes "D9"
 step_name D10 = codes "D10"
 
 -- the ring on which a step begins a call, if it begins one
-abbrev pub begun_on : Step → Option ℕ
-begun_on (E1 ring index content) = Some ring
-begun_on (D1 ring) = Some ring
-begun_on step = None
+abbrev pub begins_on : Step → Option ℕ
+begins_on (E1 ring index content) = Some ring
+begins_on (D1 ring) = Some ring
+begins_on step = None
 
 -- the ring of a step's call: of the one that it begins, or of the one that its seat is in the
 -- middle of before it
 abbrev pub call_ring : Step → Phase → ℕ
-call_ring step phase = unwrap_or (option_or (begun_on step) (ring_under_way phase)) 0
+call_ring step phase = unwrap_or (option_or (begins_on step) (ring_under_way phase)) 0
 
 -- the words of the first entries of a ring, each after a space
 abbrev pub entry_words : (ℕ → ℕ) → ℕ → List ℕ
@@ -66,8 +66,8 @@ counter_words ring head tail =
 abbrev pub threshold_words : ℕ → List ℕ
 threshold_words word = codes " threshold " ++ signed_decimal (threshold_value word)
 
-abbrev pub ring_words : Setup → Cells → ℕ → List ℕ
-ring_words c m ring =
+abbrev pub printed_ring : Setup → Cells → ℕ → List ℕ
+printed_ring c m ring =
     counter_words ring (m.head ring) (m.tail ring) ++ threshold_words (m.threshold ring)
     ++ codes " entries"
     ++ entry_words (m.entries.word ring) (ring_slots c)
@@ -89,5 +89,5 @@ head_words number seat step =
 -- the line of a step of this number, seat and ring, from the state after it
 abbrev pub step_line : Setup → ℕ → ℕ → Step → ℕ → Machine → List ℕ
 step_line c number seat step ring m =
-    head_words number seat step ++ ring_words c m.cells ring
+    head_words number seat step ++ printed_ring c m.cells ring
     ++ reply_words (ended_in (m.part seat).phase (m.part seat).calls) ++ codes "\n"

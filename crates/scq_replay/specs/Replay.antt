@@ -19,17 +19,17 @@ onto text (Err fault) = Err fault
 
 -- what the step of this number, from 1, gives, whose line is one further down; `go_on` says what
 -- the lines behind it give from the state that it leads to
-abbrev pub made : Setup → Machine → ℕ → ℕ × Step → Option Machine
+abbrev pub step_gives : Setup → Machine → ℕ → ℕ × Step → Option Machine
     → (Machine → Result (List ℕ) ScheduleFault) → Result (List ℕ) ScheduleFault
-made c m number turn None go_on = Err (NotEnabled (number + 1))
-made c m number turn (Some next) go_on =
+step_gives c m number turn None go_on = Err (NotEnabled (number + 1))
+step_gives c m number turn (Some next) go_on =
     onto (step_line c number turn.0 turn.1 (call_ring turn.1 (m.part turn.0).phase) next)
     (go_on next)
 
 abbrev pub taken : Setup → Machine → ℕ → Option (ℕ × Step)
     → (Machine → Result (List ℕ) ScheduleFault) → Result (List ℕ) ScheduleFault
 taken c m number None go_on = Err (BadLine (number + 1))
-taken c m number (Some turn) go_on = made c m number turn (step_of c m turn.0 turn.1) go_on
+taken c m number (Some turn) go_on = step_gives c m number turn (step_of c m turn.0 turn.1) go_on
 
 -- the turn that the line of a step says, of which there are at most 10,000
 abbrev pub turn_of_line : Setup → ℕ → List ℕ → Option (ℕ × Step)

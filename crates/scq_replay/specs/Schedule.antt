@@ -8,7 +8,7 @@ use Rattle.scq_word.specs.declared.setup.Setup.{Setup}
 use Rattle.scq_core.specs.declared.step.Step.{Step}
 use Rattle.scq_core.specs.declared.step.Step.TheVariants.{E1, E1Again, E2, E3, E4, E5, E6, D1, D2}
 use Rattle.scq_core.specs.declared.step.Step.TheVariants.{D3, D4, D5, D6, D7, D8, D9, D10}
-use Rattle.scq_lines.specs.Lines.{fields_of, number_of, number_below, content_of}
+use Rattle.scq_lines.specs.Lines.{fields_of, number_of, number_below, field_content}
 use Rattle.scq_replay.specs.declared.schedule.SetupNumbers.{SetupNumbers}
 
 -- the numbers of `setup ORDER RINGS SEATS LIMIT`
@@ -63,7 +63,7 @@ step_said c (name ∷ ring ∷ []) =
 step_said c (name ∷ ring ∷ index ∷ content ∷ []) =
     if bytes_eq name (codes "E1")
     then put_of (number_below c.rings ring) (number_below (n_of c.order) index)
-    (content_of 16 content)
+    (field_content 16 content)
     else None
 step_said c _ = None
 

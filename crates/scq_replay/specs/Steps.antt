@@ -20,9 +20,10 @@ pub record IsMade (c : Setup) (number : ℕ) (line : List ℕ) (m next : Machine
       ≡ old ++ step_line c number turn.0 turn.1 (call_ring turn.1 (m.part turn.0).phase) next
 
 -- why the line of this number is refused in this state: it says no step, or one that isn't enabled
-pub data IsRefused (c : Setup) (number : ℕ) (line : List ℕ) (m : Machine) : ScheduleFault
+pub data LineIsRefused (c : Setup) (number : ℕ) (line : List ℕ) (m : Machine) : ScheduleFault
     → Type 0 where
-  bad_line : turn_of_line c number line ≡ None → IsRefused c number line m (BadLine (number + 1))
+  bad_line : turn_of_line c number line ≡ None
+      → LineIsRefused c number line m (BadLine (number + 1))
   not_enabled : (turn : ℕ × Step) → turn_of_line c number line ≡ Some turn
       → step_of c m turn.0 turn.1 ≡ None
-      → IsRefused c number line m (NotEnabled (number + 1))
+      → LineIsRefused c number line m (NotEnabled (number + 1))

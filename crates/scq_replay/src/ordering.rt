@@ -6,12 +6,13 @@ ghost use Rattle.scq_core.specs.StateLists.{machine_of};
 ghost use Rattle.scq_lines.specs.Lines.{lines_of};
 ghost use Rattle.scq_law.specs.Order.{IsLinearization};
 ghost use Rattle.scq_law.specs.RunSteps.{IsFinishedRun, IsUnfinished};
-ghost use Rattle.scq_replay.specs.OrderSteps.{run_of_schedule, LeadsTo, IsScheduleOf, IsAdded};
-ghost use Rattle.scq_replay.specs.OrderSteps.{IsNumbered};
+ghost use Rattle.scq_replay.specs.OrderSteps.{run_of_schedule, ScheduleLeads, IsScheduleOf};
+ghost use Rattle.scq_replay.specs.OrderSteps.{IsAdded};
+ghost use Rattle.scq_replay.specs.OrderSteps.{IsNumberedCall};
 ghost use Rattle.scq_replay.specs.OrderText.{member_words, member_line, ring_lines, IsOrderText};
 ghost use Rattle.scq_replay.specs.OrderText.{HasNoOrders};
 ghost use Rattle.scq_replay.specs.Replay.{schedule_start, HasSetup, Gives};
-ghost use Rattle.scq_replay.specs.Steps.{IsRefused};
+ghost use Rattle.scq_replay.specs.Steps.{LineIsRefused};
 ghost use Rattle.scq_replay.specs.declared.replaying.ScheduleFault.TheVariants.{
   Unfinished as IsUnended,
 };
@@ -95,7 +96,8 @@ impl Schedule {
         ensures added { OnOk result
             (IsAdded self.old.state.setup number line.now self.old self.new) }
         ensures refused { IfErr result (λ fault. (fault ≡ OutOfMemory)
-            ⊎ IsRefused self.old.state.setup number line.now (machine_of self.old.state) fault) }
+            ⊎ LineIsRefused self.old.state.setup number line.now (machine_of self.old.state)
+            fault) }
     {
         let (seat, step) = turn_of_line(alloc, &self.state.setup(), number, line)?;
         make_step(&mut self.state, number, seat, &step)?;
@@ -108,7 +110,7 @@ impl Schedule {
 
 /// The order of a ring.
 fn order_of(alloc: Global, schedule: &Schedule, ring: u32) -> Result<Vec<Ordered>, ScheduleFault>
-    requires leads { LeadsTo schedule.now }
+    requires leads { ScheduleLeads schedule.now }
     requires ring { ring < schedule.now.state.setup.rings }
     ensures finished { OnOk result (IsFinishedRun (run_of_schedule schedule.now)) }
     ensures order { IfOk result (λ order.
@@ -134,7 +136,7 @@ fn add_ring(
     order: &Vec<Ordered>,
     state: &State,
 ) -> Result<(), NoMemory>
-    requires { All (IsNumbered state.now.setup) order.now.items }
+    requires { All (IsNumberedCall state.now.setup) order.now.items }
     ensures { OnOk result (text.new.items
         ≡ text.old.items ++ ring_lines (machine_of state.now) ring order.now.items) }
 {
@@ -147,7 +149,7 @@ fn add_ring(
 }
 
 fn add_member(text: &mut Vec<u8>, member: &Ordered, state: &State) -> Result<(), NoMemory>
-    requires { IsNumbered state.now.setup member.now }
+    requires { IsNumberedCall state.now.setup member.now }
     ensures { OnOk result (text.new.items
         ≡ text.old.items ++ member_line (machine_of state.now) member.now) }
 {
@@ -157,7 +159,7 @@ fn add_member(text: &mut Vec<u8>, member: &Ordered, state: &State) -> Result<(),
 }
 
 fn add_words(text: &mut Vec<u8>, member: &Ordered, state: &State) -> Result<(), NoMemory>
-    requires { IsNumbered state.now.setup member.now }
+    requires { IsNumberedCall state.now.setup member.now }
     ensures { OnOk result (text.new.items
         ≡ text.old.items ++ member_words (machine_of state.now) member.now) }
 {

@@ -8,8 +8,10 @@ ghost use Rattle.scq_core.specs.Reach.{IsReachable};
 ghost use Rattle.scq_core.specs.StateLists.{machine_of};
 ghost use Rattle.scq_core.specs.Table.{ring_slots};
 ghost use Rattle.scq_lines.specs.Lines.{content_text};
-ghost use Rattle.scq_replay.specs.Printed.{step_name, begun_on, call_ring, head_words, entry_words};
-ghost use Rattle.scq_replay.specs.Printed.{counter_words, threshold_words, ring_words, reply_words};
+ghost use Rattle.scq_replay.specs.Printed.{step_name, begins_on, call_ring, head_words};
+ghost use Rattle.scq_replay.specs.Printed.{entry_words};
+ghost use Rattle.scq_replay.specs.Printed.{counter_words, threshold_words, printed_ring};
+ghost use Rattle.scq_replay.specs.Printed.{reply_words};
 ghost use Rattle.scq_replay.specs.Printed.{step_line};
 
 use itoa::Buffer;
@@ -20,7 +22,7 @@ use scq_word::{Bytes, NoMemory};
 /// The ring of the call that a step of the seat begins or goes on with.
 pub(crate) fn call_ring(state: &State, seat: u32, step: &Step) -> u32
     requires seat { seat < state.now.setup.seats }
-    requires begun { IfSome (begun_on step.now) (λ ring. ring < state.now.setup.rings) }
+    requires begun { IfSome (begins_on step.now) (λ ring. ring < state.now.setup.rings) }
     requires reachable { IsReachable state.now.setup (machine_of state.now) }
     ensures ring { result ≡ call_ring step.now ((machine_of state.now).part seat).phase }
     ensures low { result < state.now.setup.rings }
@@ -32,7 +34,7 @@ pub(crate) fn call_ring(state: &State, seat: u32, step: &Step) -> u32
 }
 
 fn begun_on(step: &Step) -> Option<u32>
-    ensures { result ≡ begun_on step.now }
+    ensures { result ≡ begins_on step.now }
 {
     match step {
         Step::E1 { ring, .. } => Some(*ring),
@@ -110,7 +112,7 @@ fn add_ring(text: &mut Vec<u8>, ring: u32, slots: u32, state: &State) -> Result<
     requires ring { ring < state.now.setup.rings }
     requires slots { slots ≡ ring_slots state.now.setup }
     ensures { OnOk result (text.new.items
-        ≡ text.old.items ++ ring_words state.now.setup (machine_of state.now).cells ring) }
+        ≡ text.old.items ++ printed_ring state.now.setup (machine_of state.now).cells ring) }
 {
     add_counters(text, ring, state)?;
     add_threshold(text, ring, state)?;

@@ -5,7 +5,7 @@ ghost use Rattle.scq_core.specs.Reach.{IsReachable};
 ghost use Rattle.scq_core.specs.StateLists.{machine_of};
 ghost use Rattle.scq_lines.specs.Lines.{lines_of};
 ghost use Rattle.scq_replay.specs.Replay.{steps_from, Gives};
-ghost use Rattle.scq_replay.specs.Steps.{IsMade, IsRefused};
+ghost use Rattle.scq_replay.specs.Steps.{IsMade, LineIsRefused};
 ghost use Rattle.scq_replay.specs.declared.replaying.ScheduleFault.TheVariants.{
   NoMemory as OutOfMemory,
 };
@@ -20,7 +20,7 @@ use thiserror::Error;
 
 /// Why a schedule was not run to its end: the first line with a fault, from 1. Where an order is
 /// asked for and no line has one: the lowest seat whose call has not ended. Or memory was wanted.
-#[derive(Clone, Copy, Debug, PartialEq, Eq, Error)]
+#[derive(Clone, Copy, Debug, Error)]
 pub enum ScheduleFault {
     /// The line is not of the form, or is one line too many; or there is no first line.
     #[error("line {line}: not understood")]
@@ -105,8 +105,8 @@ fn print_step(
     ensures few { OnOk result (number ≤ 10000) }
     ensures made { OnOk result (IsMade setup.now number line.now (machine_of state.old)
         (machine_of state.new) printed.old.items printed.new.items) }
-    ensures refused { IfErr result (λ fault.
-        (fault ≡ OutOfMemory) ⊎ IsRefused setup.now number line.now (machine_of state.old) fault) }
+    ensures refused { IfErr result (λ fault. (fault ≡ OutOfMemory)
+        ⊎ LineIsRefused setup.now number line.now (machine_of state.old) fault) }
 {
     let (seat, step) = turn_of_line(alloc, setup, number, line)?;
     let ring = call_ring(state, seat, &step);

@@ -5,7 +5,7 @@ ghost use Rattle.std.specs.Str.{bytes_eq};
 ghost use Rattle.scq_word.specs.declared.setup.Setup.{Setup as SetupOf};
 ghost use Rattle.scq_lines.specs.Lines.{fields_of, fields_after};
 ghost use Rattle.scq_replay.specs.Schedule.{setup_said, IsSetupLine, bare_step, step_said, turn_in};
-ghost use Rattle.scq_replay.specs.Printed.{begun_on};
+ghost use Rattle.scq_replay.specs.Printed.{begins_on};
 
 use scq_core::Step;
 use scq_lines::{content, first_field, next_field, number, number_below};
@@ -98,7 +98,7 @@ pub(crate) fn read_turn(
     ensures turn { IfOk result (λ turn. turn ≡ turn_in setup.now line.now) }
     ensures seat { IfOk result (λ turn. IfSome turn (λ turn. turn.0 < setup.now.seats)) }
     ensures ring { IfOk result (λ turn.
-        IfSome turn (λ turn. IfSome (begun_on turn.1) (λ ring. ring < setup.now.rings))) }
+        IfSome turn (λ turn. IfSome (begins_on turn.1) (λ ring. ring < setup.now.rings))) }
 {
     let (seat, rest) = first_field(line);
     let Some(seat) = number_below(setup.seats(), seat) else {
@@ -113,7 +113,7 @@ pub(crate) fn read_turn(
 fn read_step(alloc: Global, setup: &Setup, rest: &[u8]) -> Result<Option<Step>, NoMemory>
     ensures step { IfOk result (λ step. step ≡ step_said setup.now (fields_after rest.now)) }
     ensures ring { IfOk result (λ step.
-        IfSome step (λ step. IfSome (begun_on step) (λ ring. ring < setup.now.rings))) }
+        IfSome step (λ step. IfSome (begins_on step) (λ ring. ring < setup.now.rings))) }
 {
     let Some((name, rest)) = next_field(rest) else {
         return Ok(None);
@@ -130,7 +130,8 @@ fn read_step(alloc: Global, setup: &Setup, rest: &[u8]) -> Result<Option<Step>, 
 // `D1 R`
 fn get(setup: &Setup, name: &[u8], ring: &[u8]) -> Option<Step>
     ensures step { result ≡ step_said setup.now (name.now ∷ ring.now ∷ []) }
-    ensures ring { IfSome result (λ step. IfSome (begun_on step) (λ ring. ring < setup.now.rings)) }
+    ensures ring { IfSome result (λ step.
+        IfSome (begins_on step) (λ ring. ring < setup.now.rings)) }
 {
     match number_below(setup.rings(), ring) {
         Some(ring) if is_word(name, b"D1") => Some(Step::D1 { ring }),
@@ -150,7 +151,7 @@ fn put(
     ensures step { IfOk result (λ step.
         step ≡ step_said setup.now (name.now ∷ ring.now ∷ index.now ∷ fields_after rest.now)) }
     ensures ring { IfOk result (λ step.
-        IfSome step (λ step. IfSome (begun_on step) (λ ring. ring < setup.now.rings))) }
+        IfSome step (λ step. IfSome (begins_on step) (λ ring. ring < setup.now.rings))) }
 {
     let Some((field, rest)) = next_field(rest) else {
         return Ok(None);
@@ -176,7 +177,7 @@ fn put(
 
 fn bare_step(name: &[u8]) -> Option<Step>
     ensures step { result ≡ bare_step name.now }
-    ensures ring { IfSome result (λ step. begun_on step ≡ None) }
+    ensures ring { IfSome result (λ step. begins_on step ≡ None) }
 {
     match name {
         b"E1" => Some(Step::E1Again),

@@ -7,7 +7,7 @@ ghost use Rattle.scq_core.specs.Reach.{IsReachable};
 ghost use Rattle.scq_core.specs.StateLists.{machine_of};
 ghost use Rattle.scq_core.specs.Table.{step_of};
 ghost use Rattle.scq_lines.specs.Lines.{lines_of};
-ghost use Rattle.scq_replay.specs.Printed.{begun_on};
+ghost use Rattle.scq_replay.specs.Printed.{begins_on};
 ghost use Rattle.scq_replay.specs.Replay.{turn_of_line, HasSetup, Gives};
 ghost use Rattle.scq_replay.specs.declared.replaying.ScheduleFault.TheVariants.{BadLine};
 ghost use Rattle.scq_replay.specs.declared.replaying.ScheduleFault.TheVariants.{
@@ -66,7 +66,8 @@ pub(crate) fn turn_of_line(
     ensures says { IfOk result (λ turn. turn_of_line setup.now number line.now ≡ Some turn) }
     ensures few { OnOk result (number ≤ 10000) }
     ensures seat { IfOk result (λ turn. turn.0 < setup.now.seats) }
-    ensures ring { IfOk result (λ turn. IfSome (begun_on turn.1) (λ ring. ring < setup.now.rings)) }
+    ensures ring { IfOk result (λ turn.
+        IfSome (begins_on turn.1) (λ ring. ring < setup.now.rings)) }
     ensures refused { IfErr result (λ fault. (fault ≡ OutOfMemory)
         ⊎ ((fault ≡ BadLine (number + 1)) × (turn_of_line setup.now number line.now ≡ None))) }
 {

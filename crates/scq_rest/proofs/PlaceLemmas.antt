@@ -7,7 +7,7 @@ use Rattle.atomic_table.specs.Seated.{TableId}
 use Rattle.scq_block.specs.declared.frame.Frame.{Frame}
 use Rattle.scq_band.specs.Standing.{Identity}
 use Rattle.scq_rest.specs.Threads.{Task, task, HandsBack}
-use Rattle.scq_rest.specs.Places.{Begins}
+use Rattle.scq_rest.specs.Places.{IsReadyToBegin}
 use Rattle.scq_worker.specs.declared.job.Job.{Job}
 use Rattle.scq_rest.specs.declared.threads.HandedBack.{HandedBack}
 use Rattle.scq_rest.specs.declared.threads.WorksOn.{WorksOn}
@@ -16,7 +16,7 @@ use Rattle.scq_files.specs.Reading.{SourceOf}
 
 -- a started worker's end, as its place tells it
 pub ends-here : {S : Type 0} (q : Identity Frame) (j : Job) (crew : List TableId) (src : SourceOf S) (w : WorksOn S)
-    (end : HandedBack S) → Begins q j crew src w → HandsBack (task w.queue.value w.job.value w.crew.value src) w.work.value end
+    (end : HandedBack S) → IsReadyToBegin q j crew src w → HandsBack (task w.queue.value w.job.value w.crew.value src) w.work.value end
     → HandsBack (task q j crew src) w.work.value end
 ends-here q j crew src w end was so =
     let same : task w.queue.value w.job.value w.crew.value src ≡ task q j crew src =

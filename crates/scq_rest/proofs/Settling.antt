@@ -9,9 +9,9 @@ use Rattle.atomic_table.specs.Seated.{TableId}
 use Rattle.scq_block.specs.declared.frame.Frame.{Frame}
 use Rattle.scq_queue.specs.Passes.{PassStanding, was_told}
 use Rattle.scq_park.specs.declared.rested.Rested.{Rested}
-use Rattle.scq_park.specs.Crews.{Post, AreInOrder, AreAll, counted, plus, woken, ended, rested_of, no_wakes, first_post, first_posts}
+use Rattle.scq_park.specs.Crews.{Post, AreInWorkerOrder, AreAll, counted, plus, woken, ended, rested_of, no_wakes, first_post, first_posts}
 use Rattle.scq_worker.specs.Opening.{takes_behind}
-use Rattle.scq_worker.specs.Seats.{IsFresh, Seated}
+use Rattle.scq_worker.specs.Seats.{IsToBegin, Seated}
 use Rattle.scq_files.specs.OwnFiles.{IsNew, ids_of}
 use Rattle.scq_rest.specs.Resting.{AreSettled}
 use Rattle.scq_rest.specs.Threads.{Task, IsGiven, HasDone}
@@ -62,11 +62,11 @@ module _ {S : Type 0} where
 
   -- each worker is given what it begins with
   pub all-given : (t : Task S) (xs : List (Work S)) (desks : List (Desk (Seated Frame) S)) (stands : List Post) → desks ≡ map desk_of xs → stands ≡ map stand_of xs
-      → All (λ (d : Desk (Seated Frame) S). IsFresh t.queue d.worker) desks → All (λ (d : Desk (Seated Frame) S). All IsNew d.files.items) desks → All (IsFirst t.crew) stands
+      → All (λ (d : Desk (Seated Frame) S). IsToBegin t.queue d.worker) desks → All (λ (d : Desk (Seated Frame) S). All IsNew d.files.items) desks → All (IsFirst t.crew) stands
       → All (IsGiven t) xs
   all-given t xs desks stands desks_are stands_are fresh unread new k x less =
       record {
-        fresh = all-shown (λ (d : Desk (Seated Frame) S). IsFresh t.queue d.worker) desk_of xs desks (sym desks_are) fresh k x less;
+        fresh = all-shown (λ (d : Desk (Seated Frame) S). IsToBegin t.queue d.worker) desk_of xs desks (sym desks_are) fresh k x less;
         unread = all-shown (λ (d : Desk (Seated Frame) S). All IsNew d.files.items) desk_of xs desks (sym desks_are) unread k x less;
         stand = all-shown (IsFirst t.crew) stand_of xs stands (sym stands_are) new k x less;
       }
@@ -107,7 +107,7 @@ module _ {S : Type 0} where
       All-cons Own y.stand (map stand_of ys) (z.0.crew ∙ All-head Own x.stand (map stand_of xs) own)
       (still-own t crew xs ys z.1 (All-tail Own x.stand (map stand_of xs) own))
 
-  still-ordered : (t : Task S) (w : ℕ) (xs ys : List (Work S)) → AllZip (HasDone t) xs ys → AreInOrder w (map stand_of xs) → AreInOrder w (map stand_of ys)
+  still-ordered : (t : Task S) (w : ℕ) (xs ys : List (Work S)) → AllZip (HasDone t) xs ys → AreInWorkerOrder w (map stand_of xs) → AreInWorkerOrder w (map stand_of ys)
   still-ordered t w [] [] z order = order
   still-ordered t w [] (y ∷ ys) z order = absurd z
   still-ordered t w (x ∷ xs) [] z order = absurd z

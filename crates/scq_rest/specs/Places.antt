@@ -6,7 +6,7 @@ use Rattle.atomic_table.specs.Seated.{TableId}
 use Rattle.scq_block.specs.declared.frame.Frame.{Frame}
 use Rattle.scq_band.specs.Standing.{Identity}
 use Rattle.scq_files.specs.Reading.{SourceOf}
-use Rattle.scq_rest.specs.Threads.{Task, task, IsReady, IsGiven, HasDone}
+use Rattle.scq_rest.specs.Threads.{Task, task, CanStart, IsGiven, HasDone}
 use Rattle.scq_worker.specs.declared.job.Job.{Job}
 use Rattle.scq_rest.specs.declared.places.Runner.{Runner}
 use Rattle.scq_rest.specs.declared.places.Runner.TheVariants.{Started, Here, Done}
@@ -21,7 +21,7 @@ module _ {S : Type 0} where
   given_to (Done was work) = was.work.value
 
   -- a worker of this queue, job and crew was given what one begins with
-  pub record Begins (q : Identity Frame) (j : Job) (crew : List TableId) (src : SourceOf S)
+  pub record IsReadyToBegin (q : Identity Frame) (j : Job) (crew : List TableId) (src : SourceOf S)
       (w : WorksOn S) : Type 0 where
     pub queue : w.queue.value ≡ q
     pub job : w.job.value ≡ j
@@ -32,9 +32,9 @@ module _ {S : Type 0} where
   -- caller runs it, R holds of what it was given and what it has
   abbrev pub HasWork : (Task S → Work S → Work S → Type 0) → Identity Frame → Job → List TableId
       → SourceOf S → Runner S → Type 0
-  HasWork R q j crew src (Started h) = Begins q j crew src h.promise
+  HasWork R q j crew src (Started h) = IsReadyToBegin q j crew src h.promise
   HasWork R q j crew src (Here was work) =
-      Begins q j crew src was
+      IsReadyToBegin q j crew src was
       × R (task q j crew src) was.work.value work
   HasWork R q j crew src (Done was work) = HasDone (task q j crew src) was.work.value work
 
@@ -46,7 +46,7 @@ module _ {S : Type 0} where
   abbrev pub CanAllBegin : Task S → ℕ → Work S → Vec (Work S) Global → Vec (Runner S) Global
       → Vec (Work S) Global → Type 0
   CanAllBegin t flags first given places ends =
-      IsReady t × IsGiven t first × All (IsGiven t) given.items × (vec_len given ≤ flags)
+      CanStart t × IsGiven t first × All (IsGiven t) given.items × (vec_len given ≤ flags)
       × (places.items ≡ []) × (ends.items ≡ []) × (vec_len given ≤ vec_capacity places)
       × (vec_len given ≤ vec_capacity ends)
 

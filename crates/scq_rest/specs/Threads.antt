@@ -7,7 +7,7 @@ use Rattle.scq_topics.specs.declared.kind.Kind.{Kind}
 use Rattle.scq_band.specs.Standing.{Identity}
 use Rattle.scq_park.specs.Crews.{first_post}
 use Rattle.scq_worker.specs.Opening.{takes_behind}
-use Rattle.scq_worker.specs.Seats.{IsFresh}
+use Rattle.scq_worker.specs.Seats.{IsToBegin}
 use Rattle.scq_files.specs.OwnFiles.{IsNew, ids_of}
 use Rattle.scq_files.specs.Reading.{SourceOf}
 use Rattle.scq_worker.specs.Desks.{HasProduced, HasRun}
@@ -45,7 +45,7 @@ module _ {S : Type 0} where
 
   -- they can begin: the queue has a ring for each topic and frames with room for a part, and the
   -- crew is one of so many
-  pub record IsReady (t : Task S) : Type 0 where
+  pub record CanStart (t : Task S) : Type 0 where
     pub rings : t.queue.setup.rings ≡ length t.topics + 2
     pub room : All (λ b. t.size + 24 ≤ length b.bytes.items) t.queue.given
     pub crew : length t.crew ≡ t.workers
@@ -53,17 +53,17 @@ module _ {S : Type 0} where
 
   -- what a worker is given: a new pass, files that nobody read, and a new stand of the crew
   pub record IsGiven (t : Task S) (w : Work S) : Type 0 where
-    pub fresh : IsFresh t.queue w.desk.worker
+    pub fresh : IsToBegin t.queue w.desk.worker
     pub unread : All IsNew w.desk.files.items
     pub stand : w.stand ≡ first_post t.crew w.stand.worker
 
   -- so a worker can begin
   pub record CanBegin (t : Task S) (w : Work S) : Type 0 where
-    pub ready : IsReady t
+    pub ready : CanStart t
     pub given : IsGiven t w
 
   -- one that has read its files and retired
-  pub record IsBegun (t : Task S) (w : Work S) : Type 0 where
+  pub record HasReadAndRetired (t : Task S) (w : Work S) : Type 0 where
     pub produced : HasProduced t.queue t.topics t.size t.most t.longest t.src
         w.desk.files.items w.desk.worker.worker.pass
         w.desk.worker.worker.members w.desk.worker.worker.starved w.desk.worker.kept
@@ -72,7 +72,7 @@ module _ {S : Type 0} where
 
   -- so far it made this of what it was given. Its stand is as it was, but for whom it woke
   pub record HasBegun (t : Task S) (old new : Work S) : Type 0 where
-    pub begun : IsBegun t new
+    pub begun : HasReadAndRetired t new
     pub files : ids_of new.desk.files.items ≡ ids_of old.desk.files.items
     pub number : new.desk.worker.worker.pass.number ≡ old.desk.worker.worker.pass.number
     pub stand : but_wakes new.stand ≡ but_wakes old.stand

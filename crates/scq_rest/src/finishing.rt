@@ -1,7 +1,7 @@
 //! What a worker that may rest does once it has retired.
 ghost use Rattle.std.specs.Prelude.{◌≡◌, ◌+◌, length};
 ghost use Rattle.scq_block.specs.Frames.{bytes_of};
-ghost use Rattle.scq_worker.specs.Desks.{HasProduced, HasRun, IsToSweep};
+ghost use Rattle.scq_worker.specs.Desks.{HasProducedAt, HasRunAt, IsToSweepAt};
 ghost use Rattle.scq_worker.specs.Opening.{takes_behind};
 ghost use Rattle.scq_rest.specs.Waiting.{HasWaited};
 
@@ -26,14 +26,10 @@ pub fn finish<S: Source, G: Gate, R: Wait>(
     crew: &Crew,
     stand: &mut Stand,
 )
-    requires produced { HasProduced queue.now job.now.topics job.now.size job.now.most
-        job.now.longest S.Source desk.old.files.items desk.old.worker.worker.pass
-        desk.old.worker.worker.members desk.old.worker.worker.starved desk.old.worker.kept }
+    requires produced { HasProducedAt queue.now job.now S.Source desk.old }
     requires stand { (stand.old.crew ≡ crew.now) × (stand.old.rests ≡ 0) }
     ensures same { desk.new.files.items ≡ desk.old.files.items }
-    ensures run { HasRun queue.now job.now.topics job.now.size job.now.most job.now.longest S.Source
-        desk.new.files.items desk.new.worker.worker.pass desk.new.worker.worker.members
-        desk.new.worker.worker.starved desk.new.worker.kept }
+    ensures run { HasRunAt queue.now job.now S.Source desk.new }
     ensures waited { HasWaited bytes_of (length job.now.topics
         + 1) (takes_behind job.now.most) stand.new.rests desk.new.worker.worker.pass }
     ensures number { desk.new.worker.worker.pass.number ≡ desk.old.worker.worker.pass.number }
@@ -57,14 +53,10 @@ fn rest_out<S: Source, G: Gate, R: Wait>(
     crew: &Crew,
     stand: &mut Stand,
 )
-    requires sweep { IsToSweep queue.now job.now.topics job.now.size job.now.most
-        job.now.longest S.Source desk.old.files.items desk.old.worker.worker.pass
-        desk.old.worker.worker.members desk.old.worker.worker.starved desk.old.worker.kept }
+    requires sweep { IsToSweepAt queue.now job.now S.Source desk.old }
     requires stand { (stand.old.crew ≡ crew.now) × (stand.old.rests ≡ 0) }
     ensures same { desk.new.files.items ≡ desk.old.files.items }
-    ensures run { HasRun queue.now job.now.topics job.now.size job.now.most job.now.longest S.Source
-        desk.new.files.items desk.new.worker.worker.pass desk.new.worker.worker.members
-        desk.new.worker.worker.starved desk.new.worker.kept }
+    ensures run { HasRunAt queue.now job.now S.Source desk.new }
     ensures waited { HasWaited bytes_of (length job.now.topics
         + 1) (takes_behind job.now.most) stand.new.rests desk.new.worker.worker.pass }
     ensures number { desk.new.worker.worker.pass.number ≡ desk.old.worker.worker.pass.number }

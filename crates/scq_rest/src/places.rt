@@ -2,7 +2,7 @@
 //! be made.
 ghost use Rattle.std.specs.Prelude.{◌≡◌, ◌≤◌, [], length, map, All, vec_len, vec_capacity};
 ghost use Rattle.std.specs.List.{AllZip};
-ghost use Rattle.scq_rest.specs.Threads.{task, IsReady, IsGiven, HasBegun, HasDone};
+ghost use Rattle.scq_rest.specs.Threads.{task, CanStart, IsGiven, HasBegun, HasDone};
 ghost use Rattle.scq_rest.specs.Places.{given_to, HasWork, IsUntouched, CanAllBegin, HaveDone};
 
 use crate::threads::{HandedBack, Work, WorksOn, start};
@@ -38,7 +38,7 @@ fn begin<'s, E, R: Threads + Wait + Sync + 's, S: Source + 's, G: Gate + Sync + 
     held_back: &'s AtomicBool,
     given: Work<S>,
 ) -> Runner<S>
-    requires ready { IsReady (task queue.now job.now crew.now S.Source) }
+    requires ready { CanStart (task queue.now job.now crew.now S.Source) }
     requires given { IsGiven (task queue.now job.now crew.now S.Source) given }
     ensures given { given_to result ≡ given }
     ensures stands { HasWork IsUntouched queue.now job.now crew.now S.Source result }
@@ -61,7 +61,7 @@ impl<S: Source> Runner<S> {
         gate: &G,
         crew: &Crew,
     )
-        requires ready { IsReady (task queue.now job.now crew.now S.Source) }
+        requires ready { CanStart (task queue.now job.now crew.now S.Source) }
         requires stands { HasWork IsUntouched queue.now job.now crew.now S.Source self.old }
         ensures given { given_to self.new ≡ given_to self.old }
         ensures stands { HasWork HasBegun queue.now job.now crew.now S.Source self.new }
@@ -104,7 +104,7 @@ impl<S: Source> Runner<S> {
         gate: &G,
         crew: &Crew,
     ) -> Work<S>
-        requires ready { IsReady (task queue.now job.now crew.now S.Source) }
+        requires ready { CanStart (task queue.now job.now crew.now S.Source) }
         requires stands { HasWork HasDone queue.now job.now crew.now S.Source self }
         ensures { HasDone (task queue.now job.now crew.now S.Source) (given_to self) result }
     {
@@ -132,7 +132,7 @@ fn produce_all<S: Source, G: Gate>(
     gate: &G,
     crew: &Crew,
 )
-    requires ready { IsReady (task queue.now job.now crew.now S.Source) }
+    requires ready { CanStart (task queue.now job.now crew.now S.Source) }
     requires stands { All
         (HasWork IsUntouched queue.now job.now crew.now S.Source) places.old }
     ensures given { map given_to places.new ≡ map given_to places.old }
@@ -177,7 +177,7 @@ fn begin_all<'s, E, R: Threads + Wait + Sync + 's, S: Source + 's, G: Gate + Syn
     mut given: Vec<Work<S>>,
     places: &mut Vec<Runner<S>>,
 )
-    requires ready { IsReady (task queue.now job.now crew.now S.Source) }
+    requires ready { CanStart (task queue.now job.now crew.now S.Source) }
     requires given { All
         (IsGiven (task queue.now job.now crew.now S.Source)) given.items }
     requires flags { vec_len given ≤ length flags.now }
@@ -205,7 +205,7 @@ fn end_all<S: Source, G: Gate, R: Threads + Wait>(
     crew: &Crew,
     ends: &mut Vec<Work<S>>,
 )
-    requires ready { IsReady (task queue.now job.now crew.now S.Source) }
+    requires ready { CanStart (task queue.now job.now crew.now S.Source) }
     requires stands { All
         (HasWork HasDone queue.now job.now crew.now S.Source) places.items }
     requires empty { ends.old.items ≡ [] }

@@ -4,9 +4,9 @@ ghost use Rattle.std.specs.Prelude.{slice_index_or, vec_len, vec_capacity, IfOk}
 ghost use Rattle.std.specs.List.{All};
 ghost use Rattle.scq_park.specs.Crews.{first_posts};
 ghost use Rattle.scq_worker.specs.Opening.{takes_behind};
-ghost use Rattle.scq_worker.specs.Seats.{IsFresh};
+ghost use Rattle.scq_worker.specs.Seats.{IsToBegin};
 ghost use Rattle.scq_files.specs.OwnFiles.{IsNew, ids_of};
-ghost use Rattle.scq_worker.specs.Desks.{HasRun};
+ghost use Rattle.scq_worker.specs.Desks.{HasRunAt};
 ghost use Rattle.scq_rest.specs.Resting.{HasRoom, AreSettled};
 
 use crate::places::{Runner, run_all};
@@ -77,7 +77,7 @@ pub fn run_resting<R: Threads + Wait + Sync, S: Source, G: Gate + Sync>(
     requires resting_room { HasRoom job.now.workers resting_room }
     requires rings { queue.now.setup.rings ≡ length job.now.topics + 2 }
     requires room { All (λ b. job.now.size + 24 ≤ length b.bytes.items) queue.now.given }
-    requires fresh { All (λ d. IsFresh queue.now d.worker) desks.items }
+    requires fresh { All (λ d. IsToBegin queue.now d.worker) desks.items }
     requires unread { All (λ d. All IsNew d.files.items) desks.items }
     ensures count { length result.0.items ≡ length desks.items }
     ensures same { (w : ℕ) (d : _) → w < length desks.items
@@ -86,10 +86,7 @@ pub fn run_resting<R: Threads + Wait + Sync, S: Source, G: Gate + Sync>(
     ensures numbers { (w : ℕ) (d : _) → w < length desks.items
         → (slice_index_or result.0.items w d).worker.worker.pass.number
         ≡ (slice_index_or desks.items w d).worker.worker.pass.number }
-    ensures run { All (λ d.
-        HasRun queue.now job.now.topics job.now.size job.now.most job.now.longest S.Source
-        d.files.items d.worker.worker.pass d.worker.worker.members d.worker.worker.starved
-        d.worker.kept) result.0.items }
+    ensures run { All (HasRunAt queue.now job.now S.Source) result.0.items }
     ensures settled { AreSettled crew.now (length job.now.topics
         + 1) (takes_behind job.now.most) result.1.items
         (map (λ d. d.worker.worker.pass) result.0.items) }

@@ -46,7 +46,8 @@ impl<S: Source> Drop for Work<S> {
 
 impl<S: Source> Work<S> {
     ghost use Rattle.std.specs.Prelude.{◌≡◌};
-    ghost use Rattle.scq_rest.specs.Threads.{task, IsReady, IsGiven, IsBegun, HasBegun, HasDone};
+    ghost use Rattle.scq_rest.specs.Threads.{task, CanStart, IsGiven, HasReadAndRetired, HasBegun};
+    ghost use Rattle.scq_rest.specs.Threads.{HasDone};
 
     /// Its parts.
     pub fn into_parts(self) -> (WorkDesk<S>, Stand)
@@ -66,7 +67,7 @@ impl<S: Source> Work<S> {
         gate: &G,
         crew: &Crew,
     )
-        requires ready { IsReady (task queue.now job.now crew.now S.Source) }
+        requires ready { CanStart (task queue.now job.now crew.now S.Source) }
         requires given { IsGiven (task queue.now job.now crew.now S.Source) self.old }
         ensures { HasBegun
             (task queue.now job.now crew.now S.Source) self.old self.new }
@@ -85,7 +86,7 @@ impl<S: Source> Work<S> {
         gate: &G,
         crew: &Crew,
     )
-        requires begun { IsBegun (task queue.now job.now crew.now S.Source) self.old }
+        requires begun { HasReadAndRetired (task queue.now job.now crew.now S.Source) self.old }
         ensures { (given : _)
             → HasBegun (task queue.now job.now crew.now S.Source) given self.old
             → HasDone (task queue.now job.now crew.now S.Source) given self.new }

@@ -14,9 +14,9 @@ abbrev pub next_number : ℕ → ℕ
 next_number x = (x * 1103515245 + 12345) % 2 ^ 31
 
 -- the i-th number after the seed
-abbrev pub number_at : ℕ → ℕ → ℕ
-number_at seed zero = seed
-number_at seed (suc i) = next_number (number_at seed i)
+abbrev pub number_after : ℕ → ℕ → ℕ
+number_after seed zero = seed
+number_after seed (suc i) = next_number (number_after seed i)
 
 -- the line of this number, from 1, for a number: `topic x i`, whose topic goes by the number mod 5
 abbrev pub line_for : ℕ → ℕ → List ℕ
@@ -26,4 +26,4 @@ line_for x i = name_of self_topics (x % 5) ++ codes " " ++ decimal x ++ codes " 
 -- the first lines
 abbrev pub generated : ℕ → ℕ → List ℕ
 generated seed zero = []
-generated seed (suc i) = generated seed i ++ line_for (number_at seed (suc i)) (i + 1)
+generated seed (suc i) = generated seed i ++ line_for (number_after seed (suc i)) (i + 1)

@@ -42,19 +42,19 @@ rose-since : (old now new : ℕ) → now ≡ old → Rose now new → Rose old n
 rose-since old now new same rose = let R : ℕ → Type 0 = λ n. Rose n new in subst R same rose
 
 -- this is the name of the next source
-pub record IsNext {S : Type 0} (names : List (List ℕ)) (sources : List S) (name : List ℕ) : Type 0 where
+pub record IsNextName {S : Type 0} (names : List (List ℕ)) (sources : List S) (name : List ℕ) : Type 0 where
   pub more : length sources < length names
   pub is : name ≡ get_or names (length sources) []
 
 pub next-name : {A S : Type 0} (bytes : A → List ℕ) (own : List A) (sources : List S) (i : ℕ) (item : A) (name : List ℕ) → length sources ≡ i → i < length own
-    → name ≡ bytes item → item ≡ get_or own i item → IsNext (map bytes own) sources name
+    → name ≡ bytes item → item ≡ get_or own i item → IsNextName (map bytes own) sources name
 next-name bytes own sources i item name count less named at = record {
   more = omega (arith, count, less, length-map own bytes);
   is = named ∙ ap bytes at ∙ sym (get_or-map bytes own i item [] less) ∙ ap (λ n. get_or (map bytes own) n []) (sym count);
 }
 
 -- the source of this name was got, and files are then these
-pub record IsGot {F S : Type 0} (fs : FilesOf F S) (src : SourceOf S) (name : List ℕ) (now after : F) (source : S) : Type 0 where
+pub record SourceIsGot {F S : Type 0} (fs : FilesOf F S) (src : SourceOf S) (name : List ℕ) (now after : F) (source : S) : Type 0 where
   pub given : fs.table after ≡ option_map (without_name name) (fs.table now)
   pub fresh : src.faults source ≡ 0
   pub content : IfSome (fs.table now) (λ files. IsSome (files name) × (src.left source ≡ files name))
@@ -112,7 +112,7 @@ module _ {S : Type 0} (src : SourceOf S) where
 
 module _ {F S : Type 0} {fs : FilesOf F S} {src : SourceOf S} {names : List (List ℕ)} (was : F) {now after : F} {sources : List S} {name : List ℕ} where
   -- so it is of files as they are before a call and after it
-  pub come-got : {source : S} → IsNext names sources name → IsGot fs src name now after source → HaveCome src names (inputs_of fs was now sources 0)
+  pub come-got : {source : S} → IsNextName names sources name → SourceIsGot fs src name now after source → HaveCome src names (inputs_of fs was now sources 0)
       → HaveCome src names (inputs_of fs was after (sources ++ source ∷ []) 0)
   come-got {source} next got come =
       come-more src names (record { old = fs.table was; new = fs.table now }) (record { old = fs.faults was; new = fs.faults now })
@@ -121,7 +121,7 @@ module _ {F S : Type 0} {fs : FilesOf F S} {src : SourceOf S} {names : List (Lis
   pub come-missed : IsMissed fs name now after → HaveCome src names (inputs_of fs was now sources 0) → HaveCome src names (inputs_of fs was after sources 0)
   come-missed miss come = record { within = come.within; table = miss.unchanged ∙ come.table; fresh = come.fresh; unread = come.unread }
 
-  pub has-missed : IsNext names sources name → IsMissed fs name now after → HaveCome src names (inputs_of fs was now sources 0) → fs.faults now ≡ fs.faults was
+  pub has-missed : IsNextName names sources name → IsMissed fs name now after → HaveCome src names (inputs_of fs was now sources 0) → fs.faults now ≡ fs.faults was
       → HasMissed names (inputs_of fs was after sources 0)
   has-missed next miss come kept =
       missed src names (record { old = fs.table was; new = fs.table now }) (record { old = fs.faults was; new = fs.faults now }) sources name (fs.table after)

@@ -1,5 +1,5 @@
 -- A run in whose way nothing stood ends with the output, or for want of memory.
-use Rattle.std.proofs.Common.{IfSome, ◌≤◌, ◌+◌, ◌∷◌, [], ◌≡◌, ◌⊎◌, ◌∙◌, refl, sym, subst, inl, inr, arith, false, ℕ, ◌-◌, ◌<◌, List, length, Option, Some, None, IsSome}
+use Rattle.std.proofs.Common.{IfSome, ◌≤◌, ◌+◌, ◌∷◌, [], ◌≡◌, ◌⊎◌, ◌∙◌, refl, sym, subst, inl, inr, arith, false, ℕ, ◌-◌, ◌<◌, List, length, Option, Some, None, IsSome, Result}
 use Rattle.std.specs.Prelude.{IsSomeAnd, slice_get}
 use Rattle.std.specs.List.{All}
 use Rattle.std.proofs.lemmas.Option.{slice_get_within, get_or_from_slice_get}
@@ -11,7 +11,14 @@ use Rattle.scq_service.specs.Members.{SourceOf}
 use Rattle.scq_service.specs.Causes.{IsTroubled}
 use Rattle.scq_files.specs.Ends.{all_left}
 use Rattle.scq_outside.specs.Counts.{Rose}
-use Rattle.scq_service.specs.Ends.{Inputs, Wrote, EndsAlone, EndsOver, EndsWhole, IfContent, IsCalm, IsCalmText, IsOfTextAlone, most_text}
+use Rattle.scq_collect.specs.Output.{one_thread_output}
+use Rattle.scq_self.specs.Summary.{self_summary}
+use Rattle.scq_stages.specs.Output.{one_thread_stage_output}
+use Rattle.scq_words.specs.Asked.{Asked}
+use Rattle.scq_words.specs.declared.fault.WordsFault.{WordsFault}
+use Rattle.scq_service.specs.Ends.{Inputs, Wrote, EndsWithoutFiles, EndsAs, EndsOver, EndsWhole, IfContent, IsCalm, IsCalmText, IsOfTextAlone, most_payload, most_text}
+use Rattle.scq_service.specs.Serving.{EndsCalmly}
+use Rattle.scq_service.specs.declared.outcome.Outcome.{Outcome}
 use Rattle.scq_service.specs.declared.fault.Fault.{Fault}
 use Rattle.scq_service.specs.declared.fault.Fault.TheVariants.{Words, OpenFault, ReadFault, TooLong, TooLarge, WriteFault, BadLine, NotEnabled, Unlawful, Unfinished, BadLineOf, SharedOf, TwoRunsOf, UnlawfulOf, NoMemory}
 
@@ -64,7 +71,7 @@ complete size text src names got r w (Some (TwoRunsOf file n g s)) e calm = absu
 complete size text src names got r w (Some (UnlawfulOf file line)) e calm = absurd (e.0)
 
 -- a run over no file of the outside, none of whose writes failed, ends likewise
-pub complete-alone : (text : List ℕ) (w : Wrote) (end : Option Fault) → EndsAlone text w end → ¬ Rose w.faults.old w.faults.new
+pub complete-alone : (text : List ℕ) (w : Wrote) (end : Option Fault) → EndsWithoutFiles text w end → ¬ Rose w.faults.old w.faults.new
     → (end ≡ None) ⊎ (end ≡ Some NoMemory)
 complete-alone text w None e calm = inl refl
 complete-alone text w (Some NoMemory) e calm = inr refl
@@ -129,3 +136,15 @@ complete-text command src name got r w (Some (TwoRunsOf file n g s)) e calm = in
 complete-text command src name got r w (Some (UnlawfulOf file line)) e calm = inr (inr e.0)
 complete-text command src name got r w (Some (TooLong file line len limit)) e calm = inr (inr e.0)
 complete-text command src name got r w (Some (Words fault)) e calm = inr (inr e.0)
+
+-- by what was asked
+pub calmly : {S : Type 0} (src : SourceOf S) (asked : Result Asked WordsFault) (r : Inputs S) (w : Wrote) (o : Outcome S)
+    → EndsAs src asked o.got.items r w o.fault → EndsCalmly src asked r w o
+calmly src asked r w o e =
+    let E : Result Asked WordsFault → Type 0 = λ a. EndsAs src a o.got.items r w o.fault in
+    record {
+      files = λ a is calm. complete most_payload (one_thread_output a.topics) src a.files o.got.items r w o.fault (subst E is e).1 calm;
+      stages = λ a is calm. complete a.size one_thread_stage_output src a.files o.got.items r w o.fault (subst E is e).1 calm;
+      alone = λ a is calm. complete-alone (self_summary a.seed a.lines) w o.fault (subst E is e).1 calm;
+      text = λ a is calm. complete-text a.command src a.file o.got.items r w o.fault (subst E is e) calm;
+    }

@@ -6,7 +6,7 @@ use Rattle.std.proofs.Math.Seq.{take-length}
 use Rattle.scq_outside.specs.Table.{Table}
 use Rattle.scq_judge.specs.Files.{HaveContents}
 use Rattle.scq_judge.specs.Judged.{AreSoundBefore, IsCause, IsCauseIn, IsJudged}
-use Rattle.scq_judge.specs.Reads.{AreReadUntil, AreReadWhole, HasGiven, HasStopped, HaveBeenRead, IsOfOneFile, OfEach, Progress}
+use Rattle.scq_judge.specs.Reads.{AreReadUntil, AreReadWhole, HasGiven, ReadingStopped, HaveBeenRead, IsOfOneFile, OfEach, Progress}
 use Rattle.scq_judge.specs.Recording.{recording_of}
 use Rattle.scq_judge.specs.declared.judging.JudgeFault.{JudgeFault}
 use Rattle.scq_judge.specs.declared.judging.JudgeFault.TheVariants as judge
@@ -15,11 +15,11 @@ use Rattle.scq_files.specs.Ends.{HasMoved, all_left}
 use Rattle.scq_service.specs.Members.{FilesOf, SourceOf}
 use Rattle.scq_service.specs.Answers.{HaveCome}
 use Rattle.scq_service.specs.Contents.{IsMissing, without_names}
-use Rattle.scq_service.specs.Ends.{Change, Wrote, HasGotSources, HasMissed, HaveAll, EndsJudged, IfTold, IsReported, IsUnchanged, IsUnopened, IsUnwritten, inputs_of}
+use Rattle.scq_service.specs.Ends.{Change, Wrote, HasGotSources, HasMissed, HaveAll, EndsJudged, IfTold, ReportMeets, IsUnchanged, IsUnopened, IsUnwritten, inputs_of}
 use Rattle.scq_service.specs.Faults.{fault_of_judge}
 use Rattle.scq_service.specs.declared.fault.Fault.{Fault}
 use Rattle.scq_service.specs.declared.fault.Fault.TheVariants.{OpenFault}
-use Rattle.scq_service.proofs.Coming.{IsGot, IsMissed, IsNext, come-got, come-missed, has-missed}
+use Rattle.scq_service.proofs.Coming.{SourceIsGot, IsMissed, IsNextName, come-got, come-missed, has-missed}
 use Rattle.scq_service.proofs.Files.{parts}
 use Rattle.scq_service.proofs.Working.{has-got}
 
@@ -92,7 +92,7 @@ module _ {S : Type 0} (src : SourceOf S) (names : List (List ℕ)) (table : Chan
     Ends f = EndsJudged src room names olds (record { table = table; opens = opens; sources = news; read = 0 }) w (Some (fault_of_judge f))
 
     -- a file is at fault
-    pub ends_stopped : HasStopped src.faults src.ends src.left (length names == 1) olds news fault → Ends fault
+    pub ends_stopped : ReadingStopped src.faults src.ends src.left (length names == 1) olds news fault → Ends fault
     ends_stopped stop = by fault stop.own stop.cause stop.until where
       by : (fault : JudgeFault) → IsOfOneFile fault → ((contents : List (List ℕ)) → HaveContents src.left olds contents → IsCause (length names == 1) contents fault)
           → AreReadUntil src.faults src.ends src.left olds news fault → Ends fault
@@ -138,7 +138,7 @@ module _ {F S : Type 0} (fs : FilesOf F S) (src : SourceOf S) (names : List (Lis
       → IfOk report (λ _. AreReadWhole src.faults src.ends src.left (length names) got sources)
       → IfOk report (λ text. (contents : List (List ℕ)) → HaveContents src.left got contents → IsJudged names room contents text)
       → (P : List ℕ → Type 0) → P text
-      → HaveAll names (inputs_of fs was now sources 0) × AreReadWhole src.faults src.ends src.left (length names) got sources × IsReported src.left names room got P
+      → HaveAll names (inputs_of fs was now sources 0) × AreReadWhole src.faults src.ends src.left (length names) got sources × ReportMeets src.left names room got P
   reported (Ok own) text is all whole judged P p =
       let same : text ≡ own = cc in (
         all,
@@ -168,7 +168,7 @@ module _ {F S : Type 0} {fs : FilesOf F S} {src : SourceOf S} {names : List (Lis
   counts after = record { old = fs.faults was; new = fs.faults after }
 
   -- the next one was got and read
-  pub one-more : {name : List ℕ} {after : F} {source : S} (new : S) {reader' : Progress} → IsNext names olds name → IsGot fs src name now after source
+  pub one-more : {name : List ℕ} {after : F} {source : S} (new : S) {reader' : Progress} → IsNextName names olds name → SourceIsGot fs src name now after source
       → reader'.lone ≡ reader.lone → HaveBeenRead src.faults src.ends src.left (olds ++ source ∷ []) (news ++ new ∷ []) reader'
       → IsSoFar fs src names was after (olds ++ source ∷ []) (news ++ new ∷ []) (index + 1) (file + 1) reader'
   one-more {source = source} new next got lone read = record {
@@ -181,12 +181,12 @@ module _ {F S : Type 0} {fs : FilesOf F S} {src : SourceOf S} {names : List (Lis
   }
 
   -- it was not got
-  pub missed-got : {name : List ℕ} {after : F} → IsNext names olds name → IsMissed fs name now after → HasGotSources src names olds (inputs_of fs was after news 0)
+  pub missed-got : {name : List ℕ} {after : F} → IsNextName names olds name → IsMissed fs name now after → HasGotSources src names olds (inputs_of fs was after news 0)
   missed-got {name} {after} next miss =
       got_after src names (tables after) (counts after) olds news (come-missed was miss so.come) so.read.many so.read.given
       (λ all. absurd (omega (arith, all, next.more)))
 
-  pub missed-ends : {name : List ℕ} {after : F} (room : Option ℕ) (w : Wrote) → IsNext names olds name → IsMissed fs name now after → IsUnwritten w
+  pub missed-ends : {name : List ℕ} {after : F} (room : Option ℕ) (w : Wrote) → IsNextName names olds name → IsMissed fs name now after → IsUnwritten w
       → EndsJudged src room names olds (inputs_of fs was after news 0) w (Some (OpenFault (file + 1)))
   missed-ends {name} {after} room w next miss unwritten = (
     unopened src names (tables after) (counts after) olds news (come-missed was miss so.come) reader (file + 1) so.read so.lone
@@ -195,8 +195,8 @@ module _ {F S : Type 0} {fs : FilesOf F S} {src : SourceOf S} {names : List (Lis
   )
 
   -- it was got, and is at fault
-  pub stopped-got : {name : List ℕ} {after : F} {source : S} (new : S) {fault : JudgeFault} → IsNext names olds name → IsGot fs src name now after source
-      → HasStopped src.faults src.ends src.left reader.lone (olds ++ source ∷ []) (news ++ new ∷ []) fault
+  pub stopped-got : {name : List ℕ} {after : F} {source : S} (new : S) {fault : JudgeFault} → IsNextName names olds name → SourceIsGot fs src name now after source
+      → ReadingStopped src.faults src.ends src.left reader.lone (olds ++ source ∷ []) (news ++ new ∷ []) fault
       → (gots sources : List S) → gots ≡ olds ++ source ∷ [] → sources ≡ news ++ new ∷ [] → HasGotSources src names gots (inputs_of fs was after sources 0)
   stopped-got {name} {after} {source} new next got stop gots sources is_got are =
       let G : List S → Type 0 = λ xs. HasGotSources src names xs (inputs_of fs was after sources 0) in
@@ -205,13 +205,13 @@ module _ {F S : Type 0} {fs : FilesOf F S} {src : SourceOf S} {names : List (Lis
       (got_after src names (tables after) (counts after) (olds ++ source ∷ []) (news ++ new ∷ []) (come-got was next got so.come) stop.many stop.given
       (λ all. got.kept ∙ so.kept)))
 
-  pub stopped-ends : {name : List ℕ} {after : F} {source : S} (new : S) {fault : JudgeFault} (room : Option ℕ) (w : Wrote) → IsNext names olds name
-      → IsGot fs src name now after source
-      → HasStopped src.faults src.ends src.left reader.lone (olds ++ source ∷ []) (news ++ new ∷ []) fault → IsUnwritten w
+  pub stopped-ends : {name : List ℕ} {after : F} {source : S} (new : S) {fault : JudgeFault} (room : Option ℕ) (w : Wrote) → IsNextName names olds name
+      → SourceIsGot fs src name now after source
+      → ReadingStopped src.faults src.ends src.left reader.lone (olds ++ source ∷ []) (news ++ new ∷ []) fault → IsUnwritten w
       → (gots sources : List S) (end : Fault) → gots ≡ olds ++ source ∷ [] → sources ≡ news ++ new ∷ [] → end ≡ fault_of_judge fault
       → EndsJudged src room names gots (inputs_of fs was after sources 0) w (Some end)
   stopped-ends {name} {after} {source} new {fault} room w next got stop unwritten gots sources end is_got are is_end =
-      let H : Bool → Type 0 = λ lone. HasStopped src.faults src.ends src.left lone (olds ++ source ∷ []) (news ++ new ∷ []) fault in
+      let H : Bool → Type 0 = λ lone. ReadingStopped src.faults src.ends src.left lone (olds ++ source ∷ []) (news ++ new ∷ []) fault in
       let E : List S → List S → Fault → Type 0 = λ a b f. EndsJudged src room names a (inputs_of fs was after b 0) w (Some f) in
       subst (λ a. E a sources end) (sym is_got) (subst (λ b. E (olds ++ source ∷ []) b end) (sym are)
       (subst (λ f. E (olds ++ source ∷ []) (news ++ new ∷ []) f) (sym is_end)

@@ -1,6 +1,5 @@
 pub mod Coming
 pub mod Completeness
-pub mod Directs
 pub mod Files
 pub mod Merging
 pub mod OneFile

@@ -11,7 +11,7 @@ use Rattle.scq_outside.specs.Counts.{Rose}
 use Rattle.scq_frames.specs.Judged.{file_trouble, Judges}
 use Rattle.scq_files.specs.Reading as reading
 use Rattle.scq_service.specs.Members.{SourceOf}
-use Rattle.scq_service.specs.Causes.{given_of, file_fault}
+use Rattle.scq_service.specs.Causes.{given_bytes, file_fault}
 use Rattle.scq_service.specs.declared.fault.Fault.{Fault}
 use Rattle.scq_service.specs.declared.fault.Fault.TheVariants.{ReadFault, TooLong, TooLarge, NoMemory}
 
@@ -32,13 +32,13 @@ pub split-visible : (content bytes : List ℕ) (after : Option (List ℕ)) → S
 split-visible content bytes None e = absurd (cc)
 split-visible content bytes (Some rest) e = (rest, refl, cc)
 
-pub given-is : (content bytes rest : List ℕ) → content ≡ bytes ++ rest → given_of content rest ≡ bytes
+pub given-is : (content bytes rest : List ℕ) → content ≡ bytes ++ rest → given_bytes content rest ≡ bytes
 given-is content bytes rest e =
     let count : length content - length rest ≡ length bytes = omega (arith, ap length e, length-append bytes rest) in
     ap (λ n. take n content) count ∙ ap (take (length bytes)) e ∙ take-append_seam bytes rest
 
 -- what a fault says of a content, by the bytes that were given and the rest
-pub record Told (size : ℕ) (content bytes : List ℕ) (after : Option (List ℕ)) (fault : FrameFault) : Type 0 where
+pub record FaultTells (size : ℕ) (content bytes : List ℕ) (after : Option (List ℕ)) (fault : FrameFault) : Type 0 where
   pub rest : List ℕ
   pub left : after ≡ Some rest
   pub whole : content ≡ bytes ++ rest
@@ -48,15 +48,15 @@ module _ {S : Type 0} (size : ℕ) (src : SourceOf S) where
   -- the fault of one source
   abbrev pub fault_of_one : ℕ → List ℕ → S → Option Fault
   fault_of_one file content source = let failed = nat_lt 0 (src.faults source) in
-      file_fault size file failed (file_trouble size failed (given_of content (unwrap_or (src.left source) [])))
+      file_fault size file failed (file_trouble size failed (given_bytes content (unwrap_or (src.left source) [])))
 
   -- the fault of one source, by the bytes that it gave
   one-fault : (file : ℕ) (content bytes rest : List ℕ) (source : S) (failed : Bool) (trouble : Option Trouble) → nat_lt 0 (src.faults source) ≡ failed
       → src.left source ≡ Some rest → content ≡ bytes ++ rest → file_trouble size failed bytes ≡ trouble
       → fault_of_one file content source ≡ file_fault size file failed trouble
   one-fault file content bytes rest source failed trouble flag is e found =
-      ap (λ b. file_fault size file b (file_trouble size b (given_of content (unwrap_or (src.left source) [])))) flag
-      ∙ ap (λ o. file_fault size file failed (file_trouble size failed (given_of content (unwrap_or o [])))) is
+      ap (λ b. file_fault size file b (file_trouble size b (given_bytes content (unwrap_or (src.left source) [])))) flag
+      ∙ ap (λ o. file_fault size file failed (file_trouble size failed (given_bytes content (unwrap_or o [])))) is
       ∙ ap (λ given. file_fault size file failed (file_trouble size failed given)) (given-is content bytes rest e)
       ∙ ap (file_fault size file failed) found
 
@@ -74,7 +74,7 @@ module _ {S : Type 0} (size : ℕ) (src : SourceOf S) where
 
   -- what is said of the whole content, where the reading stopped at a fault
   pub told : (content : List ℕ) (old new : S) (fault : FrameFault) → src.left old ≡ Some content → (stop : reading.IsStopped size src old new fault)
-      → Told size content stop.judged.bytes (src.left new) fault
+      → FaultTells size content stop.judged.bytes (src.left new) fault
   told content old new fault is stop =
       let judged = stop.judged in
       let split = split-visible content judged.bytes (src.left new) (sym is ∙ judged.moved) in

@@ -9,16 +9,16 @@ use Rattle.scq_frames.specs.Framing.{NothingLeft}
 use Rattle.scq_frames.specs.declared.fault.FrameFault.{FrameFault}
 use Rattle.scq_frames.specs.declared.fault.FrameFault.TheVariants as frame
 use Rattle.scq_outside.specs.Table.{Table}
-use Rattle.scq_files.specs.Ends.{HasMoved, StopsAt, all_left}
+use Rattle.scq_files.specs.Ends.{HasMoved, ReadingStopsAt, all_left}
 use Rattle.scq_desk.specs.Faults.{HasCause}
 use Rattle.scq_files.specs.Reading as reading
 use Rattle.scq_desk.specs.declared.fault.EndFault.{EndFault}
 use Rattle.scq_desk.specs.declared.fault.EndFault.TheVariants as work
 use Rattle.scq_service.specs.Members.{SourceOf}
 use Rattle.scq_service.specs.Answers.{HaveAllCome, HaveCome}
-use Rattle.scq_service.specs.Causes.{given_of, first_file_fault, HaveRest}
+use Rattle.scq_service.specs.Causes.{given_bytes, first_file_fault, HaveRest}
 use Rattle.scq_service.specs.Contents.{IfVisible, IsMissing, without_names}
-use Rattle.scq_service.specs.Ends.{Change, HasGotSources, HasMissed, IfTold, IsRefused, IsUnchanged, ReadsOver}
+use Rattle.scq_service.specs.Ends.{Change, HasGotSources, HasMissed, IfTold, FileIsRefused, IsUnchanged, ReadsOver}
 use Rattle.scq_service.specs.Faults.{bytes_of_large, fault_of_work}
 use Rattle.scq_service.specs.declared.fault.Fault.TheVariants.{OpenFault}
 use Rattle.scq_service.proofs.Files.{no-contents, parts}
@@ -45,7 +45,7 @@ module _ {S : Type 0} (size : ℕ) (src : SourceOf S) where
       let split = split-visible p.0 m.bytes (src.left new) (sym p.2 ∙ m.moved) in
       let H : List (List ℕ) → Type 0 = λ cs. HaveRest src.left cs (new ∷ news) in
       subst H (sym p.4) (
-        some-and (src.left new) split.0 (λ rest. p.0 ≡ given_of p.0 rest ++ rest) split.1
+        some-and (src.left new) split.0 (λ rest. p.0 ≡ given_bytes p.0 rest ++ rest) split.1
             (split.2 ∙ ap (λ (front : List ℕ). front ++ split.0) (sym (given-is p.0 m.bytes split.0 split.2))),
         have-rest olds news p.1 (omega (arith, long)) p.3 (λ k d less. moved (suc k) d (omega (arith, less))),
       )
@@ -188,9 +188,9 @@ module _ {S : Type 0} (size : ℕ) (src : SourceOf S) where
     }
 
     -- the file that has the first fault
-    refused : (read file : ℕ) (fault : FrameFault) → fault ≢ frame.NoMemory → StopsAt size src olds news file fault
+    refused : (read file : ℕ) (fault : FrameFault) → fault ≢ frame.NoMemory → ReadingStopsAt size src olds news file fault
         → (length olds < length names → HasMissed names (record { table = table; opens = opens; sources = olds; read = 0 }))
-        → IsRefused size src names olds (record { table = table; opens = opens; sources = news; read = read }) file
+        → FileIsRefused size src names olds (record { table = table; opens = opens; sources = news; read = read }) file
         (fault_of_file size file fault)
     refused read file fault other stops missed =
         let within : file - 1 < length olds = omega (arith, stops.first, stops.last) in

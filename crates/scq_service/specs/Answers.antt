@@ -23,7 +23,7 @@ use Rattle.scq_words.specs.Asked.{Asked, RunAsked}
 use Rattle.scq_words.specs.Asked as asks
 use Rattle.scq_words.specs.declared.fault.WordsFault.{WordsFault}
 use Rattle.scq_work.specs.AllWorkers.{HasWorked, NothingIsStranded}
-use Rattle.scq_worker.specs.Opening.{most_bytes, takes_behind}
+use Rattle.scq_worker.specs.Opening.{most_together, takes_behind}
 use Rattle.scq_worker.specs.declared.job.Job.{Job}
 use Rattle.scq_files.specs.Ends.{AreGiven, all_left, messages_in}
 use Rattle.scq_files.specs.Reading as reading
@@ -77,9 +77,9 @@ pub record HaveGiven {S : Type 0} (topics : List (List ℕ × Kind)) (size : ℕ
 
 -- so many workers answered such messages, with payloads of at most `longest` bytes in parts of at
 -- most `size`, which are those of the contents where these were told
-abbrev pub IsWork : {S : Type 0} → List (List ℕ × Kind) → ℕ → ℕ → ℕ → ℕ → SourceOf S → List S
-    → Inputs S → Option Worked → Type 0
-IsWork topics size most longest workers src got r worked =
+abbrev pub WorkersAnswered : {S : Type 0} → List (List ℕ × Kind) → ℕ → ℕ → ℕ → ℕ → SourceOf S
+    → List S → Inputs S → Option Worked → Type 0
+WorkersAnswered topics size most longest workers src got r worked =
     IfSome worked (λ w.
     (given : List (List Message)) × HaveGiven topics longest src got r given
     × HasWorked topics size most workers given w)
@@ -95,7 +95,7 @@ AreOfParts topics size left got worked =
 
 -- how many bytes the parts of a value may have together in a run that is asked for this
 abbrev pub most_of : RunAsked → ℕ
-most_of a = most_bytes a.size a.batch
+most_of a = most_together a.size a.batch
 
 -- what workers answered in a run that is asked for this; another run has no workers. Parts of a
 -- generated file have at most 2^16 bytes, and none go together.
@@ -103,7 +103,7 @@ abbrev pub WorkedAs : {S : Type 0} → SourceOf S → Result Asked WordsFault �
     → Option Fault → Option Worked → Type 0
 WorkedAs src (Ok (asks.run a)) got r end worked =
     WorkedAt end worked × IsWorkOf a.topics a.size (most_of a) a.workers src.left got worked
-    × IsWork a.topics a.size (most_of a) most_payload a.workers src got r worked
+    × WorkersAnswered a.topics a.size (most_of a) most_payload a.workers src got r worked
 WorkedAs src (Ok (asks.generated a)) got r end worked =
     WorkedAt end worked
     × IfSome worked (λ w.
@@ -155,7 +155,7 @@ pub record TellsWork {S : Type 0} (j : Job) (src : SourceOf S) (names : List (Li
       All (λ a. a.topic ≤ length j.topics) (members_of w.answered.items))
   pub answers : AreOfParts j.topics j.size src.left o.got.items o.worked
   pub told : IsWorkOf j.topics j.size j.most j.workers src.left o.got.items o.worked
-  pub work : IsWork j.topics j.size j.most j.longest j.workers src o.got.items r o.worked
+  pub work : WorkersAnswered j.topics j.size j.most j.longest j.workers src o.got.items r o.worked
   -- whatever the end is, nothing is stranded in their queue. It is seen unless the run ended for
   -- want of memory, and where they made anything, by the passes that come with it
   pub none_stranded : IfSome o.left (λ l. IsSomeAnd o.passes (λ p. IsSomeAnd o.frames (λ f.
@@ -177,6 +177,30 @@ pub record TellsStages {S : Type 0} (j : StageJob) (src : SourceOf S) (names : L
   pub told : IsStagedOf j.workers src.left o.got.items o.staged
   pub work : IsStaging j.size j.workers src o.got.items r o.staged
   pub stranded : StrandsNothing j.order j.workers o.staged
+  pub left : o.left ≡ None
+  pub leaves : o.waited ≡ None
+
+-- what is told of so many workers at the end of a run that answered the file of this seed with so
+-- many lines. No source is got, and none waits
+pub record TellsSelf {S : Type 0} (seed lines workers : ℕ) (o : Outcome S) : Type 0 where
+  pub sources : o.sources.items ≡ []
+  pub read : o.read ≡ 0
+  pub status : o.status ≡ status_of o.fault
+  pub worked : WorkedAt o.fault o.worked
+  pub unstaged : o.staged ≡ None
+  pub told : IfSome o.worked (λ w.
+      HasWorked self_topics (2 ^ 16) 0 workers
+      (messages_in self_topics 1 (generated seed lines ∷ [])) w)
+  pub none_stranded : IfSome o.left (λ l. IsSomeAnd o.passes (λ p. IsSomeAnd o.frames (λ f.
+      NothingIsStranded 6 (length self_topics + 1) workers p.value.items f.value.items l.items)))
+  pub seen : IsNone o.left → o.fault ≡ Some NoMemory
+  pub same : IfSome o.worked (λ w. IsSomeAnd o.passes (λ p. p.value.items ≡ w.passes.value.items))
+  pub leaves : o.waited ≡ None
+
+-- a run without workers
+pub record HasNoWorkers {S : Type 0} (o : Outcome S) : Type 0 where
+  pub worked : o.worked ≡ None
+  pub unstaged : o.staged ≡ None
   pub left : o.left ≡ None
   pub leaves : o.waited ≡ None
 

@@ -12,8 +12,8 @@ use Rattle.scq_service.specs.declared.fault.Fault.{Fault}
 use Rattle.scq_service.specs.declared.fault.Fault.TheVariants.{ReadFault, TooLong, TooLarge}
 
 -- the bytes that were given of a content of which these are left
-abbrev pub given_of : List ℕ → List ℕ → List ℕ
-given_of content rest = take (length content - length rest) content
+abbrev pub given_bytes : List ℕ → List ℕ → List ℕ
+given_bytes content rest = take (length content - length rest) content
 
 -- the fault of a file: its trouble, or else a read that failed
 abbrev pub file_fault : ℕ → ℕ → Bool → Option Trouble → Option Fault
@@ -28,7 +28,7 @@ abbrev pub first_file_fault : {S : Type 0} → ℕ → SourceOf S → ℕ → Li
 first_file_fault size src file (content ∷ contents) (source ∷ sources) =
     let failed = nat_lt 0 (src.faults source) in
     option_or (file_fault size file failed
-    (file_trouble size failed (given_of content (unwrap_or (src.left source) []))))
+    (file_trouble size failed (given_bytes content (unwrap_or (src.left source) []))))
     (first_file_fault size src (file + 1) contents sources)
 first_file_fault size src file _ _ = None
 
@@ -41,7 +41,7 @@ IsTroubled size contents file trouble =
 -- each source has left what follows the bytes that it gave
 abbrev pub HaveRest : {S : Type 0} → (S → Option (List ℕ)) → List (List ℕ) → List S → Type 0
 HaveRest left (content ∷ contents) (source ∷ sources) =
-    IsSomeAnd (left source) (λ rest. content ≡ given_of content rest ++ rest)
+    IsSomeAnd (left source) (λ rest. content ≡ given_bytes content rest ++ rest)
     × HaveRest left contents sources
 HaveRest left [] [] = Unit {0}
 HaveRest left _ _ = ⊥

@@ -102,8 +102,9 @@ pub record HasGotSources {S : Type 0} (src : SourceOf S) (names : List (List ℕ
   pub rest : IfTold src.left got (λ contents. HaveRest src.left contents r.sources)
 
 -- of the files that were got this is the first fault
-abbrev pub HasFault : {S : Type 0} → ℕ → SourceOf S → List S → Inputs S → Option Fault → Type 0
-HasFault size src got r fault =
+abbrev pub IsFirstFileFault : {S : Type 0} → ℕ → SourceOf S → List S → Inputs S → Option Fault
+    → Type 0
+IsFirstFileFault size src got r fault =
     IfTold src.left got (λ contents. first_file_fault size src 1 contents r.sources ≡ fault)
 
 -- how many bytes a payload may have
@@ -124,7 +125,7 @@ pub record IsAllRead {S : Type 0} (size : ℕ) (src : SourceOf S) (names : List 
   pub quiet : All (λ source. src.faults source ≡ 0) r.sources
   pub ended : All (λ source. NothingLeft (src.left source)) r.sources
   pub once : AreReadOut src.ends (length r.sources) got r
-  pub sound : HasFault size src got r None
+  pub sound : IsFirstFileFault size src got r None
   pub read : r.read ≡ 0
 
 -- the next source was not got: its name is missing, and the count of files rose
@@ -141,12 +142,12 @@ pub record IsNotOpened {S : Type 0} (size : ℕ) (src : SourceOf S) (names : Lis
   pub quiet : All (λ source. src.faults source ≡ 0) r.sources
   pub ended : All (λ source. NothingLeft (src.left source)) r.sources
   pub once : AreReadOut src.ends (length r.sources) got r
-  pub sound : HasFault size src got r None
+  pub sound : IsFirstFileFault size src got r None
   pub read : r.read ≡ 0
 
 -- this file has the first fault, and those before it were read to their ends; where not all sources
 -- were got, the next one was not
-pub record IsRefused {S : Type 0} (size : ℕ) (src : SourceOf S) (names : List (List ℕ))
+pub record FileIsRefused {S : Type 0} (size : ℕ) (src : SourceOf S) (names : List (List ℕ))
     (got : List S) (r : Inputs S) (file : ℕ) (fault : Fault) : Type 0 where
   pub first : 0 < file
   pub last : file ≤ length r.sources
@@ -154,7 +155,7 @@ pub record IsRefused {S : Type 0} (size : ℕ) (src : SourceOf S) (names : List 
   pub quiet : All (λ source. src.faults source ≡ 0) (take (file - 1) r.sources)
   pub ended : All (λ source. NothingLeft (src.left source)) (take (file - 1) r.sources)
   pub once : AreReadOut src.ends (file - 1) got r
-  pub cause : HasFault size src got r (Some fault)
+  pub cause : IsFirstFileFault size src got r (Some fault)
 
 -- so many bytes of this file's content were read, and its source has the others left
 abbrev pub IsReadOf : {S : Type 0} → (S → Option (List ℕ)) → ℕ → List (List ℕ) → List S → ℕ → Type 0
@@ -170,14 +171,14 @@ ReadsOver size src names got r None = IsAllRead size src names got r
 ReadsOver size src names got r (Some (OpenFault file)) =
     IsNotOpened size src names got r file
 ReadsOver size src names got r (Some (ReadFault file)) =
-    IsRefused size src names got r file (ReadFault file) × (r.read ≡ 0)
+    FileIsRefused size src names got r file (ReadFault file) × (r.read ≡ 0)
     × IsSomeAnd (slice_get r.sources (file - 1)) (λ source. 0 < src.faults source)
 ReadsOver size src names got r (Some (TooLong file line len limit)) =
-    IsRefused size src names got r file (TooLong file line len limit)
+    FileIsRefused size src names got r file (TooLong file line len limit)
     × (r.read ≡ 0) × (limit ≡ size) × (0 < line) × (size < len)
     × IfTold src.left got (λ contents. IsTroubled size contents file (LongPayload line len))
 ReadsOver size src names got r (Some (TooLarge file limit)) =
-    IsRefused size src names got r file (TooLarge file limit) × (limit ≡ 2 ^ 30)
+    FileIsRefused size src names got r file (TooLarge file limit) × (limit ≡ 2 ^ 30)
     × (r.read ≡ 2 ^ 30 + 1)
     × IfTold src.left got (λ contents.
     IsTroubled size contents file ManyBytes × IsReadOf src.left r.read contents r.sources file)
@@ -207,12 +208,13 @@ EndsOver size text src names got r w fault =
     ReadsOver size src names got r fault × IsUnwritten w
 
 -- how a run over no file of the outside ends that is to write this text
-abbrev pub EndsAlone : List ℕ → Wrote → Option Fault → Type 0
-EndsAlone text w None = IsUnchanged w.faults × (w.written.new ≡ written_with w.written.old text)
-EndsAlone text w (Some WriteFault) =
+abbrev pub EndsWithoutFiles : List ℕ → Wrote → Option Fault → Type 0
+EndsWithoutFiles text w None =
+    IsUnchanged w.faults × (w.written.new ≡ written_with w.written.old text)
+EndsWithoutFiles text w (Some WriteFault) =
     Rose w.faults.old w.faults.new × WrotePart w.written.old w.written.new text
-EndsAlone text w (Some NoMemory) = IsUnwritten w
-EndsAlone text w _ = ⊥
+EndsWithoutFiles text w (Some NoMemory) = IsUnwritten w
+EndsWithoutFiles text w _ = ⊥
 
 -- A run over one whole file, whose text tells what is to be written. The order of its tests is: the
 -- file is got, read, not too large, and then its text is taken line by line.
@@ -237,8 +239,8 @@ pub record IsOneGot {S : Type 0} (src : SourceOf S) (name : List ℕ) (got : Lis
       IsSome (files name) × All (λ source. src.left source ≡ files name) got)
 
 -- the file was read to its end, which it answered just once, and has no more than the most bytes
-pub record IsReadWhole {S : Type 0} (src : SourceOf S) (name : List ℕ) (got : List S) (r : Inputs S)
-    : Type 0 where
+pub record FileIsReadWhole {S : Type 0} (src : SourceOf S) (name : List ℕ) (got : List S)
+    (r : Inputs S) : Type 0 where
   pub one : IsOneGot src name got r
   pub quiet : All (λ source. src.faults source ≡ 0) r.sources
   pub ended : All (λ source. NothingLeft (src.left source)) r.sources
@@ -265,7 +267,7 @@ pub record IsReadUntil {S : Type 0} (src : SourceOf S) (name : List ℕ) (got : 
   pub read : r.read ≡ 0
 
 -- the file has more than the most bytes: one more was read
-pub record IsLarge {S : Type 0} (src : SourceOf S) (name : List ℕ) (got : List S) (r : Inputs S)
+pub record IsTooLarge {S : Type 0} (src : SourceOf S) (name : List ℕ) (got : List S) (r : Inputs S)
     : Type 0 where
   pub one : IsOneGot src name got r
   pub quiet : All (λ source. src.faults source ≡ 0) r.sources
@@ -285,21 +287,21 @@ IsTold command left got P = IfContent left got (λ content.
 abbrev pub EndsWhole : {S : Type 0} → TextCommand → SourceOf S → List ℕ → List S → Inputs S → Wrote
     → Option Fault → Type 0
 EndsWhole command src name got r w None =
-    IsReadWhole src name got r × IsUnchanged w.faults
+    FileIsReadWhole src name got r × IsUnchanged w.faults
     × IsTold command src.left got (λ text. w.written.new ≡ written_with w.written.old text)
 EndsWhole command src name got r w (Some WriteFault) =
-    IsReadWhole src name got r × Rose w.faults.old w.faults.new
+    FileIsReadWhole src name got r × Rose w.faults.old w.faults.new
     × IsTold command src.left got (λ text. WrotePart w.written.old w.written.new text)
 EndsWhole command src name got r w (Some (OpenFault file)) =
     (file ≡ 1) × IsNotGot name r × IsUnwritten w
 EndsWhole command src name got r w (Some (ReadFault file)) =
     (file ≡ 1) × IsReadUntil src name got r × IsUnwritten w
 EndsWhole command src name got r w (Some (TooLarge file limit)) =
-    (file ≡ 1) × (limit ≡ most_text) × IsLarge src name got r × IsUnwritten w
+    (file ≡ 1) × (limit ≡ most_text) × IsTooLarge src name got r × IsUnwritten w
 EndsWhole command src name got r w (Some NoMemory) =
     (length r.sources ≤ 1) × (r.read ≡ 0) × IsUnwritten w
 EndsWhole command src name got r w (Some fault) =
-    IsOfText command fault × IsReadWhole src name got r
+    IsOfText command fault × FileIsReadWhole src name got r
     × IfContent src.left got (λ content. Tells command (lines_of content) (Err fault))
     × IsUnwritten w
 
@@ -315,9 +317,9 @@ pub record HaveAll {S : Type 0} (names : List (List ℕ)) (r : Inputs S) : Type 
 
 -- what recordings of files with these names tell of queues with this room, where that is known,
 -- meets P, where each source told its own when it was got
-abbrev pub IsReported : {S : Type 0} → (S → Option (List ℕ)) → List (List ℕ) → Option ℕ → List S
+abbrev pub ReportMeets : {S : Type 0} → (S → Option (List ℕ)) → List (List ℕ) → Option ℕ → List S
     → (List ℕ → Type 0) → Type 0
-IsReported left names room got P =
+ReportMeets left names room got P =
     IfTold left got (λ contents. (text : List ℕ) × IsJudged names room contents text × P text)
 
 -- how many files were got at this fault: those of all names where it is of several files, or of the
@@ -352,11 +354,11 @@ abbrev pub EndsJudged : {S : Type 0} → SourceOf S → Option ℕ → List (Lis
 EndsJudged src room names got r w None =
     HaveAll names r × AreReadWhole src.faults src.ends src.left (length names) got r.sources
     × IsUnchanged w.faults
-    × IsReported src.left names room got (λ text. w.written.new ≡ written_with w.written.old text)
+    × ReportMeets src.left names room got (λ text. w.written.new ≡ written_with w.written.old text)
 EndsJudged src room names got r w (Some WriteFault) =
     HaveAll names r × AreReadWhole src.faults src.ends src.left (length names) got r.sources
     × Rose w.faults.old w.faults.new
-    × IsReported src.left names room got (λ text. WrotePart w.written.old w.written.new text)
+    × ReportMeets src.left names room got (λ text. WrotePart w.written.old w.written.new text)
 EndsJudged src room names got r w (Some (OpenFault file)) =
     IsUnopened src names got r file × IsUnwritten w
 EndsJudged src room names got r w (Some NoMemory) =
@@ -367,8 +369,8 @@ EndsJudged src room names got r w (Some fault) =
     × IsRefusedBy src names got r refused) × IsUnwritten w
 
 -- no file was asked for
-abbrev pub IsClosed : {S : Type 0} → Inputs S → Type 0
-IsClosed r = IsUnchanged r.table × IsUnchanged r.opens × (r.sources ≡ []) × (r.read ≡ 0)
+abbrev pub NoFileWasAskedFor : {S : Type 0} → Inputs S → Type 0
+NoFileWasAskedFor r = IsUnchanged r.table × IsUnchanged r.opens × (r.sources ≡ []) × (r.read ≡ 0)
 
 -- how a run ends that is asked for this: refused words, files, a generated file, recordings, one
 -- whole file, or files that go through stages, whose payloads have at most as many bytes as the
@@ -376,13 +378,13 @@ IsClosed r = IsUnchanged r.table × IsUnchanged r.opens × (r.sources ≡ []) ×
 abbrev pub EndsAs : {S : Type 0} → SourceOf S → Result Asked WordsFault → List S → Inputs S → Wrote
     → Option Fault → Type 0
 EndsAs src (Err fault) got r w end =
-    IsClosed r × IsUnwritten w × ((end ≡ Some (Words fault)) ⊎ (end ≡ Some NoMemory))
+    NoFileWasAskedFor r × IsUnwritten w × ((end ≡ Some (Words fault)) ⊎ (end ≡ Some NoMemory))
 EndsAs src (Ok (run a)) got r w end =
     HasGotSources src a.files got r
     × EndsOver most_payload
     (one_thread_output a.topics) src a.files got r w end
 EndsAs src (Ok (generated a)) got r w end =
-    IsClosed r × EndsAlone (self_summary a.seed a.lines) w end
+    NoFileWasAskedFor r × EndsWithoutFiles (self_summary a.seed a.lines) w end
 EndsAs src (Ok (judged a)) got r w end =
     HasGotSources src a.files got r
     × EndsJudged src a.room a.files got r w end

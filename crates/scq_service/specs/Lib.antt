@@ -8,3 +8,4 @@ pub mod Writing
 pub mod Telling
 pub mod Answers
 pub mod Reports
+pub mod Serving

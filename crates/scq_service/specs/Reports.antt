@@ -40,8 +40,8 @@ all_line counts lists =
     (sum_by directs_in lists)
 
 -- the lines of workers, numbered from 1, and behind them that of all
-abbrev pub report_lines : List Counts → List (List Answered) → List ℕ
-report_lines counts lists = worker_lines 1 (zip counts lists) ++ all_line counts lists
+abbrev pub workers_report : List Counts → List (List Answered) → List ℕ
+workers_report counts lists = worker_lines 1 (zip counts lists) ++ all_line counts lists
 
 -- whether the words ask for the workers' lines
 abbrev pub asks_report : Result Asked WordsFault → Bool
@@ -52,5 +52,5 @@ asks_report asked = false
 -- workers
 abbrev pub reported : Bool → Option Fault → Option Worked → List ℕ
 reported asks (Some fault) worked = fault_line fault
-reported true None (Some w) = report_lines w.counts.items w.answered.items
+reported true None (Some w) = workers_report w.counts.items w.answered.items
 reported asks None worked = []

@@ -1,10 +1,8 @@
 -- What the text of a file tells a command, line by line: what is to be written, or the first line
 -- with a fault.
 use Rattle.std.specs.Prelude.{◌≡◌, ℕ, List, Result, Ok, Err}
-use Rattle.scq_hist.specs.Aspects.{IsFreshAt, IsOnceAt, IsInOrderAt, IsEmptyRightAt}
-use Rattle.scq_hist.specs.declared.events.Event.{Event}
 use Rattle.scq_check.specs.HistoryText.{tokens_in, events_in, IsHistory, IsBadLine, IsUnlawfulLine}
-use Rattle.scq_check.specs.Verdicts.{IsVerdict, verdict_lines}
+use Rattle.scq_check.specs.Verdicts.{IsVerdictOf, verdict_lines}
 use Rattle.scq_check.specs.declared.verdicts.Verdict.{Verdict}
 use Rattle.scq_replay.specs.OrderText.{IsOrderText, HasNoOrders}
 use Rattle.scq_replay.specs.Replay.{Gives}
@@ -15,16 +13,8 @@ use Rattle.scq_service.specs.declared.fault.Fault.{Fault}
 use Rattle.scq_service.specs.declared.fault.Fault.TheVariants.{BadLine, NotEnabled, Unlawful}
 use Rattle.scq_service.specs.declared.fault.Fault.TheVariants.{Unfinished}
 
--- the verdict of a history: of each aspect the first event that breaks it
-pub record IsVerdictOf (opening : List (List ℕ)) (events : List Event)
-    (verdict : Verdict) : Type 0 where
-  pub fresh : IsVerdict (IsFreshAt opening events) verdict.fresh
-  pub once : IsVerdict (IsOnceAt events) verdict.once
-  pub in_order : IsVerdict (IsInOrderAt opening events) verdict.in_order
-  pub empty_right : IsVerdict (IsEmptyRightAt opening events) verdict.empty_right
-
 -- the lines are a history, and the text is that of its verdict
-pub record IsJudged (lines : List (List ℕ)) (text : List ℕ) : Type 0 where
+pub record IsVerdictText (lines : List (List ℕ)) (text : List ℕ) : Type 0 where
   pub history : IsHistory lines
   pub verdict : Verdict
   pub judged : IsVerdictOf (tokens_in lines) (events_in lines) verdict
@@ -32,7 +22,7 @@ pub record IsJudged (lines : List (List ℕ)) (text : List ℕ) : Type 0 where
 
 -- what the lines tell a command
 abbrev pub Tells : TextCommand → List (List ℕ) → Result (List ℕ) Fault → Type 0
-Tells Check lines (Ok text) = IsJudged lines text
+Tells Check lines (Ok text) = IsVerdictText lines text
 Tells Check lines (Err (BadLine line)) = IsBadLine lines line
 Tells Check lines (Err (Unlawful line)) = IsUnlawfulLine lines line
 Tells Replay lines (Ok text) = Gives lines (Ok text)

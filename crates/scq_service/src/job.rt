@@ -1,6 +1,6 @@
 ghost use Rattle.std.specs.Prelude.{◌≡◌, ◌^◌};
 ghost use Rattle.scq_passes.specs.Jobs.{IsJob};
-ghost use Rattle.scq_worker.specs.Opening.{most_bytes};
+ghost use Rattle.scq_worker.specs.Opening.{most_together};
 
 use scq_stages::StageJob;
 use scq_topics::Topics;
@@ -11,7 +11,7 @@ pub fn job_of(order: u32, size: u32, workers: u32, topics: Topics, batch: bool) 
     requires { IsJob order size workers }
     ensures size { result.size ≡ size }
     ensures longest { result.longest ≡ 2 ^ 20 }
-    ensures most { result.most ≡ most_bytes size batch }
+    ensures most { result.most ≡ most_together size batch }
     ensures workers { result.workers ≡ workers }
     ensures order { result.order ≡ order }
     ensures topics { result.topics ≡ topics }

@@ -87,8 +87,8 @@ pub fn run_work_waiting<R: Threads + Wait + Sync, F: Files, G: Gate + Sync>(
         result.got.items
         (inputs_of F.Files files.old files.new result.sources.items result.read) result.fault }
     ensures waited { IfSome result.waited (λ waited. IsSomeAnd result.passes (λ passes.
-        HaveWaited (length job.now.topics
-        + 1) (takes_behind job.now.most) job.now.workers passes.value.items waited.saw.items waited.rested.items)) }
+        HaveWaited (length job.now.topics + 1) (takes_behind job.now.most) job.now.workers
+        passes.value.items waited.saw.items waited.rested.items)) }
     ensures waits { IsNone result.waited → result.fault ≡ Some Fault.NoMemory }
     ensures attended { OnSome result.worked (IsSome result.waited) }
     ensures both { OnSome result.waited (IsSome result.left) }

@@ -1,16 +1,12 @@
-ghost use Rattle.std.specs.Prelude.{◌≡◌, ◌⊎◌, Ok, None, Some, false, is_some, IfSome, IsSomeAnd};
-ghost use Rattle.std.specs.Prelude.{map, string_bytes};
-ghost use Rattle.scq_outside.specs.Counts.{Rose};
-ghost use Rattle.scq_words.specs.Asked.{asked, generated, run, staged, whole, RunAsked, SelfAsked};
-ghost use Rattle.scq_words.specs.Asked.{StagesAsked, TextAsked};
-ghost use Rattle.scq_words.specs.Ranges.{is_taken};
+ghost use Rattle.std.specs.Prelude.{◌≡◌, None, Some, false, is_some, IfSome, IsSomeAnd, map};
+ghost use Rattle.std.specs.Prelude.{string_bytes};
+ghost use Rattle.scq_words.specs.Asked.{asked};
+ghost use Rattle.scq_words.specs.Ranges.{is_accepted};
 ghost use Rattle.scq_service.specs.Answers.{IsSeenAt, LeavesNothing, StagedAs, WorkedAs};
-ghost use Rattle.scq_service.specs.Ends.{EndsAs, IsCalm, IsCalmText, IsOfTextAlone, most_payload};
-ghost use Rattle.scq_service.specs.Ends.{inputs_of, wrote_of};
+ghost use Rattle.scq_service.specs.Ends.{EndsAs, inputs_of, wrote_of};
 ghost use Rattle.scq_service.specs.Faults.{status_of};
 ghost use Rattle.scq_service.specs.Reports.{asks_report, reported};
-ghost use Rattle.scq_service.specs.declared.fault.Fault.TheVariants.{NoMemory};
-ghost use Rattle.scq_service.specs.Writing.{written_with, WrotePart};
+ghost use Rattle.scq_service.specs.Serving.{EndsCalmly, IsOutcomeOf, HasReported};
 
 use crate::commands::{run_files, run_judge, run_self, run_stages, run_text};
 use crate::job::{job_of, stage_job_of};
@@ -37,80 +33,31 @@ pub fn serve<R: Threads + Sync, F: Files, K: Sink, G: Gate + Sync>(
     err: &mut K,
     gate: &G,
 ) -> Outcome<F::Src>
-    ensures status { result.status ≡ status_of result.fault }
-
-    // How it ended is one of the cases of `EndsAs`, each with what was got, read and written, and
-    // why.
-    ensures end { EndsAs F.Src.Source (asked (map string_bytes words.now)) result.got.items
+    ensures outcome { IsOutcomeOf F.Src.Source (asked (map string_bytes words.now))
         (inputs_of F.Files files.old files.new result.sources.items result.read)
-        (wrote_of K.Sink out.old out.new) result.fault }
+        (wrote_of K.Sink out.old out.new) result }
 
-    // What workers answered is there exactly where the text of it was whole. It answers such
-    // messages as `IsWork` says, which are those of the contents where these are visible.
-    ensures worked { WorkedAs F.Src.Source (asked (map string_bytes words.now)) result.got.items
-        (inputs_of F.Files files.old files.new result.sources.items result.read)
-        result.fault result.worked }
-
-    // What the workers of stages finished is there likewise, and is what becomes of such messages.
-    // Nothing is stranded in their queue.
+    // What the workers of stages finished is there exactly where the text of it was whole, and is
+    // what becomes of the messages. Nothing is stranded in their queue.
     ensures staged { StagedAs F.Src.Source (asked (map string_bytes words.now)) result.got.items
         (inputs_of F.Files files.old files.new result.sources.items result.read)
         result.fault result.staged }
-
-    // Whatever the answer is, where workers were at work nothing is stranded: their queue was
-    // closed with each buffer free, what was sent was taken, each pass has retired, and no call met
-    // a ticket past the limit.
-    ensures left { IfSome result.left (λ left.
-        IsSomeAnd result.passes (λ passes. IsSomeAnd result.frames (λ frames.
-        LeavesNothing (asked
-        (map string_bytes words.now)) passes.value.items frames.value.items left.items))) }
-    ensures seen { IsSeenAt (asked (map string_bytes words.now)) result.fault
-        (is_some result.left) }
-    ensures same { IfSome result.worked (λ w.
-        IsSomeAnd result.passes (λ passes. passes.value.items ≡ w.passes.value.items)) }
 
     // Its workers leave early.
     ensures leaves { result.waited ≡ None }
 
     // `clap` refuses no words that it is said to take.
     ensures taken { result.fault ≡ Some (Fault.Words WordsFault.NotUnderstood)
-        → is_taken (map string_bytes words.now) ≡ false }
+        → is_accepted (map string_bytes words.now) ≡ false }
 
-    // Where nothing stood in the way of a run over files, it ends with the output, or for want of
-    // memory.
-    ensures complete { (a : RunAsked) → asked (map string_bytes words.now) ≡ Ok (run a)
-        → IsCalm most_payload F.Src.Source a.files result.got.items
+    // Where nothing stood in the way of what was asked, it ends as `EndsCalmly` says.
+    ensures complete { EndsCalmly F.Src.Source (asked (map string_bytes words.now))
         (inputs_of F.Files files.old files.new result.sources.items result.read)
-        (wrote_of K.Sink out.old out.new)
-        → (result.fault ≡ None) ⊎ (result.fault ≡ Some NoMemory) }
-
-    // And so does one over files whose messages go through stages.
-    ensures complete_stages { (a : StagesAsked) → asked (map string_bytes words.now) ≡ Ok (staged a)
-        → IsCalm a.size F.Src.Source a.files result.got.items
-        (inputs_of F.Files files.old files.new result.sources.items result.read)
-        (wrote_of K.Sink out.old out.new)
-        → (result.fault ≡ None) ⊎ (result.fault ≡ Some NoMemory) }
-
-    // Where no write failed a run of `self` ends with the summary, or for want of memory.
-    ensures complete_self { (a : SelfAsked) → asked (map string_bytes words.now) ≡ Ok (generated a)
-        → ¬ Rose (K.faults out.old) (K.faults out.new)
-        → (result.fault ≡ None) ⊎ (result.fault ≡ Some NoMemory) }
-
-    // Where nothing stood in the way of a run over one whole file, it ends with what its text
-    // tells, or for want of memory.
-    ensures complete_text { (a : TextAsked) → asked (map string_bytes words.now) ≡ Ok (whole a)
-        → IsCalmText F.Src.Source result.got.items
-        (inputs_of F.Files files.old files.new result.sources.items result.read)
-        (wrote_of K.Sink out.old out.new)
-        → IsOfTextAlone a.command result.fault }
+        (wrote_of K.Sink out.old out.new) result }
 
     // `err` gets the fault's line, or at status 0 the lines of the workers where they are asked
-    // for: the whole of it where no write failed.
-    ensures reported { Rose (K.faults err.old) (K.faults err.new)
-        ⊎ (K.written err.new
-        ≡ written_with (K.written err.old)
-        (reported (asks_report (asked (map string_bytes words.now))) result.fault result.worked)) }
-    ensures reported_front { WrotePart (K.written err.old) (K.written err.new)
+    // for.
+    ensures reported { HasReported (wrote_of K.Sink err.old err.new)
         (reported (asks_report (asked (map string_bytes words.now))) result.fault result.worked) }
 {
     let Ran { outcome, report } = run(rt, alloc, words, files, out, gate);
@@ -172,7 +119,7 @@ fn run<R: Threads + Sync, F: Files, K: Sink, G: Gate + Sync>(
         IsSomeAnd result.outcome.passes (λ passes. passes.value.items ≡ w.passes.value.items)) }
     ensures leaves { result.outcome.waited ≡ None }
     ensures taken { result.outcome.fault ≡ Some (Fault.Words WordsFault.NotUnderstood)
-        → is_taken (map string_bytes words.now) ≡ false }
+        → is_accepted (map string_bytes words.now) ≡ false }
     ensures report { result.outcome.fault ≡ None
         → result.report ≡ asks_report (asked (map string_bytes words.now)) }
 {

@@ -1,15 +1,13 @@
 //! The service whose idle workers wait in place of leaving early.
-ghost use Rattle.std.specs.Prelude.{◌≡◌, ◌⊎◌, Ok, None, Some, false, is_some, IfSome, IsSome};
-ghost use Rattle.std.specs.Prelude.{IsSomeAnd, OnSome, map, string_bytes};
-ghost use Rattle.scq_outside.specs.Counts.{Rose};
-ghost use Rattle.scq_words.specs.Asked.{asked_for_run, run, RunAsked};
+ghost use Rattle.std.specs.Prelude.{◌≡◌, None, Some, false, is_some, IfSome, IsSome, IsSomeAnd};
+ghost use Rattle.std.specs.Prelude.{OnSome, map, string_bytes};
+ghost use Rattle.scq_words.specs.Asked.{asked_for_run};
 ghost use Rattle.scq_words.specs.Ranges.{is_taken_for_run};
 ghost use Rattle.scq_service.specs.Answers.{IsSeenAt, LeavesNothing, WaitedAs, WorkedAs};
-ghost use Rattle.scq_service.specs.Ends.{EndsAs, IsCalm, most_payload, inputs_of, wrote_of};
+ghost use Rattle.scq_service.specs.Ends.{EndsAs, inputs_of, wrote_of};
 ghost use Rattle.scq_service.specs.Faults.{status_of};
 ghost use Rattle.scq_service.specs.Reports.{asks_report, reported};
-ghost use Rattle.scq_service.specs.declared.fault.Fault.TheVariants.{NoMemory};
-ghost use Rattle.scq_service.specs.Writing.{written_with, WrotePart};
+ghost use Rattle.scq_service.specs.Serving.{EndsCalmly, WorkersWaited, IsOutcomeOf, HasReported};
 
 use crate::commands::run_files_waiting;
 use crate::job::job_of;
@@ -35,42 +33,10 @@ pub fn serve_waiting<R: Threads + Wait + Sync, F: Files, K: Sink, G: Gate + Sync
     err: &mut K,
     gate: &G,
 ) -> Outcome<F::Src>
-    ensures status { result.status ≡ status_of result.fault }
-
-    // How it ended is one of the cases of `EndsAs`, each with what was got, read and written, and
-    // why.
-    ensures end { EndsAs F.Src.Source (asked_for_run (map string_bytes words.now)) result.got.items
+    ensures outcome { IsOutcomeOf F.Src.Source (asked_for_run (map string_bytes words.now))
         (inputs_of F.Files files.old files.new result.sources.items result.read)
-        (wrote_of K.Sink out.old out.new) result.fault }
-
-    // What workers answered is there exactly where the text of it was whole. It answers such
-    // messages as `IsWork` says, which are those of the contents where these are visible.
-    ensures worked { WorkedAs F.Src.Source
-        (asked_for_run (map string_bytes words.now)) result.got.items
-        (inputs_of F.Files files.old files.new result.sources.items result.read)
-        result.fault result.worked }
-
-    // Whatever the answer is, where workers were at work nothing is stranded: their queue was
-    // closed with each buffer free, what was sent was taken, each pass has retired, and no call met
-    // a ticket past the limit.
-    ensures left { IfSome result.left (λ left.
-        IsSomeAnd result.passes (λ passes. IsSomeAnd result.frames (λ frames.
-        LeavesNothing (asked_for_run
-        (map string_bytes words.now)) passes.value.items frames.value.items left.items))) }
-    ensures seen { IsSeenAt (asked_for_run (map string_bytes words.now)) result.fault
-        (is_some result.left) }
-    ensures same { IfSome result.worked (λ w.
-        IsSomeAnd result.passes (λ passes. passes.value.items ≡ w.passes.value.items)) }
-
-    // Where they waited, each worker was told that all had retired, rested no more often than it
-    // was woken, and took in vain no more often than one does that rests after each sweep that took
-    // nothing. Unless memory is wanting or the words are refused they waited.
-    ensures waited { IfSome result.waited (λ waited. IsSomeAnd result.passes (λ passes.
-        WaitedAs (asked_for_run (map string_bytes words.now)) passes.value.items waited.saw.items
-        waited.rested.items)) }
-    ensures attended { IsSeenAt (asked_for_run (map string_bytes words.now)) result.fault
-        (is_some result.waited) }
-    ensures both { OnSome result.waited (IsSome result.left) }
+        (wrote_of K.Sink out.old out.new) result }
+    ensures waited { WorkersWaited (asked_for_run (map string_bytes words.now)) result }
 
     // No messages go through stages.
     ensures unstaged { result.staged ≡ None }
@@ -79,22 +45,14 @@ pub fn serve_waiting<R: Threads + Wait + Sync, F: Files, K: Sink, G: Gate + Sync
     ensures taken { result.fault ≡ Some (Fault.Words WordsFault.NotUnderstood)
         → is_taken_for_run (map string_bytes words.now) ≡ false }
 
-    // Where nothing stood in the way of a run over files, it ends with the output, or for want of
-    // memory.
-    ensures complete { (a : RunAsked) → asked_for_run (map string_bytes words.now) ≡ Ok (run a)
-        → IsCalm most_payload F.Src.Source a.files result.got.items
+    // Where nothing stood in the way of what was asked, it ends as `EndsCalmly` says.
+    ensures complete { EndsCalmly F.Src.Source (asked_for_run (map string_bytes words.now))
         (inputs_of F.Files files.old files.new result.sources.items result.read)
-        (wrote_of K.Sink out.old out.new)
-        → (result.fault ≡ None) ⊎ (result.fault ≡ Some NoMemory) }
+        (wrote_of K.Sink out.old out.new) result }
 
     // `err` gets the fault's line, or at status 0 the lines of the workers where they are asked
-    // for: the whole of it where no write failed.
-    ensures reported { Rose (K.faults err.old) (K.faults err.new)
-        ⊎ (K.written err.new
-        ≡ written_with (K.written err.old)
-        (reported (asks_report
-        (asked_for_run (map string_bytes words.now))) result.fault result.worked)) }
-    ensures reported_front { WrotePart (K.written err.old) (K.written err.new)
+    // for.
+    ensures reported { HasReported (wrote_of K.Sink err.old err.new)
         (reported (asks_report
         (asked_for_run (map string_bytes words.now))) result.fault result.worked) }
 {

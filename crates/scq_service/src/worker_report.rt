@@ -1,6 +1,6 @@
 ghost use Rattle.std.specs.Prelude.{◌≡◌, ◌⊎◌, ◌≤◌, ◌++◌, decimal, sum_by, OnOk, OnErr};
 ghost use Rattle.scq_outside.specs.Counts.{Rose};
-ghost use Rattle.scq_service.specs.Reports.{counts_line, directs_in, report_lines, reported};
+ghost use Rattle.scq_service.specs.Reports.{counts_line, directs_in, workers_report, reported};
 ghost use Rattle.scq_service.specs.Reports.{worker_line};
 ghost use Rattle.scq_service.specs.Writing.{written_with, WrotePart};
 
@@ -28,9 +28,9 @@ pub fn report_workers<K: Sink>(
     lists: &[Answers],
 ) -> Result<(), Failed>
     ensures whole { OnOk result (K.written sink.new
-        ≡ written_with (K.written sink.old) (report_lines counts.now lists.now)) }
+        ≡ written_with (K.written sink.old) (workers_report counts.now lists.now)) }
     ensures part { WrotePart (K.written sink.old) (K.written sink.new)
-        (report_lines counts.now lists.now) }
+        (workers_report counts.now lists.now) }
     ensures kept { OnOk result (K.faults sink.new ≡ K.faults sink.old) }
     ensures rose { OnErr result (Rose (K.faults sink.old) (K.faults sink.new)) }
 {

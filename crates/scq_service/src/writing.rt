@@ -1,5 +1,5 @@
 ghost use Rattle.std.specs.Prelude.{◌≡◌, OnOk, OnErr};
-ghost use Rattle.scq_collect.specs.Pieces.{bytes_of};
+ghost use Rattle.scq_collect.specs.Pieces.{pieces_bytes};
 ghost use Rattle.scq_outside.specs.Counts.{Rose};
 ghost use Rattle.scq_service.specs.Writing.{written_with, WrotePart};
 
@@ -37,11 +37,11 @@ pub fn write_text<K: Sink>(sink: &mut K, text: &Text) -> Result<(), Failed>
 /// Writes all pieces, one behind the other.
 fn write_pieces<K: Sink>(sink: &mut K, pieces: &[Vec<u8>]) -> Result<(), Failed>
     ensures whole { OnOk result (K.written sink.new
-        ≡ written_with (K.written sink.old) (bytes_of pieces.now)) }
+        ≡ written_with (K.written sink.old) (pieces_bytes pieces.now)) }
     ensures kept { OnOk result (K.faults sink.new ≡ K.faults sink.old) }
 
     // After a fault the sink has a front of the bytes.
-    ensures part { WrotePart (K.written sink.old) (K.written sink.new) (bytes_of pieces.now) }
+    ensures part { WrotePart (K.written sink.old) (K.written sink.new) (pieces_bytes pieces.now) }
     ensures rose { OnErr result (Rose (K.faults sink.old) (K.faults sink.new)) }
 {
     for piece in pieces {

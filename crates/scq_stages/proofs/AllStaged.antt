@@ -28,7 +28,7 @@ use Rattle.scq_passes.specs.PassedOn.{ArePassedOn, EachHasItsCall}
 use Rattle.scq_passes.specs.Records.{HoldsNothingAtEachFull, MeetsNoSpent, on}
 use Rattle.scq_passes.specs.Together.{HasSwept, IsBounded, NoneSpent}
 use Rattle.scq_passes.proofs.ManyLists.{stands-at}
-use Rattle.scq_passes.proofs.NoneSpent.{messages_of, passes_of}
+use Rattle.scq_passes.proofs.NoneSpent.{message_count, passes_of}
 use Rattle.scq_passes.proofs.OnTopics.{on-member}
 use Rattle.scq_passes.proofs.SendsAndTakes.{no-place-twice}
 use Rattle.scq_stages.specs.declared.finished.Finished.{Finished}
@@ -40,7 +40,7 @@ use Rattle.scq_stages.specs.Passing.{FinishesItself, IsNextOf, SendsToFirst}
 use Rattle.scq_stages.specs.Working.{HasMovedAllAndSwept, HasFewStageCalls}
 use Rattle.scq_passes.specs.Closed.{HasClosed}
 use Rattle.scq_passes.proofs.Closed.{all-taken, have-shared}
-use Rattle.scq_stages.proofs.Conclusion.{Work, IsMoving, IsWork, all-finished, firsts-all, lists_in, messages_in, moved-all, passes_in, seconds-all, took-behind, was-sent}
+use Rattle.scq_stages.proofs.Conclusion.{Work, IsMoving, IsWork, all-finished, firsts-all, lists_in, worked_messages, moved-all, passes_in, seconds-all, took-behind, was-sent}
 use Rattle.scq_stages.proofs.Ended.{follows-all, moves-so-far, nothing-behind-alone, retired-empty}
 use Rattle.scq_stages.proofs.FewTickets.{all-bounded, none-spent}
 use Rattle.scq_stages.proofs.Ordered.{members-apart}
@@ -56,7 +56,7 @@ only-one (z ∷ z' ∷ zs) x y one has other = absurd (omega arith)
 
 module _ {B : Type 0} where
   -- a worker has done its work, however the reading of its files ended
-  pub record HasDone (shared : Identity B) (w : Work B) : Type 0 where
+  pub record HasDoneItsWork (shared : Identity B) (w : Work B) : Type 0 where
     pub few_calls : HasFewStageCalls 1 (length w.messages) w.pass
     pub queue : w.pass.queue ≡ shared
     pub held : w.pass.held ≡ index_of w.kept
@@ -71,7 +71,7 @@ module _ {B : Type 0} where
 
   -- the workers of a queue have left, each with its own number
   pub record AllDone (c : Setup) (shared : Identity B) (works : List (Work B)) : Type 0 where
-    pub each : All (HasDone shared) works
+    pub each : All (HasDoneItsWork shared) works
     pub setup : shared.setup ≡ c
     pub numbers : (k : ℕ) (d : Work B) → k < length works → (get_or works k d).pass.number ≡ k
     pub rings : c.rings ≡ 3
@@ -112,7 +112,7 @@ module _ {B : Type 0} where
     passes-same : passes_of (map counted works) ≡ passes_in works
     passes-same = map-map (λ (w : ℕ × PassStanding B). w.1) counted works
 
-    few-messages : messages_of (map counted works) ≤ 2 ^ 36
+    few-messages : message_count (map counted works) ≤ 2 ^ 36
     few-messages =
         let counts = sum_by-map (λ (w : ℕ × PassStanding B). w.0) counted works in
         let few = done.few in
@@ -214,7 +214,7 @@ module _ {B : Type 0} where
     module _ {S : Type 0} (size : ℕ) (left_of : S → Option (List ℕ)) (sources : List S) (given : List (List Message))
         (gave : AreGiven [] size left_of 1 sources given)
         (own : (w : ℕ) (d : Work B) → slice_get works w ≡ Some d → d.messages ≡ own_of (length works) w 1 given)
-        (all : IsPermutation (flat_map (λ own. own) given) (messages_in works)) (fed : All (λ (w : Work B). w.starved ≡ false) works) where
+        (all : IsPermutation (flat_map (λ own. own) given) (worked_messages works)) (fed : All (λ (w : Work B). w.starved ≡ false) works) where
       all-works : All IsWork works
       all-works k d less =
           let w = get_or works k d in
@@ -235,11 +235,11 @@ module _ {B : Type 0} where
 
       once : IsPermutation (map without_way (finished_in (lists_in works))) (map handled_of (flat_map (λ own. own) given))
       once =
-          IsPermutation-trans (map without_way (finished_in (lists_in works))) (map handled_of (messages_in works)) (map handled_of (flat_map (λ own. own) given))
+          IsPermutation-trans (map without_way (finished_in (lists_in works))) (map handled_of (worked_messages works)) (map handled_of (flat_map (λ own. own) given))
           (all-finished works all-moving closed.takes all-works (no-place-twice (passes_in works) closed.sent_once) closed.taken_once
           (all-taken c shared.given (passes_in works) (held_in works) left closed (of-passes HasSwept (λ w e. e.swept))))
-          (IsPermutation-map handled_of (messages_in works) (flat_map (λ own. own) given)
-          (IsPermutation-sym (flat_map (λ own. own) given) (messages_in works) all))
+          (IsPermutation-map handled_of (worked_messages works) (flat_map (λ own. own) given)
+          (IsPermutation-sym (flat_map (λ own. own) given) (worked_messages works) all))
 
       -- one worker alone takes only what it sent itself
       alone-firsts : length works ≡ 1 → (w : Work B) → Contains works w → filter is_first w.list.items ≡ []

@@ -33,7 +33,7 @@ use Rattle.scq_stages.specs.Members.{AreMoves, DirectsAre, FinishesTake, FirstsA
 use Rattle.scq_stages.specs.Records.{first, is_next, second}
 use Rattle.scq_stages.specs.Output.{Handled, finished_in, without_way}
 use Rattle.scq_stages.specs.Passing.{FinishesItself, IsNextOf, SendsToFirst}
-use Rattle.scq_stages.proofs.Readings.{IsPart, finished-reads, in-three, moved-part, moved-reads, not-over, passed-reads, read, sent-part}
+use Rattle.scq_stages.proofs.Readings.{IsPart, finished-reads, in-three, moved-part, moved-reads, not-over, passed-reads, read_part, sent-part}
 use Rattle.scq_stages.proofs.Zips.{zip-from, zip-reads}
 
 -- what a worker did: its pass, its list, the messages of its files, whether it wanted memory, and the value that it keeps where it met Spent
@@ -72,8 +72,8 @@ module _ {B : Type 0} where
   abbrev pub lists_in : List (Work B) → List (Vec Finished Global)
   lists_in works = map (λ (w : Work B). w.list) works
 
-  abbrev pub messages_in : List (Work B) → List Message
-  messages_in works = flat_map (λ (w : Work B). w.messages) works
+  abbrev pub worked_messages : List (Work B) → List Message
+  worked_messages works = flat_map (λ (w : Work B). w.messages) works
 
   sends-in : (works : List (Work B)) → all_sends (passes_in works) ≡ flat_map (λ (w : Work B). sends_of w.pass.calls) works
   sends-in works = flat_map-map (λ (p : PassStanding B). sends_of p.calls) (λ (w : Work B). w.pass) works
@@ -122,9 +122,9 @@ module _ {B : Type 0} where
         (λ t took over. not-over t (moved-part-of w has t took) over)
 
     moved-reads-all : (w : Work B) → Contains works w
-        → map (read both) (on first (takes_of (calls_before w.pass))) ≡ map (read squeezed) (on second (sends_of w.pass.calls))
+        → map (read_part both) (on first (takes_of (calls_before w.pass))) ≡ map (read_part squeezed) (on second (sends_of w.pass.calls))
     moved-reads-all w has =
-        zip-reads IsMove (read both) (read squeezed) (on first (takes_of (calls_before w.pass))) (on second (sends_of w.pass.calls))
+        zip-reads IsMove (read_part both) (read_part squeezed) (on first (takes_of (calls_before w.pass))) (on second (sends_of w.pass.calls))
         (λ t s took move. moved-reads t s move (moved-part-of w has t took)) (moved-all w has)
 
     -- or finished, behind the retirement
@@ -145,19 +145,19 @@ module _ {B : Type 0} where
 
     -- the kinds of what a worker did, as handled messages
     abbrev of_seconds : Work B → List Handled
-    of_seconds w = map (read squeezed) (on second (takes_of w.pass.calls))
+    of_seconds w = map (read_part squeezed) (on second (takes_of w.pass.calls))
 
     abbrev of_firsts : Work B → List Handled
-    of_firsts w = map (read both) (on first (takes_of (calls_behind w.pass)))
+    of_firsts w = map (read_part both) (on first (takes_of (calls_behind w.pass)))
 
     abbrev of_moved : Work B → List Handled
-    of_moved w = map (read both) (on first (takes_of (calls_before w.pass)))
+    of_moved w = map (read_part both) (on first (takes_of (calls_before w.pass)))
 
     abbrev of_takes : Work B → List Handled
-    of_takes w = map (read both) (on first (takes_of w.pass.calls))
+    of_takes w = map (read_part both) (on first (takes_of w.pass.calls))
 
     abbrev of_sends : Work B → List Handled
-    of_sends w = map (read both) (on first (sends_of w.pass.calls))
+    of_sends w = map (read_part both) (on first (sends_of w.pass.calls))
 
     abbrev of_directs : Work B → List Handled
     of_directs w = map without_way (filter is_direct w.list.items)
@@ -171,9 +171,9 @@ module _ {B : Type 0} where
     -- what it took from first is what it took before its retirement, and behind
     takes-read : (w : Work B) → of_takes w ≡ of_moved w ++ of_firsts w
     takes-read w =
-        ap (λ (l : List Placed). map (read both) (on first l)) (takes-before-and-behind w.pass)
-        ∙ ap (map (read both)) (on-append first (takes_of (calls_before w.pass)) (takes_of (calls_behind w.pass)))
-        ∙ map-append (read both) (on first (takes_of (calls_before w.pass))) (on first (takes_of (calls_behind w.pass)))
+        ap (λ (l : List Placed). map (read_part both) (on first l)) (takes-before-and-behind w.pass)
+        ∙ ap (map (read_part both)) (on-append first (takes_of (calls_before w.pass)) (takes_of (calls_behind w.pass)))
+        ∙ map-append (read_part both) (on first (takes_of (calls_before w.pass))) (on first (takes_of (calls_behind w.pass)))
 
     module _ (listed : All IsWork works) where
       pub firsts-all : (w : Work B) → Contains works w → FirstsAre (on first (takes_of (calls_behind w.pass))) w.list.items
@@ -182,9 +182,9 @@ module _ {B : Type 0} where
           (λ t took over. not-over t (firsts-part w has t took) over)
 
       firsts-read : (w : Work B) → Contains works w
-          → map without_way (filter is_first w.list.items) ≡ map (read both) (on first (takes_of (calls_behind w.pass)))
+          → map without_way (filter is_first w.list.items) ≡ map (read_part both) (on first (takes_of (calls_behind w.pass)))
       firsts-read w has =
-          so-far-results (read both) without_way (on first (takes_of (calls_behind w.pass))) (filter is_first w.list.items)
+          so-far-results (read_part both) without_way (on first (takes_of (calls_behind w.pass))) (filter is_first w.list.items)
           (All-contains IsWork works w listed has).firsts (λ t took over. not-over t (firsts-part w has t took) over)
           (λ t f took its. finished-reads First both t f its)
 
@@ -194,9 +194,9 @@ module _ {B : Type 0} where
           (λ t took over. not-over t (seconds-part w has t took) over)
 
       seconds-read : (w : Work B) → Contains works w
-          → map without_way (filter is_second w.list.items) ≡ map (read squeezed) (on second (takes_of w.pass.calls))
+          → map without_way (filter is_second w.list.items) ≡ map (read_part squeezed) (on second (takes_of w.pass.calls))
       seconds-read w has =
-          so-far-results (read squeezed) without_way (on second (takes_of w.pass.calls)) (filter is_second w.list.items)
+          so-far-results (read_part squeezed) without_way (on second (takes_of w.pass.calls)) (filter is_second w.list.items)
           (All-contains IsWork works w listed has).seconds (λ t took over. not-over t (seconds-part w has t took) over)
           (λ t f took its. finished-reads Second squeezed t f its)
 
@@ -215,26 +215,26 @@ module _ {B : Type 0} where
 
       module _ (places : NoPlaceStandsTwice (passes_in works)) (once : NoPlaceIsTakenTwice (passes_in works)) (swept : SendsAreTakes (passes_in works)) where
         -- over all workers the sends to a topic, as they are read, are the takes of it
-        topic-reads : (topic : _) (stage : _) → IsPermutation (flat_map (λ (w : Work B). map (read stage) (on topic (takes_of w.pass.calls))) works)
-            (flat_map (λ (w : Work B). map (read stage) (on topic (sends_of w.pass.calls))) works)
+        topic-reads : (topic : _) (stage : _) → IsPermutation (flat_map (λ (w : Work B). map (read_part stage) (on topic (takes_of w.pass.calls))) works)
+            (flat_map (λ (w : Work B). map (read_part stage) (on topic (sends_of w.pass.calls))) works)
         topic-reads topic stage =
-            let takes : flat_map (λ (w : Work B). map (read stage) (on topic (takes_of w.pass.calls))) works
-            ≡ map (read stage) (on topic (all_takes (passes_in works))) =
-            flat-map (read stage) (λ (w : Work B). on topic (takes_of w.pass.calls)) works
-            ∙ ap (map (read stage)) (sym (ap (on topic) (takes-in works) ∙ on-all topic (λ (w : Work B). takes_of w.pass.calls) works)) in
-            let sends : flat_map (λ (w : Work B). map (read stage) (on topic (sends_of w.pass.calls))) works
-            ≡ map (read stage) (on topic (all_sends (passes_in works))) =
-            flat-map (read stage) (λ (w : Work B). on topic (sends_of w.pass.calls)) works
-            ∙ ap (map (read stage)) (sym (ap (on topic) (sends-in works) ∙ on-all topic (λ (w : Work B). sends_of w.pass.calls) works)) in
-            subst (λ (l : List Handled). IsPermutation l (flat_map (λ (w : Work B). map (read stage) (on topic (sends_of w.pass.calls))) works)) (sym takes)
-            (subst (IsPermutation (map (read stage) (on topic (all_takes (passes_in works))))) (sym sends)
-            (IsPermutation-map (read stage) (on topic (all_takes (passes_in works))) (on topic (all_sends (passes_in works)))
+            let takes : flat_map (λ (w : Work B). map (read_part stage) (on topic (takes_of w.pass.calls))) works
+            ≡ map (read_part stage) (on topic (all_takes (passes_in works))) =
+            flat-map (read_part stage) (λ (w : Work B). on topic (takes_of w.pass.calls)) works
+            ∙ ap (map (read_part stage)) (sym (ap (on topic) (takes-in works) ∙ on-all topic (λ (w : Work B). takes_of w.pass.calls) works)) in
+            let sends : flat_map (λ (w : Work B). map (read_part stage) (on topic (sends_of w.pass.calls))) works
+            ≡ map (read_part stage) (on topic (all_sends (passes_in works))) =
+            flat-map (read_part stage) (λ (w : Work B). on topic (sends_of w.pass.calls)) works
+            ∙ ap (map (read_part stage)) (sym (ap (on topic) (sends-in works) ∙ on-all topic (λ (w : Work B). sends_of w.pass.calls) works)) in
+            subst (λ (l : List Handled). IsPermutation l (flat_map (λ (w : Work B). map (read_part stage) (on topic (sends_of w.pass.calls))) works)) (sym takes)
+            (subst (IsPermutation (map (read_part stage) (on topic (all_takes (passes_in works))))) (sym sends)
+            (IsPermutation-map (read_part stage) (on topic (all_takes (passes_in works))) (on topic (all_sends (passes_in works)))
             (IsPermutation-sym (on topic (all_sends (passes_in works))) (on topic (all_takes (passes_in works)))
             (sends-are-takes-on (passes_in works) places once swept topic))))
 
         -- what was moved by all is what was taken from second by all
-        moved-were-taken : flat_map (λ (w : Work B). map (read squeezed) (on second (sends_of w.pass.calls))) works ≡ flat_map of_moved works
-        moved-were-taken = flat-same (λ (w : Work B). map (read squeezed) (on second (sends_of w.pass.calls))) of_moved works
+        moved-were-taken : flat_map (λ (w : Work B). map (read_part squeezed) (on second (sends_of w.pass.calls))) works ≡ flat_map of_moved works
+        moved-were-taken = flat-same (λ (w : Work B). map (read_part squeezed) (on second (sends_of w.pass.calls))) of_moved works
             (λ w has. sym (moved-reads-all w has))
 
         -- so what was taken from second, and from first behind all retirements, is what was sent to first
@@ -252,7 +252,7 @@ module _ {B : Type 0} where
             (IsPermutation-sym (flat_map of_takes works) (flat_map of_moved works ++ flat_map of_firsts works) takes) (topic-reads first both)))
 
         -- the members of all workers are what becomes of the messages of all, each once
-        pub all-finished : IsPermutation (map without_way (finished_in (lists_in works))) (map handled_of (messages_in works))
+        pub all-finished : IsPermutation (map without_way (finished_in (lists_in works))) (map handled_of (worked_messages works))
         all-finished =
             let taken : Work B → List Handled = λ w. of_seconds w ++ of_firsts w in
             let lists = together of_members taken of_directs works list-reads in
@@ -267,5 +267,5 @@ module _ {B : Type 0} where
             let members : flat_map of_members works ≡ map without_way (finished_in (lists_in works)) =
             flat-map without_way (λ (w : Work B). w.list.items) works
             ∙ ap (map without_way) (sym (flat_map-map (λ (l : Vec Finished Global). l.items) (λ (w : Work B). w.list) works)) in
-            subst (λ (l : List Handled). IsPermutation l (map handled_of (messages_in works))) members
+            subst (λ (l : List Handled). IsPermutation l (map handled_of (worked_messages works))) members
             (subst (IsPermutation (flat_map of_members works)) (flat-map handled_of (λ (w : Work B). w.messages) works) joined)

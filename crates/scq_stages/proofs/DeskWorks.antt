@@ -27,9 +27,9 @@ use Rattle.scq_stages.specs.declared.finished.Finished.{Finished}
 use Rattle.scq_stages.specs.Seats.{Seated}
 use Rattle.scq_stages.specs.AllStages.{HaveFinished, KeepsStages}
 use Rattle.scq_stages.specs.Working.{HasRun}
-use Rattle.scq_stages.proofs.AllStaged.{AllDone, HasDone, all-shared, have-staged, held_in}
+use Rattle.scq_stages.proofs.AllStaged.{AllDone, HasDoneItsWork, all-shared, have-staged, held_in}
 use Rattle.scq_passes.specs.Closed.{HasClosed}
-use Rattle.scq_stages.proofs.Conclusion.{Work, lists_in, messages_in, passes_in}
+use Rattle.scq_stages.proofs.Conclusion.{Work, lists_in, worked_messages, passes_in}
 
 module _ {B S : Type 0} where
   abbrev work_of : Desk (Seated B) S → Work B
@@ -90,7 +90,7 @@ module _ {B S : Type 0} where
 
     all-done : AllDone c shared works
     all-done = record {
-      each = All-map (HasDone shared) work_of desks (λ k d less.
+      each = All-map (HasDoneItsWork shared) work_of desks (λ k d less.
           let its = ran.run k d less in
           record { few_calls = its.few_calls; queue = its.queue; held = its.held; ended = its.ended });
       setup = ran.setup;
@@ -132,7 +132,7 @@ module _ {B S : Type 0} where
               ap (λ (x : Work B). x.messages) (sym its) ∙ own-given [] size src sources desks all-read w d at
               ∙ ap (λ n. own_of n w 1 messages_given) (sym (length-map desks work_of))
 
-        all-so : IsPermutation (flat_map (λ own. own) messages_given) (messages_in works)
+        all-so : IsPermutation (flat_map (λ own. own) messages_given) (worked_messages works)
         all-so =
             subst (IsPermutation (flat_map (λ own. own) messages_given)) (sym (flat_map-map (λ (w : Work B). w.messages) work_of desks))
             (all-messages [] size src sources desks all-read)

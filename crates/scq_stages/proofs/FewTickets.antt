@@ -14,7 +14,7 @@ use Rattle.scq_queue.specs.Passes.{PassStanding}
 use Rattle.scq_queue.specs.Closing.{EachTakeIsASend, NoPlaceIsTakenTwice, NoneIsKeptWithinTheLimit}
 use Rattle.scq_passes.specs.Records.{on}
 use Rattle.scq_passes.specs.Together.{all_sends, all_takes, NoneSpent, IsBounded}
-use Rattle.scq_passes.proofs.NoneSpent.{messages_of, none-spent-within, passes_of, sums, sums-le}
+use Rattle.scq_passes.proofs.NoneSpent.{message_count, none-spent-within, passes_of, sums, sums-le}
 use Rattle.scq_passes.proofs.OnTopics.{few-takes-on, on-all}
 use Rattle.scq_passes.proofs.SendsAndTakes.{few-takes}
 use Rattle.scq_stages.specs.Records.{first}
@@ -62,7 +62,7 @@ module _ {B : Type 0} where
   module _ (works : List (ℕ × PassStanding B)) (each : All (λ (w : ℕ × PassStanding B). HasFewStageCalls 1 w.0 w.1) works)
       (sent : EachTakeIsASend (passes_of works)) (once : NoPlaceIsTakenTwice (passes_of works)) where
     -- the takes of first are at most as many as the messages
-    few-firsts : sum_by firsts_of works ≤ messages_of works
+    few-firsts : sum_by firsts_of works ≤ message_count works
     few-firsts =
         let sends : length (on first (all_sends (passes_of works))) ≡ sum_by (λ (w : ℕ × PassStanding B). length (on first (sends_of w.1.calls))) works =
         ap length (on-all first (λ (p : PassStanding B). sends_of p.calls) (passes_of works))
@@ -74,7 +74,7 @@ module _ {B : Type 0} where
         omega (arith, sends, few, taken, first-takes works)
 
     -- and all takes at most twice as many
-    few-in-all : sum_by takes_by works ≤ messages_of works + messages_of works
+    few-in-all : sum_by takes_by works ≤ message_count works + message_count works
     few-in-all =
         let few = sums-both sends_by (λ (w : ℕ × PassStanding B). w.0) firsts_of works (λ k d less. (each k d less).sent) in
         let taken = few-takes (passes_of works) sent once in
@@ -82,13 +82,13 @@ module _ {B : Type 0} where
 
     -- so are the puts that were begun on a ring, with one more of each worker
     begun-few : (r : ℕ) → r < 3
-        → sum_by (tally (was_put r)) (map (λ (p : PassStanding B). p.calls) (passes_of works)) ≤ messages_of works + messages_of works + length works
+        → sum_by (tally (was_put r)) (map (λ (p : PassStanding B). p.calls) (passes_of works)) ≤ message_count works + message_count works + length works
     begun-few r low =
         let records = sum_by-map (tally (was_put r)) (λ (p : PassStanding B). p.calls) (passes_of works) in
         let all = sum_by-map (λ (p : PassStanding B). tally (was_put r) p.calls) (λ (w : ℕ × PassStanding B). w.1) works in
         let few = by r low in
         omega arith where
-          by : (r : ℕ) → r < 3 → sum_by (begun_by r) works ≤ messages_of works + messages_of works + length works
+          by : (r : ℕ) → r < 3 → sum_by (begun_by r) works ≤ message_count works + message_count works + length works
           by zero low = let these = sums (begun_by 0) takes_by works (λ k d less. (each k d less).returns) in omega (arith, few-in-all)
           by (suc zero) low = let these = sums (begun_by 1) (λ (w : ℕ × PassStanding B). w.0) works (λ k d less. (each k d less).to_first) in omega arith
           by (suc (suc zero)) low =
@@ -96,19 +96,19 @@ module _ {B : Type 0} where
           by (suc (suc (suc r))) low = absurd (omega arith)
 
     -- no pass met Spent
-    pub none-spent : (c : Setup) → c.limit ≡ 2 ^ 60 → c.rings ≡ 3 → length works ≤ c.seats → messages_of works ≤ 2 ^ 36
+    pub none-spent : (c : Setup) → c.limit ≡ 2 ^ 60 → c.rings ≡ 3 → length works ≤ c.seats → message_count works ≤ 2 ^ 36
         → NoneIsKeptWithinTheLimit c (passes_of works) → NoneSpent (passes_of works)
     none-spent c limit rings workers messages limits =
-        none-spent-within c (passes_of works) (messages_of works + messages_of works + length works) limit (omega (arith, few_seats c))
+        none-spent-within c (passes_of works) (message_count works + message_count works + length works) limit (omega (arith, few_seats c))
         (λ r low. begun-few r (omega arith)) limits
 
     -- each pass has few sends, takes and Full replies
-    pub all-bounded : messages_of works ≤ 2 ^ 36 → (k : ℕ) (d : ℕ × PassStanding B) → k < length works → IsBounded (2 ^ 37) (get_or works k d).1
+    pub all-bounded : message_count works ≤ 2 ^ 36 → (k : ℕ) (d : ℕ × PassStanding B) → k < length works → IsBounded (2 ^ 37) (get_or works k d).1
     all-bounded messages k d less =
         let its = each k d less in
         let sends = its.sent in
         let fulls = its.fulls in
-        let mine : (get_or works k d).0 ≤ messages_of works = get_or-le-sum_by (λ (w : ℕ × PassStanding B). w.0) works k d less in
+        let mine : (get_or works k d).0 ≤ message_count works = get_or-le-sum_by (λ (w : ℕ × PassStanding B). w.0) works k d less in
         let firsts : length (on first (takes_of (get_or works k d).1.calls)) ≤ sum_by firsts_of works = get_or-le-sum_by firsts_of works k d less in
         let takes : length (takes_of (get_or works k d).1.calls) ≤ sum_by takes_by works = get_or-le-sum_by takes_by works k d less in
         let few = few-firsts in

@@ -21,7 +21,7 @@ use Rattle.scq_stages.specs.declared.finished.Finished.{Finished}
 use Rattle.scq_stages.specs.declared.finished.StageWay.{StageWay}
 use Rattle.scq_stages.specs.declared.finished.StageWay.TheVariants.{Second, First}
 use Rattle.scq_stages.specs.Stages.{redacted, squeezed, both, stages_left}
-use Rattle.scq_stages.specs.Handling.{after}
+use Rattle.scq_stages.specs.Handling.{after_stage}
 use Rattle.scq_stages.specs.Members.{FinishesTake, IsNoPart, is_second, is_first, is_direct, finished, way_from}
 use Rattle.scq_stages.specs.Records.{first, second, take_topic}
 use Rattle.scq_stages.specs.Steps.{SecondsSoFar, FirstsSoFar, MovesSoFar, GotNo, HasMovedIts, HasFinishedSeconds, HasFinishedFirsts, HasFinished, HasFinishedOne, HasFinishedOnlySeconds, HasTakenOne}
@@ -170,7 +170,7 @@ module _ {B : Type 0} where
 
   -- a take of first that was moved
   pub moved-one : (place put : ℕ) (bytes later : List ℕ) (part : Part) (p r : PassStanding B)
-      → since p r ≡ Got (suc first) place bytes ∷ Done (suc second) put later ∷ [] → part_at bytes ≡ Some part → BeginsWith later (after redacted part)
+      → since p r ≡ Got (suc first) place bytes ∷ Done (suc second) put later ∷ [] → part_at bytes ≡ Some part → BeginsWith later (after_stage redacted part)
       → HasMovedIts p r
   moved-one place put bytes later part p r calls some moved takes sends before =
       let take : Placed = record { topic = first; place = place; bytes = bytes } in

@@ -7,7 +7,7 @@ use Rattle.scq_frames.specs.Parts.{Part}
 use Rattle.scq_frames.specs.Encoded.{BeginsWith, message_bytes}
 use Rattle.scq_frames.proofs.EncodedLemmas.{begins-room}
 use Rattle.scq_stages.specs.Stages.{redacted, redacted_byte}
-use Rattle.scq_stages.specs.Handling.{after}
+use Rattle.scq_stages.specs.Handling.{after_stage}
 use Rattle.scq_stages.specs.declared.handling.Rest.{Rest}
 
 -- the six numbers of a part
@@ -26,23 +26,23 @@ begins-so p rest = refl
 
 -- where a stage keeps the length, the part that it leaves comes first
 written-over : (stage : List ℕ → List ℕ) (old ys rest : List ℕ) (p : Part) → BeginsWith old p → length (stage p.payload) ≡ length p.payload
-    → ys ≡ stage p.payload → BeginsWith (take 24 old ++ (ys ++ rest)) (after stage p)
+    → ys ≡ stage p.payload → BeginsWith (take 24 old ++ (ys ++ rest)) (after_stage stage p)
 written-over stage old ys rest p begins same is =
     let numbers : take 24 old ≡ front p (length (stage p.payload)) = numbers-first old p begins ∙ ap (front p) (sym same) in (
       rest,
       ap (λ (l : List ℕ). l ++ (ys ++ rest)) numbers ∙ ap (λ (l : List ℕ). front p (length (stage p.payload)) ++ (l ++ rest)) is
-          ∙ begins-so (after stage p) rest,
+          ∙ begins-so (after_stage stage p) rest,
     )
 
 -- so redacting does
 pub redacted-over : (old new : List ℕ) (q : Part) (o : Option Part) → BeginsWith old q → Some q ≡ o
     → new ≡ take 24 old ++ (redacted (take (length q.payload) (drop 24 old)) ++ drop (length q.payload) (drop 24 old))
-    → IfSome o (λ p. (true ≡ true) × BeginsWith new (after redacted p))
+    → IfSome o (λ p. (true ≡ true) × BeginsWith new (after_stage redacted p))
 redacted-over old new q None begins same is = absurd (cc)
 redacted-over old new q (Some p) begins same is =
     let one : q ≡ p = cc in
-    let P : Part → Type 0 = λ p. BeginsWith new (after redacted p) in
-    let Q : List ℕ → Type 0 = λ l. BeginsWith l (after redacted q) in
+    let P : Part → Type 0 = λ p. BeginsWith new (after_stage redacted p) in
+    let Q : List ℕ → Type 0 = λ l. BeginsWith l (after_stage redacted q) in
     let ys : List ℕ = redacted (take (length q.payload) (drop 24 old)) in (
       refl,
       subst P one (subst Q (sym is) (written-over redacted old ys (drop (length q.payload) (drop 24 old)) q begins

@@ -20,3 +20,4 @@ pub mod Whole
 pub mod Runs
 pub mod BehindRetiring
 pub mod Swept
+mod Starved

@@ -6,7 +6,7 @@ use Rattle.std.specs.List.Sorted.{IsPermutation, IsSortedByKey}
 use Rattle.std.specs.Ordering.{is_lt, nat_cmp, ordering_then}
 use Rattle.std.proofs.lemmas.Bool.{lt-ltb}
 use Rattle.std.proofs.lemmas.List.Sorted.{All-permutation, IsPermutation-map}
-use Rattle.scq_collect.specs.Merging.{IsBefore, IsInOrder, IsMerged, IsSorted}
+use Rattle.scq_collect.specs.Merging.{IsBefore, StandInOrder, IsMerged, IsSorted}
 use Rattle.scq_collect.proofs.Merged.{sorted-map}
 use Rattle.scq_collect.proofs.Orders.{ascends, exactly}
 use Rattle.scq_stages.specs.declared.finished.Finished.{Finished}
@@ -50,7 +50,7 @@ merged-by given members sorted are placed same order =
     }
 
 -- where they are these in some order, and these are in order, they are these
-pub merged-exactly : (given all these : List Finished) → IsMerged position_of_finished given all → IsInOrder position_of_finished these
+pub merged-exactly : (given all these : List Finished) → IsMerged position_of_finished given all → StandInOrder position_of_finished these
     → IsPermutation given these → all ≡ these
 merged-exactly given all these m order same = exactly position_of_finished given all these m.same m.sorted (ascends position_of_finished these order) same
 

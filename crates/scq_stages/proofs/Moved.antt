@@ -12,7 +12,7 @@ use Rattle.scq_passes.specs.Calls.{since}
 use Rattle.scq_passes.proofs.PassLemmas.{took-and-put}
 use Rattle.scq_stages.specs.declared.finished.Finished.{Finished}
 use Rattle.scq_stages.specs.Stages.{redacted}
-use Rattle.scq_stages.specs.Handling.{after}
+use Rattle.scq_stages.specs.Handling.{after_stage}
 use Rattle.scq_stages.specs.Records.{first, second, take_topic}
 use Rattle.scq_stages.specs.Steps.{HasTakenOrMoved, HasMovedIts, HasFinishedOnlySeconds}
 use Rattle.scq_stages.proofs.Finishing.{since-took, moved-one, moved-back, helped-nothing}
@@ -22,7 +22,7 @@ module _ {B : Type 0} where
   abbrev WasMoved : Option Part → HeldStanding B → PassStanding B → PassStanding B → Type 0
   WasMoved o h q r =
       IfSome o (λ part. (place : ℕ) × (bytes : List ℕ) × (r ≡ having_seen r.seen (after_put (suc second) h.index place bytes q))
-      × BeginsWith bytes (after redacted part)) × (o ≡ None → (later : List ℕ) × WasGivenBack later h.index q r)
+      × BeginsWith bytes (after_stage redacted part)) × (o ≡ None → (later : List ℕ) × WasGivenBack later h.index q r)
 
   -- all that is said of it
   pub record HasMovedOne (p r : PassStanding B) (was is : List Finished) : Type 0 where

@@ -20,7 +20,7 @@ use Rattle.scq_stages.specs.declared.finished.Finished.{Finished}
 use Rattle.scq_stages.specs.declared.finished.StageWay.{StageWay}
 use Rattle.scq_stages.specs.declared.finished.StageWay.TheVariants.{Second, First, Direct}
 use Rattle.scq_stages.specs.Stages.{redacted, redacted_byte, squeezed, both}
-use Rattle.scq_stages.specs.Handling.{after}
+use Rattle.scq_stages.specs.Handling.{after_stage}
 use Rattle.scq_stages.specs.AllStages.{handled_of}
 use Rattle.scq_stages.specs.Members.{FinishesTake, IsMove, is_direct, is_first, is_second, is_way_direct, is_way_first, is_way_second}
 use Rattle.scq_stages.specs.Records.{first, is_next}
@@ -37,8 +37,8 @@ abbrev no_part : Part
 no_part = record { file = 0; line = 0; topic = 0; part = 0; parts = 0; payload = [] }
 
 -- what becomes of the part that bytes begin with; where there is none, of one without bytes
-abbrev pub read : (List ℕ → List ℕ) → Placed → Handled
-read stage m = handled_by stage (unwrap_or (part_at m.bytes) no_part)
+abbrev pub read_part : (List ℕ → List ℕ) → Placed → Handled
+read_part stage m = handled_by stage (unwrap_or (part_at m.bytes) no_part)
 
 -- the bytes are those of a part
 pub record IsPart (m : Placed) : Type 0 where
@@ -53,11 +53,11 @@ part-read m its = ap part_at its.begins.1 ∙ part_at-again its.part its.begins.
 pub not-over : (m : Placed) → IsPart m → part_at m.bytes ≡ None → ⊥
 not-over m its none = let read = part-read m its in absurd (cc)
 
-reads : (stage : List ℕ → List ℕ) (m : Placed) (p : Part) → part_at m.bytes ≡ Some p → read stage m ≡ handled_by stage p
+reads : (stage : List ℕ → List ℕ) (m : Placed) (p : Part) → part_at m.bytes ≡ Some p → read_part stage m ≡ handled_by stage p
 reads stage m p is = ap (λ o. handled_by stage (unwrap_or o no_part)) is
 
 -- what was redacted is the bytes of a part where what was taken is
-pub redacted-fits : (p : Part) → IsEncodable p → IsEncodable (after redacted p)
+pub redacted-fits : (p : Part) → IsEncodable p → IsEncodable (after_stage redacted p)
 redacted-fits p fits = record {
   file = fits.file;
   line = fits.line;
@@ -72,20 +72,20 @@ moved-part take send move its =
     let found = part-read take its in
     let decoded = move.decodes in
     let same : its.part ≡ move.part = cc in
-    record { part = after redacted move.part; fits = redacted-fits move.part (subst IsEncodable same its.fits); begins = move.moved }
+    record { part = after_stage redacted move.part; fits = redacted-fits move.part (subst IsEncodable same its.fits); begins = move.moved }
 
 -- and it reads by the second stage as what was taken does by both
-pub moved-reads : (take send : Placed) → IsMove take send → IsPart take → read both take ≡ read squeezed send
+pub moved-reads : (take send : Placed) → IsMove take send → IsPart take → read_part both take ≡ read_part squeezed send
 moved-reads take send move its =
-    reads both take move.part move.decodes ∙ sym (reads squeezed send (after redacted move.part) (part-read send (moved-part take send move its)))
+    reads both take move.part move.decodes ∙ sym (reads squeezed send (after_stage redacted move.part) (part-read send (moved-part take send move its)))
 
 -- a member reads as what was taken
 pub finished-reads : (way : ℕ → StageWay) (stage : List ℕ → List ℕ) (take : Placed) (f : Finished) → FinishesTake way stage take f
-    → without_way f ≡ read stage take
+    → without_way f ≡ read_part stage take
 finished-reads way stage take f its = ap without_way its.is ∙ sym (reads stage take its.part its.decodes)
 
 -- a message that was sent reads as what becomes of it
-sent-reads : (m : Message) (send : Placed) → SendsToFirst m send → read both send ≡ handled_of m
+sent-reads : (m : Message) (send : Placed) → SendsToFirst m send → read_part both send ≡ handled_of m
 sent-reads m send its = reads both send (whole_of m) (ap part_at its.bytes.1 ∙ part_at-again (whole_of m) its.bytes.0 its.fits)
 
 -- what was sent to first has the bytes of a part: that of a message, which the send's call is the next of
@@ -102,8 +102,8 @@ sent-part ms calls follows s has topic =
 
 -- what becomes of a worker's messages is its sends to first as they are read, and its Direct members
 pub passed-reads : (ms : List Message) (sends : List Placed) (directs : List Finished) → ArePassedOn SendsToFirst FinishesItself ms sends directs
-    → IsPermutation (map handled_of ms) (map (read both) sends ++ map without_way directs)
-passed-reads = passed-results handled_of (read both) without_way sent-reads (λ m f its. ap without_way its.is)
+    → IsPermutation (map handled_of ms) (map (read_part both) sends ++ map without_way directs)
+passed-reads = passed-results handled_of (read_part both) without_way sent-reads (λ m f its. ap without_way its.is)
 
 -- a list is its Second, its First and its Direct members
 pub in-three : (members : List Finished) → IsPermutation members ((filter is_second members ++ filter is_first members) ++ filter is_direct members)

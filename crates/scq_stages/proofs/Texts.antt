@@ -13,19 +13,19 @@ sums-map f g (x ∷ xs) =
     sum_by-cons f (g x) (map g xs) ∙ ap (λ n. f (g x) + n) (sums-map f g xs) ∙ sym (sum_by-cons (λ x. f (g x)) x xs)
 
 -- a member with its position
-abbrev pub Placed : Type 0
-Placed = ℕ × ℕ × Bor Finished
+abbrev pub Positioned : Type 0
+Positioned = ℕ × ℕ × Bor Finished
 
-abbrev result : Placed → Handled
+abbrev result : Positioned → Handled
 result m = without_way m.2.now
 
-pub text-of : (members : List Placed) (text lines : List ℕ) (count bytes : ℕ)
+pub text-of : (members : List Positioned) (text lines : List ℕ) (count bytes : ℕ)
     → text ≡ lines ++ (codes "total " ++ decimal count ++ codes " " ++ decimal bytes ++ codes "\n")
     → lines ≡ flat_map (λ m. handled_line (without_way m.2.now)) members → count ≡ length members
     → bytes ≡ sum_by (λ m. length m.2.now.payload) members
     → text ≡ text_of_handled (map without_way (map (λ m. m.2.now) members))
 text-of members text lines count bytes whole line_are count_is bytes_are =
-    let now : Placed → Finished = λ m. m.2.now in
+    let now : Positioned → Finished = λ m. m.2.now in
     let all : List Handled = map without_way (map now members) in
     let line_all : lines ≡ flat_map handled_line all =
     line_are ∙ sym (flat_map-map (λ (f : Finished). handled_line (without_way f)) now members)

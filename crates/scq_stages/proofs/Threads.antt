@@ -2,7 +2,7 @@
 use Rattle.std.proofs.Common.{◌≡◌, refl, sym, inl, inr, arith, ℕ, ◌+◌, ◌≤◌, List, [], ◌∷◌, map}
 use Rattle.std.specs.List.{All}
 use Rattle.std.proofs.lemmas.List.Elements.{All-nil, All-cons, All-append, All-weaker}
-use Rattle.scq_frames.specs.Text.{framed, messages_after, messages_from, lines_of}
+use Rattle.scq_frames.specs.Text.{framed, messages_after, messages_from, text_lines}
 use Rattle.scq_collect.specs.Merging.{IsBefore}
 use Rattle.scq_collect.proofs.Orders.{Ascends, ascends-append}
 use Rattle.scq_stages.specs.Output.{Handled, handled_to, all_handled, position_of_handled}
@@ -39,7 +39,7 @@ lines-ascend file number ((b ∷ bs) ∷ more) =
 
 file-ascends : (file : ℕ) (content : List ℕ) → AreOf file 1 (map (handled_to file) (messages_after 0 content))
 unfolding messages_after
-file-ascends file content = lines-ascend file 1 (lines_of content)
+file-ascends file content = lines-ascend file 1 (text_lines content)
 
 -- handled messages that ascend, of this file and those behind it
 record AreFrom (file : ℕ) (handled : List Handled) : Type 0 where

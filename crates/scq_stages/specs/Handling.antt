@@ -3,5 +3,5 @@ use Rattle.std.specs.Prelude.{ℕ, List}
 use Rattle.scq_frames.specs.Parts.{Part}
 
 -- the same part, with what the stage makes of its bytes
-abbrev pub after : (List ℕ → List ℕ) → Part → Part
-after stage p = record p { payload = stage p.payload }
+abbrev pub after_stage : (List ℕ → List ℕ) → Part → Part
+after_stage stage p = record p { payload = stage p.payload }

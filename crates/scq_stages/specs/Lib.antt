@@ -8,5 +8,6 @@ pub mod Steps
 pub mod Working
 pub mod Seats
 pub mod AllStages
+pub mod Ends
 pub mod Reading
 pub mod Sweeping

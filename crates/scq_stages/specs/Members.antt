@@ -5,7 +5,7 @@ use Rattle.std.specs.List.{AllZip}
 use Rattle.scq_frames.specs.Parts.{Part}
 use Rattle.scq_frames.specs.Encoded.{BeginsWith, part_at}
 use Rattle.scq_queue.specs.Lists.{Placed}
-use Rattle.scq_stages.specs.Handling.{after}
+use Rattle.scq_stages.specs.Handling.{after_stage}
 use Rattle.scq_stages.specs.Stages.{both, redacted, squeezed}
 use Rattle.scq_stages.specs.declared.finished.Finished.{Finished}
 use Rattle.scq_stages.specs.declared.finished.StageWay.{StageWay}
@@ -67,7 +67,7 @@ DirectsAre fulls members = AllZip (λ head f. f.way ≡ Direct head) fulls (filt
 pub record IsMove (take send : Placed) : Type 0 where
   pub part : Part
   pub decodes : part_at take.bytes ≡ Some part
-  pub moved : BeginsWith send.bytes (after redacted part)
+  pub moved : BeginsWith send.bytes (after_stage redacted part)
 
 -- one by one and in order, these takes are these sends, redacted
 abbrev pub AreMoves : List Placed → List Placed → Type 0

@@ -5,7 +5,7 @@ ghost use Rattle.scq_block.specs.Frames.{bytes_of};
 ghost use Rattle.scq_passes.specs.Leaving.{HasLeftSwept};
 ghost use Rattle.scq_passes.specs.Records.{IsGivenBack};
 ghost use Rattle.scq_files.specs.OwnFiles.{IsNew, ids_of};
-ghost use Rattle.scq_stages.specs.Seats.{IsFresh};
+ghost use Rattle.scq_stages.specs.Seats.{IsToBegin};
 ghost use Rattle.scq_stages.specs.Working.{HasRun};
 
 use crate::StageJob;
@@ -30,7 +30,7 @@ pub(crate) fn run_all<R: Threads + Sync, S: Source>(
     requires some { 0 < length desks.items }
     requires rings { queue.now.setup.rings ≡ 3 }
     requires room { All (λ b. job.now.size + 24 ≤ length b.bytes.items) queue.now.given }
-    requires fresh { All (λ d. IsFresh queue.now d.worker) desks.items }
+    requires fresh { All (λ d. IsToBegin queue.now d.worker) desks.items }
     requires unread { All (λ d. All IsNew d.files.items) desks.items }
     ensures count { length result.items ≡ length desks.items }
     ensures same { (w : ℕ) (d : _) → w < length desks.items
@@ -48,7 +48,7 @@ pub(crate) fn run_all<R: Threads + Sync, S: Source>(
     let run_one = |_: usize, desk: &mut StageDesk<S>|
         requires { (queue.now.setup.rings ≡ 3)
             × All (λ b. job.now.size + 24 ≤ length b.bytes.items) queue.now.given
-            × IsFresh queue.now desk.now.worker × All IsNew desk.now.files.items }
+            × IsToBegin queue.now desk.now.worker × All IsNew desk.now.files.items }
         ensures { (ids_of desk.exit.now.files.items ≡ ids_of desk.entry.now.files.items)
             × (desk.exit.now.worker.worker.pass.number ≡ desk.entry.now.worker.worker.pass.number)
             × HasRun queue.entry.now job.entry.now.size S.Source desk.exit.now.files.items

@@ -1,7 +1,7 @@
 use scq_word::Bytes;
 
 /// How a worker came to finish a message.
-#[derive(Clone, Copy, Debug, PartialEq, Eq)]
+#[derive(Clone, Copy, PartialEq, Eq)]
 pub enum StageWay {
     /// It took the message from second, at this place, and squeezed what another or it had
     /// redacted.
@@ -15,7 +15,7 @@ pub enum StageWay {
 
 /// A message that went through both stages: its file and line, both numbered from 1, what is left
 /// of its payload, and how a worker came to finish it.
-#[derive(Debug, Drop)]
+#[derive(Drop)]
 pub struct Finished {
     pub file: u32,
     pub line: u32,

@@ -3,7 +3,7 @@ ghost use Rattle.std.specs.Prelude.{◌≡◌, ◌+◌, ◌≤◌, ◌++◌, tru
 ghost use Rattle.std.specs.Prelude.{IfSome, IsSomeAnd};
 ghost use Rattle.scq_frames.specs.Encoded.{BeginsWith, part_at};
 ghost use Rattle.scq_stages.specs.Stages.{redacted, squeezed, stages_left};
-ghost use Rattle.scq_stages.specs.Handling.{after};
+ghost use Rattle.scq_stages.specs.Handling.{after_stage};
 
 use crate::in_place::{redact, squeeze};
 use crate::worker::FIRST;
@@ -14,7 +14,7 @@ const HEADER: usize = 24;
 
 /// What is left of a part once its spaces are squeezed: the file and the line of its message, and
 /// how many bytes. The length that stands in front of them isn't theirs.
-#[derive(Clone, Copy, Debug)]
+#[derive(Clone, Copy)]
 pub struct Rest {
     pub file: u32,
     pub line: u32,
@@ -24,7 +24,7 @@ pub struct Rest {
 /// Redacts the part that comes first. Whether there is one.
 pub fn redact_part(bytes: &mut [u8]) -> bool
     ensures redacted { IfSome (part_at bytes.old) (λ p.
-        (result ≡ true) × BeginsWith bytes.new (after redacted p)) }
+        (result ≡ true) × BeginsWith bytes.new (after_stage redacted p)) }
     ensures none { part_at bytes.old ≡ None → (result ≡ false) × (bytes.new ≡ bytes.old) }
     ensures len { length bytes.new ≡ length bytes.old }
 {

@@ -2,7 +2,7 @@ ghost use Rattle.scq_passes.specs.Jobs.{IsJob};
 
 /// What workers of stages are to do: messages of at most `size` bytes go through both stages in
 /// 2^order buffers, by `workers` workers.
-#[derive(Clone, Copy, Debug)]
+#[derive(Clone, Copy)]
 pub struct StageJob {
     pub order: u32,
     pub size: u32,

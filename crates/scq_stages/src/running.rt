@@ -7,7 +7,7 @@ ghost use Rattle.scq_files.specs.Reading.{IsRead};
 ghost use Rattle.scq_passes.specs.Calls.{Suits};
 ghost use Rattle.scq_passes.specs.Leaving.{HasLeftSwept};
 ghost use Rattle.scq_passes.specs.Records.{IsGivenBack};
-ghost use Rattle.scq_stages.specs.Seats.{IsFresh};
+ghost use Rattle.scq_stages.specs.Seats.{IsToBegin};
 ghost use Rattle.scq_stages.specs.Working.{IsAtWork, IsDone, HasStopped, HasRun};
 
 use crate::StageJob;
@@ -71,7 +71,7 @@ pub(crate) fn run<S: Source>(
 )
     requires rings { queue.now.setup.rings ≡ 3 }
     requires room { All (λ b. job.now.size + 24 ≤ length b.bytes.items) queue.now.given }
-    requires fresh { IsFresh queue.now desk.old.worker }
+    requires fresh { IsToBegin queue.now desk.old.worker }
     requires unread { All IsNew desk.old.files.items }
     ensures same { ids_of desk.new.files.items ≡ ids_of desk.old.files.items }
     ensures run { HasRun queue.now job.now.size S.Source desk.new.files.items

@@ -1,23 +1,15 @@
 //! The stages over all files.
-ghost use Rattle.std.specs.Prelude.{◌≡◌, ℕ, ◌^◌, ◌<◌, ◌≤◌, List, [], None, length, map};
-ghost use Rattle.std.specs.Prelude.{slice_index_or, vec_len, IfOk, IfErr, IfSome, IsErrOf};
-ghost use Rattle.std.specs.Prelude.{IsSomeAnd, OnOk};
-ghost use Rattle.std.specs.List.Sorted.{IsPermutation};
-ghost use Rattle.scq_frames.specs.declared.message.Message.{Message as TheMessage};
+ghost use Rattle.std.specs.Prelude.{◌≡◌, ◌^◌, ◌≤◌, vec_len, IfSome};
 ghost use Rattle.std.specs.List.{All};
 ghost use Rattle.scq_block.specs.Frames.{bytes_of};
 ghost use Rattle.scq_passes.specs.Leaving.{HasLeftSwept};
 ghost use Rattle.scq_passes.specs.Records.{IsGivenBack};
-ghost use Rattle.scq_files.specs.Ends.{AreGiven, HasMoved, StopsAtFaults, all_left, messages_in};
-ghost use Rattle.scq_files.specs.Reading.{IsWhole};
-ghost use Rattle.scq_desk.specs.Faults.{HasCause, MemoryIsFirst};
-ghost use Rattle.scq_stages.specs.AllStages.{HasStaged, NothingIsStranded};
-ghost use Rattle.scq_stages.specs.Output.{finished_in, all_handled, without_way};
+ghost use Rattle.scq_stages.specs.Ends.{EndsStages};
 
 use crate::apart::run_all;
 use crate::winding::wind_up;
 use crate::{StageEnd, StageJob};
-use scq_desk::{End, EndFault, lay_out, make_room};
+use scq_desk::{End, lay_out, make_room};
 use scq_outside::Source;
 use scq_passes::make_queue;
 use scq_word::{NoMemory, Setup};
@@ -53,48 +45,7 @@ pub fn stage_work<R: Threads + Sync, S: Source>(
     sources: Vec<S>,
 ) -> StageEnd<S>
     requires { vec_len sources ≤ 64 }
-    ensures count { length result.sources.items ≡ length sources.items }
-    ensures moved { (k : ℕ) (d : S) → k < length sources.items
-        → HasMoved S.Source (slice_index_or sources.items k d)
-        (slice_index_or result.sources.items k d) }
-
-    // No worker read a file behind one of its own at which it stopped.
-    ensures stops { StopsAtFaults job.now.workers job.now.size S.Source
-        sources.items result.sources.items }
-
-    // Each source was read to its end, and where the bytes of all are visible the members are what
-    // becomes of their messages, each once.
-    ensures whole { OnOk result.result ((k : ℕ) (d : S) → k < length sources.items
-        → IsWhole job.now.size S.Source (slice_index_or sources.items k d)
-        (slice_index_or result.sources.items k d)) }
-    ensures handled { IfOk result.result (λ s. IfSome (all_left S.left sources.items) (λ contents.
-        IsPermutation (map without_way (finished_in s.done.items)) (all_handled 1 contents))) }
-
-    // The lists tell of the messages that the files gave, and of what the passes sent and took: of
-    // contents that are visible, and of every source.
-    ensures told { IfOk result.result (λ s. IfSome (all_left S.left sources.items) (λ contents.
-        HasStaged job.now.workers (messages_in [] 1 contents) s)) }
-    ensures staged { IfOk result.result (λ s.
-        (given : List (List TheMessage)) × AreGiven [] job.now.size S.left 1 sources.items given
-        × HasStaged job.now.workers given s) }
-
-    // Whatever the answer is, the queue was closed with each buffer free: before it retired each
-    // pass moved to second what it took from first, and then found first empty; and what was sent
-    // was taken. Only where there was no memory for a queue there was none.
-    ensures left { IfSome result.left (λ left.
-        IsSomeAnd result.passes (λ passes. IsSomeAnd result.frames (λ frames.
-        NothingIsStranded job.now.order job.now.workers passes.value.items frames.value.items
-        left.items))) }
-    ensures none { result.left ≡ None → IsErrOf result.result EndFault.NoMemory }
-    ensures same { IfOk result.result (λ s.
-        IsSomeAnd result.passes (λ passes. passes.value.items ≡ s.passes.value.items)) }
-
-    // A fault is that of its file, and those in front of it were read to their ends. Where there is
-    // one of a file, each source is as one whose reading didn't stop for want of memory.
-    ensures cause { IfErr result.result
-        (HasCause job.now.size S.Source sources.items result.sources.items) }
-    ensures memory_first { IfErr result.result
-        (MemoryIsFirst job.now.size S.Source sources.items result.sources.items) }
+    ensures end { EndsStages job.now S.Source sources.items result }
 
     // Each worker asked before each of its sweeps whether all had retired, and left after one
     // before which they had, or after 64 in a row that took nothing.

@@ -3,7 +3,7 @@ ghost use Rattle.std.specs.Prelude.{◌≡◌, ◌+◌, ◌≤◌, true, false, 
 ghost use Rattle.std.specs.Prelude.{IsSomeAnd};
 ghost use Rattle.scq_frames.specs.Encoded.{BeginsWith, part_at};
 ghost use Rattle.scq_stages.specs.Stages.{redacted, stages_left};
-ghost use Rattle.scq_stages.specs.Handling.{after};
+ghost use Rattle.scq_stages.specs.Handling.{after_stage};
 
 use crate::handling::{Rest, finish_part, redact_part};
 use scq_queue::Held;
@@ -12,7 +12,7 @@ use scq_word::BufferMut;
 /// Redacts the part that comes first. Whether there is one.
 pub fn redact_in<B: BufferMut>(held: &mut Held<B>) -> bool
     ensures redacted { IfSome (part_at (B.contents held.old.buffer))
-        (λ p. (result ≡ true) × BeginsWith (B.contents held.new.buffer) (after redacted p)) }
+        (λ p. (result ≡ true) × BeginsWith (B.contents held.new.buffer) (after_stage redacted p)) }
     ensures none { part_at (B.contents held.old.buffer) ≡ None → result ≡ false }
     ensures same { (held.new.index ≡ held.old.index) × (held.new.queue ≡ held.old.queue)
         × (held.new.pass ≡ held.old.pass) }

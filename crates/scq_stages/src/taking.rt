@@ -13,7 +13,7 @@ ghost use Rattle.scq_passes.specs.Leaving.{HasOnlyCalled, TookNothing};
 ghost use Rattle.scq_passes.specs.Taking.{HasEmptied, HasTakenFrom};
 ghost use Rattle.scq_passes.specs.Waiting.{TookInVain};
 ghost use Rattle.scq_stages.specs.Stages.{redacted, stages_left};
-ghost use Rattle.scq_stages.specs.Handling.{after};
+ghost use Rattle.scq_stages.specs.Handling.{after_stage};
 ghost use Rattle.scq_stages.specs.Members.{finished, way_from};
 ghost use Rattle.scq_stages.specs.Records.{first, second, take_topic};
 ghost use Rattle.scq_stages.specs.Steps.{HasTakenOrMoved, HasMovedIts, HasTakenOne};
@@ -87,7 +87,7 @@ impl<B: BufferMut> Worker<B> {
             × (self.new.pass
             ≡ having_seen self.new.pass.seen
             (after_put (suc second) held.index place bytes self.old.pass))
-            × BeginsWith bytes (after redacted part))) }
+            × BeginsWith bytes (after_stage redacted part))) }
         ensures passed_over { OnOk result (part_at (B.contents held.buffer) ≡ None
             → (later : List ℕ) × WasGivenBack later held.index self.old.pass self.new.pass) }
         ensures gates { OnOk result (self.new.pass.gates ≡ self.old.pass.gates) }

@@ -3,7 +3,7 @@ ghost use Rattle.std.specs.Prelude.{◌≡◌, ℕ, ◌++◌, List, map, length,
 ghost use Rattle.std.specs.Prelude.{OnOk};
 ghost use Rattle.std.specs.List.Sorted.{IsPermutation};
 ghost use Rattle.scq_stages.specs.declared.finished.Finished.{Finished as TheFinished};
-ghost use Rattle.scq_collect.specs.Merging.{IsInOrder, IsMerged};
+ghost use Rattle.scq_collect.specs.Merging.{StandInOrder, IsMerged};
 ghost use Rattle.scq_stages.specs.Output.{finished_in, position_of_finished, without_way};
 ghost use Rattle.scq_stages.specs.Output.{handled_line, text_of_handled, all_handled};
 ghost use Rattle.scq_stages.specs.Output.{one_thread_stage_output};
@@ -22,7 +22,7 @@ pub fn stage_output(alloc: Global, lists: &[Vec<Finished>]) -> Result<Bytes, NoM
         × (bytes ≡ text_of_handled (map without_way all))) }
 
     // However the members are divided into lists, what is made of them is the same.
-    ensures exact { (given : List TheFinished) → IsInOrder position_of_finished given
+    ensures exact { (given : List TheFinished) → StandInOrder position_of_finished given
         → IsPermutation (finished_in lists.now) given
         → IfOk result (λ bytes. bytes ≡ text_of_handled (map without_way given)) }
     ensures one_thread { (contents : List (List ℕ))

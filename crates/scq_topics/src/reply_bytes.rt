@@ -10,7 +10,7 @@ const SHORT: usize = 16;
 
 /// The bytes of a reply, which contracts see as a list. Those of a short reply, as most numbers
 /// are, take no memory beside the value.
-#[derive(Debug, Drop)]
+#[derive(Drop)]
 pub struct ReplyBytes {
     bytes: SmallVec<u8, SHORT>,
 }

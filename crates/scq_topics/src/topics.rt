@@ -28,7 +28,7 @@ pub enum TopicFault {
 }
 
 /// A declared topic. Contracts see the bytes of its name, and its kind.
-#[derive(Debug, Default, Drop)]
+#[derive(Default, Drop)]
 struct Topic {
     name: ArrayVec<u8, MOST_NAME>,
     kind: Kind,
@@ -45,7 +45,7 @@ impl Model for Topic {
 
 /// The declared topics of a command line, which take no memory beside the value itself. Contracts
 /// see the list of the names and kinds, in order.
-#[derive(Debug, Drop)]
+#[derive(Drop)]
 pub struct Topics {
     topics: ArrayVec<Topic, MOST_TOPICS>,
 }

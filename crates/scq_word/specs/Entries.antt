@@ -22,8 +22,8 @@ word_of order entry =
     packed (slots_of order) entry.cycle (safe_bit entry.safe) (index_bits order entry.index)
 
 -- the index that bits stand for, if they are not the mark
-abbrev pub index_of : ℕ → ℕ → Option ℕ
-index_of order word =
+abbrev pub index_unless_mark : ℕ → ℕ → Option ℕ
+index_unless_mark order word =
     if is_none_in (slots_of order) word then None else Some (index_in (slots_of order) word)
 
 -- the entry of a word
@@ -31,7 +31,7 @@ abbrev pub entry_in : ℕ → ℕ → Entry
 entry_in order word = record {
   cycle = cycle_in (slots_of order) word;
   safe = safe_in (slots_of order) word == 1;
-  index = index_of order word;
+  index = index_unless_mark order word;
 }
 
 -- its index, if it has one, is one of the ring's

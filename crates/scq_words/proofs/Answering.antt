@@ -6,8 +6,8 @@ use Rattle.std.specs.Option.{option_or}
 use Rattle.clap.specs.Words.{App, Row, all_of, first_of, first_value, matched_of, matches_of, raw_values, rows_of, takes}
 use Rattle.clap.specs.declared.parser.matches.Found.{Found}
 use Rattle.clap.proofs.WalkLemmas.{first_value-rows, raw_values-rows}
-use Rattle.scq_words.specs.Commands.{run_app, stages_app, self_app, judge_app, text_app}
-use Rattle.scq_words.specs.Asked.{Asked, RunTexts, SelfTexts, StagesTexts, answered_by, JudgeTexts, asked_of_judge, judge_asked, judge_texts, judge_tests, judged, texts_of_judge, asked_of_run, asked_of_self, asked_of_stages, asked_of_text, is_given, refused_names, text_command, text_file, whole, with_flag, first_of_tests, generated, refused_by_clap, run, run_asked, run_tests, run_texts, self_asked, self_tests, self_texts, staged, stages_asked, stages_tests, stages_texts, texts_of_run, texts_of_self, texts_of_stages}
+use Rattle.scq_words.specs.Commands.{text_app}
+use Rattle.scq_words.specs.Asked.{Asked, answered_by, judge_texts, texts_of_judge, asked_of_text, is_given, refused_names, text_command, text_file, whole, with_flag, first_of_tests, refused_by_clap, run_texts, self_texts, stages_texts, texts_of_run, texts_of_self, texts_of_stages}
 use Rattle.scq_words.specs.declared.fault.WordsFault.{WordsFault}
 use Rattle.scq_words.specs.declared.fault.WordsFault.TheVariants.{NoName, NotUnderstood}
 use Rattle.scq_words.specs.declared.text_request.TextCommand.{TextCommand}
@@ -65,73 +65,19 @@ judge-texts f rows room files names same r got is =
     let ef = is ∙ files-same f rows (codes "files") files same got in
     λ i. texts_of_judge (er i) (ef i)
 
--- `clap` takes the words, and then the tests decide
-after_clap : (clap rest : Option WordsFault) (what : Asked) (said : Result Asked WordsFault) → clap ≡ None → answered_by rest what ≡ said
-    → answered_by (option_or clap rest) what ≡ said
-after_clap clap rest what said passes is = ap (λ test. answered_by (option_or test rest) what) passes ∙ is
-
-pub run-answer : (words : List (List ℕ)) (t : RunTexts) (said : Result Asked WordsFault) → refused_by_clap run_app words ≡ None
-    → t ≡ run_texts (matches_of run_app words)
-    → answered_by (first_of_tests (run_tests t)) (run (run_asked t)) ≡ said → asked_of_run words ≡ said
-unfolding asked_of_run
-run-answer words t said passes is answer =
-    after_clap (refused_by_clap run_app words) _ _ said passes
-    (ap (λ (t : RunTexts). answered_by (first_of_tests (run_tests t)) (run (run_asked t))) (sym is) ∙ answer)
-
-pub stages-answer : (words : List (List ℕ)) (t : StagesTexts) (said : Result Asked WordsFault) → refused_by_clap stages_app words ≡ None
-    → t ≡ stages_texts (matches_of stages_app words)
-    → answered_by (first_of_tests (stages_tests t)) (staged (stages_asked t)) ≡ said → asked_of_stages words ≡ said
-unfolding asked_of_stages
-stages-answer words t said passes is answer =
-    after_clap (refused_by_clap stages_app words) _ _ said passes
-    (ap (λ (t : StagesTexts). answered_by (first_of_tests (stages_tests t)) (staged (stages_asked t))) (sym is) ∙ answer)
-
-pub self-answer : (words : List (List ℕ)) (t : SelfTexts) (said : Result Asked WordsFault) → refused_by_clap self_app words ≡ None
-    → t ≡ self_texts (matches_of self_app words)
-    → answered_by (first_of_tests (self_tests t)) (generated (self_asked t)) ≡ said → asked_of_self words ≡ said
-unfolding asked_of_self
-self-answer words t said passes is answer =
-    after_clap (refused_by_clap self_app words) _ _ said passes
-    (ap (λ (t : SelfTexts). answered_by (first_of_tests (self_tests t)) (generated (self_asked t))) (sym is) ∙ answer)
-
-pub judge-answer : (words : List (List ℕ)) (t : JudgeTexts) (said : Result Asked WordsFault) → refused_by_clap judge_app words ≡ None
-    → t ≡ judge_texts (matches_of judge_app words)
-    → answered_by (first_of_tests (judge_tests t)) (judged (judge_asked t)) ≡ said → asked_of_judge words ≡ said
-unfolding asked_of_judge
-judge-answer words t said passes is answer =
-    after_clap (refused_by_clap judge_app words) _ _ said passes
-    (ap (λ (t : JudgeTexts). answered_by (first_of_tests (judge_tests t)) (judged (judge_asked t))) (sym is) ∙ answer)
-
-pub asked-refused-judge : (words : List (List ℕ)) (fault : WordsFault) → refused_by_clap judge_app words ≡ Some fault → asked_of_judge words ≡ Err fault
-unfolding asked_of_judge
-asked-refused-judge words fault refused =
-    let t = judge_texts (matches_of judge_app words) in
-    ap (λ test. answered_by (option_or test (first_of_tests (judge_tests t))) (judged (judge_asked t))) refused
+-- `clap` takes the words, and then the tests of their texts decide
+pub tests-answer : {T : Type 0} (app : App) (words : List (List ℕ)) (tests : T → List (Option WordsFault)) (what : T → Asked) (t read : T)
+    (said : Result Asked WordsFault) → refused_by_clap app words ≡ None → t ≡ read → answered_by (first_of_tests (tests t)) (what t) ≡ said
+    → answered_by (first_of_tests (refused_by_clap app words ∷ tests read)) (what read) ≡ said
+tests-answer {T} app words tests what t read said passes is answer =
+    ap (λ (test : Option WordsFault). answered_by (option_or test (first_of_tests (tests read))) (what read)) passes
+    ∙ ap (λ (t : T). answered_by (first_of_tests (tests t)) (what t)) (sym is) ∙ answer
 
 pub answer-ok : (test : Option WordsFault) (what other : Asked) → test ≡ None → what ≡ other → answered_by test what ≡ Ok other
 answer-ok test what other none same = ap (λ t. answered_by t what) none ∙ ap Ok same
 
 pub answer-err : (test : Option WordsFault) (what : Asked) (fault : WordsFault) → test ≡ Some fault → answered_by test what ≡ Err fault
 answer-err test what fault some = ap (λ t. answered_by t what) some
-
-pub asked-refused-run : (words : List (List ℕ)) (fault : WordsFault) → refused_by_clap run_app words ≡ Some fault → asked_of_run words ≡ Err fault
-unfolding asked_of_run
-asked-refused-run words fault refused =
-    let t = run_texts (matches_of run_app words) in
-    ap (λ test. answered_by (option_or test (first_of_tests (run_tests t))) (run (run_asked t))) refused
-
-pub asked-refused-stages : (words : List (List ℕ)) (fault : WordsFault) → refused_by_clap stages_app words ≡ Some fault
-    → asked_of_stages words ≡ Err fault
-unfolding asked_of_stages
-asked-refused-stages words fault refused =
-    let t = stages_texts (matches_of stages_app words) in
-    ap (λ test. answered_by (option_or test (first_of_tests (stages_tests t))) (staged (stages_asked t))) refused
-
-pub asked-refused-self : (words : List (List ℕ)) (fault : WordsFault) → refused_by_clap self_app words ≡ Some fault → asked_of_self words ≡ Err fault
-unfolding asked_of_self
-asked-refused-self words fault refused =
-    let t = self_texts (matches_of self_app words) in
-    ap (λ test. answered_by (option_or test (first_of_tests (self_tests t))) (generated (self_asked t))) refused
 
 pub file-text : (f : Found) (rows : List Row) (file : Option (List ℕ)) → rows_of f ≡ rows → file ≡ first_value f (codes "file")
     → unwrap_or file [] ≡ text_file rows
@@ -148,19 +94,10 @@ pub text-answer : (command asks : TextCommand) (words : List (List ℕ)) (file :
     → answered_by (first_of_tests (refused_names (file ∷ []) ∷ [])) (whole (record { command = asks; file = file })) ≡ said → asked_of_text command words ≡ said
 unfolding asked_of_text
 text-answer command asks words file said passes is flag answer =
-    after_clap (refused_by_clap (text_app command) words) _ _ said passes
-    (ap (λ (file : List ℕ). answered_by (first_of_tests (refused_names (file ∷ []) ∷ []))
-    (whole (record { command = text_command command (matches_of (text_app command) words); file = file }))) (sym is)
-    ∙ ap (λ (asks : TextCommand). answered_by (first_of_tests (refused_names (file ∷ []) ∷ [])) (whole (record { command = asks; file = file }))) (sym flag)
-    ∙ answer)
-
-pub asked-refused-text : (command : TextCommand) (words : List (List ℕ)) (fault : WordsFault) → refused_by_clap (text_app command) words ≡ Some fault
-    → asked_of_text command words ≡ Err fault
-unfolding asked_of_text
-asked-refused-text command words fault refused =
     let rows = matches_of (text_app command) words in
-    let what = whole (record { command = text_command command rows; file = text_file rows }) in
-    ap (λ test. answered_by (option_or test (first_of_tests (refused_names (text_file rows ∷ []) ∷ []))) what) refused
+    tests-answer (text_app command) words (λ (t : List ℕ × TextCommand). refused_names (t.0 ∷ []) ∷ [])
+    (λ (t : List ℕ × TextCommand). whole (record { command = t.1; file = t.0 })) (file, asks) (text_file rows, text_command command rows) said passes
+    (λ i. (is i, flag i)) answer
 
 -- what is given or nothing, behind references or not
 pub given_or_empty : {X A : Type 0} (o : Option X) (d : X) (f : X → List A) → f d ≡ [] → f (unwrap_or o d) ≡ unwrap_or (option_map f o) []
@@ -186,10 +123,18 @@ refused-same : {fault other : WordsFault} → Refused fault ≡ Refused other �
 refused-same e = cc
 
 -- the fault that `?` hands on from `clap` is that of the words
-pub refused-on : {T : Type 0} (app : App) (words : List (List ℕ)) (result : Result T WordsError) (error : WordsError) (fault : WordsFault)
+refused-on : {T : Type 0} (app : App) (words : List (List ℕ)) (result : Result T WordsError) (error : WordsError) (fault : WordsFault)
     → (error ≢ NoMemory → (error ≡ Refused NotUnderstood) × (refused_by_clap app words ≡ Some NotUnderstood) × (takes app words ≡ false))
     → IsErrAnd result (λ passed. passed ≡ error) → IsErrOf result (Refused fault) → refused_by_clap app words ≡ Some fault
 refused-on app words result error fault said passed is =
     let same = handed-on result error (Refused fault) passed is in
     let why = said (refused-some error fault same) in
     why.1 ∙ ap Some (refused-same (sym why.0 ∙ same))
+
+-- then they ask for nothing
+pub clap-refused : {T : Type 0} (app : App) (words : List (List ℕ)) (result : Result T WordsError) (error : WordsError) (fault : WordsFault)
+    (rest : Option WordsFault) (what : Asked)
+    → (error ≢ NoMemory → (error ≡ Refused NotUnderstood) × (refused_by_clap app words ≡ Some NotUnderstood) × (takes app words ≡ false))
+    → IsErrAnd result (λ passed. passed ≡ error) → IsErrOf result (Refused fault) → answered_by (option_or (refused_by_clap app words) rest) what ≡ Err fault
+clap-refused app words result error fault rest what said passed is =
+    ap (λ test. answered_by (option_or test rest) what) (refused-on app words result error fault said passed is)

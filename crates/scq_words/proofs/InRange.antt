@@ -1,7 +1,8 @@
 -- The tests of `run`'s, `stages`' and `judge`'s arguments never answer that the words aren't understood.
-use Rattle.std.proofs.Common.{◌≡◌, ◌≢◌, ◌⊎◌, inl, inr, arith, true, false, ℕ, ◌+◌, ◌≤◌, Bool, List, [], ◌∷◌, length, Option, Some, None}
+use Rattle.std.proofs.Common.{◌≡◌, ◌≢◌, ◌<◌, ◌⊎◌, sym, subst, map, inl, inr, arith, true, false, ℕ, ◌+◌, ◌≤◌, Bool, List, [], ◌∷◌, length, Option, Some, None}
 use Rattle.std.specs.Prelude.{◌==◌, ◌&&◌, nat_lt, nat_le, option_map, if◌then◌else◌}
-use Rattle.std.specs.List.{position}
+use Rattle.std.specs.List.{All, position}
+use Rattle.std.proofs.lemmas.List.Elements.{All-map}
 use Rattle.std.specs.Option.{option_or}
 use Rattle.scq_topics.specs.Topics.{entries_of, first_fault}
 use Rattle.scq_words.specs.Asked.{JudgeTexts, RunTexts, StagesTexts, first_of_tests, judge_tests, refused_if, refused_names, refused_topics, run_tests, stages_tests}
@@ -66,3 +67,9 @@ stages-other t =
 pub in-range : (n default low high : ℕ) → (n ≡ default) ⊎ ((low ≤ n) × (n ≤ high)) → low ≤ default → default ≤ high → (low ≤ n) × (n ≤ high)
 in-range n default low high (inl is) above below = (omega (arith, is, above), omega (arith, is, below))
 in-range n default low high (inr within) above below = within
+
+-- the names that were copied of files that all have one
+pub all-named : {A : Type 0} (files : List A) (name : A → List ℕ) (names : List (List ℕ)) → names ≡ map name files
+    → All (λ file. 0 < length (name file)) files → All (λ name. 0 < length name) names
+all-named files name names same named =
+    subst (λ (ns : List (List ℕ)). All (λ name. 0 < length name) ns) (sym same) (All-map (λ name. 0 < length name) name files named)

@@ -312,8 +312,8 @@ asked_for_run (command ∷ words) =
     if bytes_eq command (codes "run") then asked_of_run words else Err NotUnderstood
 
 -- a request of the program as what is asked
-abbrev pub run_of : RunRequest → RunAsked
-run_of r = record {
+abbrev pub asked_run : RunRequest → RunAsked
+asked_run r = record {
   workers = r.workers;
   order = r.order;
   size = r.size;
@@ -342,7 +342,7 @@ abbrev pub text_of : TextRequest → TextAsked
 text_of r = record { command = r.command; file = string_bytes r.file }
 
 abbrev pub asked_by : Request → Asked
-asked_by (Run r) = run (run_of r)
+asked_by (Run r) = run (asked_run r)
 asked_by (SelfRun r) = generated (self_of r)
 asked_by (Judge r) = judged (judge_of r)
 asked_by (Text r) = whole (text_of r)

@@ -10,9 +10,9 @@ use Rattle.scq_words.specs.Asked.{generated, judged, whole, staged}
 use Rattle.scq_words.specs.declared.text_request.TextCommand.TheVariants.{Check, Replay}
 
 -- the first word is a command, and `clap` takes those after it as its arguments
-abbrev pub is_taken : List (List ℕ) → Bool
-is_taken [] = false
-is_taken (command ∷ words) =
+abbrev pub is_accepted : List (List ℕ) → Bool
+is_accepted [] = false
+is_accepted (command ∷ words) =
     if bytes_eq command (codes "run") then takes run_app words
     else if bytes_eq command (codes "self") then takes self_app words
     else if bytes_eq command (codes "judge") then takes judge_app words

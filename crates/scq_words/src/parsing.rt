@@ -1,9 +1,9 @@
 ghost use Rattle.std.specs.Prelude.{◌≡◌, ◌≢◌, IfOk, map, string_bytes, true, false};
 ghost use Rattle.clap.specs.Words.{app_of, is_simple_and_free, kind_of, rule_of};
 ghost use Rattle.scq_words.specs.Commands.{batch_app, files_rule, flag_rule, judge_app, lines_app};
-ghost use Rattle.scq_words.specs.Commands.{named_app, numbers_app, option_rule, order_app, plain_app};
-ghost use Rattle.scq_words.specs.Commands.{report_app, room_app, run_app, seed_app, self_app};
-ghost use Rattle.scq_words.specs.Commands.{stages_app, text_app, topics_app, workers_app};
+ghost use Rattle.scq_words.specs.Commands.{named_app, numbers_app, option_rule, order_app};
+ghost use Rattle.scq_words.specs.Commands.{plain_app, report_app, room_app, run_app, seed_app};
+ghost use Rattle.scq_words.specs.Commands.{self_app, stages_app, text_app, topics_app, workers_app};
 ghost use Rattle.scq_words.specs.Parsing.{Parses};
 
 use crate::{TextCommand, WordsError, WordsFault};

@@ -1,7 +1,7 @@
 ghost use Rattle.std.specs.Prelude.{◌≡◌, Ok, Err, false, map, string_bytes, IfOk, IsErrOf};
 ghost use Rattle.scq_words.specs.declared.fault.WordsFault.{WordsFault as TheFault};
-ghost use Rattle.scq_words.specs.Asked.{asked, asked_by, asked_for_run, run, run_of};
-ghost use Rattle.scq_words.specs.Ranges.{IsInRange, IsRunInRange, is_taken, is_taken_for_run};
+ghost use Rattle.scq_words.specs.Asked.{asked, asked_by, asked_for_run, run, asked_run};
+ghost use Rattle.scq_words.specs.Ranges.{IsInRange, IsRunInRange, is_accepted, is_taken_for_run};
 
 use crate::judge_words::read_judge;
 use crate::run::read_run;
@@ -22,7 +22,7 @@ pub fn read_words(alloc: Global, words: &[String]) -> Result<Request, WordsError
 
     // `clap` refuses no words that it is said to take. What is asked is in its ranges.
     ensures taken { IsErrOf result (WordsError.Refused WordsFault.NotUnderstood)
-        → is_taken (map string_bytes words.now) ≡ false }
+        → is_accepted (map string_bytes words.now) ≡ false }
     ensures ranges { IfOk result (λ request. IsInRange (asked_by request)) }
 {
     match words {
@@ -42,12 +42,12 @@ pub fn read_words(alloc: Global, words: &[String]) -> Result<Request, WordsError
 /// The same for a program that understands `run` alone.
 pub fn read_run_words(alloc: Global, words: &[String]) -> Result<RunRequest, WordsError>
     ensures request { IfOk result (λ request.
-        asked_for_run (map string_bytes words.now) ≡ Ok (run (run_of request))) }
+        asked_for_run (map string_bytes words.now) ≡ Ok (run (asked_run request))) }
     ensures refused { (fault : TheFault) → IsErrOf result (WordsError.Refused fault)
         → asked_for_run (map string_bytes words.now) ≡ Err fault }
     ensures taken { IsErrOf result (WordsError.Refused WordsFault.NotUnderstood)
         → is_taken_for_run (map string_bytes words.now) ≡ false }
-    ensures ranges { IfOk result (λ request. IsRunInRange (run_of request)) }
+    ensures ranges { IfOk result (λ request. IsRunInRange (asked_run request)) }
 {
     match words {
         [command, rest @ ..] => match command.as_str() {

@@ -6,7 +6,7 @@ use scq_topics::Topics;
 /// What is asked of files. Workers are in `1..=4096`, the order in `1..=12`, the
 /// most bytes of a part in `1..=65536`, and there are 1 to 64 files, each with a name. `batch` asks
 /// that short parts share a buffer, and `report` for what each worker did.
-#[derive(Debug, Drop)]
+#[derive(Drop)]
 pub struct RunRequest {
     pub workers: u32,
     pub order: u32,
@@ -19,7 +19,7 @@ pub struct RunRequest {
 }
 
 /// What is asked of files whose messages go through two stages. All is in the ranges of a run.
-#[derive(Debug, Drop)]
+#[derive(Drop)]
 pub struct StagesRequest {
     pub workers: u32,
     pub order: u32,
@@ -30,7 +30,7 @@ pub struct StagesRequest {
 
 /// What is asked of a generated file: the seed is in `0..=2147483647`, the lines in `1..=1000000`,
 /// the workers in `1..=4096`.
-#[derive(Clone, Copy, Debug, PartialEq, Eq)]
+#[derive(Clone, Copy, PartialEq, Eq)]
 pub struct SelfRequest {
     pub seed: u32,
     pub lines: u32,
@@ -40,7 +40,7 @@ pub struct SelfRequest {
 
 /// Recordings to judge: 1 to 4,096 files, each with a name. Where `room` is given, each queue had
 /// room for so many values, from 1, and refused puts are judged too.
-#[derive(Debug, Drop)]
+#[derive(Drop)]
 pub struct JudgeRequest {
     pub room: Option<u32>,
     pub files: Vec<String>,
@@ -48,7 +48,7 @@ pub struct JudgeRequest {
 }
 
 /// What the words of a command line ask for.
-#[derive(Debug, Drop)]
+#[derive(Drop)]
 pub enum Request {
     Run(RunRequest),
     SelfRun(SelfRequest),

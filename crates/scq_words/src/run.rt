@@ -3,7 +3,7 @@ ghost use Rattle.std.specs.Prelude.{string_bytes, IfOk, IsErrOf};
 ghost use Rattle.std.specs.Result.{result_err};
 ghost use Rattle.scq_words.specs.declared.fault.WordsFault.{WordsFault as TheFault};
 ghost use Rattle.scq_words.specs.Asked.{asked_of_run, first_of_tests, is_given, refused_topics};
-ghost use Rattle.scq_words.specs.Asked.{run, run_asked, run_of, run_tests, texts_of_run};
+ghost use Rattle.scq_words.specs.Asked.{run, run_asked, asked_run, run_tests, texts_of_run};
 ghost use Rattle.scq_words.specs.Asked.{topics_or_none};
 ghost use Rattle.clap.specs.Words.{takes};
 ghost use Rattle.scq_words.specs.Commands.{run_app};
@@ -21,12 +21,12 @@ use std::alloc::Global;
 /// What the words after `run` ask for.
 pub fn read_run(alloc: Global, words: &[String]) -> Result<RunRequest, WordsError>
     ensures request { IfOk result (λ request.
-        asked_of_run (map string_bytes words.now) ≡ Ok (run (run_of request))) }
+        asked_of_run (map string_bytes words.now) ≡ Ok (run (asked_run request))) }
     ensures refused { (fault : TheFault) → IsErrOf result (WordsError.Refused fault)
         → asked_of_run (map string_bytes words.now) ≡ Err fault }
     ensures taken { IsErrOf result (WordsError.Refused WordsFault.NotUnderstood)
         → takes run_app (map string_bytes words.now) ≡ false }
-    ensures ranges { IfOk result (λ request. IsRunInRange (run_of request)) }
+    ensures ranges { IfOk result (λ request. IsRunInRange (asked_run request)) }
 {
     let matches = run_matches(alloc, words)?;
     let workers = matches.get_str("workers");
@@ -55,14 +55,14 @@ fn check_run(
         (text_in topics.entry)
         (text_in batch.entry) (text_in report.entry) (map (λ name. name.now) files.now) in
         IfOk result (λ request.
-        (first_of_tests (run_tests texts) ≡ None) × (run_asked texts ≡ run_of request)) }
+        (first_of_tests (run_tests texts) ≡ None) × (run_asked texts ≡ asked_run request)) }
     ensures refused { let texts =
         texts_of_run (text_in workers.entry) (text_in order.entry) (text_in size.entry)
         (text_in topics.entry)
         (text_in batch.entry) (text_in report.entry) (map (λ name. name.now) files.now) in
         (fault : TheFault) → IsErrOf result (WordsError.Refused fault)
         → first_of_tests (run_tests texts) ≡ Some fault }
-    ensures ranges { IfOk result (λ request. IsRunInRange (run_of request)) }
+    ensures ranges { IfOk result (λ request. IsRunInRange (asked_run request)) }
 {
     let given = optional_number(workers, 0, 1, 4096, WordsFault::Workers)?;
     let order = optional_number(order, 6, 1, 12, WordsFault::Order)?;

@@ -22,7 +22,7 @@ pub enum TextCommand {
 }
 
 /// What is asked of one file, which has a name.
-#[derive(Debug, Drop)]
+#[derive(Drop)]
 pub struct TextRequest {
     pub command: TextCommand,
     pub file: String,

@@ -23,7 +23,7 @@ use Rattle.scq_queue.specs.Passes.{PassStanding}
 use Rattle.scq_passes.proofs.ManyLists.{flat-map, found-at, in-all}
 use Rattle.scq_passes.proofs.PassedOn.{passed-results, passed-send}
 use Rattle.scq_worker.specs.Members.{answered, answers_from, answers_to_take, answers_to_takes, is_direct, AnswersSoFar, GotParts, IsBatch}
-use Rattle.scq_worker.specs.Passing.{ArePassedOn, parts_among}
+use Rattle.scq_worker.specs.Passing.{BatchesArePassedOn, parts_among}
 use Rattle.scq_worker.specs.Working.{HasListed, HasListedAll}
 use Rattle.scq_work.proofs.SameParts.{batches-hold}
 use Rattle.scq_work.proofs.FlatLists.{flat-permutation}
@@ -38,7 +38,7 @@ answers_at topics v = map (part_answer topics) (parts_at v.bytes)
 
 module _ (topics : List (List ℕ × Kind)) where
   -- the parts of batches, answered, are those in the sends and the direct answers
-  passed-answers : (batches : List (List Part)) (sends : List Placed) (groups : List (List Answered)) → ArePassedOn topics batches sends groups
+  passed-answers : (batches : List (List Part)) (sends : List Placed) (groups : List (List Answered)) → BatchesArePassedOn topics batches sends groups
       → IsPermutation (map (part_answer topics) (parts_among batches))
       (flat_map (answers_at topics) sends ++ map without_way (flat_map (λ group. group) groups))
   passed-answers batches sends groups passed =

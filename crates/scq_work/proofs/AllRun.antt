@@ -25,7 +25,7 @@ use Rattle.scq_queue.specs.Closing.{EachTakeIsASend, NoPlaceIsTakenTwice, NoneIs
 use Rattle.scq_queue.specs.Lists.{takes_of}
 use Rattle.scq_queue.specs.Passes.{PassStanding, HeldStanding}
 use Rattle.scq_passes.specs.AllPasses.{HaveShared}
-use Rattle.scq_work.specs.AllWorkers.{HaveAnswered, HasHelped, OfEachWorker}
+use Rattle.scq_work.specs.AllWorkers.{HaveAnswered, HasHelped, OfEachWorkersAnswers}
 use Rattle.scq_files.specs.Ends.{AreGiven}
 use Rattle.scq_files.specs.Files.{own_of}
 use Rattle.scq_worker.specs.Members.{AnswersItsTakes}
@@ -42,10 +42,10 @@ use Rattle.scq_files.specs.Desks.{AllWhole}
 use Rattle.scq_files.proofs.AllGave.{given_of, worker_messages}
 use Rattle.scq_desk.proofs.Settled.{held_at}
 use Rattle.scq_work.proofs.AllGave.{AllRan, given, is-given, own-given, all-parts-passed, few-in-all}
-use Rattle.scq_work.proofs.Conclusion.{Work, IsWork, passes_in, messages_in, members_among, all-taken, all-answered}
+use Rattle.scq_work.proofs.Conclusion.{Work, IsWork, passes_in, worked_parts, members_among, all-taken, all-answered}
 use Rattle.scq_files.proofs.Lists.{map-map}
 use Rattle.scq_worker.proofs.MessageParts.{known-parts, flat-parts}
-use Rattle.scq_passes.proofs.NoneSpent.{passes_of, messages_of, none-spent, all-bounded}
+use Rattle.scq_passes.proofs.NoneSpent.{passes_of, message_count, none-spent, all-bounded}
 use Rattle.scq_files.proofs.GivenLemmas.{of-known, given-known}
 use Rattle.scq_work.proofs.Orders.{members-whole}
 use Rattle.scq_work.proofs.PartMembers.{members-known, members-short}
@@ -69,7 +69,7 @@ module _ {B S : Type 0} where
   -- so it is of each worker
   of-each : (P : ℕ → PassStanding B → List Answered → Type 0) (desks : List (Desk (Seated B) S))
       → ((w : ℕ) (d : Desk (Seated B) S) → slice_get desks w ≡ Some d → P w d.worker.worker.pass d.worker.worker.members)
-      → OfEachWorker P (passes_at desks) (lists_at desks)
+      → OfEachWorkersAnswers P (passes_at desks) (lists_at desks)
   of-each P desks each w p list pass_is list_is = by (slice_get desks w) refl where
     pass : Desk (Seated B) S → PassStanding B
     pass d = d.worker.worker.pass
@@ -101,7 +101,7 @@ module _ {B S : Type 0} where
     passes-same : passes_of works ≡ passes_at desks
     passes-same = map-map (λ (w : ℕ × PassStanding B). w.1) (counted size) desks
 
-    few-messages : messages_of works ≤ 2 ^ 36
+    few-messages : message_count works ≤ 2 ^ 36
     few-messages =
         let counts = sum_by-map (λ (w : ℕ × PassStanding B). w.0) (counted size) desks in
         let few = few-in-all c shared topics size most longest src sources desks ran in
@@ -230,7 +230,7 @@ module _ {B S : Type 0} where
             let members : members_among (map (work_of size) desks) ≡ members_of (lists_at desks) =
             flat_map-map (λ (w : Work B). w.members) (work_of size) desks ∙ sym
             (flat_map-map (λ (l : List Answered). l) (λ (d : Desk (Seated B) S). d.worker.worker.members) desks) in
-            let parts : messages_in (map (work_of size) desks) ≡ parts_in size (flat_map worker_messages desks) =
+            let parts : worked_parts (map (work_of size) desks) ≡ parts_in size (flat_map worker_messages desks) =
             flat_map-map (λ (w : Work B). w.messages) (work_of size) desks ∙ flat-parts size worker_messages desks in
             let passed : List Part = parts_in size (flat_map worker_messages desks) in
             let given_parts : List Part = parts_in size (flat_map (λ own. own) messages_given) in
@@ -239,7 +239,7 @@ module _ {B S : Type 0} where
             (IsPermutation-sym given_parts passed (all-parts-passed c shared topics size most longest src sources desks ran)) in
             IsPermutation-trans (map without_way (members_of (lists_at desks))) (map (part_answer topics) passed) (map (part_answer topics) given_parts)
             (subst (IsPermutation (map without_way (members_of (lists_at desks)))) (ap (map (part_answer topics)) parts)
-            (subst (λ l. IsPermutation (map without_way l) (map (part_answer topics) (messages_in (map (work_of size) desks)))) members all)) back
+            (subst (λ l. IsPermutation (map without_way l) (map (part_answer topics) (worked_parts (map (work_of size) desks)))) members all)) back
 
         pub have-answered : HaveAnswered topics size most (length desks) messages_given (passes_at desks) (lists_at desks)
         have-answered = record {

@@ -45,8 +45,8 @@ module _ {B : Type 0} where
   abbrev pub passes_in : List (Work B) → List (PassStanding B)
   passes_in works = map (λ (w : Work B). w.pass) works
 
-  abbrev pub messages_in : List (Work B) → List Part
-  messages_in works = flat_map (λ (w : Work B). w.messages) works
+  abbrev pub worked_parts : List (Work B) → List Part
+  worked_parts works = flat_map (λ (w : Work B). w.messages) works
 
   abbrev pub members_among : List (Work B) → List Answered
   members_among works = flat_map (λ (w : Work B). w.members) works
@@ -93,7 +93,7 @@ module _ {B : Type 0} where
   -- the answers of all workers are those to the parts of all, each once
   pub all-answered : (topics : List (List ℕ × Kind)) (most : ℕ) (works : List (Work B)) → All (IsWork topics most) works
       → EachTakeIsASend (passes_in works) → SendsAreTakes (passes_in works)
-      → IsPermutation (map without_way (members_among works)) (map (part_answer topics) (messages_in works))
+      → IsPermutation (map without_way (members_among works)) (map (part_answer topics) (worked_parts works))
   all-answered topics most works each sent same =
       let reads : Work B → List PartAnswer = λ w. flat_map (answers_at topics) (takes_of w.pass.calls) in
       let sent_reads : Work B → List PartAnswer = λ w. flat_map (answers_at topics) (sends_of w.pass.calls) in
@@ -121,6 +121,6 @@ module _ {B : Type 0} where
       (IsPermutation-append_left (flat_map plain works) (flat_map reads works) (flat_map sent_reads works) back)
       (IsPermutation-sym (flat_map (λ (w : Work B). map (part_answer topics) w.messages) works)
       (flat_map sent_reads works ++ flat_map plain works) messages)) in
-      subst (λ (l : List PartAnswer). IsPermutation l (map (part_answer topics) (messages_in works))) (flat-map without_way (λ (w : Work B). w.members) works)
+      subst (λ (l : List PartAnswer). IsPermutation l (map (part_answer topics) (worked_parts works))) (flat-map without_way (λ (w : Work B). w.members) works)
       (subst (IsPermutation (flat_map (λ (w : Work B). map without_way w.members) works))
       (flat-map (part_answer topics) (λ (w : Work B). w.messages) works) joined)

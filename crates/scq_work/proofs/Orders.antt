@@ -16,7 +16,7 @@ use Rattle.scq_frames.specs.Text.{messages_of}
 use Rattle.scq_collect.specs.declared.answered.Answered.{Answered}
 use Rattle.scq_collect.specs.Collected.{messages_to}
 use Rattle.scq_collect.specs.Joined.{AreWhole, PartAnswer, part_answer, part_answers, without_way}
-use Rattle.scq_collect.specs.Merging.{AreApart, IsBefore, IsInOrder, position_of_part}
+use Rattle.scq_collect.specs.Merging.{AreApart, IsBefore, StandInOrder, position_of_part}
 use Rattle.scq_collect.proofs.Orders.{ascends}
 use Rattle.scq_desk.proofs.Apart.{apart-shown}
 use Rattle.scq_files.specs.Reading.{AreOf}
@@ -112,7 +112,7 @@ in-order place (p ∷ q ∷ ps) rises (suc k) d less =
 
 given-in-order : {S : Type 0} (topics : List (List ℕ × Kind)) (size longest : ℕ) (left : S → Option (List ℕ)) (was : List S)
     (given : List (List Message)) → AreGiven topics longest left 1 was given
-    → IsInOrder place_at (parts_in size (all_of given))
+    → StandInOrder place_at (parts_in size (all_of given))
 unfolding RisesPast
 given-in-order topics size longest left was given gave =
     in-order (0, 0, 0) (parts_in size (all_of given)) (given-past topics size longest left 0 was given gave (0, 0, 0) (omega arith))
@@ -129,7 +129,7 @@ no_part : Part
 no_part = record { file = 0; line = 0; topic = 0; part = 0; parts = 0; payload = [] }
 
 -- answers stand as their parts do
-answers-in-order : (topics : List (List ℕ × Kind)) (ps : List Part) → IsInOrder place_at ps → IsInOrder position_of_text (map (part_answer topics) ps)
+answers-in-order : (topics : List (List ℕ × Kind)) (ps : List Part) → StandInOrder place_at ps → StandInOrder position_of_text (map (part_answer topics) ps)
 answers-in-order topics ps order k d less =
     let long : k + 1 < length ps = omega (arith, length-map ps (part_answer topics)) in
     rw (get_or-map (part_answer topics) ps k no_part d (omega arith), get_or-map (part_answer topics) ps (k + 1) no_part d long)

@@ -24,9 +24,9 @@ use Rattle.scq_passes.specs.AllPasses.{IsSetup, HaveShared, lengths_of}
 
 module _ {B : Type 0} where
   -- P holds of each worker's number, pass and answers
-  abbrev pub OfEachWorker : (ℕ → PassStanding B → List Answered → Type 0)
+  abbrev pub OfEachWorkersAnswers : (ℕ → PassStanding B → List Answered → Type 0)
       → List (PassStanding B) → List (List Answered) → Type 0
-  OfEachWorker P passes lists =
+  OfEachWorkersAnswers P passes lists =
       (w : ℕ) (p : PassStanding B) (list : List Answered) → slice_get passes w ≡ Some p
       → slice_get lists w ≡ Some list → P w p list
 
@@ -47,12 +47,12 @@ module _ {B : Type 0} where
     pub known : All (λ a. a.topic ≤ length topics) (members_of lists)
     pub short : All (λ a. a.bytes ≤ size) (members_of lists)
     -- in order, the Taken members of a worker's list are the answers to the parts in its takes
-    pub takes : OfEachWorker (λ w p list.
+    pub takes : OfEachWorkersAnswers (λ w p list.
         AnswersItsTakes topics most (takes_of p.calls) list) passes lists
     -- the parts of the messages of a worker's files go on in batches, on each topic in order of
     -- file, line and part. Each batch is its next send or its next Full, also in its record, and
     -- there are no others; its Direct members are the answers to the parts of those that met a Full
-    pub listed : OfEachWorker (λ w p list.
+    pub listed : OfEachWorkersAnswers (λ w p list.
         HasListedAll topics most (parts_in size (own_of workers w 1 given)) p list) passes lists
 
   -- a pass has helped: after each Full, before the next lend, comes one take of each topic. And it

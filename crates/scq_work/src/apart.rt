@@ -4,9 +4,9 @@ ghost use Rattle.std.specs.List.{All};
 ghost use Rattle.scq_block.specs.Frames.{bytes_of};
 ghost use Rattle.scq_passes.specs.Leaving.{HasLeftSwept};
 ghost use Rattle.scq_passes.specs.Records.{IsReturn};
-ghost use Rattle.scq_worker.specs.Seats.{IsFresh};
+ghost use Rattle.scq_worker.specs.Seats.{IsToBegin};
 ghost use Rattle.scq_files.specs.OwnFiles.{IsNew, ids_of};
-ghost use Rattle.scq_worker.specs.Desks.{HasRun};
+ghost use Rattle.scq_worker.specs.Desks.{HasRunAt};
 
 use scq_block::Frame;
 use scq_files::work_apart;
@@ -29,7 +29,7 @@ pub fn run_apart<R: Threads + Sync, S: Source, G: Gate + Sync>(
     requires some { 0 < length desks.items }
     requires rings { queue.now.setup.rings ≡ length job.now.topics + 2 }
     requires room { All (λ b. job.now.size + 24 ≤ length b.bytes.items) queue.now.given }
-    requires fresh { All (λ d. IsFresh queue.now d.worker) desks.items }
+    requires fresh { All (λ d. IsToBegin queue.now d.worker) desks.items }
     requires unread { All (λ d. All IsNew d.files.items) desks.items }
     ensures count { length result.items ≡ length desks.items }
     ensures same { (w : ℕ) (d : _) → w < length desks.items
@@ -38,10 +38,7 @@ pub fn run_apart<R: Threads + Sync, S: Source, G: Gate + Sync>(
     ensures numbers { (w : ℕ) (d : _) → w < length desks.items
         → (slice_index_or result.items w d).worker.worker.pass.number
         ≡ (slice_index_or desks.items w d).worker.worker.pass.number }
-    ensures run { All (λ d.
-        HasRun queue.now job.now.topics job.now.size job.now.most job.now.longest S.Source
-        d.files.items d.worker.worker.pass d.worker.worker.members d.worker.worker.starved d.worker.kept)
-        result.items }
+    ensures run { All (HasRunAt queue.now job.now S.Source) result.items }
     ensures behind { All (λ d. d.worker.worker.pass.spent ≡ None
         → HasLeftSwept bytes_of IsReturn (length job.now.topics
         + 1) 64 d.worker.worker.pass) result.items }
@@ -49,13 +46,10 @@ pub fn run_apart<R: Threads + Sync, S: Source, G: Gate + Sync>(
     let run_one = |_: usize, desk: &mut WorkDesk<S>|
         requires { (queue.now.setup.rings ≡ length job.now.topics + 2)
             × All (λ b. job.now.size + 24 ≤ length b.bytes.items) queue.now.given
-            × IsFresh queue.now desk.now.worker × All IsNew desk.now.files.items }
+            × IsToBegin queue.now desk.now.worker × All IsNew desk.now.files.items }
         ensures { (ids_of desk.exit.now.files.items ≡ ids_of desk.entry.now.files.items)
             × (desk.exit.now.worker.worker.pass.number ≡ desk.entry.now.worker.worker.pass.number)
-            × HasRun queue.entry.now job.entry.now.topics job.entry.now.size job.entry.now.most
-            job.entry.now.longest S.Source desk.exit.now.files.items desk.exit.now.worker.worker.pass
-            desk.exit.now.worker.worker.members desk.exit.now.worker.worker.starved
-            desk.exit.now.worker.kept
+            × HasRunAt queue.entry.now job.entry.now S.Source desk.exit.now
             × (desk.exit.now.worker.worker.pass.spent ≡ None
             → HasLeftSwept bytes_of IsReturn (length job.entry.now.topics
             + 1) 64 desk.exit.now.worker.worker.pass) }

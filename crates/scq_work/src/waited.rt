@@ -116,8 +116,8 @@ pub fn work_waiting<R: Threads + Wait + Sync, S: Source, G: Gate + Sync>(
     // Each worker was told that all had retired, rested no more often than it was woken, and took
     // in vain no more often than one does that rests after each sweep that took nothing.
     ensures waited { IfSome result.waited (λ waited. IsSomeAnd result.end.passes (λ passes.
-        HaveWaited (length job.now.topics
-        + 1) (takes_behind job.now.most) job.now.workers passes.value.items waited.saw.items waited.rested.items)) }
+        HaveWaited (length job.now.topics + 1) (takes_behind job.now.most) job.now.workers
+        passes.value.items waited.saw.items waited.rested.items)) }
     ensures unwaited { result.waited ≡ None → IsErrOf result.end.result EndFault.NoMemory }
     ensures both { OnSome result.waited (IsSome result.end.left) }
 {
@@ -157,8 +157,8 @@ fn wait_in<R: Threads + Wait + Sync, S: Source, G: Gate + Sync>(
     requires stands { stands.items ≡ first_posts crew job.now.workers }
     ensures end { EndsWork job.now S.Source sources.items result.end }
     ensures waited { IfSome result.waited (λ waited. IsSomeAnd result.end.passes (λ passes.
-        HaveWaited (length job.now.topics
-        + 1) (takes_behind job.now.most) job.now.workers passes.value.items waited.saw.items waited.rested.items)) }
+        HaveWaited (length job.now.topics + 1) (takes_behind job.now.most) job.now.workers
+        passes.value.items waited.saw.items waited.rested.items)) }
     ensures there { IsSome result.waited }
     ensures closed { IsSome result.end.left }
 {

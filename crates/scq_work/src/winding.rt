@@ -6,7 +6,7 @@ ghost use Rattle.scq_block.specs.Blocks.{AreAllOf};
 ghost use Rattle.scq_queue.specs.Passes.{was_told};
 ghost use Rattle.scq_files.specs.Desks.{AreDealt};
 ghost use Rattle.scq_desk.specs.Rooms.{IsLaid};
-ghost use Rattle.scq_worker.specs.Desks.{HasRun};
+ghost use Rattle.scq_worker.specs.Desks.{HasRunAt};
 ghost use Rattle.scq_work.specs.Ends.{EndsWork};
 
 use crate::{WorkEnd, Worked};
@@ -36,10 +36,7 @@ pub(crate) fn wind_up<S: Source>(
     requires dealt { AreDealt 1 laid.was.value.items desks.items }
     requires numbers { (w : ℕ) (d : _) → w < length desks.items
         → (slice_index_or desks.items w d).worker.worker.pass.number ≡ w }
-    requires run { All (λ d.
-        HasRun queue job.now.topics job.now.size job.now.most job.now.longest S.Source
-        d.files.items d.worker.worker.pass d.worker.worker.members d.worker.worker.starved d.worker.kept)
-        desks.items }
+    requires run { All (HasRunAt queue job.now S.Source) desks.items }
     ensures end { EndsWork job.now S.Source laid.was.value.items result.0 }
     ensures passes { IfSome result.0.passes (λ passes.
         passes.value.items ≡ map (λ d. d.worker.worker.pass) desks.items) }

@@ -11,7 +11,7 @@ use Rattle.scq_frames.specs.Parts.{Part}
 use Rattle.scq_frames.specs.Encoded.{IsEncodable, message_bytes}
 use Rattle.scq_frames.specs.Batches.{batch_bytes}
 use Rattle.scq_frames.proofs.BatchLemmas.{length-message_bytes}
-use Rattle.scq_worker.specs.Opening.{open_on, IsOpen, AreOpen, NoneIsOpen, AreGathered}
+use Rattle.scq_worker.specs.Opening.{open_on, IsOpen, AreOpen, NoneIsOpen, PartsAreGathered}
 use Rattle.scq_worker.specs.Members.{IsBatch}
 use Rattle.scq_worker.specs.Passing.{parts_among, parts_on, AreBatchesOf}
 
@@ -109,21 +109,21 @@ pub closed-still : (t u : ℕ) (old new : List Part) → new ≡ (if u == t then
 closed-still t u old new now none =
     ⊎_elim (λ (own : u ≡ t). now ∙ rw (eq-eqb u t own) refl) (λ (apart : u ≡ t → ⊥). now ∙ rw (ne_eqb u t apart) none) (cases_eq u t)
 
-module _ (most : ℕ) (parts : List Part) (bs opens : List (List Part)) (was : AreGathered most parts bs opens) where
+module _ (most : ℕ) (parts : List Part) (bs opens : List (List Part)) (was : PartsAreGathered most parts bs opens) where
   -- as much is open
-  pub gathered-same : (news : List (List Part)) → ((u : ℕ) → open_on u news ≡ open_on u opens) → AreGathered most parts bs news
+  pub gathered-same : (news : List (List Part)) → ((u : ℕ) → open_on u news ≡ open_on u opens) → PartsAreGathered most parts bs news
   gathered-same news now = record {
     each = was.each;
     same = λ u. was.same u ∙ ap (λ (l : List Part). parts_on u (parts_among bs) ++ l) (sym (now u));
     alone = was.alone;
   }
 
-  pub gathered-none : NoneIsOpen opens → AreGathered most parts bs []
+  pub gathered-none : NoneIsOpen opens → PartsAreGathered most parts bs []
   gathered-none none = gathered-same [] (λ u. nil-at u ∙ sym (none u))
 
   -- what is open on a topic is passed on
   pub gathered-passed : (t : ℕ) (news : List (List Part)) → IsOpen most t (open_on t opens) → 0 < length (open_on t opens)
-      → ((u : ℕ) → open_on u news ≡ if u == t then [] else open_on u opens) → AreGathered most parts (bs ++ open_on t opens ∷ []) news
+      → ((u : ℕ) → open_on u news ≡ if u == t then [] else open_on u opens) → PartsAreGathered most parts (bs ++ open_on t opens ∷ []) news
   gathered-passed t news its some_ now =
       let b : List Part = open_on t opens in
       record {
@@ -147,7 +147,7 @@ module _ (most : ℕ) (parts : List Part) (bs opens : List (List Part)) (was : A
       }
 
   -- a part goes on alone, where nothing is open on its topic
-  pub gathered-alone : (p : Part) → open_on p.topic opens ≡ [] → AreGathered most (parts ++ p ∷ []) (bs ++ (p ∷ []) ∷ []) opens
+  pub gathered-alone : (p : Part) → open_on p.topic opens ≡ [] → PartsAreGathered most (parts ++ p ∷ []) (bs ++ (p ∷ []) ∷ []) opens
   gathered-alone p none =
       let b : List Part = p ∷ [] in
       record {
@@ -181,7 +181,7 @@ module _ (most : ℕ) (parts : List Part) (bs opens : List (List Part)) (was : A
 
   -- a part is added to those that are open on its topic
   pub gathered-added : (p : Part) (news : List (List Part)) → 0 < most
-      → ((u : ℕ) → open_on u news ≡ open_on u opens ++ (if u == p.topic then p ∷ [] else [])) → AreGathered most (parts ++ p ∷ []) bs news
+      → ((u : ℕ) → open_on u news ≡ open_on u opens ++ (if u == p.topic then p ∷ [] else [])) → PartsAreGathered most (parts ++ p ∷ []) bs news
   gathered-added p news many now =
       let b : List Part = p ∷ [] in
       record {
@@ -201,7 +201,7 @@ module _ (most : ℕ) (parts : List Part) (bs opens : List (List Part)) (was : A
       }
 
 -- once nothing is open, all parts are in the batches
-pub batches-of : (most : ℕ) (parts : List Part) (bs : List (List Part)) → AreGathered most parts bs [] → AreBatchesOf most parts bs
+pub batches-of : (most : ℕ) (parts : List Part) (bs : List (List Part)) → PartsAreGathered most parts bs [] → AreBatchesOf most parts bs
 batches-of most parts bs was = record {
   each = was.each;
   same = λ u.
@@ -210,7 +210,7 @@ batches-of most parts bs was = record {
 }
 
 -- before any part
-pub gathered-first : (most : ℕ) → AreGathered most [] [] []
+pub gathered-first : (most : ℕ) → PartsAreGathered most [] [] []
 gathered-first most = record { each = All-nil (IsBatch most); same = λ u. sym (nil-at u); alone = λ none. refl }
 
 -- how many are on the first so many topics
@@ -283,7 +283,7 @@ among-long most (b ∷ bs) each =
     omega (arith, here.some, rest, length-append b (parts_among bs))
 
 -- so many batches went on, and so many parts are open
-counted : (most : ℕ) (parts : List Part) (bs opens : List (List Part)) (more : List Part) → AreGathered most parts bs opens
+counted : (most : ℕ) (parts : List Part) (bs opens : List (List Part)) (more : List Part) → PartsAreGathered most parts bs opens
     → ((u : ℕ) → length (parts_on u more) ≤ length (open_on u opens)) → length bs + length more ≤ length parts
 counted most parts bs opens more was few =
     let all = more-in-all parts (parts_among bs ++ more) (λ u.
@@ -300,11 +300,11 @@ counted most parts bs opens more was few =
     omega (arith, all, length-append (parts_among bs) more, among-long most bs was.each)
 
 -- there are no more batches than parts
-pub few-batches : (most : ℕ) (parts : List Part) (bs opens : List (List Part)) → AreGathered most parts bs opens → length bs ≤ length parts
+pub few-batches : (most : ℕ) (parts : List Part) (bs opens : List (List Part)) → PartsAreGathered most parts bs opens → length bs ≤ length parts
 few-batches most parts bs opens was = let all = counted most parts bs opens [] was (λ u. omega arith) in omega (arith, all)
 
 -- nor where what is open on a topic is one more
-pub few-with : (most t : ℕ) (parts : List Part) (bs opens : List (List Part)) → AreGathered most parts bs opens → IsOpen most t (open_on t opens)
+pub few-with : (most t : ℕ) (parts : List Part) (bs opens : List (List Part)) → PartsAreGathered most parts bs opens → IsOpen most t (open_on t opens)
     → 0 < length (open_on t opens) → length bs + 1 ≤ length parts
 few-with most t parts bs opens was its some_ =
     let all = counted most parts bs opens (open_on t opens) was (λ u.

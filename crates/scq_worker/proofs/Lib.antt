@@ -5,6 +5,7 @@ pub mod MessageParts
 mod PassedOn
 pub mod Gathered
 mod Loading
+mod Going
 mod RunLemmas
 pub mod Produced
 mod Rung

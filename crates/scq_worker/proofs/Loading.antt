@@ -8,7 +8,7 @@ use Rattle.scq_frames.specs.Batches.{parts_at}
 use Rattle.scq_frames.specs.Encoded.{IsEncodable, BeginsWith, message_bytes}
 use Rattle.scq_frames.specs.Parts.{Part, IsNumbered, parts_of, part_of, part_bytes}
 use Rattle.scq_frames.proofs.PayloadParts.{few-parts}
-use Rattle.scq_worker.specs.Members.{Carries}
+use Rattle.scq_worker.specs.Members.{CarriesParts}
 
 -- a part has at most so many bytes
 pub part-short : (size part : ℕ) (payload : List ℕ) → length (part_bytes size part payload) ≤ size
@@ -29,7 +29,7 @@ encodable-part size m part some_ file line topic small numbered =
     }
 
 -- a part alone
-pub carries-one : (p : Part) (bytes : List ℕ) → IsEncodable p → BeginsWith bytes p → parts_at bytes ≡ p ∷ [] → Carries bytes (p ∷ [])
+pub carries-one : (p : Part) (bytes : List ℕ) → IsEncodable p → BeginsWith bytes p → parts_at bytes ≡ p ∷ [] → CarriesParts bytes (p ∷ [])
 carries-one p bytes encodable begins all = record {
   encodable = All-push IsEncodable [] p (All-nil IsEncodable) encodable;
   begins = (begins.0, begins.1 ∙ ap (λ (l : List ℕ). l ++ begins.0) (sym (append-nil (message_bytes p))));

@@ -141,10 +141,10 @@ module _ {B : Type 0} where
 
   -- and as much open
   pub working-as : (topics : List (List ℕ × Kind)) (most : ℕ) (parts : List Part) (w v : Worker B)
-      → ((t : ℕ) → open_on t v.open.items ≡ open_on t w.open.items) → v.pass ≡ w.pass → v.members ≡ w.members → v.starved ≡ w.starved
+      → ((t : ℕ) → open_on t v.opens.items ≡ open_on t w.opens.items) → v.pass ≡ w.pass → v.members ≡ w.members → v.starved ≡ w.starved
       → IsWorking topics most parts w → IsWorking topics most parts v
   working-as topics most parts w v opens pass list starved was = record {
     batches = was.batches;
-    gathered = gathered-same most parts was.batches w.open.items was.gathered v.open.items opens;
+    gathered = gathered-same most parts was.batches w.opens.items was.gathered v.opens.items opens;
     passed = passed-as topics was.batches w.pass v.pass w.members v.members w.starved v.starved pass list starved was.passed;
   }

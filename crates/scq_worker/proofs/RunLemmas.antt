@@ -20,7 +20,7 @@ use Rattle.scq_passes.proofs.Blocks.{returns}
 use Rattle.scq_passes.proofs.Retired.{retired-taken}
 use Rattle.scq_files.specs.Reading.{IsRead, SourceOf}
 use Rattle.scq_passes.specs.Calls.{Suits, HasTaken, HasLeft, HasFewCalls, index_of, after_retire}
-use Rattle.scq_worker.specs.Opening.{AreGathered}
+use Rattle.scq_worker.specs.Opening.{PartsAreGathered}
 use Rattle.scq_worker.specs.Working.{HasAnswered, IsSweeping, HasPassed, IsAtWork, HasStopped}
 use Rattle.scq_files.specs.declared.own_file.OwnFile.{OwnFile}
 use Rattle.scq_passes.proofs.Kept.{swept, few_calls-taken}
@@ -51,7 +51,7 @@ module _ {B : Type 0} where
   work-first topics most shared number p opens members starved is new none_open =
       record {
         batches = [];
-        gathered = subst (λ (l : List (List Part)). AreGathered most [] [] l) (sym none_open) (gathered-first most);
+        gathered = subst (λ (l : List (List Part)). PartsAreGathered most [] [] l) (sym none_open) (gathered-first most);
         passed = subst (λ (q : PassStanding B). HasPassed topics [] q members starved) (sym is)
             (subst (λ (l : List Answered). HasPassed topics [] (first_pass shared number) l starved) (sym new)
             (record {

@@ -7,20 +7,20 @@ use Rattle.scq_passes.specs.Calls.{HasTaken, HasFoundFull, after_retire}
 use Rattle.scq_queue.specs.Lists.{sends_of}
 use Rattle.scq_band.specs.Standing.{Identity}
 use Rattle.scq_queue.specs.Passes.{PassStanding, first_pass}
-use Rattle.scq_worker.specs.Bells.{next_of, one_more, more_often, others_more, RingsEachSend, RingsOn, HasRung}
+use Rattle.scq_worker.specs.Bells.{next_of, woken_once_more, more_often, others_more, RingsEachSend, RingsOn, HasRung}
 use Rattle.scq_worker.specs.Passing.{Sends}
 use Rattle.scq_worker.specs.Working.{HasSent}
 
 module _ {B : Type 0} (number workers : ℕ) where
   -- a batch was sent, and the next worker woken; then topics were taken from
   pub rung-sent : (topic : ℕ) (b : List Part) (p q r : PassStanding B) (was is : List ℕ) → HasSent topic b p q → HasTaken q r
-      → is ≡ one_more (next_of number workers) was → RingsOn number workers p r was is
+      → is ≡ woken_once_more (next_of number workers) was → RingsOn number workers p r was is
   rung-sent topic b p q r was is h taken more first rings =
       let sends : length (sends_of r.calls) ≡ length (sends_of p.calls) + 1 =
       ap length (taken-sends q r taken) ∙ ap length (sent-sends topic (Sends b) p q h)
       ∙ length-append (sends_of p.calls) (placed topic (Sends b) p q h ∷ []) in
       let one : suc (length (sends_of p.calls)) ≡ length (sends_of r.calls) = omega (arith, sends) in
-      more ∙ ap (one_more (next_of number workers)) rings ∙ ap (λ k. more_often (next_of number workers) k first) one
+      more ∙ ap (woken_once_more (next_of number workers)) rings ∙ ap (λ k. more_often (next_of number workers) k first) one
 
   -- no buffer was free, and nothing was sent
   pub rung-helped : (head : ℕ) (p q r : PassStanding B) (was is : List ℕ) → HasFoundFull head p q → HasTaken q r → is ≡ was

@@ -20,7 +20,7 @@ use Rattle.scq_queue.specs.Passes.{PassStanding}
 use Rattle.scq_passes.specs.Records.{is_take, HelpsAfterEachFull, HelpsOnceAfterEachFull}
 use Rattle.scq_worker.specs.Members.{answered, is_taken, is_direct, AnswersSoFar, AnswersFull, AnswersItsFulls}
 use Rattle.scq_passes.specs.PassedOn.{and_sent, and_made}
-use Rattle.scq_worker.specs.Passing.{ArePassedOn, Sends, FollowsCalls, by_full}
+use Rattle.scq_worker.specs.Passing.{BatchesArePassedOn, Sends, FollowsCalls, by_full}
 use Rattle.scq_passes.specs.Calls.{HasTaken, HasFoundFull, HasFewCalls}
 use Rattle.scq_worker.specs.Working.{HasSent, IsProducing, IsSweeping, HasListed, HasAnswered}
 use Rattle.scq_passes.proofs.Kept.{at_most, taken-calls, taken-sends, sent-calls, sent-sends, sent-takes, placed, full-calls, full-sends, full-takes}
@@ -117,7 +117,7 @@ module _ {B : Type 0} where
       record {
         groups = was.groups;
         directs = was.directs;
-        passed = subst (λ sends. ArePassedOn topics (batches ++ b ∷ []) sends was.groups) (sym (sent-sends topic (Sends b) p q h))
+        passed = subst (λ sends. BatchesArePassedOn topics (batches ++ b ∷ []) sends was.groups) (sym (sent-sends topic (Sends b) p q h))
             (and_sent b (placed topic (Sends b) p q h) was.passed h.sends);
         follows = subst (FollowsCalls (batches ++ b ∷ [])) (sym (sent-calls topic (Sends b) p q h))
             (follows-sent batches b p.calls h.from topic h.place h.over h.bytes was.follows h.sends);
@@ -141,7 +141,7 @@ module _ {B : Type 0} where
       record {
         groups = was.groups ++ group ∷ [];
         directs = directs ∙ ap (λ (l : List Answered). l ++ group) was.directs ∙ sym all;
-        passed = subst (λ sends. ArePassedOn topics (batches ++ b ∷ []) sends (was.groups ++ group ∷ [])) (sym (full-sends head p q h))
+        passed = subst (λ sends. BatchesArePassedOn topics (batches ++ b ∷ []) sends (was.groups ++ group ∷ [])) (sym (full-sends head p q h))
             (and_made b group was.passed (record { head = head; answers = refl }));
         follows = subst (FollowsCalls (batches ++ b ∷ [])) (sym (full-calls head p q h)) (by_full b was.follows);
         takes = subst (λ takes. AnswersSoFar topics takes (filter is_taken (members ++ group))) (sym (full-takes head p q h))
@@ -156,7 +156,7 @@ module _ {B : Type 0} where
       record {
         groups = listed.groups;
         directs = more.directs ∙ listed.directs;
-        passed = subst (λ sends. ArePassedOn topics batches sends listed.groups) (sym (taken-sends p q h)) listed.passed;
+        passed = subst (λ sends. BatchesArePassedOn topics batches sends listed.groups) (sym (taken-sends p q h)) listed.passed;
         follows = subst (FollowsCalls batches) (sym (taken-calls p q h)) (follows-taken batches p.calls h.block h.are listed.follows);
         takes = more.takes listed.takes;
         fulls = subst (λ fulls. AnswersItsFulls fulls listed.groups) (sym (ap (λ (x : PassStanding B). x.fulls) h.pass)) listed.fulls;

@@ -15,18 +15,18 @@ abbrev pub next_of : ℕ → ℕ → ℕ
 next_of number workers = if nat_lt (number + 1) workers then number + 1 else 0
 
 -- how often each was woken, where this worker was once more, and where it was so often more
-abbrev pub one_more : ℕ → List ℕ → List ℕ
-one_more w ns = slice_set ns w (slice_index ns w + 1)
+abbrev pub woken_once_more : ℕ → List ℕ → List ℕ
+woken_once_more w ns = slice_set ns w (slice_index ns w + 1)
 
 abbrev pub more_often : ℕ → ℕ → List ℕ → List ℕ
 more_often w zero ns = ns
-more_often w (suc k) ns = one_more w (more_often w k ns)
+more_often w (suc k) ns = woken_once_more w (more_often w k ns)
 
 -- the same where of the first so many each but this one was woken once more
 abbrev pub others_more : ℕ → ℕ → List ℕ → List ℕ
 others_more number zero ns = ns
 others_more number (suc k) ns =
-    if k == number then others_more number k ns else one_more k (others_more number k ns)
+    if k == number then others_more number k ns else woken_once_more k (others_more number k ns)
 
 module _ {B : Type 0} (number workers : ℕ) where
   -- by these wakes a worker of this number has woken the next one as often as its pass sent

@@ -1,7 +1,7 @@
 -- A desk: a worker, its files, and the value that it keeps where it met a ticket past the limit.
 -- What the worker's work makes of it.
-use Rattle.std.specs.Prelude.{◌≡◌, ℕ, ◌+◌, false, Bool, List, [], length, Option, Some, None, IfSome}
-use Rattle.std.specs.Prelude.{All}
+use Rattle.std.specs.Prelude.{◌≡◌, ℕ, ◌+◌, false, Bool, List, [], length, All, Option, Some, None}
+use Rattle.std.specs.Prelude.{IfSome}
 use Rattle.scq_topics.specs.declared.kind.Kind.{Kind}
 use Rattle.scq_collect.specs.declared.answered.Answered.{Answered}
 use Rattle.scq_band.specs.Standing.{Identity}
@@ -16,7 +16,10 @@ use Rattle.scq_passes.specs.Together.{HasRetired, HasSwept}
 use Rattle.scq_passes.specs.Waiting.{HelpsInVain}
 use Rattle.scq_passes.specs.Calls.{Suits, HasFewCalls, index_of, after_retire}
 use Rattle.scq_worker.specs.Working.{IsAtWork, IsSweeping, HasListedAll}
+use Rattle.scq_files.specs.declared.desk.Desk.{Desk}
 use Rattle.scq_files.specs.declared.own_file.OwnFile.{OwnFile}
+use Rattle.scq_worker.specs.declared.job.Job.{Job}
+use Rattle.scq_worker.specs.Seats.{Seated}
 
 -- a worker has read its files and passed on what they gave it, in parts of at most `size` bytes and
 -- in batches of at most `most`, and has retired; now it is to sweep. None is open. `before` is its
@@ -67,3 +70,17 @@ pub record HasProduced {B S : Type 0} (shared : Identity B) (topics : List (List
       → IsToSweep shared topics size most longest src files pass members starved kept
   pub done : (ticket : ℕ) → pass.spent ≡ Some ticket
       → HasRun shared topics size most longest src files pass members starved kept
+
+-- the same of a desk and a job
+module _ {B S : Type 0} (q : Identity B) (j : Job) (src : SourceOf S) (d : Desk (Seated B) S) where
+  abbrev pub IsToSweepAt : Type 0
+  IsToSweepAt = IsToSweep q j.topics j.size j.most j.longest src d.files.items
+      d.worker.worker.pass d.worker.worker.members d.worker.worker.starved d.worker.kept
+
+  abbrev pub HasRunAt : Type 0
+  HasRunAt = HasRun q j.topics j.size j.most j.longest src d.files.items d.worker.worker.pass
+      d.worker.worker.members d.worker.worker.starved d.worker.kept
+
+  abbrev pub HasProducedAt : Type 0
+  HasProducedAt = HasProduced q j.topics j.size j.most j.longest src d.files.items
+      d.worker.worker.pass d.worker.worker.members d.worker.worker.starved d.worker.kept

@@ -1,7 +1,6 @@
 -- A worker's list of answers, against what its pass did. `topics` has the names and kinds of the
 -- declared topics.
-use Rattle.std.specs.Prelude.{◌≡◌, ◌⊎◌, ℕ, ◌+◌, ◌<◌, ◌≤◌, Bool, true, false, not, nat_le}
-use Rattle.std.specs.Prelude.{if◌then◌else◌}
+use Rattle.std.specs.Prelude.{◌≡◌, ◌⊎◌, ℕ, ◌+◌, ◌<◌, ◌≤◌, nat_le, if◌then◌else◌}
 use Rattle.std.specs.Prelude.{List, [], ◌∷◌, ◌++◌, length, filter, flat_map}
 use Rattle.std.specs.List.{All, AllZip}
 use Rattle.scq_topics.specs.declared.kind.Kind.{Kind}
@@ -9,6 +8,7 @@ use Rattle.scq_frames.specs.Parts.{Part}
 use Rattle.scq_frames.specs.Encoded.{IsEncodable}
 use Rattle.scq_frames.specs.Batches.{batch_bytes, parts_at}
 use Rattle.scq_collect.specs.Joined.{text_of_part}
+pub use Rattle.scq_collect.specs.Ways.{is_taken, is_direct}
 use Rattle.scq_collect.specs.declared.answered.Answered.{Answered}
 use Rattle.scq_collect.specs.declared.answered.Way.{Way}
 use Rattle.scq_collect.specs.declared.answered.Way.TheVariants.{Taken, Direct}
@@ -27,19 +27,8 @@ answered topics way p = record {
   way = way;
 }
 
--- whether a member was taken, or answered directly
-abbrev pub is_way_taken : Way → Bool
-is_way_taken (Taken place number) = true
-is_way_taken (Direct head) = false
-
-abbrev pub is_taken : Answered → Bool
-is_taken a = is_way_taken a.way
-
-abbrev pub is_direct : Answered → Bool
-is_direct a = not (is_way_taken a.way)
-
 -- the bytes of a value are those of these parts, and no part begins behind them
-pub record Carries (bytes : List ℕ) (parts : List Part) : Type 0 where
+pub record CarriesParts (bytes : List ℕ) (parts : List Part) : Type 0 where
   pub encodable : All IsEncodable parts
   pub begins : (rest : List ℕ) × (bytes ≡ batch_bytes parts ++ rest)
   pub all : parts_at bytes ≡ parts
@@ -87,7 +76,7 @@ pub record IsBatch (most : ℕ) (batch : List Part) : Type 0 where
 -- a take got parts that may go in one value, on its topic, which is a known one
 pub record GotParts (topics : List (List ℕ × Kind)) (most : ℕ) (take : Placed) : Type 0 where
   pub parts : List Part
-  pub carries : Carries take.bytes parts
+  pub carries : CarriesParts take.bytes parts
   pub batch : IsBatch most parts
   pub on_topic : All (λ p. p.topic ≡ take.topic) parts
   pub known : take.topic ≤ length topics

@@ -10,8 +10,8 @@ use Rattle.scq_worker.specs.Passing.{parts_among, parts_on}
 
 -- how many bytes the parts of a value may have together where they are several: none go together
 -- unless there are batches
-abbrev pub most_bytes : ℕ → Bool → ℕ
-most_bytes size batch = if batch then min (size + 24) 4120 else 0
+abbrev pub most_together : ℕ → Bool → ℕ
+most_together size batch = if batch then min (size + 24) 4120 else 0
 
 -- how often a worker takes from a topic behind each value that it sent on it: where values may have
 -- several parts, once
@@ -42,7 +42,7 @@ NoneIsOpen opens = (topic : ℕ) → open_on topic opens ≡ []
 -- parts went on in these batches, but for those that are open: on each topic those of the batches
 -- and then those that are open are these, in order; and where none goes with another, each is a
 -- batch, in order
-pub record AreGathered (most : ℕ) (parts : List Part) (batches opens : List (List Part))
+pub record PartsAreGathered (most : ℕ) (parts : List Part) (batches opens : List (List Part))
     : Type 0 where
   pub each : All (IsBatch most) batches
   pub same : (topic : ℕ)

@@ -11,7 +11,7 @@ use Rattle.scq_collect.specs.declared.answered.Answered.{Answered}
 use Rattle.scq_collect.specs.declared.answered.Way.TheVariants.{Direct}
 use Rattle.scq_queue.specs.Lists.{Placed, sent_by, was_full}
 use Rattle.scq_passes.specs.PassedOn as passed
-use Rattle.scq_worker.specs.Members.{answered, Carries, IsBatch}
+use Rattle.scq_worker.specs.Members.{answered, CarriesParts, IsBatch}
 
 -- all parts of messages, in order, where a part has at most so many bytes
 abbrev pub parts_in : ℕ → List Message → List Part
@@ -35,7 +35,7 @@ pub record AreBatchesOf (most : ℕ) (parts : List Part) (batches : List (List P
 -- this send has the bytes of the batch, on its topic
 pub record Sends (batch : List Part) (send : Placed) : Type 0 where
   pub topic : All (λ p. p.topic ≡ send.topic) batch
-  pub carries : Carries send.bytes batch
+  pub carries : CarriesParts send.bytes batch
 
 -- these members answer the parts of the batch directly, with one head of the ring of free buffers
 pub record AnswersDirectly (topics : List (List ℕ × Kind)) (batch : List Part)
@@ -45,9 +45,9 @@ pub record AnswersDirectly (topics : List (List ℕ × Kind)) (batch : List Part
 
 -- batches, in order, are each the next send or the next direct answers, and there are no other
 -- sends and direct answers
-abbrev pub ArePassedOn : List (List ℕ × Kind) → List (List Part) → List Placed
+abbrev pub BatchesArePassedOn : List (List ℕ × Kind) → List (List Part) → List Placed
     → List (List Answered) → Type 0
-ArePassedOn topics batches sends groups =
+BatchesArePassedOn topics batches sends groups =
     passed.ArePassedOn Sends (AnswersDirectly topics) batches sends groups
 
 -- these batches, in order, are each the next send or the next Full in a record of calls, and there

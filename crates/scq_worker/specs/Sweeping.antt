@@ -2,7 +2,8 @@
 use Rattle.std.specs.Prelude.{◌≡◌, ℕ, false, List, Option}
 use Rattle.scq_topics.specs.declared.kind.Kind.{Kind}
 use Rattle.scq_queue.specs.Passes.{HeldStanding}
-use Rattle.scq_passes.specs.Calls.{HasLeft}
+use Rattle.scq_passes.specs.Calls.{HasLeft, HasTaken}
+use Rattle.scq_passes.specs.Waiting.{TookInVain}
 use Rattle.scq_worker.specs.Working.{HasAnswered}
 use Rattle.scq_worker.specs.declared.worker.Worker.{Worker}
 
@@ -12,6 +13,23 @@ module _ {B : Type 0} where
     pub answered : new.starved ≡ false
         → HasAnswered topics old.pass new.pass old.members new.members
     pub fed : new.starved ≡ false → old.starved ≡ false
+
+  -- it did nothing but take, at most so often in vain: what it got it gave back, and has answered
+  -- unless it wanted memory
+  pub record HasTakenAll (topics : List (List ℕ × Kind)) (most : ℕ) (old new : Worker B)
+      : Type 0 where
+    pub taken : HasTaken old.pass new.pass
+    pub gates : new.pass.gates ≡ old.pass.gates
+    pub vain : TookInVain most old.pass new.pass
+    pub answered : new.starved ≡ false
+        → HasAnswered topics old.pass new.pass old.members new.members
+
+  -- whatever came of it, it has its number and all that was open still, and where it wants no
+  -- memory it wanted none before
+  pub record KeepsItsOwn (old new : Worker B) : Type 0 where
+    pub starved : new.starved ≡ false → old.starved ≡ false
+    pub number : new.number ≡ old.number
+    pub opens : new.opens ≡ old.opens
 
   -- it met a ticket past the limit
   abbrev pub HasLeftAt : Worker B → Worker B → Option (HeldStanding B) → Type 0

@@ -10,8 +10,8 @@ use Rattle.scq_queue.specs.Passes.{PassStanding, HeldStanding}
 use Rattle.scq_passes.specs.Records.{HelpsOnceAfterEachFull, HelpsAfterEachFull}
 use Rattle.scq_passes.specs.Calls.{HasSentSo, IsBetweenParts, HasFewCalls, index_of}
 use Rattle.scq_worker.specs.Members.{AnswersSoFar, AnswersItsFulls, is_taken, is_direct}
-use Rattle.scq_worker.specs.Opening.{AreGathered}
-use Rattle.scq_worker.specs.Passing.{AreBatchesOf, ArePassedOn, FollowsCalls, Sends}
+use Rattle.scq_worker.specs.Opening.{PartsAreGathered}
+use Rattle.scq_worker.specs.Passing.{AreBatchesOf, BatchesArePassedOn, FollowsCalls, Sends}
 
 module _ {B : Type 0} where
   -- a pass that was lent a buffer and sent a batch in it on this topic
@@ -36,7 +36,7 @@ module _ {B : Type 0} where
       (p : PassStanding B) (members : List Answered) : Type 0 where
     pub groups : List (List Answered)
     pub directs : filter is_direct members ≡ flat_map (λ group. group) groups
-    pub passed : ArePassedOn topics batches (sends_of p.calls) groups
+    pub passed : BatchesArePassedOn topics batches (sends_of p.calls) groups
     pub follows : FollowsCalls batches p.calls
     pub takes : AnswersSoFar topics (takes_of p.calls) (filter is_taken members)
     pub fulls : AnswersItsFulls p.fulls groups
@@ -62,7 +62,7 @@ module _ {B : Type 0} where
       (opens : List (List Part)) (p : PassStanding B) (members : List Answered) (starved : Bool)
       : Type 0 where
     pub batches : List (List Part)
-    pub gathered : AreGathered most parts batches opens
+    pub gathered : PartsAreGathered most parts batches opens
     pub passed : HasPassed topics batches p members starved
 
   -- a list, against its pass and all parts of a worker's files: they went on in batches

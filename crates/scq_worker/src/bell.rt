@@ -1,7 +1,7 @@
 //! Whom a worker wakes, and when.
 ghost use Rattle.std.specs.Prelude.{◌≡◌, ℕ, ◌<◌, List, [], length};
 ghost use Rattle.scq_park.specs.Crews.{Post, post};
-ghost use Rattle.scq_worker.specs.Bells.{but_wakes, next_of, one_more, others_more};
+ghost use Rattle.scq_worker.specs.Bells.{but_wakes, next_of, woken_once_more, others_more};
 
 use scq_park::{Crew, Stand};
 
@@ -21,7 +21,8 @@ pub trait Bell<T> {
     fn after_send(&self, stand: &mut T, number: u32, workers: u32)
         requires { fits self.now (kept stand.old) workers }
         ensures kept { kept stand.new ≡ kept stand.old }
-        ensures rung { wakes stand.new ≡ one_more (next_of number workers) (wakes stand.old) };
+        ensures rung { wakes stand.new
+            ≡ woken_once_more (next_of number workers) (wakes stand.old) };
 
     /// It has retired: it wakes all others.
     fn after_retire(&self, stand: &mut T, number: u32, workers: u32)
@@ -70,7 +71,7 @@ fn wake_next(crew: &Crew, stand: &mut Stand, number: u32, workers: u32)
     requires workers { length crew.now ≡ workers }
     requires some { 0 < workers }
     ensures kept { but_wakes stand.new ≡ but_wakes stand.old }
-    ensures rung { stand.new.wakes ≡ one_more (next_of number workers) stand.old.wakes }
+    ensures rung { stand.new.wakes ≡ woken_once_more (next_of number workers) stand.old.wakes }
 {
     let next = number.saturating_add(1);
     if next < workers {

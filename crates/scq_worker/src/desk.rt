@@ -4,11 +4,12 @@ ghost use Rattle.scq_block.specs.Frames.{bytes_of};
 ghost use Rattle.scq_files.specs.Given.{given_in};
 ghost use Rattle.scq_files.specs.OwnFiles.{IsNew, StopsAtAFault, ids_of, all_given};
 ghost use Rattle.scq_files.specs.Reading.{IsRead};
-ghost use Rattle.scq_worker.specs.Bells.{HasRung, RingsOn};
-ghost use Rattle.scq_worker.specs.Reading.{HasPassedAllOn, IsOver};
-ghost use Rattle.scq_worker.specs.Seats.{IsFresh};
-ghost use Rattle.scq_worker.specs.Desks.{HasProduced, IsToSweep, HasRun};
-ghost use Rattle.scq_passes.specs.Calls.{Suits};
+ghost use Rattle.scq_worker.specs.Bells.{HasRung};
+ghost use Rattle.scq_worker.specs.Opening.{NoneIsOpen};
+ghost use Rattle.scq_worker.specs.Passing.{parts_in};
+ghost use Rattle.scq_worker.specs.Reading.{HasGathered, HasStoppedIn, IsSameWorker};
+ghost use Rattle.scq_worker.specs.Seats.{IsToBegin};
+ghost use Rattle.scq_worker.specs.Desks.{HasProducedAt, IsToSweepAt, HasRunAt};
 ghost use Rattle.scq_passes.specs.Leaving.{HasLeftSwept};
 ghost use Rattle.scq_passes.specs.Records.{IsReturn};
 
@@ -39,13 +40,11 @@ pub fn produce<S: Source, G: Gate, T, W: Bell<T>>(
 )
     requires rings { queue.now.setup.rings ≡ length job.now.topics + 2 }
     requires room { All (λ b. job.now.size + 24 ≤ length b.bytes.items) queue.now.given }
-    requires fresh { IsFresh queue.now desk.old.worker }
+    requires fresh { IsToBegin queue.now desk.old.worker }
     requires unread { All IsNew desk.old.files.items }
     requires bell { W.fits bell.now (W.kept stand.old) job.now.workers }
     ensures same { ids_of desk.new.files.items ≡ ids_of desk.old.files.items }
-    ensures produced { HasProduced queue.now job.now.topics job.now.size job.now.most job.now.longest S.Source
-        desk.new.files.items desk.new.worker.worker.pass desk.new.worker.worker.members
-        desk.new.worker.worker.starved desk.new.worker.kept }
+    ensures produced { HasProducedAt queue.now job.now S.Source desk.new }
     ensures number { desk.new.worker.worker.pass.number ≡ desk.old.worker.worker.pass.number }
     ensures bell { W.kept stand.new ≡ W.kept stand.old }
     ensures rung { desk.new.worker.worker.pass.spent ≡ None
@@ -73,26 +72,23 @@ fn pass_all_on<S: Source, G: Gate, T, W: Bell<T>>(
 ) -> Result<(), AtLimit<Frame>>
     requires rings { queue.now.setup.rings ≡ length job.now.topics + 2 }
     requires room { All (λ b. job.now.size + 24 ≤ length b.bytes.items) queue.now.given }
-    requires fresh { IsFresh queue.now desk.old.worker }
+    requires fresh { IsToBegin queue.now desk.old.worker }
     requires unread { All IsNew desk.old.files.items }
     requires bell { W.fits bell.now (W.kept stand.old) job.now.workers }
     ensures same { ids_of desk.new.files.items ≡ ids_of desk.old.files.items }
     ensures read { All (λ f. IsRead job.now.topics job.now.longest S.Source f.number f.was.value
         f.source (given_in f.given.value) f.end) desk.new.files.items }
     ensures stops { StopsAtAFault desk.new.files.items }
-    ensures suits { OnOk result
-        (Suits queue.now (length job.now.topics) desk.new.worker.worker.pass) }
-    ensures stays { OnOk result (desk.new.worker.worker.pass.retired ≡ None) }
-    ensures work { OnOk result (HasPassedAllOn job.now.topics job.now.size job.now.most
-        (all_given desk.new.files.items) desk.new.worker.worker) }
-    ensures stopped { IfErr result (λ l. IsOver queue.now job.now.topics job.now.size job.now.most
-        (all_given desk.new.files.items) desk.new.worker.worker l.held) }
+    ensures gathered { OnOk result (HasGathered queue.now job.now
+        (parts_in job.now.size (all_given desk.new.files.items)) desk.old.worker.worker
+        desk.new.worker.worker (W.wakes stand.old) (W.wakes stand.new)) }
+    ensures closed { OnOk result (NoneIsOpen desk.new.worker.worker.opens.items) }
+    ensures stopped { IfErr result (λ l. HasStoppedIn queue.now job.now
+        (parts_in job.now.size (all_given desk.new.files.items)) desk.old.worker.worker
+        desk.new.worker.worker l.held) }
     ensures kept { desk.new.worker.kept ≡ desk.old.worker.kept }
-    ensures number { desk.new.worker.worker.pass.number ≡ desk.old.worker.worker.pass.number }
-    ensures bell { W.kept stand.new ≡ W.kept stand.old }
-    ensures rung { OnOk result ((desk.new.worker.worker.number ≡ desk.old.worker.worker.number)
-        × RingsOn desk.old.worker.worker.number job.now.workers desk.old.worker.worker.pass
-        desk.new.worker.worker.pass (W.wakes stand.old) (W.wakes stand.new)) }
+    ensures still { IsSameWorker desk.old.worker.worker desk.new.worker.worker (W.kept stand.old)
+        (W.kept stand.new) }
 {
     let with = Calls {
         alloc,
@@ -122,12 +118,10 @@ pub fn run<S: Source, G: Gate>(
 )
     requires rings { queue.now.setup.rings ≡ length job.now.topics + 2 }
     requires room { All (λ b. job.now.size + 24 ≤ length b.bytes.items) queue.now.given }
-    requires fresh { IsFresh queue.now desk.old.worker }
+    requires fresh { IsToBegin queue.now desk.old.worker }
     requires unread { All IsNew desk.old.files.items }
     ensures same { ids_of desk.new.files.items ≡ ids_of desk.old.files.items }
-    ensures run { HasRun queue.now job.now.topics job.now.size job.now.most job.now.longest S.Source
-        desk.new.files.items desk.new.worker.worker.pass desk.new.worker.worker.members
-        desk.new.worker.worker.starved desk.new.worker.kept }
+    ensures run { HasRunAt queue.now job.now S.Source desk.new }
     ensures behind { desk.new.worker.worker.pass.spent ≡ None
         → HasLeftSwept bytes_of IsReturn (length job.now.topics
         + 1) 64 desk.new.worker.worker.pass }
@@ -149,13 +143,9 @@ fn leave<S: Source, G: Gate>(
     queue: &Queue<Frame>,
     gate: &G,
 )
-    requires sweep { IsToSweep queue.now job.now.topics job.now.size job.now.most job.now.longest S.Source
-        desk.old.files.items desk.old.worker.worker.pass desk.old.worker.worker.members
-        desk.old.worker.worker.starved desk.old.worker.kept }
+    requires sweep { IsToSweepAt queue.now job.now S.Source desk.old }
     ensures same { desk.new.files.items ≡ desk.old.files.items }
-    ensures run { HasRun queue.now job.now.topics job.now.size job.now.most job.now.longest S.Source
-        desk.new.files.items desk.new.worker.worker.pass desk.new.worker.worker.members
-        desk.new.worker.worker.starved desk.new.worker.kept }
+    ensures run { HasRunAt queue.now job.now S.Source desk.new }
     ensures behind { desk.new.worker.worker.pass.spent ≡ None
         → HasLeftSwept bytes_of IsReturn (length job.now.topics
         + 1) 64 desk.new.worker.worker.pass }

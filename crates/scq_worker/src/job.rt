@@ -1,6 +1,6 @@
 ghost use Rattle.std.specs.Prelude.{◌≡◌, ◌≤◌, ◌+◌, ◌^◌};
 ghost use Rattle.scq_passes.specs.Jobs.{IsJob};
-ghost use Rattle.scq_worker.specs.Opening.{most_bytes};
+ghost use Rattle.scq_worker.specs.Opening.{most_together};
 
 use scq_topics::Topics;
 
@@ -37,7 +37,7 @@ impl Job {
         ensures order { IfSome result (λ job. job.order ≡ order) }
         ensures size { IfSome result (λ job. job.size ≡ size) }
         ensures longest { IfSome result (λ job. job.longest ≡ 2 ^ 20) }
-        ensures most { IfSome result (λ job. job.most ≡ most_bytes size batch) }
+        ensures most { IfSome result (λ job. job.most ≡ most_together size batch) }
         ensures workers { IfSome result (λ job. job.workers ≡ workers) }
         ensures topics { IfSome result (λ job. job.topics ≡ topics) }
     {
@@ -61,7 +61,7 @@ impl Job {
 /// How many bytes the parts of a value may have together where they are several.
 fn most_together(size: u32, batch: bool) -> u32
     requires { size ≤ 2 ^ 16 }
-    ensures { result ≡ most_bytes size batch }
+    ensures { result ≡ most_together size batch }
 {
     if batch { (size + 24).min(MOST) } else { 0 }
 }

@@ -9,9 +9,10 @@ ghost use Rattle.scq_queue.specs.Passes.{IsHeldBy, after_put, after_spent_put};
 ghost use Rattle.scq_queue.specs.Passes.{having_seen};
 ghost use Rattle.scq_passes.specs.Records.{is_take};
 ghost use Rattle.scq_worker.specs.Members.{answered, answers_by, numbered_way};
-ghost use Rattle.scq_worker.specs.Members.{is_taken, is_direct, AnswersSoFar, Carries};
+ghost use Rattle.scq_worker.specs.Members.{is_taken, is_direct, AnswersSoFar, CarriesParts};
 ghost use Rattle.scq_worker.specs.Loads.{parts_of_load, IsLoad};
 ghost use Rattle.scq_worker.specs.Passing.{Sends};
+ghost use Rattle.scq_worker.specs.Sweeping.{HasLeftAt, HasTakenAll, KeepsItsOwn};
 ghost use Rattle.scq_passes.specs.Leaving.{HasOnlyCalled, TookNothing};
 ghost use Rattle.scq_passes.specs.Taking.{HasEmptied, HasTakenFrom};
 ghost use Rattle.scq_passes.specs.Waiting.{TookInVain};
@@ -43,7 +44,7 @@ pub use sweeping::Takes;
 pub struct Worker<B: Buffer> {
     pub number: u32,
     pub pass: Pass<B>,
-    pub open: Vec<Batch>,
+    pub opens: Vec<Batch>,
     pub members: Answers,
     pub starved: bool,
 }
@@ -53,18 +54,18 @@ impl<B: Buffer> Sits<Pass<B>, Answers> for Worker<B> {
 
     ghost list_of = { λ w. w.members };
 
-    ghost has_none = { λ w. (w.members ≡ []) × (w.open.items ≡ []) };
+    ghost has_none = { λ w. (w.members ≡ []) × (w.opens.items ≡ []) };
 
     ghost starved_of = { λ w. w.starved };
 
     fn begin(alloc: Global, number: u32, pass: Pass<B>) -> Worker<B>
         ensures pass { result.pass ≡ pass }
-        ensures list { (result.members ≡ []) × (result.open.items ≡ []) }
+        ensures list { (result.members ≡ []) × (result.opens.items ≡ []) }
     {
         Worker {
             number,
             pass,
-            open: Vec::new(alloc),
+            opens: Vec::new(alloc),
             members: Answers::new(alloc),
             starved: false,
         }
@@ -74,7 +75,7 @@ impl<B: Buffer> Sits<Pass<B>, Answers> for Worker<B> {
         let Worker {
             number: _,
             pass,
-            open: _,
+            opens: _,
             members,
             starved,
         } = self;
@@ -113,7 +114,7 @@ impl<B: BufferMut> Worker<B> {
             ≡ self.old.members ++ answered job.now.topics way (part_of_view part.entry) ∷ [] }
         ensures starved { self.new.starved ≡ false → self.old.starved ≡ false }
         ensures same { (self.new.pass ≡ self.old.pass) × (self.new.number ≡ self.old.number)
-            × (self.new.open ≡ self.old.open) }
+            × (self.new.opens ≡ self.old.opens) }
     {
         match text_of(alloc, job, part) {
             Ok(text) => {
@@ -142,7 +143,7 @@ impl<B: BufferMut> Worker<B> {
             ≡ self.old.members ++ answers_by job.now.topics way (parts_at bytes.now) }
         ensures starved { self.new.starved ≡ false → self.old.starved ≡ false }
         ensures same { (self.new.pass ≡ self.old.pass) × (self.new.number ≡ self.old.number)
-            × (self.new.open ≡ self.old.open) }
+            × (self.new.opens ≡ self.old.opens) }
     {
         let mut rest = bytes;
         let mut number = 0;
@@ -167,7 +168,7 @@ impl<B: BufferMut> Worker<B> {
             → filter is_direct self.new.members ≡ filter is_direct self.old.members }
         ensures starved { self.new.starved ≡ false → self.old.starved ≡ false }
         ensures same { (self.new.pass ≡ self.old.pass) × (self.new.number ≡ self.old.number)
-            × (self.new.open ≡ self.old.open) }
+            × (self.new.opens ≡ self.old.opens) }
     {
         if self.starved {
             return;
@@ -205,7 +206,7 @@ impl<B: BufferMut> Worker<B> {
             → HasLeft parts parts self.old.pass self.new.pass l.held) }
         ensures starved { self.new.starved ≡ false → self.old.starved ≡ false }
         ensures number { self.new.number ≡ self.old.number }
-        ensures opens { self.new.open ≡ self.old.open }
+        ensures opens { self.new.opens ≡ self.old.opens }
     {
         gate.at(self.number, Point::BeforeTake);
         match queue.take(&mut self.pass, topic) {
@@ -230,21 +231,13 @@ impl<B: BufferMut> Worker<B> {
         gate: &G,
     ) -> Result<(), AtLimit<B>>
         requires { Suits queue.now (length job.now.topics) self.old.pass }
-        ensures taken { OnOk result (HasTaken self.old.pass self.new.pass) }
+        ensures took { OnOk result
+            (HasTakenAll job.now.topics (length job.now.topics + 1) self.old self.new) }
         ensures each { OnOk result ((t : ℕ) → t < length job.now.topics + 1
             → count_by (is_take t) self.new.pass.calls
             ≡ count_by (is_take t) self.old.pass.calls + 1) }
-        ensures answered { OnOk result (self.new.starved ≡ false
-            → HasAnswered job.now.topics self.old.pass self.new.pass self.old.members
-            self.new.members) }
-        ensures vain { OnOk result
-            (TookInVain (length job.now.topics + 1) self.old.pass self.new.pass) }
-        ensures gates { OnOk result (self.new.pass.gates ≡ self.old.pass.gates) }
-        ensures left { IfErr result (λ l. (parts : ℕ)
-            → HasLeft parts parts self.old.pass self.new.pass l.held) }
-        ensures starved { self.new.starved ≡ false → self.old.starved ≡ false }
-        ensures number { self.new.number ≡ self.old.number }
-        ensures opens { self.new.open ≡ self.old.open }
+        ensures left { IfErr result (λ l. HasLeftAt self.old self.new l.held) }
+        ensures kept { KeepsItsOwn self.old self.new }
     {
         'topics: for topic in 0..job.topics.len() + 1 {
             self.take_one(alloc, job, queue, gate, topic)?;
@@ -252,18 +245,19 @@ impl<B: BufferMut> Worker<B> {
         Ok(())
     }
 
-    /// Answers each part of a load directly, where no buffer was free: with this head of the ring of
-    /// free buffers.
+    /// Answers each part of a load directly, where no buffer was free: with this head of the ring
+    /// of free buffers.
     fn answer_directly(&mut self, alloc: Global, job: &Job, topic: u32, load: Load<'_>, head: u64)
         requires known { topic ≤ length job.now.topics }
         requires load { IsLoad job.now.size job.now.longest job.now.most topic load }
         ensures listed { self.new.starved ≡ false
             → self.new.members
             ≡ self.old.members
-            ++ map (answered job.now.topics (Way.Direct head)) (parts_of_load job.now.size load.entry) }
+            ++ map (answered job.now.topics (Way.Direct head))
+            (parts_of_load job.now.size load.entry) }
         ensures starved { self.new.starved ≡ false → self.old.starved ≡ false }
         ensures same { (self.new.pass ≡ self.old.pass) × (self.new.number ≡ self.old.number)
-            × (self.new.open ≡ self.old.open) }
+            × (self.new.opens ≡ self.old.opens) }
     {
         let way = Way::Direct { head };
         match load {
@@ -302,7 +296,7 @@ impl<B: BufferMut> Worker<B> {
         ensures kept { IfErr result (λ l. IsSome l.held) }
         ensures same { (self.new.members ≡ self.old.members)
             × (self.new.starved ≡ self.old.starved) × (self.new.number ≡ self.old.number)
-            × (self.new.open ≡ self.old.open) }
+            × (self.new.opens ≡ self.old.opens) }
     {
         let mut held = held;
         write_load(job, topic, load, held.bytes_mut());
@@ -317,7 +311,7 @@ impl<B: BufferMut> Worker<B> {
 fn write_load(job: &Job, topic: u32, load: Load<'_>, into: &mut [u8])
     requires load { IsLoad job.now.size job.now.longest job.now.most topic load }
     requires room { job.now.size + 24 ≤ length into.old }
-    ensures carries { Carries into.new (parts_of_load job.now.size load.entry) }
+    ensures carries { CarriesParts into.new (parts_of_load job.now.size load.entry) }
     ensures topic { All (λ p. p.topic ≡ topic) (parts_of_load job.now.size load.entry) }
     ensures len { length into.new ≡ length into.old }
 {

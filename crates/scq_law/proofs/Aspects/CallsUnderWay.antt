@@ -4,7 +4,7 @@ use Rattle.std.proofs.Common.{◌≡◌, ◌≢◌, ℕ, ◌+◌, inl, inr, List
 use Rattle.std.specs.Prelude.{Some, None, slice_get}
 use Rattle.std.proofs.lemmas.Bool.{cases_eq}
 use Rattle.scq_hist.specs.Calls.{IsPut}
-use Rattle.scq_hist.specs.Aspects.{Suits, IsLawful, IsAnswer}
+use Rattle.scq_hist.specs.Aspects.{SuitsCall, IsLawful, IsAnswer}
 use Rattle.scq_hist.specs.declared.events.Call.TheVariants.{Put, Get}
 use Rattle.scq_hist.specs.declared.events.Event.{Event}
 use Rattle.scq_hist.specs.declared.events.Event.TheVariants.{Start, End}
@@ -110,20 +110,18 @@ called_get events puts stance k r called rests =
     let x = Start k (Get r) in
     let idle : under_now events k ≡ None = rw rests at (called.doing k) in
     record {
-      doing =
-          λ j.
-          elim (cases_eq j k) [
-            | inl same ↦
-                rw (eq-eqb j k same, same)
-                (record { s = length events; under = under_start events k (Get r); starts = new_at events x })
-            | inr apart ↦ rw (ne_eqb j k apart) (doing_else events x (puts j) j (stance j) (λ e. apart (sym e)) (called.doing j))
-          ];
+      doing = λ j. elim (cases_eq j k) [
+        | inl same ↦
+            rw (eq-eqb j k same, same)
+            (record { s = length events; under = under_start events k (Get r); starts = new_at events x })
+        | inr apart ↦ rw (ne_eqb j k apart) (doing_else events x (puts j) j (stance j) (λ e. apart (sym e)) (called.doing j))
+      ];
       counted = λ j. let count = called.counted j in let grown : puts_now (events ++ x ∷ []) j ≡ puts_now events j + 0 = puts_grown events x j in omega arith;
       lawful = lawful_grown events x called.lawful (under_old events x k (length events) (omega arith) ∙ idle);
     }
 
 -- a call ends by a reply that suits it
-pub put_answer : (events : List Event) (number k r : ℕ) (w : List ℕ) (reply : Reply) → PutsNow events number k r w → Suits (Put r w) reply
+pub put_answer : (events : List Event) (number k r : ℕ) (w : List ℕ) (reply : Reply) → PutsNow events number k r w → SuitsCall (Put r w) reply
     → IsAnswer (events ++ End k reply ∷ []) k (length events) reply
 put_answer events number k r w reply now suits =
     let x = End k reply in
@@ -139,7 +137,7 @@ put_answer events number k r w reply now suits =
       suits = suits;
     }
 
-pub get_answer : (events : List Event) (k r : ℕ) (reply : Reply) → GetsNow events k r → Suits (Get r) reply
+pub get_answer : (events : List Event) (k r : ℕ) (reply : Reply) → GetsNow events k r → SuitsCall (Get r) reply
     → IsAnswer (events ++ End k reply ∷ []) k (length events) reply
 get_answer events k r reply now suits =
     let x = End k reply in

@@ -22,7 +22,7 @@ use Rattle.scq_law.proofs.Base.Based.{IsBased, based}
 use Rattle.scq_law.proofs.Places.SeatTickets.{IsRooted}
 use Rattle.scq_law.proofs.Places.Throughout.{rooted, reached}
 use Rattle.scq_law.proofs.Aspects.CallsUnderWay.{GetsNow}
-use Rattle.scq_law.proofs.Aspects.PlacedPuts.{IsNamed}
+use Rattle.scq_law.proofs.Aspects.PlacedPuts.{NamesPut}
 use Rattle.scq_law.proofs.Aspects.CoupledRuns.{IsRunTied, IsTiedRun}
 
 module _ (c : Setup) (opening : List (List ℕ)) (recorded : Recorded) (tied_run : IsTiedRun c opening recorded) where
@@ -86,15 +86,15 @@ module _ (c : Setup) (opening : List (List ℕ)) (recorded : Recorded) (tied_run
         begun = subst (λ d. tied.origin t.r t.h < d) at begun;
       }
 
-  begun_from : (name : PutName) (r : ℕ) (w : List ℕ) (o e : ℕ) → IsNamed opening events name r w o → o < e → IsBegun opening events name r w e
+  begun_from : (name : PutName) (r : ℕ) (w : List ℕ) (o e : ℕ) → NamesPut opening events name r w o → o < e → IsBegun opening events name r w e
   begun_from (Opening j) r w o e is less = is
   begun_from (Of k n) r w o e is less = (o, less, is)
 
   pub fresh : IsFresh opening events
   fresh e s seat queue name content call =
       let t = taken_at e seat name content call.ends in
-      let named : IsNamed opening events name t.r content (tied.origin t.r t.h) =
-      subst (λ z. IsNamed opening events z t.r content (tied.origin t.r t.h)) t.named (tied.placed.named t.r t.h t.index content t.maker t.is) in
+      let named : NamesPut opening events name t.r content (tied.origin t.r t.h) =
+      subst (λ z. NamesPut opening events z t.r content (tied.origin t.r t.h)) t.named (tied.placed.named t.r t.h t.index content t.maker t.is) in
       let a = call.under_way_till in
       let b = t.call.under_way_till in
       let start : s ≡ tied.since t.r t.h = cc in

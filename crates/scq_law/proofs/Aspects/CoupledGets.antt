@@ -14,7 +14,8 @@ use Rattle.scq_law.specs.Places.{Maker}
 use Rattle.scq_law.proofs.Base.Ghosts.{Ghost, pending, placed, unopened, opened, dead, took, with_get}
 use Rattle.scq_core.specs.Stances.{Stance, resting, seeking, trying, gave_up}
 use Rattle.scq_law.proofs.Aspects.CallsUnderWay.{GetsNow, called_end, called_on, get_answer}
-use Rattle.scq_law.proofs.Aspects.PlacedPuts.{placed_grown, placed_on, updated_entry_else}
+use Rattle.scq_law.proofs.Aspects.PlacedPuts.{placed_grown, placed_on}
+use Rattle.scq_law.proofs.Base.BaseGroup.{updated_entry_else}
 use Rattle.scq_law.proofs.Aspects.SeenEmpty.{emptied_grown, emptied_kept}
 use Rattle.scq_law.proofs.Aspects.TakenGets.{taken_drawn, taken_taken}
 use Rattle.scq_law.proofs.Aspects.Coupling.{IsTied, lands_else, due_else, leaves_else}

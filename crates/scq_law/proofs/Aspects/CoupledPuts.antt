@@ -20,7 +20,8 @@ use Rattle.scq_law.proofs.Base.Ghosts.{Ghost, fresh, pending, failed, placed, is
 use Rattle.scq_core.specs.Stances.{Stance, resting, drawing, putting, landed}
 use Rattle.scq_law.proofs.Aspects.GrowingHistory.{under_now, under_old}
 use Rattle.scq_law.proofs.Aspects.CallsUnderWay.{PutsNow, called_end, called_on, put_answer}
-use Rattle.scq_law.proofs.Aspects.PlacedPuts.{IsNamed, Landing, placed_grown, placed_on, placed_drawn, placed_laid, updated_entry_else}
+use Rattle.scq_law.proofs.Aspects.PlacedPuts.{NamesPut, Landing, placed_grown, placed_on, placed_drawn, placed_laid}
+use Rattle.scq_law.proofs.Base.BaseGroup.{updated_entry_else}
 use Rattle.scq_law.proofs.Aspects.SeenEmpty.{emptied_grown, emptied_kept}
 use Rattle.scq_law.proofs.Aspects.TakenGets.{taken_grown, taken_kept}
 use Rattle.scq_law.proofs.Aspects.Coupling.{IsTied, IsFree, lands_else, other_pends, other_opens, due_else, leaves_else}
@@ -34,7 +35,7 @@ module _ (c : Setup) (opening : List (List ℕ)) (events : List history.Event) (
       let now : PutsNow events (begun k) k r w = rw stands at (tied.called.doing k) in
       let name = tied.lands k r i t w stands in
       let named : IsPut events k (begun k) r w (tied.origin r t) =
-      subst (λ z. IsNamed opening events z r w (tied.origin r t)) name (tied.placed.named r t i w (call_of k (calls k)) is) in
+      subst (λ z. NamesPut opening events z r w (tied.origin r t)) name (tied.placed.named r t i w (call_of k (calls k)) is) in
       let start : now.s ≡ tied.origin r t = one_start events k (begun k) r r now.s (tied.origin r t) w w now.put named in
       let under : under_now events k ≡ Some (tied.origin r t) = now.under ∙ ap Some start in
       let some = started_within events k (length events) (tied.origin r t) under in

@@ -11,7 +11,7 @@ use Rattle.scq_core.specs.declared.phase.Phase.TheVariants.{Idle}
 use Rattle.scq_core.specs.declared.step.Step.{Step}
 use Rattle.scq_core.specs.Updated.{updated}
 use Rattle.scq_core.specs.declared.ended.Ended.{Ended}
-use Rattle.scq_core.specs.Machine.{Part, read, beside}
+use Rattle.scq_core.specs.Machine.{SeatPart, read, beside}
 use Rattle.scq_core.specs.Table.{ring_slots, zero_level, turn_of, moved, location_of}
 use Rattle.scq_core.proofs.UpdatedLemmas.{updated_here, updated_else}
 use Rattle.scq_core.proofs.Turns.{Begins, begins_put, begins_get, begins, awake}
@@ -19,7 +19,7 @@ use Rattle.scq_hist.specs.declared.events.Event as history
 use Rattle.scq_hist.specs.declared.events.PutName.{PutName}
 use Rattle.scq_hist.specs.declared.events.PutName.TheVariants.{Opening}
 use Rattle.scq_law.specs.Acts.{ended_in}
-use Rattle.scq_law.specs.Run.{Recorded, placer_after, starts, end_of, finishes, puts_after, recorded_after, recorded_first, first_placer, nobody, IsRun}
+use Rattle.scq_law.specs.Run.{Recorded, placer_after, starts, end_of, end_if_idle, puts_after, recorded_after, recorded_first, first_placer, name_of_none, IsRun}
 use Rattle.scq_law.specs.Places.{opening_put}
 use Rattle.scq_law.proofs.Base.Ghosts.{Ghost, placed, is_placed, stood, start_ghost}
 use Rattle.scq_core.specs.Stances.{Stance, resting, stance_of}
@@ -33,13 +33,13 @@ use Rattle.scq_law.proofs.Places.Throughout.{rooted, records_agree, reached}
 use Rattle.scq_law.proofs.Threshold.EmptyDecisions.{decides}
 use Rattle.scq_law.proofs.Replays.RecordedRuns.{all_along}
 use Rattle.scq_law.proofs.Aspects.CoupledTurns.{opens_call, tied_event}
-use Rattle.scq_law.proofs.Aspects.PlacedPuts.{IsNamed, IsPlaced}
+use Rattle.scq_law.proofs.Aspects.PlacedPuts.{NamesPut, PutsArePlaced}
 use Rattle.scq_law.proofs.Aspects.Coupling.{calls_of, IsTied}
 use Rattle.scq_law.proofs.Aspects.EventRecording.{Within, within, puts_none, ends_by, placer_by, placer_turn}
 use Rattle.scq_law.proofs.Aspects.EndedCalls.{first_of_calls, seen_end, turn_stance}
 
 -- the first part leaves it to the second who places
-placer_then : (c : Setup) (k : ℕ) (p : Part) (turn : Phase) (x : ℕ) (y : List ℕ) (puts : ℕ → ℕ) (placer : ℕ → ℕ → PutName) → (turn ≡ Idle → ⊥)
+placer_then : (c : Setup) (k : ℕ) (p : SeatPart) (turn : Phase) (x : ℕ) (y : List ℕ) (puts : ℕ → ℕ) (placer : ℕ → ℕ → PutName) → (turn ≡ Idle → ⊥)
     → (turn ≡ p.phase) ⊎ ((p.phase ≡ Idle) × (p.spent ≡ None) × Begins c p.hand turn)
     → placer_by (event c turn x y) k (puts_after k p.phase turn puts) placer ≡ placer_by (event c turn x y) k puts placer
 placer_then c k p turn x y puts placer awake_turn from =
@@ -53,7 +53,7 @@ placer_then c k p turn x y puts placer awake_turn from =
     first t more (begins_get r ring) = elim (cases_Bool (nat_lt x zero_level)) [ inl less ↦ rw less refl | inr high ↦ rw high refl ]
 
 -- the End that is recorded is that of the call which the event ends
-finishes_end : (k : ℕ) (placer : ℕ → ℕ → PutName) (phase : Phase) (calls : List Ended) → finishes k placer phase calls ≡ end_of k placer (ended_in phase calls)
+finishes_end : (k : ℕ) (placer : ℕ → ℕ → PutName) (phase : Phase) (calls : List Ended) → end_if_idle k placer phase calls ≡ end_of k placer (ended_in phase calls)
 finishes_end k placer Idle calls = refl
 finishes_end k placer phase calls = refl
 
@@ -61,8 +61,8 @@ end_first : (k : ℕ) (placer : ℕ → ℕ → PutName) (calls : List Ended) �
 end_first k placer [] = refl
 end_first k placer (x ∷ xs) = refl
 
-ends_event : (k : ℕ) (placer : ℕ → ℕ → PutName) (q : Part) (old : List Ended) (s : Stance) (e : TicketEvent) → Within e s → stance_of q.phase ≡ stance_by e s
-    → q.calls ≡ old ++ ended_by e → finishes k placer q.phase q.calls ≡ ends_by k placer (ended_by e)
+ends_event : (k : ℕ) (placer : ℕ → ℕ → PutName) (q : SeatPart) (old : List Ended) (s : Stance) (e : TicketEvent) → Within e s → stance_of q.phase ≡ stance_by e s
+    → q.calls ≡ old ++ ended_by e → end_if_idle k placer q.phase q.calls ≡ ends_by k placer (ended_by e)
 ends_event k placer q old s e at is calls =
     finishes_end k placer q.phase q.calls ∙ ap (end_of k placer) (seen_end q old s e at is calls) ∙ end_first k placer (ended_by e)
 
@@ -111,17 +111,17 @@ tied_turn c opening full recorded time g k step turn low enabled trace tied =
     let same_placer : placer2 ≡ placer1 = placer_turn c k turn x y recorded.puts recorded.placer
     ∙ sym (placer_then c k p turn x y recorded.puts recorded.placer awake_turn from) in
     let after : stance n k ≡ stance_by e s = sc.event_facts.stance ∙ turn_stance c p step turn x y enabled in
-    let ends : finishes k placer2 (n.part k).phase (n.part k).calls ≡ ends_by k placer2 (ended_by e) =
+    let ends : end_if_idle k placer2 (n.part k).phase (n.part k).calls ≡ ends_by k placer2 (ended_by e) =
     ends_event k placer2 (n.part k) p.calls s e at after sc.event_facts.calls in
     let now = updated (stance m) k s in
     let stances : (j : ℕ) → stance n j ≡ updated now k (stance_by e s) j =
     λ j.
     elim (cases_eq j k) [
       | inl same ↦ ap (stance n) same ∙ after ∙ sym (updated_here now k (stance_by e s)) ∙ ap (updated now k (stance_by e s)) (sym same)
-      | inr other ↦ ap (λ (v : Part). stance_of v.phase) (sc.event_facts.others j other) ∙ sym (updated_else (stance m) k s j other)
+      | inr other ↦ ap (λ (v : SeatPart). stance_of v.phase) (sc.event_facts.others j other) ∙ sym (updated_else (stance m) k s j other)
           ∙ sym (updated_else now k (stance_by e s) j other)
     ] in
-    same_tied c opening (events1 ++ ends_by k placer1 (ended_by e)) (events1 ++ finishes k placer2 (n.part k).phase (n.part k).calls) puts1 placer1 placer2
+    same_tied c opening (events1 ++ ends_by k placer1 (ended_by e)) (events1 ++ end_if_idle k placer2 (n.part k).phase (n.part k).calls) puts1 placer1 placer2
     (updated now k (stance_by e s)) (stance n) (calls_of n) (ghost_after c m time k turn g)
     (ap (λ z. events1 ++ z) (ends ∙ ap (λ z. ends_by k z (ended_by e)) same_placer))
     same_placer
@@ -148,7 +148,7 @@ module _ (c : Setup) (opening : List (List ℕ)) (full : length opening ≡ n_of
             let is : Opening (p - ring_slots c) ≡ Opening j = rw holds at name in
             let index : p - ring_slots c ≡ j = cc in
             (eqb-true r 0 two.0, omega arith)
-        | inr fails ↦ let is : nobody ≡ Opening j = rw fails at name in absurd (cc)
+        | inr fails ↦ let is : name_of_none ≡ Opening j = rw fails at name in absurd (cc)
       ]
 
   -- a placed ticket of the start is an opening place
@@ -158,7 +158,7 @@ module _ (c : Setup) (opening : List (List ℕ)) (full : length opening ≡ n_of
   stood_name : (r p : ℕ) → Stood c opening r p → first_placer c r p ≡ Opening (p - ring_slots c)
   stood_name r p s = first_in r p s.ring s.first s.last
 
-  placed_first : IsPlaced c opening [] (λ k. 0) (first_placer c) (λ k. resting) (λ k. 0) (stood c opening) (λ r t. 0)
+  placed_first : PutsArePlaced c opening [] (λ k. 0) (first_placer c) (λ k. resting) (λ k. 0) (stood c opening) (λ r t. 0)
   placed_first =
       record {
         stood =
@@ -180,7 +180,7 @@ module _ (c : Setup) (opening : List (List ℕ)) (full : length opening ≡ n_of
             let last = s.last in
             let same : placed (p - ring_slots c) (slice_index_or opening (p - ring_slots c) []) opening_put ≡ placed i w b = sym s.is ∙ is in
             let content : slice_index_or opening (p - ring_slots c) [] ≡ w = cc in
-            subst (λ z. IsNamed opening [] z r w 0) (sym (stood_name r p s))
+            subst (λ z. NamesPut opening [] z r w 0) (sym (stood_name r p s))
             (s.ring, slice_get-get_or opening (p - ring_slots c) [] (omega arith) ∙ ap Some content);
         pends = λ r t k i is. elim (stands_at c opening r t) [ inl s ↦ let at = s.is in absurd (cc) | inr s ↦ let at = s.is in absurd (cc) ];
         low = λ r p k n is name. (let at = stood_name r p (stood_full r p is) in absurd (cc));

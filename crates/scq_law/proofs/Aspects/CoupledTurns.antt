@@ -8,7 +8,7 @@ use Rattle.scq_word.specs.Sizes.{n_of}
 use Rattle.scq_core.specs.declared.phase.Phase.{Phase}
 use Rattle.scq_core.specs.declared.phase.Phase.TheVariants.{Idle}
 use Rattle.scq_core.specs.Updated.{updated}
-use Rattle.scq_core.specs.Machine.{Machine, Part}
+use Rattle.scq_core.specs.Machine.{Machine, SeatPart}
 use Rattle.scq_core.proofs.UpdatedLemmas.{updated_here, updated_else, updated_same}
 use Rattle.scq_core.proofs.Turns.{Begins, begins_put, begins_get}
 use Rattle.scq_hist.specs.declared.events.Event as history
@@ -30,7 +30,7 @@ use Rattle.scq_law.proofs.Aspects.CoupledGets.{tied_began, tied_died, tied_taken
 use Rattle.scq_law.proofs.Aspects.EventRecording.{Within, starts_none, puts_none, ends_by, placer_by}
 use Rattle.scq_hist.specs.declared.events.Event.TheVariants.{End}
 use Rattle.scq_law.specs.Bounds.{IsFinished}
-use Rattle.scq_law.proofs.Threshold.EmptyDecisions.{Decides, by_refusal, by_end, by_level}
+use Rattle.scq_law.proofs.Threshold.EmptyDecisions.{DecidesEmpty, by_refusal, by_end, by_level}
 use Rattle.scq_law.proofs.Aspects.GrowingHistory.{kept_at, under_old}
 use Rattle.scq_law.proofs.Aspects.SeenEmpty.{Emptying, finished_old}
 use Rattle.scq_law.proofs.Places.RecordsAgree.{RecordsAgree}
@@ -78,7 +78,7 @@ calls_rise : (c : Setup) (g : Ghost) (m : Machine) (k : ℕ) (n : Machine) (e : 
 calls_rise c g m k n e d j =
     elim (cases_eq j k) [
       | inl same ↦ let more = calls_more c g m k n e d in rw same (omega arith)
-      | inr other ↦ let keeps : calls_of n j ≡ calls_of m j = ap (λ (p : Part). length p.calls) (d.others j other) in omega arith
+      | inr other ↦ let keeps : calls_of n j ≡ calls_of m j = ap (λ (p : SeatPart). length p.calls) (d.others j other) in omega arith
     ]
 
 -- second part: what the event does
@@ -139,7 +139,7 @@ module _ (c : Setup) (opening : List (List ℕ)) (full : length opening ≡ n_of
       })
 
   pub tied_event : (e : TicketEvent) → EventStep c time g m k e n → IsRooted (ghost_next time g m k e) n
-      → ((r : ℕ) → Decides m k e r → (p : ℕ) → IsFinished c m r p → p < m.cells.head r) → Within e s → Goal e
+      → ((r : ℕ) → DecidesEmpty m k e r → (p : ℕ) → IsFinished c m r p → p < m.cells.head r) → Within e s → Goal e
   tied_event calm event_step later decided is =
       quiet (updated now k s) placer g
       (tied_on c opening events begun placer now (calls_of m) g tied k s (calls_of n) (doing s refl) (rw here (omega arith))

@@ -17,9 +17,9 @@ use Rattle.scq_hist.specs.declared.events.Reply.TheVariants.{Done, Got, Nothing}
 use Rattle.scq_law.proofs.Base.Ghosts.{Ghost, pending, opened}
 use Rattle.scq_core.specs.Stances.{Stance, resting, drawing, landed, asking, gave_up}
 use Rattle.scq_law.proofs.Aspects.CallsUnderWay.{Doing, IsCalled, called_put, called_get, called_end, called_on}
-use Rattle.scq_law.proofs.Aspects.PlacedPuts.{due, IsPlaced, placed_grown, placed_on}
+use Rattle.scq_law.proofs.Aspects.PlacedPuts.{due, PutsArePlaced, placed_grown, placed_on}
 use Rattle.scq_law.proofs.Aspects.SeenEmpty.{Emptying, Emptied, IsEmptied, emptied_grown, emptied_kept}
-use Rattle.scq_law.proofs.Aspects.TakenGets.{IsTaken, taken_grown}
+use Rattle.scq_law.proofs.Aspects.TakenGets.{GetsAreTaken, taken_grown}
 
 -- how many calls each seat's record has
 abbrev pub calls_of : Machine → ℕ → ℕ
@@ -31,8 +31,8 @@ pub record IsTied (c : Setup) (opening : List (List ℕ)) (events : List history
   pub since : ℕ → ℕ → ℕ
   pub ended : ℕ → ℕ → ℕ
   pub called : IsCalled events begun stance
-  pub placed : IsPlaced c opening events begun placer stance calls g.puts origin
-  pub taken : IsTaken events placer g.puts g.gets origin since ended
+  pub placed : PutsArePlaced c opening events begun placer stance calls g.puts origin
+  pub taken : GetsAreTaken events placer g.puts g.gets origin since ended
   pub emptied : IsEmptied opening events placer stance g.puts g.gets since
   -- a put that has placed its index has the name of its place
   pub lands : (k r i t : ℕ) (w : List ℕ) → stance k ≡ landed r i w t → placer r t ≡ Of k (begun k)
@@ -115,8 +115,7 @@ module _ (c : Setup) (opening : List (List ℕ)) (events : List history.Event) (
         since = tied.since;
         ended = tied.ended;
         called = called_get events begun stance k r tied.called rests;
-        placed =
-            placed_grown c opening events begun placer stance calls g.puts tied.origin tied.placed (Start k (Get r)) begun (updated stance k (asking r)) calls
+        placed = placed_grown c opening events begun placer stance calls g.puts tied.origin tied.placed (Start k (Get r)) begun (updated stance k (asking r)) calls
             (other_pends g k free)
             (due_else begun stance k (asking r) (omega arith)) (λ j. omega arith) (λ j is. absurd (cc));
         taken = taken_grown events placer g.puts g.gets tied.origin tied.since tied.ended tied.taken (Start k (Get r)) (other_opens g k free)

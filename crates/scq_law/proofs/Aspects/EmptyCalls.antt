@@ -69,15 +69,7 @@ last_call c opening before steps seat calls e shorter was now =
     since_on now.recorded.events seat 0 old [] first.later None goes_on (omega arith) refl in
     let idle_then : Since now.recorded.events seat (length old) (length old) None =
     subst (λ u. Since now.recorded.events seat 0 (length old) u) pending idle_there in
-    record {
-      later = first.later;
-      goes_on = goes_on;
-      call = last.call;
-      asked = last.asked;
-      stands =
-          first_call now.recorded.events seat (length old) first.later old None last.call (recorded_reply now.recorded.placer e) [] goes_on (omega arith)
-          idle_then last.shown;
-    }
+    record { later = first.later; goes_on = goes_on; call = last.call; asked = last.asked; stands = first_call now.recorded.events seat (length old) first.later old None last.call (recorded_reply now.recorded.placer e) [] goes_on (omega arith) idle_then last.shown }
 
 pub empty_at_call : (c : Setup) (opening : List (List ℕ)) (before after : List (ℕ × Step)) (seat r : ℕ) (calls : List Ended) → IsPrefix before after
     → (was : IsRecordAfter c opening before seat calls) → (now : IsRecordAfter c opening after seat (calls ++ ended.Nothing r ∷ []))
@@ -87,12 +79,4 @@ empty_at_call c opening before after seat r calls shorter was now =
     let stands : Stood now.recorded.events seat (length was.recorded.events) (Get r) Nothing =
     subst (λ (call : Call). Stood now.recorded.events seat (length was.recorded.events) call Nothing) last.asked last.stands in
     let tied = tied_run c opening after now.recorded now.is_run.full now.is_run.seats now.is_run in
-    record {
-      later = last.later;
-      goes_on = last.goes_on;
-      start = stands.start;
-      stop = stands.stop;
-      call = stands.is_call;
-      since = stands.since;
-      right = empty_right c opening now.is_run.full now.recorded tied stands.stop stands.start seat r stands.is_call;
-    }
+    record { later = last.later; goes_on = last.goes_on; start = stands.start; stop = stands.stop; call = stands.is_call; since = stands.since; right = empty_right c opening now.is_run.full now.recorded tied stands.stop stands.start seat r stands.is_call }

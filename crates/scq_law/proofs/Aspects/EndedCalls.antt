@@ -7,7 +7,7 @@ use Rattle.scq_core.specs.declared.ended.Ended.{Ended}
 use Rattle.scq_core.specs.declared.phase.Phase.{Phase}
 use Rattle.scq_core.specs.declared.phase.Phase.TheVariants.{Idle}
 use Rattle.scq_core.specs.declared.step.Step.{Step}
-use Rattle.scq_core.specs.Machine.{Part}
+use Rattle.scq_core.specs.Machine.{SeatPart}
 use Rattle.scq_core.specs.Stances.{Stance, resting, stance_of}
 use Rattle.scq_core.specs.Table.{turn_of}
 use Rattle.scq_law.specs.Acts.{ended_in}
@@ -34,7 +34,7 @@ ended_last Idle old x rests =
 ended_last phase old x rests = absurd (cc)
 
 -- the call that a seat is seen to have ended is the one that its event ends
-module _ (q : Part) (old : List Ended) (s : Stance) where
+module _ (q : SeatPart) (old : List Ended) (s : Stance) where
   none_ended : (e : TicketEvent) → stance_by e s ≢ resting → stance_of q.phase ≡ stance_by e s → ended_in q.phase q.calls ≡ None
   none_ended e busy is = ended_none q.phase q.calls (λ rests. busy (sym is ∙ rests))
 
@@ -60,6 +60,6 @@ module _ (q : Part) (old : List Ended) (s : Stance) where
   seen_end (overran r t is_put) at is calls = one_ended _ is calls
 
 -- afterwards, the stance is what the event makes of the seat's own, or of its turn's
-pub turn_stance : (c : Setup) (p : Part) (s : Step) (turn : Phase) (x : ℕ) (y : List ℕ) → turn_of c p s ≡ Some turn
+pub turn_stance : (c : Setup) (p : SeatPart) (s : Step) (turn : Phase) (x : ℕ) (y : List ℕ) → turn_of c p s ≡ Some turn
     → stance_by (event c turn x y) (stance_of p.phase) ≡ stance_by (event c turn x y) (stance_of turn)
 turn_stance c p s turn x y enabled = sym (own_stance c p turn x y (came_from c p s turn enabled))

@@ -20,7 +20,7 @@ use Rattle.scq_law.proofs.Base.Ghosts.{Ghost, is_placed}
 use Rattle.scq_core.specs.Stances.{Stance}
 use Rattle.scq_law.proofs.Base.Based.{IsBased}
 use Rattle.scq_law.proofs.Places.RecordsAgree.{RecordsAgree}
-use Rattle.scq_law.proofs.Aspects.PlacedPuts.{IsNamed}
+use Rattle.scq_law.proofs.Aspects.PlacedPuts.{NamesPut}
 use Rattle.scq_law.proofs.Aspects.Coupling.{IsTied, calls_of}
 
 module _ (c : Setup) (opening : List (List ℕ)) (full : length opening ≡ n_of c.order) (events : List history.Event) (begun : ℕ → ℕ) (placer : ℕ → ℕ → PutName)
@@ -64,7 +64,7 @@ module _ (c : Setup) (opening : List (List ℕ)) (full : length opening ≡ n_of
       let till = done.call.under_way_till in
       let start : done.s ≡ t.origin l.r l.p = cc in
       let named : IsPut events k l.n l.r l.content (t.origin l.r l.p) =
-      subst (λ z. IsNamed opening events z l.r l.content (t.origin l.r l.p)) l.name (t.placed.named l.r l.p l.index l.content (call_of k l.number) l.is) in
+      subst (λ z. NamesPut opening events z l.r l.content (t.origin l.r l.p)) l.name (t.placed.named l.r l.p l.index l.content (call_of k l.number) l.is) in
       let a = done.put.starts in
       let b : slice_get events done.s ≡ Some (Start k (Put l.r l.content)) = rw start named.starts in
       let ring : l.r ≡ queue = cc in

@@ -11,7 +11,7 @@ use Rattle.scq_hist.specs.declared.events.PutName.{PutName}
 use Rattle.scq_hist.specs.declared.events.PutName.TheVariants.{Of}
 use Rattle.scq_law.specs.Run.{Recorded}
 use Rattle.scq_law.proofs.Base.Ghosts.{is_placed}
-use Rattle.scq_law.proofs.Aspects.PlacedPuts.{IsNamed}
+use Rattle.scq_law.proofs.Aspects.PlacedPuts.{NamesPut}
 use Rattle.scq_law.proofs.Base.Based.{IsBased}
 use Rattle.scq_law.proofs.Places.RecordsAgree.{RecordsAgree}
 use Rattle.scq_law.proofs.Places.Throughout.{records_agree}
@@ -34,7 +34,7 @@ module _ (c : Setup) (opening : List (List ℕ)) (full : length opening ≡ n_of
   in_order e s seat number queue start content get put =
       let k = taken_at c opening recorded tied_run e get.seat (Of seat number) get.content get.call.ends in
       let named : IsPut recorded.events seat number k.r get.content (t.origin k.r k.h) =
-      subst (λ z. IsNamed opening recorded.events z k.r get.content (t.origin k.r k.h)) k.named (t.placed.named k.r k.h k.index get.content k.maker k.is) in
+      subst (λ z. NamesPut opening recorded.events z k.r get.content (t.origin k.r k.h)) k.named (t.placed.named k.r k.h k.index get.content k.maker k.is) in
       let same = same_put recorded.events seat number queue k.r start (t.origin k.r k.h) content get.content put named in
       let below : k.h < recorded.state.cells.head k.r =
       elim (cases_lt k.h (recorded.state.cells.head k.r)) [

@@ -1,6 +1,6 @@
 -- Placed tickets and their puts in the history: each has a name of its own, of a put that started where the diary says;
 -- where a put has ended with Done, all tickets up to its place were drawn by puts that had started.
-use Rattle.std.proofs.Common.{◌≡◌, ◌≢◌, ℕ, ◌+◌, ◌<◌, ◌≤◌, ◌⊎◌, inl, inr, true, false, List, [], ◌∷◌, ◌++◌, length, ap, sym, ◌∙◌, subst, arith, eq-eqb, ne_eqb}
+use Rattle.std.proofs.Common.{◌≡◌, ◌≢◌, ℕ, ◌+◌, ◌<◌, ◌≤◌, ◌⊎◌, inl, inr, true, false, refl, List, [], ◌∷◌, ◌++◌, length, ap, sym, ◌∙◌, subst, arith, eq-eqb, ne_eqb}
 use Rattle.std.specs.Prelude.{Some, slice_get}
 use Rattle.std.proofs.lemmas.Bool.{cases_eq}
 use Rattle.std.proofs.lemmas.Option.{slice_get_within}
@@ -17,14 +17,15 @@ use Rattle.scq_hist.specs.declared.events.PutName.{PutName}
 use Rattle.scq_hist.specs.declared.events.PutName.TheVariants.{Opening, Of}
 use Rattle.scq_hist.specs.declared.events.Reply.TheVariants.{Done}
 use Rattle.scq_law.specs.Places.{Maker, call_of}
+use Rattle.scq_law.proofs.Base.BaseGroup.{updated_entry_else}
 use Rattle.scq_law.proofs.Base.Ghosts.{PutState, pending, placed, is_placed}
 use Rattle.scq_core.specs.Stances.{Stance, drawing, putting}
 use Rattle.scq_law.proofs.Aspects.GrowingHistory.{under_now, at_grown, under_old, length_grown, put_grown, seat_of, under_else}
 
 -- the put of this name is an opening token of queue 0 with this content, or a seat's put of this queue that starts at s
-abbrev pub IsNamed : List (List ℕ) → List Event → PutName → ℕ → List ℕ → ℕ → Type 0
-IsNamed opening events (Opening j) r w s = (r ≡ 0) × (slice_get opening j ≡ Some w)
-IsNamed opening events (Of k n) r w s = IsPut events k n r w s
+abbrev pub NamesPut : List (List ℕ) → List Event → PutName → ℕ → List ℕ → ℕ → Type 0
+NamesPut opening events (Opening j) r w s = (r ≡ 0) × (slice_get opening j ≡ Some w)
+NamesPut opening events (Of k n) r w s = IsPut events k n r w s
 
 -- a seat's put that is under way and not placed yet
 abbrev pub due : Stance → ℕ
@@ -51,28 +52,33 @@ pub record Landing (events : List Event) (placer : ℕ → ℕ → PutName) (cal
   pub under : under_way events k e ≡ Some (origin r p)
   pub later : (t : ℕ) → t ≤ p → origin r t < e
 
-pub record IsPlaced (c : Setup) (opening : List (List ℕ)) (events : List Event) (begun : ℕ → ℕ) (placer : ℕ → ℕ → PutName) (stance : ℕ → Stance)
+pub record PutsArePlaced (c : Setup) (opening : List (List ℕ)) (events : List Event) (begun : ℕ → ℕ) (placer : ℕ → ℕ → PutName) (stance : ℕ → Stance)
     (calls : ℕ → ℕ) (puts : ℕ → ℕ → PutState) (origin : ℕ → ℕ → ℕ) : Type 0 where
   pub stood : (j : ℕ) → j < n_of c.order → IsToken c placer puts j
   pub tokens : (r p j : ℕ) → placer r p ≡ Opening j → (r ≡ 0) × (p ≡ ring_slots c + j)
-  pub named : (r p i : ℕ) (w : List ℕ) (b : Maker) → puts r p ≡ placed i w b → IsNamed opening events (placer r p) r w (origin r p)
+  pub named : (r p i : ℕ) (w : List ℕ) (b : Maker) → puts r p ≡ placed i w b → NamesPut opening events (placer r p) r w (origin r p)
   pub pends : (r t k i : ℕ) → puts r t ≡ pending k i → under_now events k ≡ Some (origin r t)
   pub low : (r p k n : ℕ) → is_placed (puts r p) ≡ true → placer r p ≡ Of k n → n + due (stance k) ≤ begun k
   pub one : (r p q u : ℕ) → is_placed (puts r p) ≡ true → is_placed (puts q u) ≡ true → placer r p ≡ placer q u → (r ≡ q) × (p ≡ u)
   pub early : (r t : ℕ) → (origin r t ≡ 0) ⊎ (origin r t < length events)
   pub done : (e k : ℕ) → slice_get events e ≡ Some (End k Done) → Landing events placer calls puts origin e k
 
--- elsewhere a changed function of two arguments is as it was
-pub updated_entry_else : {A : Type 0} → (f : ℕ → ℕ → A) (r s : ℕ) (x : A) (q z : ℕ) → (q ≡ r → z ≡ s → ⊥) → updated_entry f r s x q z ≡ f q z
-updated_entry_else f r s x q z apart = elim (updated_entry_or f r s x q z) [ inl a ↦ absurd (apart a.0 a.1) | inr a ↦ a.1 ]
+-- where its put, its name and where that started are as they were
+landing_still : {events events2 : List Event} {placer placer2 : ℕ → ℕ → PutName} {calls calls2 : ℕ → ℕ} {puts puts2 : ℕ → ℕ → PutState}
+    {origin origin2 : ℕ → ℕ → ℕ} {e k : ℕ} → (l : Landing events placer calls puts origin e k) → puts2 l.r l.p ≡ puts l.r l.p → calls k ≤ calls2 k
+    → placer2 l.r l.p ≡ placer l.r l.p → under_way events2 k e ≡ Some (origin2 l.r l.p) → ((t : ℕ) → t ≤ l.p → origin2 l.r t < e)
+    → Landing events2 placer2 calls2 puts2 origin2 e k
+landing_still l put rises name under later =
+    let ended = l.ended in
+    record { r = l.r; p = l.p; n = l.n; index = l.index; content = l.content; number = l.number; is = put ∙ l.is; ended = omega arith; name = name ∙ l.name; under = under; later = later }
 
 -- a placed ticket isn't one at which nothing is placed
 apart_from : (puts : ℕ → ℕ → PutState) (r t q u : ℕ) → is_placed (puts r t) ≡ false → is_placed (puts q u) ≡ true → q ≡ r → u ≡ t → ⊥
 apart_from puts r t q u empty full ring ticket = let clash : is_placed (puts r t) ≡ true = rw (← ring, ← ticket) full in cc
 
 module _ (c : Setup) (opening : List (List ℕ)) (events : List Event) (begun : ℕ → ℕ) (placer : ℕ → ℕ → PutName) (stance : ℕ → Stance) (calls : ℕ → ℕ)
-    (puts : ℕ → ℕ → PutState) (origin : ℕ → ℕ → ℕ) (was : IsPlaced c opening events begun placer stance calls puts origin) where
-  named_grown : (x : Event) (name : PutName) (r : ℕ) (w : List ℕ) (s : ℕ) → IsNamed opening events name r w s → IsNamed opening (events ++ x ∷ []) name r w s
+    (puts : ℕ → ℕ → PutState) (origin : ℕ → ℕ → ℕ) (was : PutsArePlaced c opening events begun placer stance calls puts origin) where
+  named_grown : (x : Event) (name : PutName) (r : ℕ) (w : List ℕ) (s : ℕ) → NamesPut opening events name r w s → NamesPut opening (events ++ x ∷ []) name r w s
   named_grown x (Opening j) r w s is = is
   named_grown x (Of k n) r w s is = put_grown events x k n r w s is
 
@@ -80,7 +86,7 @@ module _ (c : Setup) (opening : List (List ℕ)) (events : List Event) (begun : 
   pub placed_grown : (x : Event) (begun2 : ℕ → ℕ) (stance2 : ℕ → Stance) (calls2 : ℕ → ℕ) → ((r t j i : ℕ) → puts r t ≡ pending j i → seat_of x ≢ j)
       → ((k n : ℕ) → n + due (stance k) ≤ begun k → n + due (stance2 k) ≤ begun2 k) → ((k : ℕ) → calls k ≤ calls2 k)
       → ((k : ℕ) → x ≡ End k Done → Landing (events ++ x ∷ []) placer calls2 puts origin (length events) k)
-      → IsPlaced c opening (events ++ x ∷ []) begun2 placer stance2 calls2 puts origin
+      → PutsArePlaced c opening (events ++ x ∷ []) begun2 placer stance2 calls2 puts origin
   placed_grown x begun2 stance2 calls2 other low calls_rise landing =
       record {
         stood = was.stood;
@@ -90,34 +96,18 @@ module _ (c : Setup) (opening : List (List ℕ)) (events : List Event) (begun : 
         low = λ r p k n is name. low k n (was.low r p k n is name);
         one = was.one;
         early = λ r t. elim (was.early r t) [ inl none ↦ inl none | inr less ↦ inr (let long = length_grown events x in omega arith) ];
-        done =
-            λ e k at.
-            elim (at_grown events x e (End k Done) at) [
-              | inl old ↦
-                  let l = was.done e k old in
-                  let low_e = slice_get_within events e (End k Done) old in
-                  let low_calls = calls_rise k in
-                  let ended = l.ended in
-                  record {
-                    r = l.r;
-                    p = l.p;
-                    n = l.n;
-                    index = l.index;
-                    content = l.content;
-                    number = l.number;
-                    is = l.is;
-                    ended = omega arith;
-                    name = l.name;
-                    under = under_old events x k e (omega arith) ∙ l.under;
-                    later = l.later;
-                  }
-              | inr new ↦ subst (λ d. Landing (events ++ x ∷ []) placer calls2 puts origin d k) (sym new.0) (landing k new.1)
-            ];
+        done = λ e k at. elim (at_grown events x e (End k Done) at) [
+          | inl old ↦
+              let l = was.done e k old in
+              let low_e = slice_get_within events e (End k Done) old in
+              landing_still l refl (calls_rise k) refl (under_old events x k e (omega arith) ∙ l.under) l.later
+          | inr new ↦ subst (λ d. Landing (events ++ x ∷ []) placer calls2 puts origin d k) (sym new.0) (landing k new.1)
+        ];
       }
 
   -- no event is recorded
   pub placed_on : (stance2 : ℕ → Stance) (calls2 : ℕ → ℕ) → ((k n : ℕ) → n + due (stance k) ≤ begun k → n + due (stance2 k) ≤ begun k)
-      → ((k : ℕ) → calls k ≤ calls2 k) → IsPlaced c opening events begun placer stance2 calls2 puts origin
+      → ((k : ℕ) → calls k ≤ calls2 k) → PutsArePlaced c opening events begun placer stance2 calls2 puts origin
   placed_on stance2 calls2 low calls_rise =
       record {
         stood = was.stood;
@@ -129,27 +119,12 @@ module _ (c : Setup) (opening : List (List ℕ)) (events : List Event) (begun : 
         early = was.early;
         done =
             λ e k at.
-            let l = was.done e k at in
-            let low_calls = calls_rise k in
-            let ended = l.ended in
-            record {
-              r = l.r;
-              p = l.p;
-              n = l.n;
-              index = l.index;
-              content = l.content;
-              number = l.number;
-              is = l.is;
-              ended = omega arith;
-              name = l.name;
-              under = l.under;
-              later = l.later;
-            };
+            let l = was.done e k at in landing_still l refl (calls_rise k) refl l.under l.later;
       }
 
 -- a ticket at which nothing is placed becomes another such, drawn by a call that started at position o
 module _ (c : Setup) (opening : List (List ℕ)) (events : List Event) (begun : ℕ → ℕ) (placer : ℕ → ℕ → PutName) (stance : ℕ → Stance) (calls : ℕ → ℕ)
-    (puts : ℕ → ℕ → PutState) (origin : ℕ → ℕ → ℕ) (was : IsPlaced c opening events begun placer stance calls puts origin)
+    (puts : ℕ → ℕ → PutState) (origin : ℕ → ℕ → ℕ) (was : PutsArePlaced c opening events begun placer stance calls puts origin)
     (r t : ℕ) (empty : is_placed (puts r t) ≡ false) (x : PutState) (o : ℕ) (still : is_placed x ≡ false) where
   abbrev puts2 : ℕ → ℕ → PutState
   puts2 = updated_entry puts r t x
@@ -174,7 +149,7 @@ module _ (c : Setup) (opening : List (List ℕ)) (events : List Event) (begun : 
   old_placed q u i w b is = sym (still_full q u (old_full q u (ap is_placed is))) ∙ is
 
   pub placed_drawn : ((j i : ℕ) → x ≡ pending j i → under_now events j ≡ Some o) → (o ≡ 0) ⊎ (o < length events)
-      → ((u : ℕ) → is_placed (puts r u) ≡ true → t ≤ u → o ≡ origin r t) → IsPlaced c opening events begun placer stance calls puts2 origin2
+      → ((u : ℕ) → is_placed (puts r u) ≡ true → t ≤ u → o ≡ origin r t) → PutsArePlaced c opening events begun placer stance calls puts2 origin2
   placed_drawn now soon high =
       record {
         stood = λ j low. let token = was.stood j low in
@@ -183,7 +158,7 @@ module _ (c : Setup) (opening : List (List ℕ)) (events : List Event) (begun : 
         named =
             λ q u i w b is.
             let old = old_placed q u i w b is in
-            subst (λ s. IsNamed opening events (placer q u) q w s) (sym (same_origin q u (ap is_placed old))) (was.named q u i w b old);
+            subst (λ s. NamesPut opening events (placer q u) q w s) (sym (same_origin q u (ap is_placed old))) (was.named q u i w b old);
         pends =
             λ q u k i is.
             elim (updated_entry_or puts r t x q u) [
@@ -192,46 +167,29 @@ module _ (c : Setup) (opening : List (List ℕ)) (events : List Event) (begun : 
             ];
         low = λ q u k n is name. was.low q u k n (old_full q u is) name;
         one = λ q u p z is there. was.one q u p z (old_full q u is) (old_full p z there);
-        early =
-            λ q u.
-            elim (updated_entry_or origin r t o q u) [
-              | inl a ↦ rw a.2 soon
-              | inr a ↦ rw a.1 (was.early q u)
-            ];
+        early = λ q u. elim (updated_entry_or origin r t o q u) [ inl a ↦ rw a.2 soon | inr a ↦ rw a.1 (was.early q u) ];
         done =
             λ e k at.
             let l = was.done e k at in
             let full : is_placed (puts l.r l.p) ≡ true = ap is_placed l.is in
-            record {
-              r = l.r;
-              p = l.p;
-              n = l.n;
-              index = l.index;
-              content = l.content;
-              number = l.number;
-              is = still_full l.r l.p full ∙ l.is;
-              ended = l.ended;
-              name = l.name;
-              under = l.under ∙ ap Some (sym (same_origin l.r l.p full));
-              later =
-                  λ u le.
-                  let old = l.later u le in
-                  elim (updated_entry_or origin r t o l.r u) [
-                    | inl a ↦
-                        let ring = a.0 in
-                        let ticket = a.1 in
-                        let here : is_placed (puts r l.p) ≡ true = rw (← ring) full in
-                        let same : o ≡ origin r t = high l.p here (omega arith) in
-                        let old_here : origin r t < e = rw (← ring, ← ticket) old in
-                        rw a.2 (omega arith)
-                    | inr a ↦ rw a.1 old
-                  ];
-            };
+            landing_still l (still_full l.r l.p full) (omega arith) refl (l.under ∙ ap Some (sym (same_origin l.r l.p full)))
+            (λ u le.
+            let old = l.later u le in
+            elim (updated_entry_or origin r t o l.r u) [
+              | inl a ↦
+                  let ring = a.0 in
+                  let ticket = a.1 in
+                  let here : is_placed (puts r l.p) ≡ true = rw (← ring) full in
+                  let same : o ≡ origin r t = high l.p here (omega arith) in
+                  let old_here : origin r t < e = rw (← ring, ← ticket) old in
+                  rw a.2 (omega arith)
+              | inr a ↦ rw a.1 old
+            ]);
       }
 
 -- a seat places its put
 module _ (c : Setup) (opening : List (List ℕ)) (events : List Event) (begun : ℕ → ℕ) (placer : ℕ → ℕ → PutName) (stance : ℕ → Stance) (calls : ℕ → ℕ)
-    (puts : ℕ → ℕ → PutState) (origin : ℕ → ℕ → ℕ) (was : IsPlaced c opening events begun placer stance calls puts origin)
+    (puts : ℕ → ℕ → PutState) (origin : ℕ → ℕ → ℕ) (was : PutsArePlaced c opening events begun placer stance calls puts origin)
     (r t : ℕ) (empty : is_placed (puts r t) ≡ false) (k i number : ℕ) (w : List ℕ) where
   abbrev new : PutState
   new = placed i w (call_of k number)
@@ -255,7 +213,7 @@ module _ (c : Setup) (opening : List (List ℕ)) (events : List Event) (begun : 
       omega arith
 
   pub placed_laid : (s : Stance) → due (stance k) ≡ 1 → due s ≡ 0 → IsPut events k (begun k) r w (origin r t)
-      → IsPlaced c opening events begun (updated_entry placer r t (Of k (begun k))) (updated stance k s) calls
+      → PutsArePlaced c opening events begun (updated_entry placer r t (Of k (begun k))) (updated stance k s) calls
       (updated_entry puts r t (placed i w (call_of k number))) origin
   placed_laid s is_due no_due is_put = record {
     stood = λ j low. let token = was.stood j low in
@@ -302,17 +260,5 @@ module _ (c : Setup) (opening : List (List ℕ)) (events : List Event) (begun : 
     done = λ e j at.
         let l = was.done e j at in
         let full : is_placed (puts l.r l.p) ≡ true = ap is_placed l.is in
-        record {
-          r = l.r;
-          p = l.p;
-          n = l.n;
-          index = l.index;
-          content = l.content;
-          number = l.number;
-          is = kept_full l.r l.p full ∙ l.is;
-          ended = l.ended;
-          name = kept_name l.r l.p full ∙ l.name;
-          under = l.under;
-          later = l.later;
-        };
+        landing_still l (kept_full l.r l.p full) (omega arith) (kept_name l.r l.p full) l.under l.later;
   }

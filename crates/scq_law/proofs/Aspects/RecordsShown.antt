@@ -10,7 +10,7 @@ use Rattle.scq_core.specs.declared.ended.Ended.TheVariants as ended
 use Rattle.scq_core.specs.declared.phase.Phase.{Phase}
 use Rattle.scq_core.specs.declared.phase.Phase.TheVariants.{Idle, AtE1, AtE2, AtE3, AtE4, AtE5, AtE6, AtD1, AtD2, AtD3, AtD4, AtD5, AtD6, AtD7, AtD8, AtD9, AtD10}
 use Rattle.scq_core.specs.declared.step.Step.{Step}
-use Rattle.scq_core.specs.Machine.{Part, read, beside, updated_entry}
+use Rattle.scq_core.specs.Machine.{SeatPart, read, beside, updated_entry}
 use Rattle.scq_core.specs.Table.{ring_slots, cycle, zero_level, reset_level, turn_of, location_of, after}
 use Rattle.scq_core.proofs.Steady.{either_way}
 use Rattle.scq_core.proofs.Turns.{Begins, begins_put, begins_get, begins, awake}
@@ -26,8 +26,8 @@ use Rattle.scq_hist.specs.declared.events.PutName.TheVariants.{Of}
 use Rattle.scq_hist.specs.declared.events.Reply.{Reply}
 use Rattle.scq_hist.specs.declared.events.Reply.TheVariants.{Got}
 use Rattle.scq_law.specs.Places.{Maker}
-use Rattle.scq_law.specs.Run.{Recorded, recorded_reply, starts, finishes, placer_after, recorded_after, recorded_first, IsRun}
-use Rattle.scq_law.specs.ShownCalls.{answered, calls_from, AskedFor, AllShown, HistoryShowsRecords}
+use Rattle.scq_law.specs.Run.{Recorded, recorded_reply, starts, end_if_idle, placer_after, recorded_after, recorded_first, IsRun}
+use Rattle.scq_law.specs.ShownCalls.{ended_call, calls_from, AskedFor, AllShown, HistoryShowsRecords}
 use Rattle.scq_law.proofs.Aspects.CoupledRuns.{IsTiedRun, tied_run_first, tied_run_turn}
 use Rattle.scq_law.proofs.Aspects.EventRecording.{starts_none}
 use Rattle.scq_law.proofs.Base.Based.{turn_claims, based}
@@ -58,12 +58,12 @@ call_in (AtD9 r h from to) = Some (Get r)
 call_in (AtD10 r h leaving) = Some (Get r)
 
 -- what becomes of a seat by its turn: its call has ended as its record says, or goes on
-data Became (turn : Phase) (p q : Part) : Type 0 where
+data Became (turn : Phase) (p q : SeatPart) : Type 0 where
   rests : (e : Ended) (call : Call) → q.phase ≡ Idle → q.calls ≡ p.calls ++ e ∷ [] → call_in turn ≡ Some call
       → AskedFor e call → Became turn p q
   goes : (q.phase ≡ Idle → ⊥) → call_in q.phase ≡ call_in turn → q.calls ≡ p.calls → Became turn p q
 
-module _ (c : Setup) (x : ℕ) (y : List ℕ) (p : Part) where
+module _ (c : Setup) (x : ℕ) (y : List ℕ) (p : SeatPart) where
   became : (turn : Phase) → (turn ≡ Idle → ⊥) → Became turn p (after c turn x y p)
   became Idle awake = absurd (awake refl)
   became (AtE1 q i w l) awake =
@@ -106,7 +106,7 @@ begun_by : (c : Setup) (hand : List ℕ) (seat : ℕ) (turn : Phase) → Begins 
 begun_by c hand seat turn (begins_put r i w a b d) = begun (Put r w) refl refl
 begun_by c hand seat turn (begins_get r a) = begun (Get r) refl refl
 
-started : (c : Setup) (seat : ℕ) (p : Part) (s : Step) (turn : Phase) → turn_of c p s ≡ Some turn → Started seat p.phase turn
+started : (c : Setup) (seat : ℕ) (p : SeatPart) (s : Step) (turn : Phase) → turn_of c p s ≡ Some turn → Started seat p.phase turn
 started c seat p s turn enabled =
     elim (begins c p.hand p.spent p.phase s turn enabled) [
       | inl same ↦
@@ -116,12 +116,12 @@ started c seat p s turn enabled =
     ]
 
 -- and of its end
-none_finished : (seat : ℕ) (placer : ℕ → ℕ → PutName) (phase : Phase) (calls : List Ended) → (phase ≡ Idle → ⊥) → finishes seat placer phase calls ≡ []
+none_finished : (seat : ℕ) (placer : ℕ → ℕ → PutName) (phase : Phase) (calls : List Ended) → (phase ≡ Idle → ⊥) → end_if_idle seat placer phase calls ≡ []
 none_finished seat placer Idle calls busy = absurd (busy refl)
 none_finished seat placer phase calls busy = refl
 
 one_finished : (seat : ℕ) (placer : ℕ → ℕ → PutName) (phase : Phase) (calls old : List Ended) (e : Ended) → phase ≡ Idle → calls ≡ old ++ e ∷ []
-    → finishes seat placer phase calls ≡ End seat (recorded_reply placer e) ∷ []
+    → end_if_idle seat placer phase calls ≡ End seat (recorded_reply placer e) ∷ []
 one_finished seat placer phase calls old e idle is =
     let long : length (old ++ e ∷ []) ≡ length old + 1 = length-append old (e ∷ []) in
     let last : length (old ++ e ∷ []) - 1 ≡ length old = omega arith in
@@ -138,7 +138,7 @@ pub more_calls : (k : ℕ) (under : Option Call) (xs ys : List Event)
 more_calls k under [] ys = refl
 more_calls k under (Start seat call ∷ xs) ys = more_calls k (if seat == k then Some call else under) xs ys
 more_calls k under (End seat reply ∷ xs) ys =
-    let first = if seat == k then answered under reply else [] in
+    let first = if seat == k then ended_call under reply else [] in
     let next = if seat == k then None else under in
     ap (λ (l : List (Call × Reply)). first ++ l) (more_calls k next xs ys)
     ∙ sym (append_assoc first (calls_from k next xs) (calls_from k (pending_in k next xs) ys))
@@ -187,7 +187,7 @@ laid_apart c g placer puts k number r p i w b (AtE4 q j v t e) found claims is =
 laid_apart c g placer puts k number r p i w b turn found claims is = refl
 
 -- the calls so far, and what is under way
-record Shown (k : ℕ) (placer : ℕ → ℕ → PutName) (p : Part) (events : List Event) : Type 0 where
+record Shown (k : ℕ) (placer : ℕ → ℕ → PutName) (p : SeatPart) (events : List Event) : Type 0 where
   calls : AllShown placer p.calls (calls_from k None events)
   under : pending_in k None events ≡ call_in p.phase
 
@@ -195,14 +195,14 @@ abbrev IsShown : ℕ → Recorded → Type 0
 IsShown k t = Shown k t.placer (t.state.part k) t.events
 
 -- the events of a seat's own turn
-record Grown (k : ℕ) (placer : ℕ → ℕ → PutName) (under : Option Call) (cs : List (Call × Reply)) (more : List Event) (q : Part) : Type 0 where
+record Grown (k : ℕ) (placer : ℕ → ℕ → PutName) (under : Option Call) (cs : List (Call × Reply)) (more : List Event) (q : SeatPart) : Type 0 where
   calls_then : AllShown placer q.calls (cs ++ calls_from k under more)
   under_then : pending_in k under more ≡ call_in q.phase
 
-own_events : (k : ℕ) (placer : ℕ → ℕ → PutName) (turn : Phase) (p q : Part) (cs : List (Call × Reply)) → Started k p.phase turn → Became turn p q
-    → AllShown placer p.calls cs → Grown k placer (call_in p.phase) cs (starts k p.phase turn ++ finishes k placer q.phase q.calls) q
+own_events : (k : ℕ) (placer : ℕ → ℕ → PutName) (turn : Phase) (p q : SeatPart) (cs : List (Call × Reply)) → Started k p.phase turn → Became turn p q
+    → AllShown placer p.calls cs → Grown k placer (call_in p.phase) cs (starts k p.phase turn ++ end_if_idle k placer q.phase q.calls) q
 own_events k placer turn p q cs (goes_on none_yet same) (goes busy call calls) all =
-    subst (λ (l : List Event). Grown k placer (call_in p.phase) cs (l ++ finishes k placer q.phase q.calls) q) (sym none_yet)
+    subst (λ (l : List Event). Grown k placer (call_in p.phase) cs (l ++ end_if_idle k placer q.phase q.calls) q) (sym none_yet)
     (subst (λ (l : List Event). Grown k placer (call_in p.phase) cs l q) (sym (none_finished k placer q.phase q.calls busy))
     (record { calls_then = rw (append-nil cs, calls) all; under_then = same ∙ sym call }))
 own_events k placer turn p q cs (goes_on none_yet same) (rests e call idle calls its its_call) all =
@@ -212,7 +212,7 @@ own_events k placer turn p q cs (goes_on none_yet same) (rests e call idle calls
       calls_then = rw (eq-eqb k k refl, calls) (shown_more placer p.calls cs e call all its_call);
       under_then = rw (eq-eqb k k refl, idle) refl;
     } in
-    subst (λ (l : List Event). Grown k placer (call_in p.phase) cs (l ++ finishes k placer q.phase q.calls) q) (sym none_yet)
+    subst (λ (l : List Event). Grown k placer (call_in p.phase) cs (l ++ end_if_idle k placer q.phase q.calls) q) (sym none_yet)
     (subst (λ (l : List Event). Grown k placer (call_in p.phase) cs l q) (sym (one_finished k placer q.phase q.calls p.calls e idle calls))
     (subst (λ (u : Option Call). Grown k placer u cs (End k reply ∷ []) q) (sym here) made))
 own_events k placer turn p q cs (begun call is its) (goes busy same calls) all =
@@ -220,7 +220,7 @@ own_events k placer turn p q cs (begun call is its) (goes busy same calls) all =
       calls_then = rw (append-nil cs, calls) all;
       under_then = rw (eq-eqb k k refl) (sym its ∙ sym same);
     } in
-    subst (λ (l : List Event). Grown k placer (call_in p.phase) cs (l ++ finishes k placer q.phase q.calls) q) (sym is)
+    subst (λ (l : List Event). Grown k placer (call_in p.phase) cs (l ++ end_if_idle k placer q.phase q.calls) q) (sym is)
     (subst (λ (l : List Event). Grown k placer (call_in p.phase) cs (Start k call ∷ l) q) (sym (none_finished k placer q.phase q.calls busy)) made)
 own_events k placer turn p q cs (begun call is its) (rests e ends idle calls other its_call) all =
     let same : call ≡ ends = some_same call ends (sym its ∙ other) in
@@ -229,16 +229,16 @@ own_events k placer turn p q cs (begun call is its) (rests e ends idle calls oth
       calls_then = rw (eq-eqb k k refl, calls) (shown_more placer p.calls cs e call all (subst (λ (d : Call). AskedFor e d) (sym same) its_call));
       under_then = rw (eq-eqb k k refl, idle) refl;
     } in
-    subst (λ (l : List Event). Grown k placer (call_in p.phase) cs (l ++ finishes k placer q.phase q.calls) q) (sym is)
+    subst (λ (l : List Event). Grown k placer (call_in p.phase) cs (l ++ end_if_idle k placer q.phase q.calls) q) (sym is)
     (subst (λ (l : List Event). Grown k placer (call_in p.phase) cs (Start k call ∷ l) q) (sym (one_finished k placer q.phase q.calls p.calls e idle calls)) made)
   where
     some_same : (a b : Call) → Some a ≡ Some b → a ≡ b
     some_same a b e = cc
 
 -- those of another seat's show nothing of this one
-other_events : (k j : ℕ) (under : Option Call) (placer : ℕ → ℕ → PutName) (turn : Phase) (p q : Part) → j ≢ k → Started j p.phase turn → Became turn p q
-    → (calls_from k under (starts j p.phase turn ++ finishes j placer q.phase q.calls) ≡ [])
-    × (pending_in k under (starts j p.phase turn ++ finishes j placer q.phase q.calls) ≡ under)
+other_events : (k j : ℕ) (under : Option Call) (placer : ℕ → ℕ → PutName) (turn : Phase) (p q : SeatPart) → j ≢ k → Started j p.phase turn → Became turn p q
+    → (calls_from k under (starts j p.phase turn ++ end_if_idle j placer q.phase q.calls) ≡ [])
+    × (pending_in k under (starts j p.phase turn ++ end_if_idle j placer q.phase q.calls) ≡ under)
 other_events k j under placer turn p q apart (goes_on none_yet same) (goes busy call calls) =
     rw (none_yet, none_finished j placer q.phase q.calls busy) (refl, refl)
 other_events k j under placer turn p q apart (goes_on none_yet same) (rests e call idle calls its its_call) =
@@ -259,10 +259,10 @@ shown_turn c opening t j s turn enabled tied_run shown k =
     let begins_so = started c j p s turn enabled in
     let ends_so = became c x (beside m.cells (location_of c turn)) p turn (awake c p.hand p.spent p.phase s turn enabled) in
     let here : (recorded_after c j turn t).state.part j ≡ q = updated_here m.part j q in
-    let more = starts j p.phase turn ++ finishes j placer q.phase q.calls in
+    let more = starts j p.phase turn ++ end_if_idle j placer q.phase q.calls in
     let events : (recorded_after c j turn t).events ≡ t.events ++ more =
-    ap (λ (z : Part). t.events ++ starts j p.phase turn ++ finishes j placer z.phase z.calls) here
-    ∙ append_assoc t.events (starts j p.phase turn) (finishes j placer q.phase q.calls) in
+    ap (λ (z : SeatPart). t.events ++ starts j p.phase turn ++ end_if_idle j placer z.phase z.calls) here
+    ∙ append_assoc t.events (starts j p.phase turn) (end_if_idle j placer q.phase q.calls) in
     let records = records_agree c tied_run.time tied_run.ghost m tied_run.trace in
     let claims = turn_claims c tied_run.ghost p j (length p.calls) s turn enabled ((based c tied_run.time tied_run.ghost m tied_run.trace).claims j) in
     let was : (i : ℕ) → Shown i placer (m.part i) t.events =
@@ -284,7 +284,7 @@ shown_turn c opening t j s turn enabled tied_run shown k =
             under = rw (more_pending j None t.events more, (was j).under) own.under_then;
           } in
           subst (λ (i : ℕ). IsShown i (recorded_after c j turn t)) same
-          (subst (λ (z : Part). Shown j placer z (recorded_after c j turn t).events) (sym here)
+          (subst (λ (z : SeatPart). Shown j placer z (recorded_after c j turn t).events) (sym here)
           (subst (λ (l : List Event). Shown j placer q l) (sym events) now))
       | inr apart ↦
           let still : (recorded_after c j turn t).state.part k ≡ m.part k = updated_else m.part j q k (λ e. apart (sym e)) in
@@ -293,7 +293,7 @@ shown_turn c opening t j s turn enabled tied_run shown k =
             calls = rw (more_calls k None t.events more, none_more.0, append-nil (calls_from k None t.events)) (was k).calls;
             under = rw (more_pending k None t.events more, none_more.1) (was k).under;
           } in
-          subst (λ (z : Part). Shown k placer z (recorded_after c j turn t).events) (sym still)
+          subst (λ (z : SeatPart). Shown k placer z (recorded_after c j turn t).events) (sym still)
           (subst (λ (l : List Event). Shown k placer (m.part k) l) (sym events) now)
     ]
 

@@ -92,16 +92,7 @@ module _ (opening : List (List ℕ)) (events : List Event) (placer : ℕ → ℕ
                   let z = was.ends e k there in
                   let low = slice_get_within events e (End k Nothing) there in
                   let till = z.till in
-                  record {
-                    r = z.r;
-                    s = z.s;
-                    m = z.m;
-                    starts = kept_at events x z.s _ z.starts;
-                    under = under_old events x k e (omega arith) ∙ z.under;
-                    after = z.after;
-                    till = z.till;
-                    passed = λ name is. z.passed name (finished_old opening events x z.r z.m name (omega arith) is);
-                  }
+                  record { r = z.r; s = z.s; m = z.m; starts = kept_at events x z.s _ z.starts; under = under_old events x k e (omega arith) ∙ z.under; after = z.after; till = z.till; passed = λ name is. z.passed name (finished_old opening events x z.r z.m name (omega arith) is) }
               | inr here ↦ subst (λ d. Emptied opening (events ++ x ∷ []) placer puts gets since d k) (sym here.0) (new k here.1)
             ];
         leaves =
@@ -128,16 +119,7 @@ module _ (opening : List (List ℕ)) (events : List Event) (placer : ℕ → ℕ
         ends =
             λ e k at.
             let z = was.ends e k at in
-            record {
-              r = z.r;
-              s = z.s;
-              m = z.m;
-              starts = z.starts;
-              under = z.under;
-              after = z.after;
-              till = z.till;
-              passed = λ name is. still z.r z.m name (z.passed name is);
-            };
+            record { r = z.r; s = z.s; m = z.m; starts = z.starts; under = z.under; after = z.after; till = z.till; passed = λ name is. still z.r z.m name (z.passed name is) };
         leaves =
             λ k r h stands.
             elim (leave k r h stands) [

@@ -14,7 +14,7 @@ use Rattle.scq_hist.specs.declared.events.Reply.TheVariants.{Got}
 use Rattle.scq_law.specs.Places.{Maker}
 use Rattle.scq_law.proofs.Base.Ghosts.{PutState, GetState, placed, is_placed, opened, took}
 use Rattle.scq_law.proofs.Aspects.GrowingHistory.{under_now, at_grown, new_at, kept_at, under_old, length_grown, call_grown, seat_of, under_else}
-use Rattle.scq_law.proofs.Aspects.PlacedPuts.{updated_entry_else}
+use Rattle.scq_law.proofs.Base.BaseGroup.{updated_entry_else}
 
 -- a ticket that the seat took: its get
 pub record Taking (events : List Event) (placer : ℕ → ℕ → PutName) (puts : ℕ → ℕ → PutState) (origin since ended : ℕ → ℕ → ℕ) (r h k : ℕ) : Type 0 where
@@ -36,7 +36,7 @@ pub record Gotten (placer : ℕ → ℕ → PutName) (gets : ℕ → ℕ → Get
   pub at : ended r h ≡ e
   pub named : placer r h ≡ name
 
-pub record IsTaken (events : List Event) (placer : ℕ → ℕ → PutName) (puts : ℕ → ℕ → PutState) (gets : ℕ → ℕ → GetState) (origin since ended : ℕ → ℕ → ℕ) : Type
+pub record GetsAreTaken (events : List Event) (placer : ℕ → ℕ → PutName) (puts : ℕ → ℕ → PutState) (gets : ℕ → ℕ → GetState) (origin since ended : ℕ → ℕ → ℕ) : Type
     0 where
   pub early : (r h : ℕ) → (since r h ≡ 0) ⊎ (since r h < length events)
   pub opens : (r h k : ℕ) → gets r h ≡ opened k → under_now events k ≡ Some (since r h)
@@ -48,10 +48,10 @@ took_apart : (gets : ℕ → ℕ → GetState) (r h q u k j : ℕ) → ((k j : �
 took_apart gets r h q u k j free is ring ticket = free k j (rw (← ring, ← ticket) is)
 
 module _ (events : List Event) (placer : ℕ → ℕ → PutName) (puts : ℕ → ℕ → PutState) (gets : ℕ → ℕ → GetState) (origin since ended : ℕ → ℕ → ℕ)
-    (was : IsTaken events placer puts gets origin since ended) where
+    (was : GetsAreTaken events placer puts gets origin since ended) where
   -- an event is recorded that is no Got
   pub taken_grown : (x : Event) → ((r h j : ℕ) → gets r h ≡ opened j → seat_of x ≢ j) → ((k : ℕ) (name : PutName) (w : List ℕ) → x ≢ End k (Got name w))
-      → IsTaken (events ++ x ∷ []) placer puts gets origin since ended
+      → GetsAreTaken (events ++ x ∷ []) placer puts gets origin since ended
   taken_grown x other no_got =
       record {
         early = λ r h. elim (was.early r h) [ inl none ↦ inl none | inr less ↦ inr (let long = length_grown events x in omega arith) ];
@@ -59,15 +59,7 @@ module _ (events : List Event) (placer : ℕ → ℕ → PutName) (puts : ℕ �
         takes =
             λ r h k j is.
             let t = was.takes r h k j is in
-            record {
-              index = t.index;
-              content = t.content;
-              maker = t.maker;
-              is = t.is;
-              call = call_grown events x k (Get r) (since r h) (ended r h) (Got (placer r h) t.content) t.call;
-              earlier = t.earlier;
-              begun = t.begun;
-            };
+            record { index = t.index; content = t.content; maker = t.maker; is = t.is; earlier = t.earlier; begun = t.begun; call = call_grown events x k (Get r) (since r h) (ended r h) (Got (placer r h) t.content) t.call };
         got =
             λ e k name w at.
             elim (at_grown events x e (End k (Got name w)) at) [
@@ -79,7 +71,7 @@ module _ (events : List Event) (placer : ℕ → ℕ → PutName) (puts : ℕ �
   -- what changes about puts leaves placed tickets as they are
   pub taken_kept : (placer2 : ℕ → ℕ → PutName) (puts2 : ℕ → ℕ → PutState) (origin2 : ℕ → ℕ → ℕ)
       → ((r h : ℕ) → is_placed (puts r h) ≡ true → puts2 r h ≡ puts r h) → ((r h : ℕ) → is_placed (puts r h) ≡ true → placer2 r h ≡ placer r h)
-      → ((r h : ℕ) → is_placed (puts r h) ≡ true → origin2 r h ≡ origin r h) → IsTaken events placer2 puts2 gets origin2 since ended
+      → ((r h : ℕ) → is_placed (puts r h) ≡ true → origin2 r h ≡ origin r h) → GetsAreTaken events placer2 puts2 gets origin2 since ended
   taken_kept placer2 puts2 origin2 same_puts same_name same_origin =
       record {
         early = was.early;
@@ -88,15 +80,7 @@ module _ (events : List Event) (placer : ℕ → ℕ → PutName) (puts : ℕ �
             λ r h k j is.
             let t = was.takes r h k j is in
             let full : is_placed (puts r h) ≡ true = ap is_placed t.is in
-            record {
-              index = t.index;
-              content = t.content;
-              maker = t.maker;
-              is = same_puts r h full ∙ t.is;
-              call = rw (same_name r h full) t.call;
-              earlier = t.earlier;
-              begun = rw (same_origin r h full) t.begun;
-            };
+            record { index = t.index; content = t.content; maker = t.maker; is = same_puts r h full ∙ t.is; call = rw (same_name r h full) t.call; earlier = t.earlier; begun = rw (same_origin r h full) t.begun };
         got =
             λ e k name w at.
             let g = was.got e k name w at in
@@ -105,20 +89,15 @@ module _ (events : List Event) (placer : ℕ → ℕ → PutName) (puts : ℕ �
       }
 
 module _ (events : List Event) (placer : ℕ → ℕ → PutName) (puts : ℕ → ℕ → PutState) (gets : ℕ → ℕ → GetState) (origin since ended : ℕ → ℕ → ℕ)
-    (was : IsTaken events placer puts gets origin since ended)
+    (was : GetsAreTaken events placer puts gets origin since ended)
     (r h : ℕ) (free : (k j : ℕ) → gets r h ≢ took k j) where
   -- a ticket that nobody took becomes another such, drawn by a call that started at position o
   pub taken_drawn : (x : GetState) (o : ℕ) → ((k j : ℕ) → x ≢ took k j) → ((j : ℕ) → x ≡ opened j → under_now events j ≡ Some o)
       → (o ≡ 0) ⊎ (o < length events) → ((u k j : ℕ) → gets r u ≡ took k j → h ≤ u → o ≡ since r h)
-      → IsTaken events placer puts (updated_entry gets r h x) origin (updated_entry since r h o) ended
+      → GetsAreTaken events placer puts (updated_entry gets r h x) origin (updated_entry since r h o) ended
   taken_drawn x o still now soon high =
       record {
-        early =
-            λ q u.
-            elim (updated_entry_or since r h o q u) [
-              | inl a ↦ rw a.2 soon
-              | inr a ↦ rw a.1 (was.early q u)
-            ];
+        early = λ q u. elim (updated_entry_or since r h o q u) [ inl a ↦ rw a.2 soon | inr a ↦ rw a.1 (was.early q u) ];
         opens =
             λ q u k is.
             elim (updated_entry_or gets r h x q u) [
@@ -159,20 +138,12 @@ module _ (events : List Event) (placer : ℕ → ℕ → PutName) (puts : ℕ �
         got =
             λ e k name w at.
             let g = was.got e k name w at in
-            record {
-              r = g.r;
-              h = g.h;
-              seat = g.seat;
-              number = g.number;
-              is = updated_entry_else gets r h x g.r g.h (took_apart gets r h g.r g.h g.seat g.number free g.is) ∙ g.is;
-              at = g.at;
-              named = g.named;
-            };
+            record { r = g.r; h = g.h; seat = g.seat; number = g.number; at = g.at; named = g.named; is = updated_entry_else gets r h x g.r g.h (took_apart gets r h g.r g.h g.seat g.number free g.is) ∙ g.is };
       }
 
 -- a seat takes what is placed at its ticket, and its get ends so
 module _ (events : List Event) (placer : ℕ → ℕ → PutName) (puts : ℕ → ℕ → PutState) (gets : ℕ → ℕ → GetState) (origin since ended : ℕ → ℕ → ℕ)
-    (was : IsTaken events placer puts gets origin since ended)
+    (was : GetsAreTaken events placer puts gets origin since ended)
     (r h : ℕ) (free : (k j : ℕ) → gets r h ≢ took k j) (k number i : ℕ) (w : List ℕ) (b : Maker) where
   abbrev x : Event
   x = End k (Got (placer r h) w)
@@ -185,7 +156,7 @@ module _ (events : List Event) (placer : ℕ → ℕ → PutName) (puts : ℕ �
 
   pub taken_taken : gets r h ≡ opened k → ((q u : ℕ) → gets q u ≡ opened k → (q ≡ r) × (u ≡ h)) → puts r h ≡ placed i w b
       → slice_get events (since r h) ≡ Some (Start k (Get r)) → (origin r h ≡ 0) ⊎ (origin r h < length events)
-      → IsTaken (events ++ x ∷ []) placer puts gets2 origin since ended2
+      → GetsAreTaken (events ++ x ∷ []) placer puts gets2 origin since ended2
   taken_taken mine only is starts origin_early =
       let under : under_now events k ≡ Some (since r h) = was.opens r h k mine in
       let some : since r h < length events = started_within events k (length events) (since r h) under in
@@ -247,15 +218,7 @@ module _ (events : List Event) (placer : ℕ → ℕ → PutName) (puts : ℕ �
               | inl old ↦
                   let g = was.got e j name y old in
                   let apart = took_apart gets r h g.r g.h g.seat g.number free g.is in
-                  record {
-                    r = g.r;
-                    h = g.h;
-                    seat = g.seat;
-                    number = g.number;
-                    is = updated_entry_else gets r h (took k number) g.r g.h apart ∙ g.is;
-                    at = updated_entry_else ended r h (length events) g.r g.h apart ∙ g.at;
-                    named = g.named;
-                  }
+                  record { r = g.r; h = g.h; seat = g.seat; number = g.number; is = updated_entry_else gets r h (took k number) g.r g.h apart ∙ g.is; at = updated_entry_else ended r h (length events) g.r g.h apart ∙ g.at; named = g.named }
               | inr new ↦
                   let same = new.1 in
                   record {

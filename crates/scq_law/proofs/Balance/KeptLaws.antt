@@ -5,7 +5,7 @@ use Rattle.std.proofs.lemmas.Bool.{cases_eq, cases_lt}
 use Rattle.scq_word.specs.declared.setup.Setup.{Setup}
 use Rattle.scq_word.specs.Sizes.{n_of}
 use Rattle.scq_word.proofs.TicketLemmas.{slot_of_small}
-use Rattle.scq_core.specs.Machine.{Cells, Part, Machine}
+use Rattle.scq_core.specs.Machine.{Cells, SeatPart, Machine}
 use Rattle.scq_core.specs.Table.{ring_slots, slot, hand_without, moved}
 use Rattle.scq_core.specs.Start.{unused, filled, start_cells, start_of}
 use Rattle.scq_core.specs.Reach.{IsReachable}
@@ -240,7 +240,7 @@ hand_within c time g m trace k =
     elim (cases_lt k c.seats) [
       | inl low ↦ let one = total_one (λ p. length p.hand) m.part c.seats k low in omega arith
       | inr high ↦
-          let none : length (m.part k).hand ≡ 0 = ap (λ (p : Part). length p.hand) ((reached c time g m trace).absent k high) in
+          let none : length (m.part k).hand ≡ 0 = ap (λ (p : SeatPart). length p.hand) ((reached c time g m trace).absent k high) in
           omega arith
     ]
 

@@ -1,16 +1,22 @@
 -- The base group: how the tickets' states and the entries fit together, which tickets are drawn, what each seat has.
+use Rattle.std.proofs.Common.{inl, inr}
 use Rattle.std.specs.Prelude.{◌≡◌, ◌≢◌, ℕ, ◌<◌, ◌≤◌, ◌⊎◌, true, false, List}
 use Rattle.scq_word.specs.declared.setup.Setup.{Setup}
 use Rattle.scq_word.specs.Sizes.{n_of}
 use Rattle.scq_word.specs.Words.{index_in, safe_in, cycle_in, is_none_in}
 use Rattle.scq_core.specs.declared.phase.Phase.{Phase}
 use Rattle.scq_core.specs.declared.phase.Phase.TheVariants.{AtE4, AtD4}
-use Rattle.scq_core.specs.Machine.{Entries}
+use Rattle.scq_core.specs.Machine.{Entries, updated_entry}
+use Rattle.scq_core.proofs.UpdatedLemmas.{updated_entry_or}
 use Rattle.scq_core.specs.Table.{ring_slots, cycle, slot}
 use Rattle.scq_core.specs.Laws.{Lags}
 use Rattle.scq_law.specs.Places.{Maker, call_of}
 use Rattle.scq_law.proofs.Base.Ghosts.{Ghost, GetState, fresh, pending, placed, unopened, opened, dead, took, is_placed, waiting}
 use Rattle.scq_core.specs.Stances.{Stance, putting, landed, trying, gave_up}
+
+-- elsewhere a changed function of two arguments is as it was
+pub updated_entry_else : {A : Type 0} → (f : ℕ → ℕ → A) (r s : ℕ) (x : A) (q z : ℕ) → (q ≡ r → z ≡ s → ⊥) → updated_entry f r s x q z ≡ f q z
+updated_entry_else f r s x q z apart = elim (updated_entry_or f r s x q z) [ inl a ↦ absurd (apart a.0 a.1) | inr a ↦ a.1 ]
 
 -- the word of a ticket's entry
 abbrev pub at_ticket : Setup → (ℕ → ℕ → ℕ) → ℕ → ℕ → ℕ

@@ -6,7 +6,7 @@ use Rattle.scq_word.specs.declared.setup.Setup.{Setup}
 use Rattle.scq_core.specs.declared.phase.Phase.{Phase}
 use Rattle.scq_core.specs.declared.phase.Phase.TheVariants.{AtE4, AtD4}
 use Rattle.scq_core.specs.declared.step.Step.{Step}
-use Rattle.scq_core.specs.Machine.{Cells, Entries, Part, Machine}
+use Rattle.scq_core.specs.Machine.{Cells, Entries, SeatPart, Machine}
 use Rattle.scq_core.specs.Table.{turn_of, cells_after, moved}
 use Rattle.scq_core.specs.Laws.{Busy, IsSteady}
 use Rattle.scq_core.proofs.UpdatedLemmas.{updated_cases}
@@ -28,7 +28,7 @@ pub record IsBased (c : Setup) (g : Ghost) (m : Machine) : Type 0 where
   pub knows : (k : ℕ) → Knows c m.cells.entries.word g.gets (m.part k).phase
 
 -- what an enabled turn's seat claims and knows
-pub turn_claims : (c : Setup) (g : Ghost) (p : Part) (k number : ℕ) (s : Step) (turn : Phase) → turn_of c p s ≡ Some turn
+pub turn_claims : (c : Setup) (g : Ghost) (p : SeatPart) (k number : ℕ) (s : Step) (turn : Phase) → turn_of c p s ≡ Some turn
     → Claims g k number (stance_of p.phase) → Claims g k number (stance_of turn)
 turn_claims c g p k number s turn enabled claims =
     elim (begins c p.hand p.spent p.phase s turn enabled) [
@@ -40,7 +40,7 @@ turn_claims c g p k number s turn enabled claims =
     fresh_claims t (begins_put r i w ring index held) = tt
     fresh_claims t (begins_get r ring) = tt
 
-pub turn_knows : (c : Setup) (m : Cells) (g : Ghost) (p : Part) (s : Step) (turn : Phase) → turn_of c p s ≡ Some turn → Knows c m.entries.word g.gets p.phase
+pub turn_knows : (c : Setup) (m : Cells) (g : Ghost) (p : SeatPart) (s : Step) (turn : Phase) → turn_of c p s ≡ Some turn → Knows c m.entries.word g.gets p.phase
     → Knows c m.entries.word g.gets turn
 turn_knows c m g p s turn enabled knows =
     elim (begins c p.hand p.spent p.phase s turn enabled) [
@@ -68,16 +68,19 @@ knows_last c m f g h hand k j number (AtE4 r i w t e) moves other busy claims kn
 knows_last c m f g h hand k j number (AtD4 r t) moves other busy claims knows = moves.holds j r t other claims knows
 knows_last c m f g h hand k j number phase moves other busy claims knows = tt
 
+-- what the turn comes to
+pub turn_outcome : (c : Setup) (m : Machine) (g : Ghost) (time k : ℕ) (s : Step) (turn : Phase) → turn_of c (m.part k) s ≡ Some turn → IsBased c g m
+    → OutcomeOf c m.cells g time k (m.part k) turn
+turn_outcome c m g time k s turn enabled base =
+    let p = m.part k in
+    outcome c m.cells g time k p base.booked base.drawn turn (awake c p.hand p.spent p.phase s turn enabled)
+    (has c m.cells p s turn (base.steady.busy k) enabled) (turn_claims c g p k (length p.calls) s turn enabled (base.claims k))
+    (turn_knows c m.cells g p s turn enabled (base.knows k))
+
 pub based_turn : (c : Setup) (m : Machine) (g : Ghost) (time k : ℕ) (s : Step) (turn : Phase) → turn_of c (m.part k) s ≡ Some turn → IsBased c g m
     → IsBased c (ghost_after c m time k turn g) (moved c m k turn)
 based_turn c m g time k s turn enabled base =
-    let p = m.part k in
-    let number = length p.calls in
-    let busy = has c m.cells p s turn (base.steady.busy k) enabled in
-    let claims = turn_claims c g p k number s turn enabled (base.claims k) in
-    let knows = turn_knows c m.cells g p s turn enabled (base.knows k) in
-    let awake_turn = awake c p.hand p.spent p.phase s turn enabled in
-    let out : OutcomeOf c m.cells g time k p turn = outcome c m.cells g time k p base.booked base.drawn turn awake_turn busy claims knows in
+    let out = turn_outcome c m g time k s turn enabled base in
     let h = ghost_after c m time k turn g in
     let n = cells_after c turn m.cells in
     record {
@@ -87,7 +90,7 @@ based_turn c m g time k s turn enabled base =
       claims =
           λ j.
           updated_cases
-          (λ (i : ℕ) (v : Part). Claims h i (length v.calls) (stance_of v.phase))
+          (λ (i : ℕ) (v : SeatPart). Claims h i (length v.calls) (stance_of v.phase))
           m.part
           k
           _
@@ -98,7 +101,7 @@ based_turn c m g time k s turn enabled base =
       knows =
           λ j.
           updated_cases
-          (λ (_ : ℕ) (v : Part). Knows c n.entries.word h.gets v.phase)
+          (λ (_ : ℕ) (v : SeatPart). Knows c n.entries.word h.gets v.phase)
           m.part
           k
           _

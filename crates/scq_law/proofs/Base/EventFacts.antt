@@ -47,7 +47,7 @@ pub record Fell (c : Setup) (m : Machine) (g : Ghost) (k r i : ℕ) (w : List �
   pub held : holds_index (m.part k).hand i ≡ true
   pub cause : (t < m.cells.head r) ⊎ Blocks c g r t found
 
-pub record Laid (c : Setup) (m : Machine) (g : Ghost) (k r i : ℕ) (w : List ℕ) (t : ℕ) : Type 0 where
+pub record WasLaid (c : Setup) (m : Machine) (g : Ghost) (k r i : ℕ) (w : List ℕ) (t : ℕ) : Type 0 where
   pub was : stance m k ≡ putting r i w t
   pub pending : g.puts r t ≡ pending k i
   pub index : i < n_of c.order
@@ -122,7 +122,7 @@ abbrev pub Proper : Setup → Machine → Ghost → ℕ → TicketEvent → Type
 Proper c m g k calm = Unit {0}
 Proper c m g k (drew r i w t) = Drew c m g k r i w t
 Proper c m g k (fell r i w t found) = Fell c m g k r i w t found
-Proper c m g k (laid r i w t) = Laid c m g k r i w t
+Proper c m g k (laid r i w t) = WasLaid c m g k r i w t
 Proper c m g k (finished r i w t) = Finished c m g k r i w t
 Proper c m g k (entered r) = Entered c m g k r
 Proper c m g k (refused r) = Refused c m g k r

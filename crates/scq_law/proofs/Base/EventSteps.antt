@@ -8,15 +8,12 @@ use Rattle.scq_core.specs.declared.step.Step.{Step}
 use Rattle.scq_core.specs.Machine.{Machine}
 use Rattle.scq_core.specs.Table.{turn_of, moved}
 use Rattle.scq_core.specs.Start.{start_of}
-use Rattle.scq_core.proofs.Turns.{awake}
-use Rattle.scq_core.proofs.Steady.{has}
 use Rattle.scq_law.proofs.Base.Ghosts.{Ghost, start_ghost}
 use Rattle.scq_law.proofs.Base.TicketEvents.{TicketEvent, ghost_by}
 use Rattle.scq_law.proofs.Base.Traces.{Trace, trace_start, trace_step, event_of}
 use Rattle.scq_law.proofs.Base.EventFacts.{EventFacts}
 use Rattle.scq_law.proofs.Base.BaseGroup.{Moves}
-use Rattle.scq_law.proofs.Base.TurnOutcomes.{outcome}
-use Rattle.scq_law.proofs.Base.Based.{IsBased, based, based_turn, turn_claims, turn_knows}
+use Rattle.scq_law.proofs.Base.Based.{IsBased, based, turn_outcome, based_turn}
 use Rattle.scq_law.proofs.Base.TurnEvents.{event_facts}
 
 -- the ghost after an event of seat k at this step of the run
@@ -34,13 +31,7 @@ pub record EventStep (c : Setup) (time : ℕ) (g : Ghost) (m : Machine) (k : ℕ
 pub event_step : (c : Setup) (time : ℕ) (g : Ghost) (m : Machine) (k : ℕ) (s : Step) (turn : Phase) → k < c.seats → turn_of c (m.part k) s ≡ Some turn
     → IsBased c g m → EventStep c time g m k (event_of c m turn) (moved c m k turn)
 event_step c time g m k s turn low enabled base =
-    let p = m.part k in
-    let number = length p.calls in
-    let busy = has c m.cells p s turn (base.steady.busy k) enabled in
-    let claims = turn_claims c g p k number s turn enabled (base.claims k) in
-    let knows = turn_knows c m.cells g p s turn enabled (base.knows k) in
-    let awake_turn = awake c p.hand p.spent p.phase s turn enabled in
-    let out = outcome c m.cells g time k p base.booked base.drawn turn awake_turn busy claims knows in
+    let out = turn_outcome c m g time k s turn enabled base in
     record {
       low = low;
       base = base;

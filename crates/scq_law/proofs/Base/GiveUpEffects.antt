@@ -9,9 +9,9 @@ use Rattle.scq_core.specs.Laws.{IsAbove}
 use Rattle.scq_core.proofs.UpdatedLemmas.{updated_entry_cases}
 use Rattle.scq_law.specs.Places.{Maker}
 use Rattle.scq_law.proofs.Base.Ghosts.{Ghost, PutState, fresh, pending, failed, GetState, opened, dead, took, placed, is_placed, waiting, with_get}
-use Rattle.scq_law.proofs.Base.BaseGroup.{IsBooked, Holds, Stands, Shut, Passed, Loaded, Moves, Effect, at_ticket}
+use Rattle.scq_law.proofs.Base.BaseGroup.{updated_entry_else, IsBooked, Holds, Stands, Shut, Passed, Loaded, Moves, Effect, at_ticket}
 use Rattle.scq_law.proofs.Base.SlotFacts.{came_back, below_cycle}
-use Rattle.scq_law.proofs.Base.PlaceCases.{Here, Beside, Apart, places}
+use Rattle.scq_law.proofs.Base.PlaceCases.{Here, Beside, IsOtherSlot, places}
 
 -- a word e of another cycle than d becomes z, after which no index comes to the cycle d
 pub record Closes (s e z d : ℕ) : Type 0 where
@@ -59,7 +59,7 @@ module _ (c : Setup) (e : Entries) (g : Ghost) (k r h z : ℕ) (mine : g.gets r 
       ((closes.full old).0 ∙ at, closes.none ∙ old)
 
   abbrev place : (q p : ℕ)
-      → Here ℕ GetState c e.word z g.gets dead r h q p ⊎ (Beside ℕ GetState c e.word z g.gets dead r h q p ⊎ Apart ℕ GetState c e.word z g.gets dead r h q p)
+      → Here ℕ GetState c e.word z g.gets dead r h q p ⊎ (Beside ℕ GetState c e.word z g.gets dead r h q p ⊎ IsOtherSlot ℕ GetState c e.word z g.gets dead r h q p)
   place q p = places c e.word z g.gets dead r h q p
 
   died_live : (q p : ℕ) → Holds c (reworded c e r h z).word q p → (is_placed (g.puts q p) ≡ true) × (waiting ((with_get g r h dead).gets q p) ≡ true)
@@ -99,12 +99,7 @@ module _ (c : Setup) (e : Entries) (g : Ghost) (k r h z : ℕ) (mine : g.gets r 
             }
         | inr (inr a) ↦
             let old = booked.stands q p i w b is (rw a.state_is at waits) in
-            record {
-              holds = record { cycle = rw a.word_is old.holds.cycle; index = rw a.word_is old.holds.index };
-              index = rw a.word_is old.index;
-              content = old.content;
-              small = old.small;
-            }
+            record { holds = record { cycle = rw a.word_is old.holds.cycle; index = rw a.word_is old.holds.index }; index = rw a.word_is old.index; content = old.content; small = old.small }
       ]
 
   died_over : (q p : ℕ) → ring_slots c ≤ p → cycle_in (ring_slots c) (at_ticket c (reworded c e r h z).word q p) ≡ cycle c p
@@ -203,31 +198,11 @@ module _ (c : Setup) (e : Entries) (g : Ghost) (k r h z : ℕ) (mine : g.gets r 
       record {
         pends = λ j q p i apart is. is;
         lies = λ q p i w b is. is;
-        opens =
-            λ j q p apart is.
-            updated_entry_cases
-            (λ _ _ v. v ≡ opened j)
-            g.gets
-            r
-            h
-            dead
-            q
-            p
-            (λ ring ticket. absurd (apart (opened_once j q p is ring ticket)))
-            (λ _. is);
+        opens = λ j q p apart is. updated_entry_else g.gets r h dead q p
+            (λ ring ticket. apart (opened_once j q p is ring ticket)) ∙ is;
         ends = λ q p is. updated_entry_cases (λ _ _ v. v ≡ dead) g.gets r h dead q p (λ ring ticket. refl) (λ _. is);
-        takes =
-            λ q p j x is.
-            updated_entry_cases
-            (λ _ _ v. v ≡ took j x)
-            g.gets
-            r
-            h
-            dead
-            q
-            p
-            (λ ring ticket. let same : opened k ≡ took j x = sym mine ∙ rw (ring, ticket) at is in absurd (cc))
-            (λ _. is);
+        takes = λ q p j x is. updated_entry_else g.gets r h dead q p
+            (λ ring ticket. let same : opened k ≡ took j x = sym mine ∙ rw (ring, ticket) at is in cc) ∙ is;
         holds =
             λ j q p apart is has.
             elim (place c e g k r h z mine closes booked q p) [

@@ -22,13 +22,13 @@ pub record Beside (A B : Type 0) (c : Setup) (word : ℕ → ℕ → A) (z : A) 
   pub turn : cycle c p ≢ cycle c t
 
 -- a ticket of another slot or ring
-pub record Apart (A B : Type 0) (c : Setup) (word : ℕ → ℕ → A) (z : A) (state : ℕ → ℕ → B) (x : B) (r t q p : ℕ) : Type 0 where
+pub record IsOtherSlot (A B : Type 0) (c : Setup) (word : ℕ → ℕ → A) (z : A) (state : ℕ → ℕ → B) (x : B) (r t q p : ℕ) : Type 0 where
   pub apart : q ≡ r → slot c p ≡ slot c t → ⊥
   pub word_is : updated_entry word r (slot c t) z q (slot c p) ≡ word q (slot c p)
   pub state_is : updated_entry state r t x q p ≡ state q p
 
 pub places : {A B : Type 0} → (c : Setup) (word : ℕ → ℕ → A) (z : A) (state : ℕ → ℕ → B) (x : B) (r t q p : ℕ)
-    → Here A B c word z state x r t q p ⊎ (Beside A B c word z state x r t q p ⊎ Apart A B c word z state x r t q p)
+    → Here A B c word z state x r t q p ⊎ (Beside A B c word z state x r t q p ⊎ IsOtherSlot A B c word z state x r t q p)
 places c word z state x r t q p =
     elim (updated_entry_or word r (slot c t) z q (slot c p)) [
       | inl a ↦

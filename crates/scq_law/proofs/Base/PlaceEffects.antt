@@ -7,11 +7,11 @@ use Rattle.scq_word.specs.Words.{index_in, cycle_in, is_none_in}
 use Rattle.scq_word.proofs.TicketLemmas.{lower_ticket}
 use Rattle.scq_core.specs.Machine.{Entries, updated_entry}
 use Rattle.scq_core.specs.Table.{ring_slots, cycle, slot}
-use Rattle.scq_core.proofs.UpdatedLemmas.{updated_entry_cases, updated_entry_here, updated_entry_or}
+use Rattle.scq_core.proofs.UpdatedLemmas.{updated_entry_here, updated_entry_or}
 use Rattle.scq_law.specs.Places.{Maker}
 use Rattle.scq_law.proofs.Base.Ghosts.{Ghost, PutState, GetState, unopened, opened, dead, took, placed, pending, is_placed, waiting, with_put}
-use Rattle.scq_law.proofs.Base.BaseGroup.{IsBooked, Holds, Stands, Passed, Moves, Effect, at_ticket}
-use Rattle.scq_law.proofs.Base.PlaceCases.{Here, Beside, Apart, places}
+use Rattle.scq_law.proofs.Base.BaseGroup.{updated_entry_else, IsBooked, Holds, Stands, Passed, Moves, Effect, at_ticket}
+use Rattle.scq_law.proofs.Base.PlaceCases.{Here, Beside, IsOtherSlot, places}
 
 -- a word e without an index and of a cycle before d becomes z, which has the index i at the cycle d and is safe
 pub record Fills (s e z d i : ℕ) : Type 0 where
@@ -52,7 +52,7 @@ module _ (c : Setup) (e : Entries) (g : Ghost) (k r t i z : ℕ) (w : List ℕ) 
 
   abbrev place : (q p : ℕ)
       → Here ℕ PutState c e.word z g.puts (placed i w b) r t q p
-      ⊎ (Beside ℕ PutState c e.word z g.puts (placed i w b) r t q p ⊎ Apart ℕ PutState c e.word z g.puts (placed i w b) r t q p)
+      ⊎ (Beside ℕ PutState c e.word z g.puts (placed i w b) r t q p ⊎ IsOtherSlot ℕ PutState c e.word z g.puts (placed i w b) r t q p)
   place q p = places c e.word z g.puts (placed i w b) r t q p
 
   laid_live : (q p : ℕ) → Holds c (refilled c e r t z w).word q p
@@ -106,14 +106,12 @@ module _ (c : Setup) (e : Entries) (g : Ghost) (k r t i z : ℕ) (w : List ℕ) 
       record {
         live = laid_live;
         stands = laid_stands;
-        over =
-            λ q p first at none.
-            elim (place q p) [
-              | inl a ↦ let not : is_none_in (ring_slots c) z ≡ true = rw a.word_is at none in let some = fills.some in absurd (cc)
-              | inr (inl a) ↦
-                  let not : is_none_in (ring_slots c) z ≡ true = rw a.word_is at none in let some = fills.some in absurd (cc)
-              | inr (inr a) ↦ booked.over q p first (rw a.word_is at at) (rw a.word_is at none)
-            ];
+        over = λ q p first at none. elim (place q p) [
+          | inl a ↦ let not : is_none_in (ring_slots c) z ≡ true = rw a.word_is at none in let some = fills.some in absurd (cc)
+          | inr (inl a) ↦
+              let not : is_none_in (ring_slots c) z ≡ true = rw a.word_is at none in let some = fills.some in absurd (cc)
+          | inr (inr a) ↦ booked.over q p first (rw a.word_is at at) (rw a.word_is at none)
+        ];
         taken =
             λ q p j x got.
             elim (place q p) [
@@ -149,30 +147,10 @@ module _ (c : Setup) (e : Entries) (g : Ghost) (k r t i z : ℕ) (w : List ℕ) 
   laid_moves : Moves c e g k (refilled c e r t z w) (with_put g r t (placed i w b))
   laid_moves =
       record {
-        pends =
-            λ j q p x apart is.
-            updated_entry_cases
-            (λ _ _ v. v ≡ pending j x)
-            g.puts
-            r
-            t
-            (placed i w b)
-            q
-            p
-            (λ ring ticket. let same : pending k i ≡ pending j x = sym mine ∙ rw (ring, ticket) at is in let own : j ≡ k = cc in absurd (apart own))
-            (λ _. is);
-        lies =
-            λ q p x v d is.
-            updated_entry_cases
-            (λ _ _ y. y ≡ placed x v d)
-            g.puts
-            r
-            t
-            (placed i w b)
-            q
-            p
-            (λ ring ticket. let same : pending k i ≡ placed x v d = sym mine ∙ rw (ring, ticket) at is in absurd (cc))
-            (λ _. is);
+        pends = λ j q p x apart is. updated_entry_else g.puts r t (placed i w b) q p
+            (λ ring ticket. let same : pending k i ≡ pending j x = sym mine ∙ rw (ring, ticket) at is in let own : j ≡ k = cc in apart own) ∙ is;
+        lies = λ q p x v d is. updated_entry_else g.puts r t (placed i w b) q p
+            (λ ring ticket. let same : pending k i ≡ placed x v d = sym mine ∙ rw (ring, ticket) at is in cc) ∙ is;
         opens = λ j q p apart is. is;
         ends = λ q p is. is;
         takes = λ q p j x is. is;

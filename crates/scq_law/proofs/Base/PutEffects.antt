@@ -6,7 +6,7 @@ use Rattle.scq_word.specs.declared.setup.Setup.{Setup}
 use Rattle.scq_core.specs.Machine.{Entries}
 use Rattle.scq_core.proofs.UpdatedLemmas.{updated_entry_or, updated_entry_cases}
 use Rattle.scq_law.proofs.Base.Ghosts.{Ghost, PutState, fresh, pending, failed, placed, is_placed, with_put}
-use Rattle.scq_law.proofs.Base.BaseGroup.{IsBooked, Moves, Effect}
+use Rattle.scq_law.proofs.Base.BaseGroup.{updated_entry_else, IsBooked, Moves, Effect}
 
 -- the state of a ticket that no other seat has drawn, and where nothing was placed
 abbrev pub is_ours : ℕ → PutState → Bool
@@ -30,30 +30,10 @@ ours_pending k j i x ours is =
 pub put_moves : (c : Setup) (e : Entries) (g : Ghost) (k r t : ℕ) (y : PutState) → is_ours k (g.puts r t) ≡ true → Moves c e g k e (with_put g r t y)
 put_moves c e g k r t y ours =
     record {
-      pends =
-          λ j q p i apart is.
-          updated_entry_cases
-          (λ _ _ v. v ≡ pending j i)
-          g.puts
-          r
-          t
-          y
-          q
-          p
-          (λ ring ticket. let here : g.puts r t ≡ pending j i = cc in absurd (apart (ours_pending k j i (g.puts r t) ours here)))
-          (λ _. is);
-      lies =
-          λ q p i w b is.
-          updated_entry_cases
-          (λ _ _ v. v ≡ placed i w b)
-          g.puts
-          r
-          t
-          y
-          q
-          p
-          (λ ring ticket. let here : g.puts r t ≡ placed i w b = cc in let not : is_ours k (g.puts r t) ≡ false = ap (is_ours k) here in absurd (cc))
-          (λ _. is);
+      pends = λ j q p i apart is. updated_entry_else g.puts r t y q p
+          (λ ring ticket. let here : g.puts r t ≡ pending j i = cc in apart (ours_pending k j i (g.puts r t) ours here)) ∙ is;
+      lies = λ q p i w b is. updated_entry_else g.puts r t y q p
+          (λ ring ticket. let here : g.puts r t ≡ placed i w b = cc in let not : is_ours k (g.puts r t) ≡ false = ap (is_ours k) here in cc) ∙ is;
       opens = λ j q p apart is. is;
       ends = λ q p is. is;
       takes = λ q p j x is. is;

@@ -4,12 +4,12 @@ use Rattle.std.specs.List.{Contains}
 use Rattle.std.proofs.lemmas.Bool.{cases_eq}
 use Rattle.std.proofs.lemmas.List.Elements.{Contains-push_cases}
 use Rattle.scq_core.specs.declared.ended.Ended.{Ended}
-use Rattle.scq_core.specs.Machine.{Part}
+use Rattle.scq_core.specs.Machine.{SeatPart}
 use Rattle.scq_core.specs.Laws.{total}
 use Rattle.scq_law.specs.Bounds.{tally}
 
 -- seats that no change reaches
-total_still : (f : Part → ℕ) (part later : ℕ → Part) (k n : ℕ) → n ≤ k → ((j : ℕ) → j ≢ k → later j ≡ part j) → total f later n ≡ total f part n
+total_still : (f : SeatPart → ℕ) (part later : ℕ → SeatPart) (k n : ℕ) → n ≤ k → ((j : ℕ) → j ≢ k → later j ≡ part j) → total f later n ≡ total f part n
 total_still f part later k zero high others = refl
 total_still f part later k (suc n) high others =
     let here : f (later n) ≡ f (part n) = ap f (others n (λ same. omega arith)) in
@@ -17,7 +17,7 @@ total_still f part later k (suc n) high others =
     omega arith
 
 -- the sum moves by what the changed part gives more or less
-pub total_change : (f : Part → ℕ) (part later : ℕ → Part) (k n : ℕ) → k < n → ((j : ℕ) → j ≢ k → later j ≡ part j)
+pub total_change : (f : SeatPart → ℕ) (part later : ℕ → SeatPart) (k n : ℕ) → k < n → ((j : ℕ) → j ≢ k → later j ≡ part j)
     → total f later n + f (part k) ≡ total f part n + f (later k)
 total_change f part later k zero low others = absurd (omega arith)
 total_change f part later k (suc n) low others =
@@ -34,11 +34,11 @@ total_change f part later k (suc n) low others =
     ]
 
 -- a sum of smaller numbers
-pub total_le : (f h : Part → ℕ) (part : ℕ → Part) → ((k : ℕ) → f (part k) ≤ h (part k)) → (n : ℕ) → total f part n ≤ total h part n
+pub total_le : (f h : SeatPart → ℕ) (part : ℕ → SeatPart) → ((k : ℕ) → f (part k) ≤ h (part k)) → (n : ℕ) → total f part n ≤ total h part n
 total_le f h part le zero = omega arith
 total_le f h part le (suc n) = let here = le n in let rest = total_le f h part le n in omega arith
 
-pub total_plus : (f h : Part → ℕ) (part : ℕ → Part) (n : ℕ) → total (λ p. f p + h p) part n ≡ total f part n + total h part n
+pub total_plus : (f h : SeatPart → ℕ) (part : ℕ → SeatPart) (n : ℕ) → total (λ p. f p + h p) part n ≡ total f part n + total h part n
 total_plus f h part zero = refl
 total_plus f h part (suc n) = let rest = total_plus f h part n in omega arith
 

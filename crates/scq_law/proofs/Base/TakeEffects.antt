@@ -8,9 +8,9 @@ use Rattle.scq_core.specs.Laws.{IsAbove}
 use Rattle.scq_core.proofs.UpdatedLemmas.{updated_entry_cases}
 use Rattle.scq_law.specs.Places.{Maker}
 use Rattle.scq_law.proofs.Base.Ghosts.{Ghost, GetState, opened, dead, took, placed, is_placed, waiting, with_get}
-use Rattle.scq_law.proofs.Base.BaseGroup.{IsBooked, Holds, Stands, Shut, Passed, Loaded, Moves, Effect, at_ticket}
+use Rattle.scq_law.proofs.Base.BaseGroup.{updated_entry_else, IsBooked, Holds, Stands, Shut, Passed, Loaded, Moves, Effect, at_ticket}
 use Rattle.scq_law.proofs.Base.SlotFacts.{came_back}
-use Rattle.scq_law.proofs.Base.PlaceCases.{Here, Beside, Apart, places}
+use Rattle.scq_law.proofs.Base.PlaceCases.{Here, Beside, IsOtherSlot, places}
 use Rattle.scq_law.proofs.Base.GiveUpEffects.{reworded}
 
 -- a word e that has an index becomes z, which has none
@@ -24,7 +24,7 @@ module _ (c : Setup) (e : Entries) (g : Ghost) (k r h z number : ℕ) (mine : g.
     (empties : Empties (ring_slots c) (at_ticket c e.word r h) z) (booked : IsBooked c e g) where
   abbrev place : (q p : ℕ)
       → Here ℕ GetState c e.word z g.gets (took k number) r h q p
-      ⊎ (Beside ℕ GetState c e.word z g.gets (took k number) r h q p ⊎ Apart ℕ GetState c e.word z g.gets (took k number) r h q p)
+      ⊎ (Beside ℕ GetState c e.word z g.gets (took k number) r h q p ⊎ IsOtherSlot ℕ GetState c e.word z g.gets (took k number) r h q p)
   place q p = places c e.word z g.gets (took k number) r h q p
 
   cycle_z : cycle_in (ring_slots c) z ≡ cycle c h
@@ -51,12 +51,7 @@ module _ (c : Setup) (e : Entries) (g : Ghost) (k r h z number : ℕ) (mine : g.
             absurd (a.turn (sym at_e ∙ there.cycle))
         | inr (inr a) ↦
             let old = booked.stands q p i w b is (rw a.state_is at waits) in
-            record {
-              holds = record { cycle = rw a.word_is old.holds.cycle; index = rw a.word_is old.holds.index };
-              index = rw a.word_is old.index;
-              content = old.content;
-              small = old.small;
-            }
+            record { holds = record { cycle = rw a.word_is old.holds.cycle; index = rw a.word_is old.holds.index }; index = rw a.word_is old.index; content = old.content; small = old.small }
       ]
 
   took_shut : (q p : ℕ) → (with_get g r h (took k number)).gets q p ≡ dead → Shut c (at_ticket c (reworded c e r h z).word q p) (cycle c p)
@@ -79,8 +74,7 @@ module _ (c : Setup) (e : Entries) (g : Ghost) (k r h z number : ℕ) (mine : g.
             λ q p first at none.
             elim (place q p) [
               | inl a ↦ rw a.state_is refl
-              | inr (inl a) ↦
-                  let at_z : cycle_in (ring_slots c) z ≡ cycle c p = rw a.word_is at at in absurd (a.turn (sym at_z ∙ cycle_z))
+              | inr (inl a) ↦ let at_z : cycle_in (ring_slots c) z ≡ cycle c p = rw a.word_is at at in absurd (a.turn (sym at_z ∙ cycle_z))
               | inr (inr a) ↦ rw a.state_is (booked.over q p first (rw a.word_is at at) (rw a.word_is at none))
             ];
         taken =
@@ -131,18 +125,8 @@ module _ (c : Setup) (e : Entries) (g : Ghost) (k r h z number : ℕ) (mine : g.
       record {
         pends = λ j q p i apart is. is;
         lies = λ q p i w b is. is;
-        opens =
-            λ j q p apart is.
-            updated_entry_cases
-            (λ _ _ v. v ≡ opened j)
-            g.gets
-            r
-            h
-            (took k number)
-            q
-            p
-            (λ ring ticket. absurd (apart (opened_once j q p is ring ticket)))
-            (λ _. is);
+        opens = λ j q p apart is. updated_entry_else g.gets r h (took k number) q p
+            (λ ring ticket. apart (opened_once j q p is ring ticket)) ∙ is;
         ends =
             λ q p is.
             updated_entry_cases (λ _ _ v. v ≡ dead) g.gets r h (took k number) q p (λ ring ticket. absurd (cc)) (λ _. is);

@@ -9,7 +9,7 @@ use Rattle.scq_core.specs.Machine.{Machine, read, beside}
 use Rattle.scq_core.specs.Table.{turn_of, location_of, moved}
 use Rattle.scq_core.specs.Start.{start_of}
 use Rattle.scq_core.specs.Reach.{IsReachable, at_start, by_step}
-use Rattle.scq_core.proofs.Turns.{Turned, turned}
+use Rattle.scq_core.proofs.Turns.{IsTurnOf, turned}
 use Rattle.scq_law.proofs.Base.Ghosts.{Ghost, start_ghost}
 use Rattle.scq_law.proofs.Base.TicketEvents.{TicketEvent, event, ghost_by}
 
@@ -33,7 +33,7 @@ pub record HasTrace (c : Setup) (m : Machine) : Type 0 where
   pub ghost : Ghost
   pub trace : Trace c time ghost m
 
-pub trace_by : (c : Setup) (m n : Machine) (k : ℕ) (s : Step) (time : ℕ) (g : Ghost) → Trace c time g m → k < c.seats → (t : Turned c m k s n)
+pub trace_by : (c : Setup) (m n : Machine) (k : ℕ) (s : Step) (time : ℕ) (g : Ghost) → Trace c time g m → k < c.seats → (t : IsTurnOf c m k s n)
     → Trace c (time + 1) (ghost_after c m time k t.turn g) n
 trace_by c m n k s time g trace low t =
     rw t.next (trace_step k s t.turn trace low t.enabled)

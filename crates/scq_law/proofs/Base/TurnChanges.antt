@@ -6,7 +6,7 @@ use Rattle.scq_word.specs.declared.setup.Setup.{Setup}
 use Rattle.scq_word.specs.Words.{safe_in, cycle_in, is_none_in}
 use Rattle.scq_core.specs.declared.phase.Phase.{Phase}
 use Rattle.scq_core.specs.declared.phase.Phase.TheVariants.{Idle, AtE1, AtE2, AtE3, AtE4, AtE5, AtE6, AtD1, AtD2, AtD3, AtD4, AtD5, AtD6, AtD7, AtD8, AtD9, AtD10}
-use Rattle.scq_core.specs.Machine.{Cells, Part}
+use Rattle.scq_core.specs.Machine.{Cells, SeatPart}
 use Rattle.scq_core.specs.Table.{ring_slots, cycle, zero_level, reset_level, after, cells_after}
 use Rattle.scq_core.specs.Laws.{word_at}
 use Rattle.scq_core.proofs.UpdatedLemmas.{updated_same}
@@ -16,7 +16,7 @@ use Rattle.scq_law.proofs.Base.TicketEvents.{TicketEvent, event, stance_by, hand
 use Rattle.scq_law.proofs.Base.TurnOutcomes.{found, content}
 
 -- how cells and part of seat k change, as the event e says
-pub record Changes (c : Setup) (m : Cells) (p : Part) (turn : Phase) (e : TicketEvent) (n : Cells) (q : Part) : Type 0 where
+pub record Changes (c : Setup) (m : Cells) (p : SeatPart) (turn : Phase) (e : TicketEvent) (n : Cells) (q : SeatPart) : Type 0 where
   pub stance : stance_of q.phase ≡ stance_by e (stance_of turn)
   pub hand : q.hand ≡ hand_by e p.hand
   pub calls : q.calls ≡ p.calls ++ ended_by e
@@ -25,15 +25,15 @@ pub record Changes (c : Setup) (m : Cells) (p : Part) (turn : Phase) (e : Ticket
   pub head : n.head ≡ head_by e m.head
   pub threshold : n.threshold ≡ threshold_by c e m.threshold
 
-abbrev pub ChangesOf : Setup → Cells → Part → Phase → Type 0
+abbrev pub ChangesOf : Setup → Cells → SeatPart → Phase → Type 0
 ChangesOf c m p turn =
     Changes c m p turn (event c turn (found c m turn) (content c m turn)) (cells_after c turn m) (after c turn (found c m turn) (content c m turn) p)
 
 -- no call ends
-same_calls : (p : Part) → p.calls ≡ p.calls ++ []
+same_calls : (p : SeatPart) → p.calls ≡ p.calls ++ []
 same_calls p = sym (append-nil p.calls)
 
-pub changes : (c : Setup) (m : Cells) (p : Part) (turn : Phase) → (turn ≡ Idle → ⊥) → ChangesOf c m p turn
+pub changes : (c : Setup) (m : Cells) (p : SeatPart) (turn : Phase) → (turn ≡ Idle → ⊥) → ChangesOf c m p turn
 changes c m p Idle awake = absurd (awake refl)
 changes c m p (AtE1 r i w l) awake =
     elim (cases_Bool (nat_le c.limit (m.tail r))) [

@@ -7,7 +7,7 @@ use Rattle.scq_word.specs.Words.{packed, cycle_in, is_none_in}
 use Rattle.scq_core.specs.declared.phase.Phase.{Phase}
 use Rattle.scq_core.specs.declared.phase.Phase.TheVariants.{Idle, AtE1, AtE2, AtE3, AtE4, AtE5, AtE6, AtD1, AtD2, AtD3, AtD4, AtD5, AtD6, AtD7, AtD8, AtD9, AtD10}
 use Rattle.scq_core.specs.declared.step.Step.{Step}
-use Rattle.scq_core.specs.Machine.{Part, Machine}
+use Rattle.scq_core.specs.Machine.{SeatPart, Machine}
 use Rattle.scq_core.specs.Table.{ring_slots, cycle, zero_level, reset_level, after, turn_of, moved, passed}
 use Rattle.scq_core.specs.Laws.{Busy, word_at}
 use Rattle.scq_core.proofs.UpdatedLemmas.{updated_here, updated_else}
@@ -26,7 +26,7 @@ use Rattle.scq_law.proofs.Base.EntryWrites.{closes_later, closes_passed, fills_p
 use Rattle.scq_law.proofs.Window.FailCauses.{placement, fail_cause}
 use Rattle.scq_law.proofs.Base.TurnOutcomes.{found, content}
 use Rattle.scq_law.proofs.Base.Based.{IsBased, turn_claims, turn_knows}
-use Rattle.scq_law.proofs.Base.TurnOrigins.{From, is_first, came_from, goes_from}
+use Rattle.scq_law.proofs.Base.TurnOrigins.{From, is_first_step, came_from, goes_from}
 use Rattle.scq_law.proofs.Base.TurnChanges.{ChangesOf, changes}
 
 -- what held before the event of a turn
@@ -40,12 +40,7 @@ module _ (c : Setup) (m : Machine) (g : Ghost) (k : ℕ) (booked : IsBooked c m.
       elim (cases_Bool (nat_le c.limit (m.cells.tail r))) [
         | inl past ↦
             rw past
-            (record {
-              at_tail = refl;
-              past = leb-true c.limit (m.cells.tail r) past;
-              ring = offers.ring;
-              was = elim from [ inl s ↦ inl (record { rests = s.rests; keeps = s.keeps }) | inr o ↦ inr (i, w, o.stance) ];
-            })
+            (record { at_tail = refl; past = leb-true c.limit (m.cells.tail r) past; ring = offers.ring; was = elim from [ inl s ↦ inl (record { rests = s.rests; keeps = s.keeps }) | inr o ↦ inr (i, w, o.stance) ] })
         | inr under ↦
             rw under
             (record {
@@ -69,13 +64,7 @@ module _ (c : Setup) (m : Machine) (g : Ghost) (k : ℕ) (booked : IsBooked c m.
         | inl fits ↦ rw fits tt
         | inr fails ↦
             rw fails
-            (record {
-              was = goes_from (m.part k) (AtE2 r i w t l) refl from;
-              pending = mine;
-              index = offers.index;
-              held = offers.held;
-              cause = fail_cause c m.cells.entries g m.cells.tail m.cells.head k r i t booked drawn low.first mine fails;
-            })
+            (record { was = goes_from (m.part k) (AtE2 r i w t l) refl from; pending = mine; index = offers.index; held = offers.held; cause = fail_cause c m.cells.entries g m.cells.tail m.cells.head k r i t booked drawn low.first mine fails })
       ]
 
   proper_E3 : (r i : ℕ) (w : List ℕ) (t e : ℕ) → From (m.part k) (AtE3 r i w t e) → Busy c m.cells (m.part k).hand (AtE3 r i w t e) → g.puts r t ≡ pending k i
@@ -86,13 +75,7 @@ module _ (c : Setup) (m : Machine) (g : Ghost) (k : ℕ) (booked : IsBooked c m.
         | inl low ↦ rw low tt
         | inr fails ↦
             rw fails
-            (record {
-              was = goes_from (m.part k) (AtE3 r i w t e) refl from;
-              pending = mine;
-              index = offers.index;
-              held = offers.held;
-              cause = inl (leb-false (m.cells.head r) t fails);
-            })
+            (record { was = goes_from (m.part k) (AtE3 r i w t e) refl from; pending = mine; index = offers.index; held = offers.held; cause = inl (leb-false (m.cells.head r) t fails) })
       ]
 
   proper_E4 : (r i : ℕ) (w : List ℕ) (t e : ℕ) → From (m.part k) (AtE4 r i w t e) → Busy c m.cells (m.part k).hand (AtE4 r i w t e) → g.puts r t ≡ pending k i
@@ -252,7 +235,7 @@ module _ (c : Setup) (m : Machine) (g : Ghost) (k : ℕ) (booked : IsBooked c m.
   proper (AtD10 r h false) awake from busy claims knows = proper_D10 r h from claims
 
 -- what the stance is after a call's first step does not depend on what it was
-first_forgets : (c : Setup) (turn : Phase) (x : ℕ) (y : List ℕ) (s z : Stance) → is_first turn ≡ true
+first_forgets : (c : Setup) (turn : Phase) (x : ℕ) (y : List ℕ) (s z : Stance) → is_first_step turn ≡ true
     → stance_by (event c turn x y) s ≡ stance_by (event c turn x y) z
 first_forgets c (AtE1 r i w l) x y s z first =
     elim (cases_Bool (nat_le c.limit x)) [ inl past ↦ rw past refl | inr under ↦ rw under refl ]
@@ -261,7 +244,7 @@ first_forgets c (AtD1 r) x y s z first =
 first_forgets c turn x y s z first = absurd (cc)
 
 -- the stance afterwards, recorded from the seat's own before
-pub own_stance : (c : Setup) (p : Part) (turn : Phase) (x : ℕ) (y : List ℕ) → From p turn
+pub own_stance : (c : Setup) (p : SeatPart) (turn : Phase) (x : ℕ) (y : List ℕ) → From p turn
     → stance_by (event c turn x y) (stance_of turn) ≡ stance_by (event c turn x y) (stance_of p.phase)
 own_stance c p turn x y from =
     elim from [

@@ -5,16 +5,16 @@ use Rattle.scq_word.specs.declared.setup.Setup.{Setup}
 use Rattle.scq_core.specs.declared.phase.Phase.{Phase}
 use Rattle.scq_core.specs.declared.phase.Phase.TheVariants.{AtE1, AtD1}
 use Rattle.scq_core.specs.declared.step.Step.{Step}
-use Rattle.scq_core.specs.Machine.{Part}
+use Rattle.scq_core.specs.Machine.{SeatPart}
 use Rattle.scq_core.specs.Table.{turn_of, next_step}
 use Rattle.scq_core.proofs.Turns.{Begins, begins_put, begins_get, begins, Enables, new_put, new_get, continues, enables}
 use Rattle.scq_core.specs.Stances.{resting, stance_of}
 
 -- a first step of a call; a dequeue's never is what a seat rests at
-abbrev pub is_first : Phase → Bool
-is_first (AtE1 r i w l) = true
-is_first (AtD1 r) = true
-is_first _ = false
+abbrev pub is_first_step : Phase → Bool
+is_first_step (AtE1 r i w l) = true
+is_first_step (AtD1 r) = true
+is_first_step _ = false
 
 -- what a seat in the middle of a call is at has a next step
 next_enabled : (c : Setup) (hand : List ℕ) (spent : Option ℕ) (phase : Phase) (step : Step) (turn : Phase) → Enables c hand spent phase step turn
@@ -24,25 +24,25 @@ next_enabled c hand spent phase step turn (new_get r ring) same = absurd (cc)
 next_enabled c hand spent phase step turn (continues kept own s next new) same = next
 
 -- the seat is idle, keeps no ticket, and the turn is a call's first
-pub record Starts (p : Part) (turn : Phase) : Type 0 where
+pub record Starts (p : SeatPart) (turn : Phase) : Type 0 where
   pub rests : stance_of p.phase ≡ resting
   pub keeps : p.spent ≡ None
-  pub first : is_first turn ≡ true
+  pub first : is_first_step turn ≡ true
 
 -- the seat is in the middle of a call
-pub record GoesOn (p : Part) (turn : Phase) : Type 0 where
+pub record IsInMidCall (p : SeatPart) (turn : Phase) : Type 0 where
   pub stance : stance_of p.phase ≡ stance_of turn
   pub step : Step
   pub on : next_step turn ≡ Some step
 
-abbrev pub From : Part → Phase → Type 0
-From p turn = Starts p turn ⊎ GoesOn p turn
+abbrev pub From : SeatPart → Phase → Type 0
+From p turn = Starts p turn ⊎ IsInMidCall p turn
 
-begins_first : (c : Setup) (hand : List ℕ) (turn : Phase) → Begins c hand turn → is_first turn ≡ true
+begins_first : (c : Setup) (hand : List ℕ) (turn : Phase) → Begins c hand turn → is_first_step turn ≡ true
 begins_first c hand turn (begins_put r i w ring index held) = refl
 begins_first c hand turn (begins_get r ring) = refl
 
-pub came_from : (c : Setup) (p : Part) (s : Step) (turn : Phase) → turn_of c p s ≡ Some turn → From p turn
+pub came_from : (c : Setup) (p : SeatPart) (s : Step) (turn : Phase) → turn_of c p s ≡ Some turn → From p turn
 came_from c p s turn enabled =
     elim (begins c p.hand p.spent p.phase s turn enabled) [
       | inl same ↦
@@ -58,5 +58,5 @@ came_from c p s turn enabled =
     ]
 
 -- a turn that is no first step goes on
-pub goes_from : (p : Part) (turn : Phase) → is_first turn ≡ false → From p turn → stance_of p.phase ≡ stance_of turn
+pub goes_from : (p : SeatPart) (turn : Phase) → is_first_step turn ≡ false → From p turn → stance_of p.phase ≡ stance_of turn
 goes_from p turn later from = elim from [ inl s ↦ let first = s.first in absurd (cc) | inr g ↦ g.stance ]

@@ -8,7 +8,7 @@ use Rattle.scq_word.specs.Words.{packed, safe_in, cycle_in, is_none_in}
 use Rattle.scq_core.specs.declared.phase.Phase.{Phase}
 use Rattle.scq_core.specs.declared.phase.Phase.TheVariants.{Idle, AtE1, AtE2, AtE3, AtE4, AtE5, AtE6, AtD1, AtD2, AtD3, AtD4, AtD5, AtD6, AtD7, AtD8, AtD9, AtD10}
 use Rattle.scq_core.specs.Updated.{updated}
-use Rattle.scq_core.specs.Machine.{Cells, Entries, Part, tail_of, head_of, entry_of, read, beside, written}
+use Rattle.scq_core.specs.Machine.{Cells, Entries, SeatPart, tail_of, head_of, entry_of, read, beside, written}
 use Rattle.scq_core.specs.Table.{ring_slots, cycle, slot, zero_level, reset_level, location_of, after, cells_after, passed, goes_on}
 use Rattle.scq_core.specs.Laws.{Drawn, Busy, word_at}
 use Rattle.scq_core.proofs.UpdatedLemmas.{updated_here, updated_same, updated_entry_here, updated_entry_same}
@@ -27,7 +27,7 @@ use Rattle.scq_law.proofs.Base.DrawnTickets.{drawn_rise, drawn_put, drawn_get}
 use Rattle.scq_law.proofs.Base.EntryWrites.{closes_later, closes_passed, empties_marked, fills_packed}
 
 -- what holds after a turn of seat k, which leaves these cells n, this ghost h and this part p
-pub record Outcome (c : Setup) (e : Entries) (g : Ghost) (k : ℕ) (n : Cells) (h : Ghost) (p : Part) : Type 0 where
+pub record Outcome (c : Setup) (e : Entries) (g : Ghost) (k : ℕ) (n : Cells) (h : Ghost) (p : SeatPart) : Type 0 where
   pub effect : Effect c e g k n.entries h
   pub drawn : IsDrawn c n.tail n.head h
   pub claims : Claims h k (length p.calls) (stance_of p.phase)
@@ -40,28 +40,28 @@ found c m turn = read m (location_of c turn)
 abbrev pub content : Setup → Cells → Phase → List ℕ
 content c m turn = beside m (location_of c turn)
 
-abbrev pub ghost_then : Setup → Cells → Ghost → ℕ → ℕ → Part → Phase → Ghost
+abbrev pub ghost_then : Setup → Cells → Ghost → ℕ → ℕ → SeatPart → Phase → Ghost
 ghost_then c m g time k p turn = ghost_by (event c turn (found c m turn) (content c m turn)) time k (length p.calls) g
 
-abbrev pub OutcomeOf : Setup → Cells → Ghost → ℕ → ℕ → Part → Phase → Type 0
+abbrev pub OutcomeOf : Setup → Cells → Ghost → ℕ → ℕ → SeatPart → Phase → Type 0
 OutcomeOf c m g time k p turn =
     Outcome c m.entries g k (cells_after c turn m) (ghost_then c m g time k p turn) (after c turn (found c m turn) (content c m turn) p)
 
 -- an entry that is only read
-read_entry : (c : Setup) (m : Cells) (g : Ghost) (k r s : ℕ) (h : Ghost) (q : Part) → Outcome c m.entries g k m h q
+read_entry : (c : Setup) (m : Cells) (g : Ghost) (k r s : ℕ) (h : Ghost) (q : SeatPart) → Outcome c m.entries g k m h q
     → Outcome c m.entries g k (written m (entry_of r s) (m.entries.word r s) (m.entries.content r s)) h q
 read_entry c m g k r s h q holds = rw (updated_entry_same m.entries.word r s, updated_entry_same m.entries.content r s) holds
 
 -- the counters of a ring that are only read
-read_tail : (c : Setup) (m : Cells) (g : Ghost) (k r : ℕ) (h : Ghost) (q : Part) → Outcome c m.entries g k m h q
+read_tail : (c : Setup) (m : Cells) (g : Ghost) (k r : ℕ) (h : Ghost) (q : SeatPart) → Outcome c m.entries g k m h q
     → Outcome c m.entries g k (written m (tail_of r) (m.tail r) []) h q
 read_tail c m g k r h q holds = rw (updated_same m.tail r) holds
 
-read_head : (c : Setup) (m : Cells) (g : Ghost) (k r : ℕ) (h : Ghost) (q : Part) → Outcome c m.entries g k m h q
+read_head : (c : Setup) (m : Cells) (g : Ghost) (k r : ℕ) (h : Ghost) (q : SeatPart) → Outcome c m.entries g k m h q
     → Outcome c m.entries g k (written m (head_of r) (m.head r) []) h q
 read_head c m g k r h q holds = rw (updated_same m.head r) holds
 
-module _ (c : Setup) (m : Cells) (g : Ghost) (time k : ℕ) (p : Part) (booked : IsBooked c m.entries g) (drawn : IsDrawn c m.tail m.head g) where
+module _ (c : Setup) (m : Cells) (g : Ghost) (time k : ℕ) (p : SeatPart) (booked : IsBooked c m.entries g) (drawn : IsDrawn c m.tail m.head g) where
   quiet : Effect c m.entries g k m.entries g
   quiet = no_effect c m.entries g k booked
 
@@ -71,7 +71,7 @@ module _ (c : Setup) (m : Cells) (g : Ghost) (time k : ℕ) (p : Part) (booked :
       put_effect c m.entries g k r t (failed time i b) (ap (is_ours k) mine ∙ eq-eqb k k refl) refl booked
 
   -- a ticket that is given up while the entry's word becomes z
-  gives_up : (r h z : ℕ) (q : Part) → g.gets r h ≡ opened k → Drawn c (m.head r) h → Closes (ring_slots c) (word_at c m r h) z (cycle c h)
+  gives_up : (r h z : ℕ) (q : SeatPart) → g.gets r h ≡ opened k → Drawn c (m.head r) h → Closes (ring_slots c) (word_at c m r h) z (cycle c h)
       → Outcome c m.entries g k (written m (entry_of r (slot c h)) z (m.entries.content r (slot c h))) (with_get g r h dead) (goes_on (AtD6 r h) q)
   gives_up r h z q mine low closes =
       rw (updated_entry_same m.entries.content r (slot c h))
@@ -184,7 +184,7 @@ module _ (c : Setup) (m : Cells) (g : Ghost) (time k : ℕ) (p : Part) (booked :
         | inr low ↦ rw low (record { effect = quiet; drawn = drawn; claims = mine; knows = tt })
       ]
 
-module _ (c : Setup) (m : Cells) (g : Ghost) (time k : ℕ) (p : Part) (booked : IsBooked c m.entries g) (drawn : IsDrawn c m.tail m.head g) where
+module _ (c : Setup) (m : Cells) (g : Ghost) (time k : ℕ) (p : SeatPart) (booked : IsBooked c m.entries g) (drawn : IsDrawn c m.tail m.head g) where
   still : Effect c m.entries g k m.entries g
   still = no_effect c m.entries g k booked
 

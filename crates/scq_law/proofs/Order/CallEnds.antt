@@ -46,6 +46,9 @@ pub data EndsEmpty (c : Setup) (m : Machine) (turn : Phase) (r : ℕ) : Type 0 w
   decided : Decides m turn r → EndsEmpty c m turn r
   left : (h : ℕ) → turn ≡ AtD10 r h true → EndsEmpty c m turn r
 
+same_nothing : (q r : ℕ) → ◌≡◌ {A = List Ended} (Nothing q ∷ []) (Nothing r ∷ []) → q ≡ r
+same_nothing q r same = cc
+
 pub ends_empty : (c : Setup) (m : Machine) (turn : Phase) (r : ℕ) → ended_by (event_of c m turn) ≡ Nothing r ∷ [] → EndsEmpty c m turn r
 ends_empty c m Idle r is = absurd (cc)
 ends_empty c m (AtE1 q i w l) r is =
@@ -77,10 +80,7 @@ ends_empty c m (AtE5 q i w t) r is =
 ends_empty c m (AtE6 q i w t) r is = absurd (cc)
 ends_empty c m (AtD1 q) r is =
     elim (cases_Bool (nat_lt (m.cells.threshold q) zero_level)) [
-      | inl a ↦
-          let e : Nothing q ∷ [] ≡ Nothing r ∷ [] = rw a at is in
-          let ring : q ≡ r = cc in
-          decided (ring, ltb-true (m.cells.threshold r) zero_level (rw (← ring) a))
+      | inl a ↦ let ring = same_nothing q r (rw a at is) in decided (ring, ltb-true (m.cells.threshold r) zero_level (rw (← ring) a))
       | inr a ↦ let e : ◌≡◌ {A = List Ended} [] (Nothing r ∷ []) = rw a at is in absurd (cc)
     ]
 ends_empty c m (AtD2 q l) r is =
@@ -121,10 +121,7 @@ ends_empty c m (AtD10 q h true) r is =
     left h (ap (λ (z : ℕ). AtD10 z h true) ring)
 ends_empty c m (AtD10 q h false) r is =
     elim (cases_Bool (nat_le (m.cells.threshold q) zero_level)) [
-      | inl a ↦
-          let e : Nothing q ∷ [] ≡ Nothing r ∷ [] = rw a at is in
-          let ring : q ≡ r = cc in
-          decided (ring, leb-true (m.cells.threshold r) zero_level (rw (← ring) a))
+      | inl a ↦ let ring = same_nothing q r (rw a at is) in decided (ring, leb-true (m.cells.threshold r) zero_level (rw (← ring) a))
       | inr a ↦ let e : ◌≡◌ {A = List Ended} [] (Nothing r ∷ []) = rw a at is in absurd (cc)
     ]
 

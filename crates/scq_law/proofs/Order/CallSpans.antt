@@ -15,7 +15,7 @@ use Rattle.scq_law.specs.RunSteps.{Run, IsStepOf, recorded_before, state_before}
 use Rattle.scq_law.specs.Spans.{RestsAt, CallsApart}
 use Rattle.scq_law.proofs.Replays.RunLaws.{run_reaches}
 use Rattle.scq_law.proofs.Replays.RunPrefixes.{prefix_trans}
-use Rattle.scq_law.proofs.Retries.StepLaws.{most, taken_by, made, made_step}
+use Rattle.scq_law.proofs.Retries.StepLaws.{most, steps_taken, steps_made, made_step}
 use Rattle.scq_law.proofs.Order.RunStates.{moment_run, step_facts}
 use Rattle.scq_law.proofs.Order.CallEnds.{calls_grow}
 
@@ -28,7 +28,7 @@ same_seat o a b s t one other = ap seat_of (sym one ∙ other)
 
 module _ (run : Run) (recorded : Recorded) (is_run : IsRun run.setup run.opening run.steps recorded) where
   abbrev made_at : ℕ → ℕ → ℕ
-  made_at i k = made run.setup ((state_before run i).part k)
+  made_at i k = steps_made run.setup ((state_before run i).part k)
 
   -- what a seat may have made does not fall
   made_next : (i k : ℕ) → i < length run.steps → made_at i k ≤ made_at (i + 1) k
@@ -36,8 +36,8 @@ module _ (run : Run) (recorded : Recorded) (is_run : IsRun run.setup run.opening
       let f = step_facts run recorded is_run i low in
       let reach = run_reaches run.setup run.opening (take i run.steps) (recorded_before run i) (moment_run run recorded is_run i) in
       let up = made_step run.setup (recorded_before run i) k f.seat f.step f.turn reach f.enabled in
-      let is : made_at (i + 1) k ≡ made run.setup ((recorded_after run.setup f.seat f.turn (recorded_before run i)).state.part k) =
-      ap (λ (t : Recorded). made run.setup (t.state.part k)) f.recorded in
+      let is : made_at (i + 1) k ≡ steps_made run.setup ((recorded_after run.setup f.seat f.turn (recorded_before run i)).state.part k) =
+      ap (λ (t : Recorded). steps_made run.setup (t.state.part k)) f.recorded in
       omega arith
 
   made_up : (d i k : ℕ) → i + d ≤ length run.steps → made_at i k ≤ made_at (i + d) k
@@ -56,9 +56,9 @@ module _ (run : Run) (recorded : Recorded) (is_run : IsRun run.setup run.opening
       let reach = run_reaches run.setup run.opening (take i run.steps) (recorded_before run i) (moment_run run recorded is_run i) in
       let up = made_step run.setup (recorded_before run i) k f.seat f.step f.turn reach f.enabled in
       let seat : f.seat ≡ k = same_seat (slice_get run.steps i) f.seat k f.step step f.there there in
-      let is : made_at (i + 1) k ≡ made run.setup ((recorded_after run.setup f.seat f.turn (recorded_before run i)).state.part k) =
-      ap (λ (t : Recorded). made run.setup (t.state.part k)) f.recorded in
-      let own : made_at i k + 1 ≤ made run.setup ((recorded_after run.setup f.seat f.turn (recorded_before run i)).state.part k) =
+      let is : made_at (i + 1) k ≡ steps_made run.setup ((recorded_after run.setup f.seat f.turn (recorded_before run i)).state.part k) =
+      ap (λ (t : Recorded). steps_made run.setup (t.state.part k)) f.recorded in
+      let own : made_at i k + 1 ≤ steps_made run.setup ((recorded_after run.setup f.seat f.turn (recorded_before run i)).state.part k) =
       rw (eq-eqb f.seat k seat) at up in
       omega arith
 
@@ -72,7 +72,7 @@ module _ (run : Run) (recorded : Recorded) (is_run : IsRun run.setup run.opening
             let same : length q.calls ≡ length p.calls = let n = is.in_call in let m = rests.count in omega arith in
             let product : length q.calls * most run.setup ≡ length p.calls * most run.setup = ap (λ (n : ℕ). n * most run.setup) same in
             let none : made_at moment seat ≡ length q.calls * most run.setup + 0 =
-            ap (λ ph. length q.calls * most run.setup + taken_by run.setup ph) rests.idle in
+            ap (λ ph. length q.calls * most run.setup + steps_taken run.setup ph) rests.idle in
             let own = made_own i seat is.step is.there in
             let gap : i + 1 + (moment - (i + 1)) ≡ moment = omega arith in
             let up : made_at (i + 1) seat ≤ made_at moment seat = rw gap at (made_up (moment - (i + 1)) (i + 1) seat (let w = rests.within in omega arith)) in

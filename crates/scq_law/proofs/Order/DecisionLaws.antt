@@ -7,7 +7,7 @@ use Rattle.scq_word.specs.declared.setup.Setup.{Setup}
 use Rattle.scq_core.specs.declared.ended.Ended.{Ended}
 use Rattle.scq_core.specs.declared.ended.Ended.TheVariants.{Nothing}
 use Rattle.scq_core.specs.declared.phase.Phase.{Phase}
-use Rattle.scq_core.specs.Machine.{Part, Machine}
+use Rattle.scq_core.specs.Machine.{SeatPart, Machine}
 use Rattle.scq_core.specs.Stances.{resting, drawing, landed, seeking, trying, gave_up, stance_of}
 use Rattle.scq_law.specs.Run.{Recorded, IsRun}
 use Rattle.scq_law.proofs.Base.EventFacts.{stance, EventFacts}
@@ -28,7 +28,7 @@ use Rattle.scq_law.proofs.Order.KeyUnique.{leaves_after}
 use Rattle.scq_law.proofs.Order.MarkedSteps.{leaving_from, no_one}
 
 -- a deciding event ends its call with Nothing, if at all
-decision_ends : (m : Machine) (k : ℕ) (e : TicketEvent) (r : ℕ) (x : Ended) → law.Decides m k e r → ended_by e ≡ x ∷ [] → x ≡ Nothing r
+decision_ends : (m : Machine) (k : ℕ) (e : TicketEvent) (r : ℕ) (x : Ended) → law.DecidesEmpty m k e r → ended_by e ≡ x ∷ [] → x ≡ Nothing r
 decision_ends m k e r x (law.by_refusal u) is = let same : Nothing u ≡ x = cc in sym same
 decision_ends m k e r x (law.by_end u h) is = absurd (cc)
 decision_ends m k e r x (law.by_level u h at) is = let same : Nothing u ≡ x = cc in sym same
@@ -92,8 +92,8 @@ module _ (run : Run) (recorded : Recorded) (is_run : IsRun run.setup run.opening
         | inl same ↦ rw same (own i f (old f.seat) h r (rw (← same) at))
         | inr apart ↦
             let part = f.event.event_facts.others k apart in
-            let was = old k h r (sym (ap (λ (p : Part). stance_of p.phase) part) ∙ at) in
-            record { at = was.at; is = subst (λ (x : ℕ). IsDecidingStep run was.at k x r) (ap (λ (p : Part). length p.calls) (sym part)) was.is }
+            let was = old k h r (sym (ap (λ (p : SeatPart). stance_of p.phase) part) ∙ at) in
+            record { at = was.at; is = subst (λ (x : ℕ). IsDecidingStep run was.at k x r) (ap (λ (p : SeatPart). length p.calls) (sym part)) was.is }
       ])
     where
       own : (i : ℕ) (f : StepFacts run i) → ((h r : ℕ) → stance (state_before run i) f.seat ≡ gave_up r h true → HasDecided run r i f.seat) → (h r : ℕ)

@@ -29,7 +29,7 @@ use Rattle.scq_law.proofs.Order.RunDraws.{CallEnd, call_end, makes_is}
 
 -- a deciding turn is a deciding event
 decides_event : (c : Setup) (m : Machine) (k : ℕ) (turn : Phase) (r : ℕ) → ((h : ℕ) → turn ≡ AtD10 r h false → stance m k ≡ gave_up r h false)
-    → Decides m turn r → law.Decides m k (event_of c m turn) r
+    → Decides m turn r → law.DecidesEmpty m k (event_of c m turn) r
 decides_event c m k (AtD1 q) r at d =
     let is : nat_lt (m.cells.threshold q) zero_level ≡ true = rw d.0 (lt-ltb (m.cells.threshold r) zero_level d.1) in
     rw (is, d.0) (law.by_refusal r)
@@ -42,7 +42,7 @@ decides_event c m k (AtD10 q h false) r at d =
 decides_event c m k turn r at d = absurd d
 
 -- it ends no put
-ends_no_put : (m : Machine) (k : ℕ) (e : TicketEvent) (r q p : ℕ) (w : List ℕ) → law.Decides m k e r → ended_by e ≡ Done q p w ∷ [] → ⊥
+ends_no_put : (m : Machine) (k : ℕ) (e : TicketEvent) (r q p : ℕ) (w : List ℕ) → law.DecidesEmpty m k e r → ended_by e ≡ Done q p w ∷ [] → ⊥
 ends_no_put m k e r q p w (law.by_refusal u) is = cc
 ends_no_put m k e r q p w (law.by_end u h) is = cc
 ends_no_put m k e r q p w (law.by_level u h at) is = cc
@@ -57,7 +57,7 @@ module _ (run : Run) (recorded : Recorded) (is_run : IsRun run.setup run.opening
 
   -- the deciding event of a deciding step
   pub deciding : (d k x r : ℕ) (low : d < length run.steps) → IsDecidingStep run d k x r
-      → law.Decides (state_before run d) (step_facts run recorded is_run d low).seat
+      → law.DecidesEmpty (state_before run d) (step_facts run recorded is_run d low).seat
       (event_of run.setup (state_before run d) (step_facts run recorded is_run d low).turn) r
   deciding d k x r low is =
       let f = step_facts run recorded is_run d low in

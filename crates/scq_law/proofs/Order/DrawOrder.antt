@@ -10,7 +10,7 @@ use Rattle.scq_core.proofs.UpdatedLemmas.{updated_here}
 use Rattle.scq_law.specs.Places.{Maker, call_of, opening_put}
 use Rattle.scq_law.specs.Run.{Recorded, IsRun}
 use Rattle.scq_law.proofs.Base.Ghosts.{placed, opened}
-use Rattle.scq_law.proofs.Base.TicketEvents.{TicketEvent, calm, drew, fell, laid, finished, entered, refused, began, died, saw_end, lifted, taken, lowered, emptied, overran, ended_by, tail_by, head_by}
+use Rattle.scq_law.proofs.Base.TicketEvents.{TicketEvent, calm, drew, began, taken, ended_by, tail_by, head_by}
 use Rattle.scq_law.proofs.Base.EventFacts.{Proper, Taken}
 use Rattle.scq_law.proofs.Base.Traces.{event_of}
 use Rattle.scq_law.proofs.Places.Throughout.{records_agree}
@@ -23,23 +23,10 @@ use Rattle.scq_law.proofs.Order.Decisions.{within}
 -- an End with Got is that of a turn that took
 pub ended_got : (e : TicketEvent) (r p : ℕ) (w : List ℕ) → ended_by e ≡ Got r p w ∷ [] → (i : ℕ) × (e ≡ taken r p i w)
 ended_got calm r p w is = absurd (cc)
-ended_got (drew q i v t) r p w is = absurd (cc)
-ended_got (fell q i v t z) r p w is = absurd (cc)
-ended_got (laid q i v t) r p w is = absurd (cc)
-ended_got (finished q i v t) r p w is = absurd (cc)
-ended_got (entered q) r p w is = absurd (cc)
-ended_got (refused q) r p w is = absurd (cc)
-ended_got (began q h) r p w is = absurd (cc)
-ended_got (died q h) r p w is = absurd (cc)
-ended_got (saw_end q h) r p w is = absurd (cc)
-ended_got (lifted q h to) r p w is = absurd (cc)
 ended_got (taken q h i v) r p w is =
-    let ring : q ≡ r = cc in
-    let place : h ≡ p = cc in
+    let ring : q ≡ r = cc in let place : h ≡ p = cc in
     let content : v ≡ w = cc in (i, rw (ring, place, content) refl)
-ended_got (lowered q h) r p w is = absurd (cc)
-ended_got (emptied q h) r p w is = absurd (cc)
-ended_got (overran q t z) r p w is = absurd (cc)
+ended_got e r p w is = absurd (cc)
 
 -- the step at which a get took, with the step of its call that drew the ticket
 pub record GetEnd (run : Run) (k x r p : ℕ) (w : List ℕ) : Type 0 where
@@ -50,6 +37,11 @@ pub record GetEnd (run : Run) (k x r p : ℕ) (w : List ℕ) : Type 0 where
   pub maker : Maker
   pub placed : (ghost_before run at).puts r p ≡ placed index w maker
   pub draw : GetDraw run at r p k x
+
+-- a counter that never falls is past nothing at a later step
+falls_never : (f : ℕ → ℕ) → ((a b : ℕ) → a ≤ b → f a ≤ f b) → (i j : ℕ) → f i < f (j + 1) → i ≤ j
+falls_never f up i j less =
+    elim (cases_lt j i) [ inl before ↦ let le = up (j + 1) i (omega arith) in absurd (omega arith) | inr past ↦ past ]
 
 module _ (run : Run) (recorded : Recorded) (is_run : IsRun run.setup run.opening run.steps recorded) where
   -- after a draw the counter is past the ticket
@@ -78,25 +70,15 @@ module _ (run : Run) (recorded : Recorded) (is_run : IsRun run.setup run.opening
   -- higher tickets are drawn later
   pub put_draws_rise : (i j k h r p q : ℕ) → p ≤ q → DrawsPut run i k r p → DrawsPut run j h r q → i ≤ j
   put_draws_rise i j k h r p q order first second =
-      elim (cases_lt j i) [
-        | inl less ↦
-            let up = (rise run recorded is_run (j + 1) i (omega arith)).tail r in
-            let after = tail_after j h r q second in
-            let found = first.found in
-            absurd (omega arith)
-        | inr past ↦ past
-      ]
+      let found = first.found in
+      let after = tail_after j h r q second in
+      falls_never (λ a. (state_before run a).cells.tail r) (λ a b le. (rise run recorded is_run a b le).tail r) i j (omega arith)
 
   pub get_draws_rise : (i j k h r p q : ℕ) → p ≤ q → DrawsGet run i k r p → DrawsGet run j h r q → i ≤ j
   get_draws_rise i j k h r p q order first second =
-      elim (cases_lt j i) [
-        | inl less ↦
-            let up = (rise run recorded is_run (j + 1) i (omega arith)).head r in
-            let after = head_after j h r q second in
-            let found = first.found in
-            absurd (omega arith)
-        | inr past ↦ past
-      ]
+      let found = first.found in
+      let after = head_after j h r q second in
+      falls_never (λ a. (state_before run a).cells.head r) (λ a b le. (rise run recorded is_run a b le).head r) i j (omega arith)
 
   -- and each ticket once
   pub one_put_draw : (i j k h r p : ℕ) → DrawsPut run i k r p → DrawsPut run j h r p → i ≡ j

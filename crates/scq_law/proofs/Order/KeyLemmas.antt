@@ -16,7 +16,7 @@ use Rattle.scq_law.specs.declared.ordered.Ordered.{Ordered}
 use Rattle.scq_law.specs.declared.ordered.Ordered.TheVariants.{Opening, Call}
 use Rattle.scq_law.specs.RunSteps.{Run, IsFinishedRun, DrawsGet, HasEnded, state_before, recorded_before, last_state}
 use Rattle.scq_law.specs.Points.{IsDecidingStep, IsPointOfPlace, of_opening, of_call, IsGetPoint}
-use Rattle.scq_law.specs.Order.{Key, key, IsBefore, HasKey, of_nothing, of_put, of_get}
+use Rattle.scq_law.specs.Order.{Key, key, IsEarlier, HasKey, of_nothing, of_put, of_get}
 use Rattle.scq_law.specs.Order as order
 use Rattle.scq_law.proofs.Order.RunStates.{moment, moment_run}
 use Rattle.scq_law.proofs.Order.RunDraws.{rise}
@@ -100,7 +100,7 @@ same_kind run r y z f g (of_get s c p point w ended is) other same =
     same_call run r s c f g (get_key p point w ended is refl) (call_key run r z g other s c same)
 
 -- keys come in one order
-pub before_apart : (f g : Key) → IsBefore f g → IsBefore g f → ⊥
+pub before_apart : (f g : Key) → IsEarlier f g → IsEarlier g f → ⊥
 before_apart f g first second =
     elim first.before [
       | inl less ↦ elim second.before [ inl back ↦ omega arith | inr back ↦ let same = back.0 in omega arith ]

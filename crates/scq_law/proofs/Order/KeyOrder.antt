@@ -5,7 +5,7 @@ use Rattle.std.specs.List.Sorted.{IsSortedByKey}
 use Rattle.std.specs.Ordering.{is_lt, nat_cmp, ordering_then}
 use Rattle.std.proofs.lemmas.Bool.{cases_lt, cases_eq, lt-ltb, le-ltb}
 use Rattle.scq_law.specs.declared.marks.Member.{Member}
-use Rattle.scq_law.specs.Notes.{IsNoLater, AreInOrder}
+use Rattle.scq_law.specs.Notes.{IsNoLater, AreInKeyOrder}
 
 -- two numbers, by their order
 cmp_cases : (x y : ℕ) → ((x < y) × (nat_cmp x y ≡ Less)) ⊎ ((x ≡ y) × (nat_cmp x y ≡ Equal)) ⊎ (y < x)
@@ -47,6 +47,6 @@ no_later f g not_less =
           ]
     ]
 
-pub in_order : (members : List Member) → IsSortedByKey (λ (m : Member). m.key) key_cmp members → AreInOrder members
+pub in_order : (members : List Member) → IsSortedByKey (λ (m : Member). m.key) key_cmp members → AreInKeyOrder members
 in_order members sorted k d within =
     no_later (slice_index_or members k d).key (slice_index_or members (k + 1) d).key (sorted k d (omega arith) within)

@@ -7,7 +7,7 @@ use Rattle.scq_word.specs.declared.setup.Setup.{Setup}
 use Rattle.scq_word.specs.Sizes.{n_of}
 use Rattle.scq_core.specs.declared.ended.Ended.TheVariants.{Done, Got, Nothing}
 use Rattle.scq_core.specs.declared.step.Step.{Step}
-use Rattle.scq_core.specs.Machine.{Part, Machine}
+use Rattle.scq_core.specs.Machine.{SeatPart, Machine}
 use Rattle.scq_core.specs.Stances.{resting, drawing, putting, landed, seeking, trying, gave_up, stance_of}
 use Rattle.scq_core.specs.Table.{ring_slots}
 use Rattle.scq_law.specs.Places.{call_of, in_record}
@@ -55,7 +55,7 @@ leaves_on c m k (overran r u true) n facts q h at = inr (ap length facts.calls �
 leaves_on c m k (overran r u false) n facts q h at = inr (ap length facts.calls ∙ length-append (m.part k).calls _)
 
 -- a deciding event ends its seat's call, or leaves it leaving
-decides_on : (c : Setup) (m : Machine) (k : ℕ) (e : TicketEvent) (n : Machine) {g : _} (facts : EventFacts c m g k e n) (r : ℕ) → law.Decides m k e r
+decides_on : (c : Setup) (m : Machine) (k : ℕ) (e : TicketEvent) (n : Machine) {g : _} (facts : EventFacts c m g k e n) (r : ℕ) → law.DecidesEmpty m k e r
     → ((h : ℕ) × (stance n k ≡ gave_up r h true)) ⊎ (length (n.part k).calls ≡ length (m.part k).calls + 1)
 decides_on c m k e n facts r (law.by_refusal u) = inr (ap length facts.calls ∙ length-append (m.part k).calls (Nothing u ∷ []))
 decides_on c m k e n facts r (law.by_end u h) = inl (h, facts.stance)
@@ -97,7 +97,7 @@ module _ (run : Run) (recorded : Recorded) (is_run : IsRun run.setup run.opening
                         absurd (omega arith)
                   ]
               | inr other_seat ↦
-                  (before.0, ap (λ (p : Part). stance_of p.phase) (f.event.event_facts.others k other_seat) ∙ before.1)
+                  (before.0, ap (λ (p : SeatPart). stance_of p.phase) (f.event.event_facts.others k other_seat) ∙ before.1)
             ]
       ])
 

@@ -12,8 +12,8 @@ use Rattle.std.proofs.lemmas.Option.{slice_get_within, slice_get-get_or, get_or_
 use Rattle.scq_law.specs.declared.marks.Member.{Member}
 use Rattle.scq_law.specs.declared.ordered.Ordered.{Ordered}
 use Rattle.scq_law.specs.declared.ordered.Ordered.TheVariants.{Opening, Call}
-use Rattle.scq_law.specs.Notes.{IsNoLater, AreInOrder, HoldsOrder}
-use Rattle.scq_law.specs.Order.{Key, key, IsBefore, HasKey, IsLinearization}
+use Rattle.scq_law.specs.Notes.{IsNoLater, AreInKeyOrder, HoldsOrder}
+use Rattle.scq_law.specs.Order.{Key, key, IsEarlier, HasKey, IsLinearization}
 use Rattle.scq_law.specs.RunSteps.{Run, IsFinishedRun}
 use Rattle.scq_law.proofs.Order.Decisions.{stands_in}
 use Rattle.scq_law.proofs.Order.KeyUnique.{one_key, one_member}
@@ -90,14 +90,14 @@ no_later_on f g h (inr a) (inr b) = inr (a.0 ∙ b.0, kinds a.1 b.1)
     kinds (inr x) (inl y) = let same = x.0 in inl (omega arith)
     kinds (inr x) (inr y) = let left = x.1 in let right = y.1 in inr (x.0 ∙ y.0, omega arith)
 
-next_to : (xs : List Member) → AreInOrder xs → (a : ℕ) (m n : Member) → slice_get xs a ≡ Some m → slice_get xs (a + 1) ≡ Some n → IsNoLater m.key n.key
+next_to : (xs : List Member) → AreInKeyOrder xs → (a : ℕ) (m n : Member) → slice_get xs a ≡ Some m → slice_get xs (a + 1) ≡ Some n → IsNoLater m.key n.key
 next_to xs sorted a m n first next =
     let inside = slice_get_within xs (a + 1) n next in
     let left : get_or xs a m ≡ m = get_or_from_slice_get xs a m m first in
     let right : get_or xs (a + 1) m ≡ n = get_or_from_slice_get xs (a + 1) n m next in
     subst (λ (x : Member). IsNoLater x.key n.key) left (subst (λ (y : Member). IsNoLater (get_or xs a m).key y.key) right (sorted a m inside))
 
-far : (xs : List Member) → AreInOrder xs → (j a : ℕ) (m n : Member) → slice_get xs a ≡ Some m → slice_get xs (a + suc j) ≡ Some n → IsNoLater m.key n.key
+far : (xs : List Member) → AreInKeyOrder xs → (j a : ℕ) (m n : Member) → slice_get xs a ≡ Some m → slice_get xs (a + suc j) ≡ Some n → IsNoLater m.key n.key
 far xs sorted zero a m n first second =
     let place : a + suc zero ≡ a + 1 = omega arith in next_to xs sorted a m n first (ap (slice_get xs) (sym place) ∙ second)
 far xs sorted (suc j) a m n first second =
@@ -108,7 +108,7 @@ far xs sorted (suc j) a m n first second =
     (next_to xs sorted (a + suc j) (get_or xs (a + suc j) m) n middle (ap (slice_get xs) place ∙ second))
 
 -- a key that is no later than another one comes before it
-before_by : (m n : Member) → IsNoLater m.key n.key → (key_of m ≡ key_of n → ⊥) → IsBefore (key_of m) (key_of n)
+before_by : (m n : Member) → IsNoLater m.key n.key → (key_of m ≡ key_of n → ⊥) → IsEarlier (key_of m) (key_of n)
 before_by m n (inl less) apart = record { before = inl less }
 before_by m n (inr tie) apart = record { before = inr (tie.0, kinds tie.1) }
   where
@@ -137,7 +137,7 @@ mapped xs a y is = go (slice_get xs a) refl (sym (slice_get-map (λ (m : Member)
     go (Some m) at some = let same : m.ordered ≡ y = cc in record { member = m; at = at; is = sym same }
 
 module _ (run : Run) (fin : IsFinishedRun run) (r : ℕ) (members sorted : List Member) (holds : HoldsOrder run r members) (same : IsPermutation members sorted)
-    (ordered : AreInOrder sorted) where
+    (ordered : AreInKeyOrder sorted) where
   members_apart : (a b : ℕ) (m n : Member) → a < b → slice_get members a ≡ Some m → slice_get members b ≡ Some n → same_key m n ≡ false
   members_apart a b m n less first second =
       elim (cases_Bool (same_key m n)) [
@@ -189,7 +189,7 @@ module _ (run : Run) (fin : IsFinishedRun run) (r : ℕ) (members sorted : List 
             let right : key_of two.member ≡ g =
             one_key run fin.recorded fin.is_run r y (key_of two.member) g
             (subst (λ (z : Ordered). HasKey run r z (key_of two.member)) (sym two.is) (of_sorted two.member b two.at)) of_y in
-            subst (λ (z : Key). IsBefore z g) left (subst (λ (z : Key). IsBefore (key_of one.member) z) right (before_by one.member two.member no_later keys));
+            subst (λ (z : Key). IsEarlier z g) left (subst (λ (z : Key). IsEarlier (key_of one.member) z) right (before_by one.member two.member no_later keys));
       }
     where
       self_key : (m n : Member) → key_of m ≡ key_of n → same_key m n ≡ true

@@ -8,7 +8,7 @@ use Rattle.scq_core.specs.declared.ended.Ended.{Ended}
 use Rattle.scq_core.specs.declared.ended.Ended.TheVariants.{Done, Got}
 use Rattle.scq_core.specs.declared.phase.Phase.{Phase}
 use Rattle.scq_core.specs.declared.phase.Phase.TheVariants.{Idle}
-use Rattle.scq_core.specs.Machine.{Part}
+use Rattle.scq_core.specs.Machine.{SeatPart}
 use Rattle.scq_core.specs.Table.{ring_slots}
 use Rattle.scq_core.specs.Stances.{gave_up}
 use Rattle.scq_core.proofs.UpdatedLemmas.{updated_or}
@@ -172,7 +172,7 @@ module _ (run : Run) (fin : IsFinishedRun run) where
             | inr high ↦
                 let n = length run.steps in
                 let part = (reached run.setup n (ghost_before run n) (last_state run) (traced run rec fin.is_run n (omega arith))).absent s high in
-                let at : HasLanded Idle r p w = subst (λ (q : Part). HasLanded q.phase r p w) part has in
+                let at : HasLanded Idle r p w = subst (λ (q : SeatPart). HasLanded q.phase r p w) part has in
                 let clash = at.1 in
                 absurd (cc)
           ]
@@ -199,10 +199,7 @@ module _ (run : Run) (fin : IsFinishedRun run) where
                 | inl own ↦ inl (omega arith)
                 | inr one ↦
                     let of = marks.decisions_only one.0 one.1 in
-                    let head = of.head in
-                    let near = one.2 in
-                    let point_is = of.point in
-                    let same = one.3 in
+                    let head = of.head in let near = one.2 in let point_is = of.point in let same = one.3 in
                     inr (of.at, decides_before run rec fin.is_run of.at of.seat of.call k x r p w of.is (omega arith) ended, omega arith)
               ];
         }
@@ -262,10 +259,7 @@ module _ (run : Run) (fin : IsFinishedRun run) where
               | inl own ↦ omega arith
               | inr one ↦
                   let of = marks.decisions_only one.0 one.1 in
-                  let head = of.head in
-                  let near = one.2 in
-                  let point_of = of.point in
-                  let same = one.3 in
+                  let head = of.head in let near = one.2 in let point_of = of.point in let same = one.3 in
                   let order = early of.at of.seat of.call of.is (omega arith) in
                   omega arith
             ] in

@@ -12,7 +12,7 @@ use Rattle.scq_word.specs.declared.setup.Setup.{Setup}
 use Rattle.scq_core.specs.declared.ended.Ended.{Ended}
 use Rattle.scq_core.specs.declared.ended.Ended.TheVariants.{Done, Got, Nothing, Spent}
 use Rattle.scq_core.specs.declared.phase.Phase.{Phase}
-use Rattle.scq_core.specs.Machine.{Part, Machine}
+use Rattle.scq_core.specs.Machine.{SeatPart, Machine}
 use Rattle.scq_core.specs.Stances.{resting, gave_up, stance_of}
 use Rattle.scq_core.proofs.UpdatedLemmas.{updated_here, updated_else}
 use Rattle.scq_law.specs.Acts.{ended_in}
@@ -41,7 +41,7 @@ use Rattle.scq_law.proofs.Order.Decisions.{deciding, stands_in}
 use Rattle.scq_law.proofs.Order.DrawOrder.{put_draws_rise, get_draws_rise}
 use Rattle.scq_law.proofs.Aspects.EndedCalls.{first_of_calls, ended_none}
 use Rattle.scq_law.proofs.Order.CallEnds.{step_end, EndsEmpty, decided, left, ends_empty, call_kept, calls_grow, saw_decides}
-use Rattle.scq_law.proofs.Order.NoteLemmas.{Told, told}
+use Rattle.scq_law.proofs.Order.NoteLemmas.{NoteTells, told}
 use Rattle.scq_law.proofs.Order.MarkFacts.{Leaves, IsNoted, IsMarked, puts_cases, gets_cases, decided_cases, done_point, got_point}
 
 -- after a deciding event, or one that goes on, the seat leaves only where it saw the end or left before
@@ -68,7 +68,7 @@ leaving_from c m k (emptied q u) n facts r h at = let both = sym facts.stance �
 leaving_from c m k (overran q u z) n facts r h at = let both = sym facts.stance ∙ at in absurd (cc)
 
 -- a seat that leaves makes no deciding event
-pub no_decision : (c : Setup) (m : Machine) (k : ℕ) (e : TicketEvent) (n : Machine) {g : _} (facts : EventFacts c m g k e n) (r q h : ℕ) → law.Decides m k e r
+pub no_decision : (c : Setup) (m : Machine) (k : ℕ) (e : TicketEvent) (n : Machine) {g : _} (facts : EventFacts c m g k e n) (r q h : ℕ) → law.DecidesEmpty m k e r
     → stance m k ≡ gave_up q h true → ⊥
 no_decision c m k e n facts r q h (law.by_refusal u) at =
     let was : stance m k ≡ resting = facts.proper.was.rests in let both : resting ≡ gave_up q h true = sym was ∙ at in cc
@@ -167,8 +167,8 @@ module _ (run : Run) (fin : IsFinishedRun run) (r i : ℕ) (f : StepFacts run i)
   abbrev e : TicketEvent
   e = event_of run.setup m f.turn
 
-  tell : Told run r i f n
-  tell = subst (λ (q : ℕ). Told run q i f n) marks.ring (told run t.ring i f)
+  tell : NoteTells run r i f n
+  tell = subst (λ (q : ℕ). NoteTells run q i f n) marks.ring (told run t.ring i f)
 
   low : i < length run.steps
   low = slice_get_within run.steps i (f.seat, f.step) f.there
@@ -176,43 +176,38 @@ module _ (run : Run) (fin : IsFinishedRun run) (r i : ℕ) (f : StepFacts run i)
   draws_at : (a : ℕ) → a < i + 1 → (a ≡ i) ⊎ (a < i)
   draws_at a before = elim (cases_eq a i) [ inl same ↦ inl same | inr apart ↦ inr (omega arith) ]
 
+  -- the mark of a ticket that was drawn, by this step or before: no ticket is drawn again
+  noted_mark : (Draws : ℕ → ℕ → ℕ → Type 0) (mark by old : ℕ → Option ℕ) → ((p : ℕ) → mark p ≡ by p)
+      → ((k p : ℕ) → Draws i k p → by p ≡ Some (i + 1)) → ((p : ℕ) → ((j : ℕ) × Draws i j p) ⊎ (by p ≡ old p))
+      → ((a k j p : ℕ) → Draws i j p → Draws a k p → i ≤ a) → ((a k p : ℕ) → a < i → Draws a k p → old p ≡ Some (a + 1)) → (a k p : ℕ)
+      → a < i + 1 → Draws a k p → mark p ≡ Some (a + 1)
+  noted_mark Draws mark by old adds_is now either rises was a k p before draws =
+      elim (draws_at a before) [
+        | inl same ↦ adds_is p ∙ now k p (subst (λ (z : ℕ). Draws z k p) same draws) ∙ ap (λ (z : ℕ). Some (z + 1)) (sym same)
+        | inr less ↦
+            elim (either p) [
+              | inl new ↦ let back = rises a k new.0 p new.1 draws in absurd (omega arith)
+              | inr kept ↦ adds_is p ∙ kept ∙ was a k p less draws
+            ]
+      ]
+
   noted : IsNoted run r (i + 1) u
   noted =
       record {
-        puts =
-            λ a k p before draws.
-            elim (draws_at a before) [
-              | inl same ↦
-                  let here : DrawsPut run i k r p = subst (λ (z : ℕ). DrawsPut run z k r p) same draws in
-                  adds.puts p ∙ ap (λ (x : Note). puts_by x (i + 1) (marked t.puts) p) (tell.puts k p here) ∙ updated_here (marked t.puts) p (Some (i + 1))
-                  ∙ ap (λ (z : ℕ). Some (z + 1)) (sym same)
-              | inr less ↦
-                  elim (puts_cases n (i + 1) (marked t.puts) p) [
-                    | inl new ↦
-                        let back = put_draws_rise run rec fin.is_run i a f.seat k r p p (omega arith) (tell.put_is p new.0) draws in absurd (omega arith)
-                    | inr old ↦ adds.puts p ∙ old ∙ marks.noted.puts a k p less draws
-                  ]
-            ];
+        puts = noted_mark (λ a k p. DrawsPut run a k r p) (marked u.puts) (puts_by n (i + 1) (marked t.puts)) (marked t.puts) adds.puts
+            (λ k p here. ap (λ (x : Note). puts_by x (i + 1) (marked t.puts) p) (tell.puts k p here) ∙ updated_here (marked t.puts) p (Some (i + 1)))
+            (λ p. elim (puts_cases n (i + 1) (marked t.puts) p) [ inl new ↦ inl (f.seat, tell.put_is p new.0) | inr old ↦ inr old ])
+            (λ a k j p here. put_draws_rise run rec fin.is_run i a j k r p p (omega arith) here) marks.noted.puts;
         puts_only =
             λ p q is.
             elim (puts_cases n (i + 1) (marked t.puts) p) [
               | inl new ↦ (i, f.seat, tell.put_is p new.0)
               | inr old ↦ marks.noted.puts_only p q (sym old ∙ sym (adds.puts p) ∙ is)
             ];
-        gets =
-            λ a k p before draws.
-            elim (draws_at a before) [
-              | inl same ↦
-                  let here : DrawsGet run i k r p = subst (λ (z : ℕ). DrawsGet run z k r p) same draws in
-                  adds.gets p ∙ ap (λ (x : Note). gets_by x (i + 1) (marked t.gets) p) (tell.gets k p here) ∙ updated_here (marked t.gets) p (Some (i + 1))
-                  ∙ ap (λ (z : ℕ). Some (z + 1)) (sym same)
-              | inr less ↦
-                  elim (gets_cases n (i + 1) (marked t.gets) p) [
-                    | inl new ↦
-                        let back = get_draws_rise run rec fin.is_run i a f.seat k r p p (omega arith) (tell.get_is p new.0) draws in absurd (omega arith)
-                    | inr old ↦ adds.gets p ∙ old ∙ marks.noted.gets a k p less draws
-                  ]
-            ];
+        gets = noted_mark (λ a k p. DrawsGet run a k r p) (marked u.gets) (gets_by n (i + 1) (marked t.gets)) (marked t.gets) adds.gets
+            (λ k p here. ap (λ (x : Note). gets_by x (i + 1) (marked t.gets) p) (tell.gets k p here) ∙ updated_here (marked t.gets) p (Some (i + 1)))
+            (λ p. elim (gets_cases n (i + 1) (marked t.gets) p) [ inl new ↦ inl (f.seat, tell.get_is p new.0) | inr old ↦ inr old ])
+            (λ a k j p here. get_draws_rise run rec fin.is_run i a j k r p p (omega arith) here) marks.noted.gets;
         decisions =
             λ d k x before is.
             rw adds.decisions
@@ -276,16 +271,32 @@ module _ (run : Run) (fin : IsFinishedRun run) (r i : ℕ) (f : StepFacts run i)
       let empty = no_one (ended_by e) (sym seen ∙ none) in
       ap length (calls_now ∙ ap (λ (xs : List Ended). (m.part f.seat).calls ++ xs) empty ∙ append-nil (m.part f.seat).calls)
 
+  -- the step decides, and its point is marked
+  deciding_now : Decides m f.turn r → IsDecidingStep run i f.seat (length (m.part f.seat).calls) r
+  deciding_now decides =
+      record {
+        turn = f.turn;
+        makes = record { step = f.step; there = f.there; enabled = f.enabled };
+        decides = decides;
+        in_call = record { step = f.step; there = f.there; in_call = refl };
+      }
+
+  decided_mark : IsDecidingStep run i f.seat (length (m.part f.seat).calls) r → marked u.decided f.seat ≡ Some (i + 1)
+  decided_mark step =
+      adds.decided f.seat
+      ∙ ap (λ (x : Note). decided_by x f.seat (i + 1) (marked t.decided) f.seat) (tell.decisions f.seat (length (m.part f.seat).calls) step)
+      ∙ updated_here (marked t.decided) f.seat (Some (i + 1))
+
   leaves : (k h : ℕ) → stance later k ≡ gave_up r h true → Leaves run r (i + 1) k u
   leaves k h at =
       elim (cases_eq k f.seat) [
         | inl same ↦ rw same (own (rw (← same) at))
         | inr apart ↦
             let part = other_part k apart in
-            let was = marks.leaves k h (sym (ap (λ (p : Part). stance_of p.phase) part) ∙ at) in
+            let was = marks.leaves k h (sym (ap (λ (p : SeatPart). stance_of p.phase) part) ∙ at) in
             record {
               at = was.at;
-              is = subst (λ (x : ℕ). IsDecidingStep run was.at k x r) (ap (λ (p : Part). length p.calls) (sym part)) was.is;
+              is = subst (λ (x : ℕ). IsDecidingStep run was.at k x r) (ap (λ (p : SeatPart). length p.calls) (sym part)) was.is;
               mark =
                   adds.decided k
                   ∙ elim (decided_cases n f.seat (i + 1) (marked t.decided) k) [
@@ -315,21 +326,11 @@ module _ (run : Run) (fin : IsFinishedRun run) (r i : ℕ) (f : StepFacts run i)
                       ];
                 }
             | inr saw ↦
-                let decides = saw_decides run.setup m f.turn r h saw in
-                let step : IsDecidingStep run i f.seat (length (m.part f.seat).calls) r =
-                record {
-                  turn = f.turn;
-                  makes = record { step = f.step; there = f.there; enabled = f.enabled };
-                  decides = decides;
-                  in_call = record { step = f.step; there = f.there; in_call = refl };
-                } in
+                let step = deciding_now (saw_decides run.setup m f.turn r h saw) in
                 record {
                   at = i;
                   is = subst (λ (x : ℕ). IsDecidingStep run i f.seat x r) (sym long) step;
-                  mark =
-                      adds.decided f.seat
-                      ∙ ap (λ (x : Note). decided_by x f.seat (i + 1) (marked t.decided) f.seat) (tell.decisions f.seat (length (m.part f.seat).calls) step)
-                      ∙ updated_here (marked t.decided) f.seat (Some (i + 1));
+                  mark = decided_mark step;
                 }
           ]
         where
@@ -417,8 +418,7 @@ module _ (run : Run) (fin : IsFinishedRun run) (r i : ℕ) (f : StepFacts run i)
           (of_put f.seat (length (m.part f.seat).calls) p x.key.0 w mine
           (done_point run fin r (i + 1) u noted f.seat (length (m.part f.seat).calls) p x.key.0 w mine at (key_is.0 noted.rise)))
       of_ended (Got q p w) here ended is on key_is =
-          let ring = ring_of_test q on in
-          let mine : HasEnded run f.seat (length (m.part f.seat).calls) (Got r p w) = rw (← ring) ended in
+          let ring = ring_of_test q on in let mine : HasEnded run f.seat (length (m.part f.seat).calls) (Got r p w) = rw (← ring) ended in
           let at : slice_get (later.part f.seat).calls (length (m.part f.seat).calls) ≡ Some (Got r p w) = rw (← ring) here in
           rw (key_is.1, key_is.2)
           (of_get f.seat (length (m.part f.seat).calls) p x.key.0 w mine
@@ -439,17 +439,7 @@ module _ (run : Run) (fin : IsFinishedRun run) (r i : ℕ) (f : StepFacts run i)
           empty : HasEnded run f.seat (length (m.part f.seat).calls) (Nothing r) → x.key.0 ≡ mark_or (marked u.decided f.seat) → EndsEmpty run.setup m f.turn r
               → HasKey run r (Call f.seat (length (m.part f.seat).calls + 1)) (key x.key.0 0 0)
           empty mine point (decided decides) =
-              let step : IsDecidingStep run i f.seat (length (m.part f.seat).calls) r =
-              record {
-                turn = f.turn;
-                makes = record { step = f.step; there = f.there; enabled = f.enabled };
-                decides = decides;
-                in_call = record { step = f.step; there = f.there; in_call = refl };
-              } in
-              decided_at mine point i step
-              (adds.decided f.seat
-              ∙ ap (λ (z : Note). decided_by z f.seat (i + 1) (marked t.decided) f.seat) (tell.decisions f.seat (length (m.part f.seat).calls) step)
-              ∙ updated_here (marked t.decided) f.seat (Some (i + 1)))
+              let step = deciding_now decides in decided_at mine point i step (decided_mark step)
           empty mine point (left h turn) =
               let at : stance m f.seat ≡ gave_up r h true =
               goes_from (m.part f.seat) f.turn (rw turn refl) (came_from run.setup (m.part f.seat) f.step f.turn f.enabled) ∙ ap stance_of turn in
@@ -470,7 +460,7 @@ module _ (run : Run) (fin : IsFinishedRun run) (r i : ℕ) (f : StepFacts run i)
   counts = go (ended_by e) refl
     where
       others_same : (k : ℕ) → (k ≡ f.seat → ⊥) → length (later.part k).calls ≡ length (m.part k).calls
-      others_same k apart = ap (λ (p : Part). length p.calls) (other_part k apart)
+      others_same k apart = ap (λ (p : SeatPart). length p.calls) (other_part k apart)
 
       go : (xs : List Ended) → ended_by e ≡ xs → Counts run.setup.seats u.calls.items (λ k. length (later.part k).calls)
       go [] none =
@@ -516,7 +506,7 @@ module _ (run : Run) (fin : IsFinishedRun run) (r i : ℕ) (f : StepFacts run i)
       elim (cases_eq k f.seat) [
         | inl same ↦ rw same (own (rw (← same) is))
         | inr apart ↦
-            let old = marks.done k x ended (sym (ap (λ (p : Part). slice_get p.calls x) (other_part k apart)) ∙ is) on in
+            let old = marks.done k x ended (sym (ap (λ (p : SeatPart). slice_get p.calls x) (other_part k apart)) ∙ is) on in
             (old.0, kept old.0 old.1, old.2)
       ]
     where

@@ -1,6 +1,6 @@
 -- What a step is to the order is what its note says: which ticket it draws, or that it decides.
 use Rattle.std.proofs.Common.{◌≡◌, ℕ, ◌+◌, ◌<◌, inl, inr, true, false, ◌&&◌, List, length, refl, ap, sym, ◌∙◌, subst, eq-eqb, eqb-true, lt-ltb, le-leb, ltb-true, leb-true}
-use Rattle.std.specs.Prelude.{Bool, ◌==◌, nat_lt, nat_le, Option, Some}
+use Rattle.std.specs.Prelude.{Bool, ◌==◌, nat_lt, nat_le, if◌then◌else◌, Option, Some}
 use Rattle.std.proofs.lemmas.Bool.{cases_Bool, and_parts, and_from}
 use Rattle.scq_word.specs.declared.setup.Setup.{Setup}
 use Rattle.scq_core.specs.declared.phase.Phase.{Phase}
@@ -50,6 +50,18 @@ data NoteBy (c : Setup) (m : Machine) (r : ℕ) (turn : Phase) : Note → Type 0
 not_both : (q r : ℕ) (b : Bool) → (q == r && b) ≡ false → q ≡ r → b ≡ true → ⊥
 not_both q r b fails same holds = let all = and_from (q == r) b (eq-eqb q r same) holds in cc
 
+-- a step that decides just where it is on the ring and a flag is set
+note_decided : (c : Setup) (m : Machine) (r q : ℕ) (b : Bool) (turn : Phase) → (q ≡ r → b ≡ true → Decides m turn r) → (Decides m turn r → (q ≡ r) × (b ≡ true))
+    → ((i : ℕ) (w : List ℕ) (l : ℕ) → turn ≡ AtE1 r i w l → ⊥) → ((l : ℕ) → turn ≡ AtD2 r l → ⊥)
+    → NoteBy c m r turn (if q == r && b then note.Decides (m.cells.head r) else note.Passes)
+note_decided c m r q b turn there back no_put no_get =
+    elim (cases_Bool (q == r && b)) [
+      | inl holds ↦ let two = and_parts (q == r) b holds in rw holds (by_decision (there (eqb-true q r two.0) two.1))
+      | inr fails ↦
+          rw fails
+          (by_none (λ j v z is low. no_put j v z is) (λ z is low. no_get z is) (λ d. let two = back d in not_both q r b fails two.0 two.1))
+    ]
+
 note_by : (c : Setup) (m : Machine) (r : ℕ) (turn : Phase) → NoteBy c m r turn (note_at c m.cells r turn)
 note_by c m r (AtE1 q i w l) =
     elim (cases_Bool (q == r && nat_lt (m.cells.tail r) c.limit)) [
@@ -63,15 +75,8 @@ note_by c m r (AtE1 q i w l) =
           (λ z is low. cc) (λ d. d))
     ]
 note_by c m r (AtD1 q) =
-    elim (cases_Bool (q == r && nat_lt (m.cells.threshold r) zero_level)) [
-      | inl holds ↦
-          let two = and_parts (q == r) (nat_lt (m.cells.threshold r) zero_level) holds in
-          rw holds (by_decision (eqb-true q r two.0, ltb-true (m.cells.threshold r) zero_level two.1))
-      | inr fails ↦
-          rw fails
-          (by_none (λ j v z is low. cc) (λ z is low. cc)
-          (λ d. not_both q r (nat_lt (m.cells.threshold r) zero_level) fails d.0 (lt-ltb (m.cells.threshold r) zero_level d.1)))
-    ]
+    note_decided c m r q (nat_lt (m.cells.threshold r) zero_level) (AtD1 q) (λ ring holds. (ring, ltb-true (m.cells.threshold r) zero_level holds))
+    (λ d. (d.0, lt-ltb (m.cells.threshold r) zero_level d.1)) (λ j v z is. cc) (λ z is. cc)
 note_by c m r (AtD2 q l) =
     elim (cases_Bool (q == r && nat_lt (m.cells.head r) c.limit)) [
       | inl holds ↦
@@ -84,30 +89,16 @@ note_by c m r (AtD2 q l) =
           (λ z is low. (let ring : q ≡ r = cc in not_both q r (nat_lt (m.cells.head r) c.limit) fails ring (lt-ltb (m.cells.head r) c.limit low))) (λ d. d))
     ]
 note_by c m r (AtD6 q h) =
-    elim (cases_Bool (q == r && nat_le (m.cells.tail r) (h + 1))) [
-      | inl holds ↦
-          let two = and_parts (q == r) (nat_le (m.cells.tail r) (h + 1)) holds in
-          rw holds (by_decision (eqb-true q r two.0, leb-true (m.cells.tail r) (h + 1) two.1))
-      | inr fails ↦
-          rw fails
-          (by_none (λ j v z is low. cc) (λ z is low. cc)
-          (λ d. not_both q r (nat_le (m.cells.tail r) (h + 1)) fails d.0 (le-leb (m.cells.tail r) (h + 1) d.1)))
-    ]
+    note_decided c m r q (nat_le (m.cells.tail r) (h + 1)) (AtD6 q h) (λ ring holds. (ring, leb-true (m.cells.tail r) (h + 1) holds))
+    (λ d. (d.0, le-leb (m.cells.tail r) (h + 1) d.1)) (λ j v z is. cc) (λ z is. cc)
 note_by c m r (AtD10 q h false) =
-    elim (cases_Bool (q == r && nat_le (m.cells.threshold r) zero_level)) [
-      | inl holds ↦
-          let two = and_parts (q == r) (nat_le (m.cells.threshold r) zero_level) holds in
-          rw holds (by_decision (eqb-true q r two.0, leb-true (m.cells.threshold r) zero_level two.1))
-      | inr fails ↦
-          rw fails
-          (by_none (λ j v z is low. cc) (λ z is low. cc)
-          (λ d. not_both q r (nat_le (m.cells.threshold r) zero_level) fails d.0 (le-leb (m.cells.threshold r) zero_level d.1)))
-    ]
+    note_decided c m r q (nat_le (m.cells.threshold r) zero_level) (AtD10 q h false) (λ ring holds. (ring, leb-true (m.cells.threshold r) zero_level holds))
+    (λ d. (d.0, le-leb (m.cells.threshold r) zero_level d.1)) (λ j v z is. cc) (λ z is. cc)
 note_by c m r (AtD10 q h true) = by_none (λ j v z is low. cc) (λ z is low. cc) (λ d. d)
 note_by c m r turn = by_none (λ j v z is low. cc) (λ z is low. cc) (λ d. d)
 
 -- what the note of step i says
-pub record Told (run : Run) (r i : ℕ) (f : StepFacts run i) (n : Note) : Type 0 where
+pub record NoteTells (run : Run) (r i : ℕ) (f : StepFacts run i) (n : Note) : Type 0 where
   pub puts : (h p : ℕ) → DrawsPut run i h r p → n ≡ note.DrawsPut p
   pub gets : (h p : ℕ) → DrawsGet run i h r p → n ≡ note.DrawsGet p
   pub decisions : (h x : ℕ) → IsDecidingStep run i h x r → n ≡ note.Decides ((state_before run i).cells.head r)
@@ -116,7 +107,7 @@ pub record Told (run : Run) (r i : ℕ) (f : StepFacts run i) (n : Note) : Type 
   pub decision_is : (h : ℕ) → n ≡ note.Decides h
       → (h ≡ (state_before run i).cells.head r) × IsDecidingStep run i f.seat (length ((state_before run i).part f.seat).calls) r
 
-told_by : (run : Run) (r i : ℕ) (f : StepFacts run i) (n : Note) → NoteBy run.setup (state_before run i) r f.turn n → Told run r i f n
+told_by : (run : Run) (r i : ℕ) (f : StepFacts run i) (n : Note) → NoteBy run.setup (state_before run i) r f.turn n → NoteTells run r i f n
 told_by run r i f n (by_put j w l is low) =
     let m = state_before run i in
     record {
@@ -205,7 +196,7 @@ told_by run r i f n (by_none no_put no_get no_decision) =
     }
 
 pub told : (run : Run) (r i : ℕ) (f : StepFacts run i)
-    → Told run r i f (note_of run.setup (state_before run i).cells r ((state_before run i).part f.seat).phase f.step)
+    → NoteTells run r i f (note_of run.setup (state_before run i).cells r ((state_before run i).part f.seat).phase f.step)
 told run r i f =
     let m = state_before run i in
     let p = m.part f.seat in

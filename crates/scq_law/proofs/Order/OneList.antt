@@ -4,7 +4,7 @@ use Rattle.std.specs.Prelude.{Some, slice_get}
 use Rattle.std.specs.List.{Contains}
 use Rattle.std.proofs.lemmas.Option.{slice_get-get_or}
 use Rattle.scq_law.specs.declared.ordered.Ordered.{Ordered}
-use Rattle.scq_law.specs.Order.{Key, IsBefore, HasKey, of_opening, of_nothing, of_put, of_get, by_done, by_got, by_nothing, IsLinearization}
+use Rattle.scq_law.specs.Order.{Key, IsEarlier, HasKey, of_opening, of_nothing, of_put, of_get, by_done, by_got, by_nothing, IsLinearization}
 use Rattle.scq_law.specs.RunSteps.{Run}
 use Rattle.scq_law.proofs.Order.Decisions.{stands_in}
 use Rattle.scq_law.proofs.Order.KeyLemmas.{before_apart}
@@ -15,10 +15,10 @@ module _ (run : Run) (r : ℕ) where
   pub data Ascends : List Ordered → Type 0 where
     none : Ascends []
     one : {y : Ordered} {rest : List Ordered} (f : Key) → HasKey run r y f
-        → ((z : Ordered) (g : Key) → In rest z → HasKey run r z g → IsBefore f g) → Ascends rest → Ascends (y ∷ rest)
+        → ((z : Ordered) (g : Key) → In rest z → HasKey run r z g → IsEarlier f g) → Ascends rest → Ascends (y ∷ rest)
 
   ascends : (xs : List Ordered) → ((z : Ordered) → In xs z → (f : Key) × HasKey run r z f)
-      → ((a b : ℕ) (x y : Ordered) (f g : Key) → a < b → slice_get xs a ≡ Some x → slice_get xs b ≡ Some y → HasKey run r x f → HasKey run r y g → IsBefore f g)
+      → ((a b : ℕ) (x y : Ordered) (f g : Key) → a < b → slice_get xs a ≡ Some x → slice_get xs b ≡ Some y → HasKey run r x f → HasKey run r y g → IsEarlier f g)
       → Ascends xs
   ascends [] keyed sorted = none
   ascends (y ∷ rest) keyed sorted =

@@ -8,7 +8,7 @@ use Rattle.std.proofs.lemmas.Option.{slice_get-get_or, slice_get_within}
 use Rattle.scq_word.specs.Sizes.{n_of}
 use Rattle.scq_core.specs.declared.ended.Ended.{Ended}
 use Rattle.scq_core.specs.declared.ended.Ended.TheVariants.{Done, Got, Nothing, Spent}
-use Rattle.scq_core.specs.Machine.{Part}
+use Rattle.scq_core.specs.Machine.{SeatPart}
 use Rattle.scq_core.specs.Table.{ring_slots}
 use Rattle.scq_law.specs.Run.{Recorded}
 use Rattle.scq_law.proofs.Places.Throughout.{reached}
@@ -16,7 +16,7 @@ use Rattle.scq_law.specs.declared.marks.Decision.{Decision}
 use Rattle.scq_law.specs.declared.ordered.Ordered.{Ordered}
 use Rattle.scq_law.specs.declared.ordered.Ordered.TheVariants.{Opening, Call}
 use Rattle.scq_law.specs.Notes.{note_of, decisions_by}
-use Rattle.scq_law.specs.Order.{Key, key, IsBefore, HasKey, of_opening, of_nothing, of_put, of_get, IsOrderable, by_done, by_got, by_nothing, IsLinearization}
+use Rattle.scq_law.specs.Order.{Key, key, IsEarlier, HasKey, of_opening, of_nothing, of_put, of_get, IsOrderable, by_done, by_got, by_nothing, IsLinearization}
 use Rattle.scq_law.specs.Points.{IsDecidingStep, IsPutPoint, IsPointOfPlace}
 use Rattle.scq_law.specs.Points as points
 use Rattle.scq_law.specs.RunSteps.{Run, IsFinishedRun, HasEnded, state_before, last_state}
@@ -125,7 +125,7 @@ module _ (run : Run) (fin : IsFinishedRun run) (r : ℕ) where
       let step = nothing_decides run rec fin.is_run k x r ended in (key (step.0 + 1) 0 0, of_nothing k x step.0 ended step.1)
 
   -- of two keys one comes before the other, or they are equal
-  keys_compare : (f g : Key) → IsBefore f g ⊎ (f ≡ g) ⊎ IsBefore g f
+  keys_compare : (f g : Key) → IsEarlier f g ⊎ (f ≡ g) ⊎ IsEarlier g f
   keys_compare f g =
       elim (cases_lt f.point g.point) [
         | inl less ↦ inl (record { before = inl less })
@@ -136,7 +136,7 @@ module _ (run : Run) (fin : IsFinishedRun run) (r : ℕ) where
             ]
       ]
     where
-      at_place : f.point ≡ g.point → f.kind ≡ g.kind → IsBefore f g ⊎ (f ≡ g) ⊎ IsBefore g f
+      at_place : f.point ≡ g.point → f.kind ≡ g.kind → IsEarlier f g ⊎ (f ≡ g) ⊎ IsEarlier g f
       at_place point kind =
           elim (cases_lt f.place g.place) [
             | inl less ↦ inl (record { before = inr (point, inr (kind, less)) })
@@ -150,7 +150,7 @@ module _ (run : Run) (fin : IsFinishedRun run) (r : ℕ) where
                 ]
           ]
 
-      at_point : f.point ≡ g.point → IsBefore f g ⊎ (f ≡ g) ⊎ IsBefore g f
+      at_point : f.point ≡ g.point → IsEarlier f g ⊎ (f ≡ g) ⊎ IsEarlier g f
       at_point point =
           elim (cases_lt f.kind g.kind) [
             | inl less ↦ inl (record { before = inr (point, inl less) })
@@ -162,7 +162,7 @@ module _ (run : Run) (fin : IsFinishedRun run) (r : ℕ) where
           ]
 
   -- an earlier key comes before those that a later one comes before
-  before_on : (f g h : Key) → IsBefore f g → IsBefore g h → IsBefore f h
+  before_on : (f g h : Key) → IsEarlier f g → IsEarlier g h → IsEarlier f h
   before_on f g h first second =
       elim first.before [
         | inl a ↦ elim second.before [ inl b ↦ record { before = inl (omega arith) } | inr b ↦ (let point = b.0 in record { before = inl (omega arith) }) ]
@@ -207,7 +207,7 @@ module _ (run : Run) (fin : IsFinishedRun run) (r : ℕ) where
                 one f mine
                 (λ z h at has.
                 elim (in_cases x xs z at) [
-                  | inl same ↦ subst (IsBefore f) (one_key run rec fin.is_run r x g h own (subst (λ (v : Ordered). HasKey run r v h) same has)) before
+                  | inl same ↦ subst (IsEarlier f) (one_key run rec fin.is_run r x g h own (subst (λ (v : Ordered). HasKey run r v h) same has)) before
                   | inr behind ↦ before_on f g h before (first z h behind has)
                 ])
                 (one g own first later);
@@ -228,7 +228,7 @@ module _ (run : Run) (fin : IsFinishedRun run) (r : ℕ) where
                     (λ z h at has.
                     elim (rest.1.only z at) [
                       | inl old ↦ first z h old has
-                      | inr same ↦ subst (IsBefore g) (one_key run rec fin.is_run r y f h mine (subst (λ (v : Ordered). HasKey run r v h) same has)) after
+                      | inr same ↦ subst (IsEarlier g) (one_key run rec fin.is_run r y f h mine (subst (λ (v : Ordered). HasKey run r v h) same has)) after
                     ])
                     rest.1.up;
                 has = in_later x rest.0 y rest.1.has;
@@ -254,25 +254,32 @@ module _ (run : Run) (fin : IsFinishedRun run) (r : ℕ) where
     kept : (z : Ordered) → In xs z → In ys z
     all : (j : ℕ) (y : Ordered) → j < many → Wanted j y → In ys y
 
+  -- one more of them
+  gather_more : (many : ℕ) (Wanted : ℕ → Ordered → Type 0) (xs : List Ordered) (x : Ordered)
+      → (rest : (ys : List Ordered) × Gathered many Wanted xs ys) → (ys : List Ordered) → Ascends run r ys → In ys x → ((z : Ordered) → In rest.0 z → In ys z)
+      → ((y : Ordered) → Wanted many y → y ≡ x) → (ys : List Ordered) × Gathered (suc many) Wanted xs ys
+  gather_more many Wanted xs x rest ys up has kept named = (
+    ys,
+    record {
+      up = up;
+      kept = λ z at. kept z (rest.1.kept z at);
+      all =
+          λ j y low is.
+          elim (cases_eq j many) [
+            | inl same ↦ subst (In ys) (sym (named y (subst (λ i. Wanted i y) same is))) has
+            | inr apart ↦ kept y (rest.1.all j y (omega arith) is)
+          ];
+    },
+  )
+
   -- the openings
   openings : (many : ℕ) → many ≤ n_of run.setup.order → r ≡ 0 → (xs : List Ordered) → Ascends run r xs
       → (ys : List Ordered) × Gathered many (λ j y. y ≡ Opening j) xs ys
   openings zero within ring xs up = (xs, record { up = up; kept = λ z at. at; all = λ j y low is. absurd (omega arith) })
   openings (suc many) within ring xs up =
       let rest = openings many (omega arith) ring xs up in
-      let more = insert (Opening many) (key 0 1 (ring_slots run.setup + many)) (of_opening many ring (omega arith)) rest.0 rest.1.up in (
-        more.0,
-        record {
-          up = more.1.up;
-          kept = λ z at. more.1.kept z (rest.1.kept z at);
-          all =
-              λ j y low is.
-              elim (cases_eq j many) [
-                | inl same ↦ subst (In more.0) (sym (is ∙ ap Opening same)) more.1.has
-                | inr apart ↦ more.1.kept y (rest.1.all j y (omega arith) is)
-              ];
-        },
-      )
+      let more = insert (Opening many) (key 0 1 (ring_slots run.setup + many)) (of_opening many ring (omega arith)) rest.0 rest.1.up in
+      gather_more many (λ j y. y ≡ Opening j) xs (Opening many) rest more.0 more.1.up more.1.has more.1.kept (λ y is. is)
 
   -- the calls of a seat: whether one is of the ring is read off its end
   orderable_or : (k x : ℕ) (e : Ended) → HasEnded run k x e → IsOrderable run r k x ⊎ (IsOrderable run r k x → ⊥)
@@ -327,19 +334,8 @@ module _ (run : Run) (fin : IsFinishedRun run) (r : ℕ) where
       elim (orderable_at k many) [
         | inl orderable ↦
             let mine = call_has_key k many orderable in
-            let more = insert (Call k (many + 1)) mine.0 mine.1 rest.0 rest.1.up in (
-              more.0,
-              record {
-                up = more.1.up;
-                kept = λ z at. more.1.kept z (rest.1.kept z at);
-                all =
-                    λ j y low is.
-                    elim (cases_eq j many) [
-                      | inl same ↦ subst (In more.0) (sym (named k j y is ∙ ap (λ (z : ℕ). Call k (z + 1)) same)) more.1.has
-                      | inr apart ↦ more.1.kept y (rest.1.all j y (omega arith) is)
-                    ];
-              },
-            )
+            let more = insert (Call k (many + 1)) mine.0 mine.1 rest.0 rest.1.up in
+            gather_more many (CallOf k) xs (Call k (many + 1)) rest more.0 more.1.up more.1.has more.1.kept (named k many)
         | inr not_one ↦ (
           rest.0,
           record {
@@ -397,13 +393,13 @@ module _ (run : Run) (fin : IsFinishedRun run) (r : ℕ) where
       elim (in_cases x xs z at) [ inl same ↦ (f, subst (λ (v : Ordered). HasKey run r v f) (sym same) own) | inr behind ↦ keyed xs later z behind ]
 
   sorted : (xs : List Ordered) → Ascends run r xs → (a b : ℕ) (x y : Ordered) (f g : Key) → a < b → slice_get xs a ≡ Some x → slice_get xs b ≡ Some y
-      → HasKey run r x f → HasKey run r y g → IsBefore f g
+      → HasKey run r x f → HasKey run r y g → IsEarlier f g
   sorted [] up a b x y f g less first second of_x of_y = absurd (cc)
   sorted (z ∷ xs) up a zero x y f g less first second of_x of_y = absurd (omega arith)
   sorted (z ∷ xs) (one h own ahead later) zero (suc b) x y f g less first second of_x of_y =
       let same : z ≡ x = cc in
       let keys = one_key run rec fin.is_run r z h f own (subst (λ (v : Ordered). HasKey run r v f) (sym same) of_x) in
-      subst (λ (v : Key). IsBefore v g) keys (ahead y g (b, second) of_y)
+      subst (λ (v : Key). IsEarlier v g) keys (ahead y g (b, second) of_y)
   sorted (z ∷ xs) (one h own ahead later) (suc a) (suc b) x y f g less first second of_x of_y =
       sorted xs later a b x y f g (omega arith) first second of_x of_y
 
@@ -414,7 +410,7 @@ module _ (run : Run) (fin : IsFinishedRun run) (r : ℕ) where
         | inr high ↦
             let n = length run.steps in
             let part = (reached run.setup n (ghost_before run n) (last_state run) (traced run rec fin.is_run n (omega arith))).absent k high in
-            let empty : slice_get [] x ≡ Some e = sym (ap (λ (p : Part). slice_get p.calls x) part) ∙ ended in
+            let empty : slice_get [] x ≡ Some e = sym (ap (λ (p : SeatPart). slice_get p.calls x) part) ∙ ended in
             absurd (cc)
       ]
 

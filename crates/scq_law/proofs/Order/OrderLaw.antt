@@ -19,7 +19,7 @@ use Rattle.scq_law.specs.declared.ordered.Ordered.TheVariants.{Opening, Call}
 use Rattle.scq_law.specs.RunSteps.{Run, IsFinishedRun, HasEnded, state_before, recorded_last, last_state}
 use Rattle.scq_law.specs.Points.{IsDecidingStep}
 use Rattle.scq_law.specs.Plain.{name_of_put}
-use Rattle.scq_law.specs.Order.{Key, key, IsBefore, HasKey, of_opening, of_nothing, of_put, of_get, IsOrderable, by_done, by_got, by_nothing, IsLinearization, EndedBefore, AnswersPlainly, IsOneOrder}
+use Rattle.scq_law.specs.Order.{Key, key, IsEarlier, HasKey, of_opening, of_nothing, of_put, of_get, IsOrderable, by_done, by_got, by_nothing, IsLinearization, EndedBefore, AnswersPlainly, IsOneOrder}
 use Rattle.scq_law.proofs.Order.RunStates.{ghost_before, traced, step_facts}
 use Rattle.scq_law.proofs.Order.RunDraws.{follow_run}
 use Rattle.scq_law.proofs.Order.Decisions.{stands_in}
@@ -166,7 +166,7 @@ module _ (run : Run) (fin : IsFinishedRun run) (r : ℕ) where
   module _ (order : List Ordered) (lin : IsLinearization run r order) where
     ordering : (xs : List Ordered)
         → ((a b : ℕ) (x y : Ordered) (f g : Key) → a < b → slice_get xs a ≡ Some x → slice_get xs b ≡ Some y → HasKey run r x f → HasKey run r y g
-        → IsBefore f g)
+        → IsEarlier f g)
         → Ordering run fin r xs
     ordering [] sorted = done
     ordering (y ∷ rest) sorted =
@@ -189,7 +189,7 @@ module _ (run : Run) (fin : IsFinishedRun run) (r : ℕ) where
         keyed
 
     -- keys of members
-    apart : (f : Key) → IsBefore f f → ⊥
+    apart : (f : Key) → IsEarlier f f → ⊥
     apart f self = before_apart f f self self
 
     once : (a b : ℕ) (x : Ordered) → slice_get order a ≡ Some x → slice_get order b ≡ Some x → a ≡ b

@@ -8,7 +8,7 @@ use Rattle.scq_law.specs.declared.ordered.Ordered.{Ordered}
 use Rattle.scq_law.specs.declared.ordered.Ordered.TheVariants.{Call}
 use Rattle.scq_law.specs.RunSteps.{Run, IsFinishedRun}
 use Rattle.scq_law.specs.Points.{IsDecidingStep}
-use Rattle.scq_law.specs.Order.{Key, key, IsBefore, HasKey}
+use Rattle.scq_law.specs.Order.{Key, key, IsEarlier, HasKey}
 use Rattle.scq_law.proofs.Order.PointLemmas.{place_points_rise, get_points_rise, put_before_get}
 use Rattle.scq_law.proofs.Order.KeyLemmas.{get_of, put_of, place_keyed, same_kind, before_apart, lower_got, got_before, got_once}
 
@@ -79,7 +79,7 @@ module _ (run : Run) (fin : IsFinishedRun run) (r : ℕ) where
 
   -- this key comes before those of all these members
   abbrev pub Passed : List Ordered → Key → Type 0
-  Passed rest f = (z : Ordered) (g : Key) → In rest z → Has z g → IsBefore f g
+  Passed rest f = (z : Ordered) (g : Key) → In rest z → Has z g → IsEarlier f g
 
   -- each member's key comes before those behind it
   pub data Ordering : List Ordered → Type 0 where

@@ -12,7 +12,7 @@ use Rattle.scq_core.specs.declared.ended.Ended.{Ended}
 use Rattle.scq_core.specs.declared.ended.Ended.TheVariants.{Done, Nothing, Spent}
 use Rattle.scq_core.specs.declared.phase.Phase.{Phase}
 use Rattle.scq_core.specs.declared.phase.Phase.TheVariants.{Idle, AtE1}
-use Rattle.scq_core.specs.Machine.{Part, Machine, read, beside}
+use Rattle.scq_core.specs.Machine.{SeatPart, Machine, read, beside}
 use Rattle.scq_core.specs.Stances.{Stance, resting, drawing, putting, landed, stance_of}
 use Rattle.scq_core.specs.Table.{ring_slots, zero_level, location_of}
 use Rattle.scq_core.specs.Updated.{updated}
@@ -30,7 +30,7 @@ use Rattle.scq_law.proofs.Base.TicketEvents.{TicketEvent, calm, drew, fell, laid
 use Rattle.scq_law.proofs.Base.Traces.{event_of}
 use Rattle.scq_law.proofs.Places.RecordsAgree.{call_was, ended_few}
 use Rattle.scq_law.proofs.Places.Throughout.{records_agree}
-use Rattle.scq_law.specs.Plain.{is_put, name_of_put}
+use Rattle.scq_law.specs.Plain.{ends_put, name_of_put}
 use Rattle.scq_law.specs.RunSteps.{Run, HasEnded, state_before, recorded_before, recorded_last, last_state}
 use Rattle.scq_law.proofs.Order.RunStates.{step_facts, ghost_before, moment_run}
 use Rattle.scq_law.proofs.Order.RunDraws.{follow_run}
@@ -43,7 +43,7 @@ busy (landed r i w t) = 1
 busy _ = 0
 
 abbrev puts_in : List Ended → ℕ
-puts_in calls = count_by is_put calls
+puts_in calls = count_by ends_put calls
 
 puts_append : (xs ys : List Ended) → puts_in (xs ++ ys) ≡ puts_in xs + puts_in ys
 puts_append xs ys = sum_by-append _ xs ys
@@ -68,7 +68,7 @@ ended_put (overran r t true) s at = rw at.2 refl
 ended_put (overran r t false) s at = rw at refl
 
 -- the puts that a seat has begun are those in its record and the one under way
-puts_turn : (c : Setup) (k : ℕ) (p : Part) (turn : Phase) (x : ℕ) (y : List ℕ) (puts : ℕ → ℕ) → (turn ≡ Idle → ⊥)
+puts_turn : (c : Setup) (k : ℕ) (p : SeatPart) (turn : Phase) (x : ℕ) (y : List ℕ) (puts : ℕ → ℕ) → (turn ≡ Idle → ⊥)
     → (turn ≡ p.phase) ⊎ ((p.phase ≡ Idle) × (p.spent ≡ None) × Begins c p.hand turn) → puts k ≡ puts_in p.calls + busy (stance_of p.phase)
     → puts_after k p.phase turn puts k ≡ puts_in (p.calls ++ ended_by (event c turn x y)) + busy (stance_by (event c turn x y) (stance_of p.phase))
 puts_turn c k p turn x y puts awake_turn from old =
@@ -113,23 +113,10 @@ puts_else k j phase turn puts apart = refl
 -- an End with Done is that of a turn which ends a put
 ended_done : (e : TicketEvent) (r p : ℕ) (w : List ℕ) → ended_by e ≡ Done r p w ∷ [] → (i : ℕ) × (e ≡ finished r i w p)
 ended_done calm r p w is = absurd (cc)
-ended_done (drew q i v t) r p w is = absurd (cc)
-ended_done (fell q i v t z) r p w is = absurd (cc)
-ended_done (laid q i v t) r p w is = absurd (cc)
 ended_done (finished q i v t) r p w is =
-    let ring : q ≡ r = cc in
-    let place : t ≡ p = cc in
+    let ring : q ≡ r = cc in let place : t ≡ p = cc in
     let content : v ≡ w = cc in (i, rw (ring, place, content) refl)
-ended_done (entered q) r p w is = absurd (cc)
-ended_done (refused q) r p w is = absurd (cc)
-ended_done (began q h) r p w is = absurd (cc)
-ended_done (died q h) r p w is = absurd (cc)
-ended_done (saw_end q h) r p w is = absurd (cc)
-ended_done (lifted q h to) r p w is = absurd (cc)
-ended_done (taken q h i v) r p w is = absurd (cc)
-ended_done (lowered q h) r p w is = absurd (cc)
-ended_done (emptied q h) r p w is = absurd (cc)
-ended_done (overran q t z) r p w is = absurd (cc)
+ended_done e r p w is = absurd (cc)
 
 -- an event that lays no index at a place leaves who placed there
 placer_kept : (c : Setup) (g : Ghost) (m : Machine) (k : ℕ) (e : TicketEvent) (n : Machine) → EventFacts c m g k e n → (puts : ℕ → ℕ) (placer : ℕ → ℕ → PutName)
@@ -184,7 +171,7 @@ module _ (run : Run) (recorded : Recorded) (is_run : IsRun run.setup run.opening
                   ∙ sym (ap (λ (s : Stance). puts_in (n.part f.seat).calls + busy s) facts.stance))
               | inr apart ↦
                   puts_is k ∙ puts_else f.seat k p.phase f.turn t.puts apart ∙ old.begun k
-                  ∙ sym (ap (λ (q : Part). puts_in q.calls + busy (stance_of q.phase)) (facts.others k apart))
+                  ∙ sym (ap (λ (q : SeatPart). puts_in q.calls + busy (stance_of q.phase)) (facts.others k apart))
             ];
         named =
             λ k z r q w is.
@@ -222,15 +209,15 @@ module _ (run : Run) (recorded : Recorded) (is_run : IsRun run.setup run.opening
                   ]
               | inr apart ↦
                   let part : n.part k ≡ m.part k = facts.others k apart in
-                  kept z (sym (ap (λ (v : Part). slice_get v.calls z) part) ∙ is)
-                  ∙ ap (λ (v : Part). Of k (puts_in (take (z + 1) v.calls))) (sym part)
+                  kept z (sym (ap (λ (v : SeatPart). slice_get v.calls z) part) ∙ is)
+                  ∙ ap (λ (v : SeatPart). Of k (puts_in (take (z + 1) v.calls))) (sym part)
             ];
       }
     where
       length_one : (xs : List Ended) (x : Ended) → length (xs ++ x ∷ []) ≡ length xs + 1
       length_one xs x = length-append xs (x ∷ [])
 
-      placer_same : (c : Setup) (k : ℕ) (p : Part) (turn : Phase) (x : ℕ) (y : List ℕ) (puts : ℕ → ℕ) (placer : ℕ → ℕ → PutName) → (turn ≡ Idle → ⊥)
+      placer_same : (c : Setup) (k : ℕ) (p : SeatPart) (turn : Phase) (x : ℕ) (y : List ℕ) (puts : ℕ → ℕ) (placer : ℕ → ℕ → PutName) → (turn ≡ Idle → ⊥)
           → (turn ≡ p.phase) ⊎ ((p.phase ≡ Idle) × (p.spent ≡ None) × Begins c p.hand turn)
           → placer_after k turn x puts placer ≡ placer_by (event c turn x y) k (puts_after k p.phase turn puts) placer
       placer_same c k p turn x y puts placer awake_turn from =

@@ -1,5 +1,5 @@
 -- The steps of a run that drew a ticket, and the one that ended a call; and that Tail and Head rise along it.
-use Rattle.std.proofs.Common.{◌≡◌, ℕ, zero, suc, ◌+◌, ◌<◌, ◌≤◌, inl, inr, List, [], ◌∷◌, ◌++◌, length, refl, ap, sym, ◌∙◌, subst, arith}
+use Rattle.std.proofs.Common.{◌≡◌, ℕ, zero, suc, ◌+◌, ◌<◌, ◌≤◌, ◌⊎◌, inl, inr, List, [], ◌∷◌, ◌++◌, length, refl, ap, sym, ◌∙◌, subst, arith}
 use Rattle.std.specs.Prelude.{Some, slice_get}
 use Rattle.std.proofs.lemmas.Bool.{cases_eq}
 use Rattle.scq_word.specs.declared.setup.Setup.{Setup}
@@ -7,7 +7,7 @@ use Rattle.scq_core.specs.declared.ended.Ended.{Ended}
 use Rattle.scq_core.specs.declared.phase.Phase.{Phase}
 use Rattle.scq_core.specs.declared.phase.Phase.TheVariants.{AtE1, AtD2}
 use Rattle.scq_core.specs.declared.step.Step.{Step}
-use Rattle.scq_core.specs.Machine.{Part, read, beside}
+use Rattle.scq_core.specs.Machine.{SeatPart, read, beside}
 use Rattle.scq_core.specs.Table.{location_of, turn_of}
 use Rattle.scq_core.specs.Laws.{CountersRise}
 use Rattle.scq_law.specs.Run.{Recorded, IsRun}
@@ -16,6 +16,7 @@ use Rattle.scq_law.proofs.Base.TicketEvents.{TicketEvent, drew, began, ended_by}
 use Rattle.scq_law.proofs.Base.StartTickets.{stands_at}
 use Rattle.scq_law.proofs.Base.Traces.{event_of}
 use Rattle.scq_law.proofs.Places.RecordsAgree.{call_was, ended_few}
+use Rattle.scq_law.proofs.Places.SeatTickets.{IsRooted}
 use Rattle.scq_law.proofs.Places.Throughout.{rooted}
 use Rattle.scq_law.proofs.Replays.RisingWords.{rises_throughout}
 use Rattle.scq_law.specs.RunSteps.{Run, Makes, DrawsPut, DrawsGet, IsStepOf, state_before, recorded_before}
@@ -44,18 +45,24 @@ makes_is run i k turn f makes =
     sym makes.enabled ∙ ap (λ (x : ℕ × Step). turn_of run.setup ((state_before run i).part x.0) x.1) pair ∙ f.enabled in
     record { seat = seat; turn_is = cc }
 
--- the E1 of its call that drew a ticket, and the D2
-pub record PutDraw (run : Run) (n r p k x : ℕ) : Type 0 where
+-- the step of its call that drew a ticket: the E1 of a put, the D2 of a get
+pub record DrawStep (run : Run) (Draws : ℕ → ℕ → ℕ → ℕ → Type 0) (n r p k x : ℕ) : Type 0 where
   pub at : ℕ
   pub before : at < n
-  pub draws : DrawsPut run at k r p
+  pub draws : Draws at k r p
   pub in_call : IsStepOf run at k x
 
-pub record GetDraw (run : Run) (n r p k x : ℕ) : Type 0 where
-  pub at : ℕ
-  pub before : at < n
-  pub draws : DrawsGet run at k r p
-  pub in_call : IsStepOf run at k x
+abbrev pub PutDraw : Run → ℕ → ℕ → ℕ → ℕ → ℕ → Type 0
+PutDraw run = DrawStep run (DrawsPut run)
+
+abbrev pub GetDraw : Run → ℕ → ℕ → ℕ → ℕ → ℕ → Type 0
+GetDraw run = DrawStep run (DrawsGet run)
+
+-- a call whose ticket this step draws
+record DrawsNow (run : Run) (Draws : ℕ → ℕ → ℕ → ℕ → Type 0) (i : ℕ) (f : StepFacts run i) (r p k x : ℕ) : Type 0 where
+  draws : Draws i f.seat r p
+  seat : f.seat ≡ k
+  calls : length ((state_before run i).part k).calls ≡ x
 
 -- the step that ended a call
 pub record CallEnd (run : Run) (n k x : ℕ) (ended : Ended) : Type 0 where
@@ -130,16 +137,15 @@ module _ (run : Run) (recorded : Recorded) (is_run : IsRun run.setup run.opening
   abbrev facts_at : (i : ℕ) → i < length run.steps → StepFacts run i
   facts_at = step_facts run recorded is_run
 
-  pub put_draw : (n : ℕ) → n ≤ length run.steps → (r p k x : ℕ) → OwnsPut (ghost_before run n) (state_before run n) r p k x → PutDraw run n r p k x
-  put_draw n within r p k x owns =
-      follow_run (length run.steps) (λ n. (r p k x : ℕ) → OwnsPut (ghost_before run n) (state_before run n) r p k x → PutDraw run n r p k x)
-      (λ r p k x owns. absurd (start_put run r p k x owns))
+  -- what owns a ticket has drawn it, where what owns one after a step did before it or draws it now
+  draw_of : (Owns : ℕ → ℕ → ℕ → ℕ → ℕ → Type 0) (Draws : ℕ → ℕ → ℕ → ℕ → Type 0) → ((r p k x : ℕ) → Owns 0 r p k x → ⊥)
+      → ((i : ℕ) (f : StepFacts run i) (r p k x : ℕ) → Owns (i + 1) r p k x → Owns i r p k x ⊎ DrawsNow run Draws i f r p k x) → (n : ℕ)
+      → n ≤ length run.steps → (r p k x : ℕ) → Owns n r p k x → DrawStep run Draws n r p k x
+  draw_of Owns Draws start step =
+      follow_run (length run.steps) (λ n. (r p k x : ℕ) → Owns n r p k x → DrawStep run Draws n r p k x) (λ r p k x owns. absurd (start r p k x owns))
       (λ i low old r p k x owns.
       let f = facts_at i low in
-      let e = event_of run.setup (state_before run i) f.turn in
-      let root = rooted run.setup i (ghost_before run i) (state_before run i) f.trace in
-      let now = subst (λ g. OwnsPut g (state_before run (i + 1)) r p k x) f.ghost owns in
-      elim (put_was run.setup (state_before run i) (ghost_before run i) f.seat i e (state_before run (i + 1)) f.event.event_facts root r p k x now) [
+      elim (step i f r p k x owns) [
         | inl was ↦
             let d = old r p k x was in
             record { at = d.at; before = (let b = d.before in omega arith); draws = d.draws; in_call = d.in_call }
@@ -147,34 +153,29 @@ module _ (run : Run) (recorded : Recorded) (is_run : IsRun run.setup run.opening
             record {
               at = i;
               before = omega arith;
-              draws = subst (λ s. DrawsPut run i s r p) new.seat (event_draws_put run i f r new.index new.content p new.is);
+              draws = subst (λ s. Draws i s r p) new.seat new.draws;
               in_call = record { step = f.step; there = f.there ∙ ap (λ s. Some (s, f.step)) new.seat; in_call = new.calls };
             }
       ])
-      n within r p k x owns
+
+  root_at : (i : ℕ) (f : StepFacts run i) → IsRooted (ghost_before run i) (state_before run i)
+  root_at i f = rooted run.setup i (ghost_before run i) (state_before run i) f.trace
+
+  pub put_draw : (n : ℕ) → n ≤ length run.steps → (r p k x : ℕ) → OwnsPut (ghost_before run n) (state_before run n) r p k x → PutDraw run n r p k x
+  put_draw = draw_of (λ n. OwnsPut (ghost_before run n) (state_before run n)) (DrawsPut run) (start_put run)
+      (λ i f r p k x owns. elim (put_was run.setup (state_before run i) (ghost_before run i) f.seat i (event_of run.setup (state_before run i) f.turn) (state_before run (i + 1))
+      f.event.event_facts (root_at i f) r p k x (subst (λ g. OwnsPut g (state_before run (i + 1)) r p k x) f.ghost owns)) [
+        | inl was ↦ inl was
+        | inr new ↦ inr (record { draws = event_draws_put run i f r new.index new.content p new.is; seat = new.seat; calls = new.calls })
+      ])
 
   pub get_draw : (n : ℕ) → n ≤ length run.steps → (r p k x : ℕ) → OwnsGet (ghost_before run n) (state_before run n) r p k x → GetDraw run n r p k x
-  get_draw n within r p k x owns =
-      follow_run (length run.steps) (λ n. (r p k x : ℕ) → OwnsGet (ghost_before run n) (state_before run n) r p k x → GetDraw run n r p k x)
-      (λ r p k x owns. absurd (start_get run r p k x owns))
-      (λ i low old r p k x owns.
-      let f = facts_at i low in
-      let e = event_of run.setup (state_before run i) f.turn in
-      let root = rooted run.setup i (ghost_before run i) (state_before run i) f.trace in
-      let now = subst (λ g. OwnsGet g (state_before run (i + 1)) r p k x) f.ghost owns in
-      elim (get_was run.setup (state_before run i) (ghost_before run i) f.seat i e (state_before run (i + 1)) f.event.event_facts root r p k x now) [
-        | inl was ↦
-            let d = old r p k x was in
-            record { at = d.at; before = (let b = d.before in omega arith); draws = d.draws; in_call = d.in_call }
-        | inr new ↦
-            record {
-              at = i;
-              before = omega arith;
-              draws = subst (λ s. DrawsGet run i s r p) new.seat (event_draws_get run i f r p new.is);
-              in_call = record { step = f.step; there = f.there ∙ ap (λ s. Some (s, f.step)) new.seat; in_call = new.calls };
-            }
+  get_draw = draw_of (λ n. OwnsGet (ghost_before run n) (state_before run n)) (DrawsGet run) (start_get run)
+      (λ i f r p k x owns. elim (get_was run.setup (state_before run i) (ghost_before run i) f.seat i (event_of run.setup (state_before run i) f.turn) (state_before run (i + 1))
+      f.event.event_facts (root_at i f) r p k x (subst (λ g. OwnsGet g (state_before run (i + 1)) r p k x) f.ghost owns)) [
+        | inl was ↦ inl was
+        | inr new ↦ inr (record { draws = event_draws_get run i f r p new.is; seat = new.seat; calls = new.calls })
       ])
-      n within r p k x owns
 
   -- each call in a record was ended by a step
   pub call_end : (n : ℕ) → n ≤ length run.steps → (k x : ℕ) (ended : Ended) → slice_get ((state_before run n).part k).calls x ≡ Some ended
@@ -211,7 +212,7 @@ module _ (run : Run) (recorded : Recorded) (is_run : IsRun run.setup run.opening
                     ends = new.1;
                   }
             ]
-        | inr apart ↦ later (old k x ended (sym (ap (λ (p : Part). slice_get p.calls x) (facts.others k apart)) ∙ is))
+        | inr apart ↦ later (old k x ended (sym (ap (λ (p : SeatPart). slice_get p.calls x) (facts.others k apart)) ∙ is))
       ])
       n within k x ended is
 

@@ -24,13 +24,13 @@ use Rattle.scq_law.specs.RunSteps.{Run, recorded_before, state_before}
 abbrev pub item_at : Run → ℕ → ℕ × Step
 item_at run i = get_or run.steps i (0, D2)
 
-abbrev pub turn_at : Run → ℕ → Phase
-turn_at run i = unwrap_or (turn_of run.setup ((state_before run i).part (item_at run i).0) (item_at run i).1) Idle
+abbrev pub turn_in_run : Run → ℕ → Phase
+turn_in_run run i = unwrap_or (turn_of run.setup ((state_before run i).part (item_at run i).0) (item_at run i).1) Idle
 
 -- what became of each ticket before step i
 abbrev pub ghost_before : Run → ℕ → Ghost
 ghost_before run zero = start_ghost run.setup run.opening
-ghost_before run (suc i) = ghost_after run.setup (state_before run i) i (item_at run i).0 (turn_at run i) (ghost_before run i)
+ghost_before run (suc i) = ghost_after run.setup (state_before run i) i (item_at run i).0 (turn_in_run run i) (ghost_before run i)
 
 -- what is known of step i
 pub record StepFacts (run : Run) (i : ℕ) : Type 0 where
@@ -86,7 +86,7 @@ module _ (run : Run) (recorded : Recorded) (is_run : IsRun run.setup run.opening
       sym (ap (λ (o : Option Recorded). option_and_then (λ last. recorded_by run.setup last x) o) (moment i)) ∙ after in
       recorded_step run.setup (recorded_before run i) x (recorded_before run (i + 1)) by
 
-  turn_is : (i : ℕ) (low : i < length run.steps) → turn_at run i ≡ (next i low).turn
+  turn_is : (i : ℕ) (low : i < length run.steps) → turn_in_run run i ≡ (next i low).turn
   turn_is i low = ap (λ (o : Option Phase). unwrap_or o Idle) (next i low).enabled
 
   -- its states are those of a trace

@@ -7,7 +7,7 @@ use Rattle.scq_word.specs.declared.setup.Setup.{Setup}
 use Rattle.scq_word.specs.Words.{cycle_in, is_none_in}
 use Rattle.scq_core.specs.declared.phase.Phase.{Phase}
 use Rattle.scq_core.specs.declared.phase.Phase.TheVariants.{Idle, AtE1, AtE2, AtE3, AtE4, AtE5, AtE6, AtD1, AtD2, AtD3, AtD4, AtD5, AtD6, AtD7, AtD8, AtD9, AtD10}
-use Rattle.scq_core.specs.Machine.{Part, Machine}
+use Rattle.scq_core.specs.Machine.{SeatPart, Machine}
 use Rattle.scq_core.specs.Table.{zero_level, reset_level, ring_slots, cycle}
 use Rattle.scq_core.specs.declared.ended.Ended.{Ended}
 use Rattle.scq_core.specs.Stances.{resting, drawing, putting, landed, seeking, trying, gave_up}
@@ -69,10 +69,7 @@ draws_by c (AtD3 r h l) x y =
     elim (cases_Bool (cycle_in (ring_slots c) x == cycle c h)) [
       | inl a ↦ rw a (draws_none refl)
       | inr a ↦
-          elim (cases_Bool (nat_lt (cycle_in (ring_slots c) x) (cycle c h))) [
-            | inl b ↦ rw (a, b) (draws_none refl)
-            | inr b ↦ rw (a, b) (draws_none refl)
-          ]
+          elim (cases_Bool (nat_lt (cycle_in (ring_slots c) x) (cycle c h))) [ inl b ↦ rw (a, b) (draws_none refl) | inr b ↦ rw (a, b) (draws_none refl) ]
     ]
 draws_by c (AtD4 r h) x y = draws_none refl
 draws_by c (AtD5 r h e) x y =
@@ -105,7 +102,7 @@ pub still : (c : Setup) (m : Machine) (g : Ghost) (s : ℕ) (e : TicketEvent) (n
 still c m g s e n k facts none =
     elim (cases_eq k s) [
       | inl same ↦ rw same (ap length (facts.calls ∙ ap (λ (xs : List Ended). (m.part s).calls ++ xs) (none (sym same)) ∙ append-nil (m.part s).calls))
-      | inr apart ↦ ap (λ (p : Part). length p.calls) (facts.others k apart)
+      | inr apart ↦ ap (λ (p : SeatPart). length p.calls) (facts.others k apart)
     ]
 
 -- an event that ends a call is of a seat without a pending or an open ticket

@@ -9,7 +9,7 @@ use Rattle.scq_law.specs.Places.{AllIdle}
 use Rattle.scq_law.specs.declared.marking.Marking.{Marking}
 use Rattle.scq_law.specs.declared.marks.Member.{Member}
 use Rattle.scq_law.specs.declared.ordered.Ordered.{Ordered}
-use Rattle.scq_law.specs.Notes.{IsMarkedRun, HoldsOrder, AreInOrder}
+use Rattle.scq_law.specs.Notes.{IsMarkedRun, HoldsOrder, AreInKeyOrder}
 use Rattle.scq_law.specs.Order.{IsLinearization}
 use Rattle.scq_law.specs.RunSteps.{run_of, IsFinishedRun}
 use Rattle.scq_law.proofs.Order.Linear.{linear}
@@ -22,7 +22,7 @@ module _ (c : Setup) (opening : List (List ℕ)) (steps : List (ℕ × Step)) (r
   pub finished : IsFinishedRun (run_of c opening steps)
   finished = record { recorded = marked.recorded; is_run = marked.is_run; idle = all_idle }
 
-  pub whole : (members sorted : List Member) (list : List Ordered) → members ≡ v.marks.members.items → IsPermutation members sorted → AreInOrder sorted
+  pub whole : (members sorted : List Member) (list : List Ordered) → members ≡ v.marks.members.items → IsPermutation members sorted → AreInKeyOrder sorted
       → list ≡ map (λ (m : Member). m.ordered) sorted → IsLinearization (run_of c opening steps) r list
   whole members sorted list same permuted ordered is =
       subst (IsLinearization (run_of c opening steps) r) (sym is)

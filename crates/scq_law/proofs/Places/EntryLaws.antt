@@ -7,13 +7,13 @@ use Rattle.scq_word.specs.Words.{is_none_in}
 use Rattle.scq_core.specs.declared.phase.Phase.{Phase}
 use Rattle.scq_core.specs.declared.phase.Phase.TheVariants.{AtD4}
 use Rattle.scq_core.specs.declared.step.Step.{Step}
-use Rattle.scq_core.specs.Machine.{Part, Machine}
+use Rattle.scq_core.specs.Machine.{SeatPart, Machine}
 use Rattle.scq_core.specs.Table.{ring_slots, turn_of}
 use Rattle.scq_core.specs.Laws.{word_at}
 use Rattle.scq_core.specs.Reach.{IsReachable}
 use Rattle.scq_core.proofs.Turns.{Begins, begins_put, begins_get, begins}
 use Rattle.scq_law.specs.Places.{Maker, IsPlacedBy, IsTaken, IsUntaken}
-use Rattle.scq_law.specs.Standing.{StandsAt, StandsFor, EntriesMatchPlaces}
+use Rattle.scq_law.specs.Standing.{StandsInSlot, StandsFor, EntriesMatchPlaces}
 use Rattle.scq_law.proofs.Base.Ghosts.{Ghost, GetState, unopened, opened, dead, took, waiting}
 use Rattle.scq_law.proofs.Base.Traces.{has_trace}
 use Rattle.scq_law.proofs.Base.Based.{IsBased, based}
@@ -45,10 +45,10 @@ module _ (c : Setup) (g : Ghost) (m : Machine) (base : IsBased c g m) (records :
         cycle = sym at.cycle;
       }
 
-  taken_or_stands : (r p : ℕ) (w : List ℕ) (a : Maker) → IsPlacedBy c m r p w a → IsTaken m r p w ⊎ StandsAt c m.cells r p w
+  taken_or_stands : (r p : ℕ) (w : List ℕ) (a : Maker) → IsPlacedBy c m r p w a → IsTaken m r p w ⊎ StandsInSlot c m.cells r p w
   taken_or_stands r p w a by = go (g.gets r p) refl
     where
-      standing : waiting (g.gets r p) ≡ true → StandsAt c m.cells r p w
+      standing : waiting (g.gets r p) ≡ true → StandsInSlot c m.cells r p w
       standing waits =
           let x = placed_by c g m base records r p w a by in
           let stands = base.booked.stands r p x.0 w a x.1 waits in
@@ -58,7 +58,7 @@ module _ (c : Setup) (g : Ghost) (m : Machine) (base : IsBased c g m) (records :
             content = stands.content;
           }
 
-      go : (x : GetState) → g.gets r p ≡ x → IsTaken m r p w ⊎ StandsAt c m.cells r p w
+      go : (x : GetState) → g.gets r p ≡ x → IsTaken m r p w ⊎ StandsInSlot c m.cells r p w
       go unopened is = inr (standing (ap waiting is))
       go (opened k) is = inr (standing (ap waiting is))
       go dead is = absurd (not_dead c g m base records r p w a by is)
@@ -70,10 +70,7 @@ entries_match_places c m reach =
     let s = has_trace c m reach in
     let base = based c s.time s.ghost m s.trace in
     let records = records_agree c s.time s.ghost m s.trace in
-    record {
-      placed = stands_for c s.ghost m base records;
-      stands = taken_or_stands c s.ghost m base records;
-    }
+    record { placed = stands_for c s.ghost m base records; stands = taken_or_stands c s.ghost m base records }
 
 -- the place of an entry's index, with the content that stands beside it
 pub stands_placed : (c : Setup) (m : Machine) (r s : ℕ) → IsReachable c m → s < ring_slots c → is_none_in (ring_slots c) (m.cells.entries.word r s) ≡ false
@@ -86,7 +83,7 @@ begun_takes_nothing c hand r h turn (begins_put q i w low small held) is = cc
 begun_takes_nothing c hand r h turn (begins_get q low) is = cc
 
 -- a turn that takes is its seat's phase
-pub takes_phase : (c : Setup) (p : Part) (s : Step) (r h : ℕ) → turn_of c p s ≡ Some (AtD4 r h) → p.phase ≡ AtD4 r h
+pub takes_phase : (c : Setup) (p : SeatPart) (s : Step) (r h : ℕ) → turn_of c p s ≡ Some (AtD4 r h) → p.phase ≡ AtD4 r h
 takes_phase c p s r h enabled =
     elim (begins c p.hand p.spent p.phase s (AtD4 r h) enabled) [
       | inl same ↦ sym same

@@ -5,7 +5,7 @@ use Rattle.scq_word.specs.declared.setup.Setup.{Setup}
 use Rattle.scq_word.specs.Sizes.{n_of}
 use Rattle.scq_word.specs.Words.{index_in, cycle_in, is_none_in}
 use Rattle.scq_word.proofs.TicketLemmas.{ticket_in, slot_of_small, slot_of-onto, slot_of-ticket_in, cycle_of-ticket_in}
-use Rattle.scq_core.specs.Machine.{Part, Machine}
+use Rattle.scq_core.specs.Machine.{SeatPart, Machine}
 use Rattle.scq_core.specs.Table.{ring_slots, cycle, slot, holds_index}
 use Rattle.scq_core.specs.Reach.{IsReachable}
 use Rattle.scq_core.proofs.Entries.{some_slots, below_mark}
@@ -17,7 +17,7 @@ use Rattle.scq_law.proofs.Base.BaseGroup.{Holds, at_ticket}
 use Rattle.scq_law.proofs.Window.FailCauses.{live_at}
 use Rattle.scq_law.proofs.Base.Based.{IsBased, based}
 use Rattle.scq_law.proofs.Places.HandLemmas.{times_seen, seen_times}
-use Rattle.scq_law.proofs.Places.OneSpot.{Spot, in_hand, at_place, IsAt, IsAtOneSpot}
+use Rattle.scq_law.proofs.Places.OneSpot.{Spot, in_hand, at_place, IsAtSpot, IsAtOneSpot}
 use Rattle.scq_law.proofs.Places.ReachedTickets.{IsReached}
 use Rattle.scq_law.proofs.Places.Throughout.{once, reached, small}
 
@@ -29,7 +29,7 @@ home_of c (at_place r t) = in_slot r (slot c t)
 -- a spot of this home, where the index is
 record Spotted (c : Setup) (g : Ghost) (m : Machine) (i : ℕ) (h : Home) : Type 0 where
   spot : Spot
-  is : IsAt g m i spot
+  is : IsAtSpot g m i spot
   home : home_of c spot ≡ h
 
 -- the place of an entry's index, which is live there
@@ -69,7 +69,7 @@ module _ (c : Setup) (g : Ghost) (m : Machine) (base : IsBased c g m) where
   settled : IsAtOneSpot c g m → IsReached c g m → (i : ℕ) → i < n_of c.order → (h : Home) × IsHome c m i h
   settled once reach i low = let was = once.somewhere i low in go was.0 was.1
     where
-      go : (s : Spot) → IsAt g m i s → (h : Home) × IsHome c m i h
+      go : (s : Spot) → IsAtSpot g m i s → (h : Home) × IsHome c m i h
       go (in_hand k) at =
           let some = seen_times (m.part k).hand i at in
           let few = once.single k i in
@@ -77,7 +77,7 @@ module _ (c : Setup) (g : Ghost) (m : Machine) (base : IsBased c g m) where
           elim (cases_lt k c.seats) [
             | inl low ↦ low
             | inr high ↦
-                let none : holds_index (m.part k).hand i ≡ false = ap (λ (p : Part). holds_index p.hand i) (reach.absent k high) in
+                let none : holds_index (m.part k).hand i ≡ false = ap (λ (p : SeatPart). holds_index p.hand i) (reach.absent k high) in
                 absurd (cc)
           ] in
           (hand_of k, (seat, omega arith))
@@ -93,23 +93,21 @@ module _ (c : Setup) (g : Ghost) (m : Machine) (base : IsBased c g m) where
 -- the law, of every reachable state
 pub one_hand : (c : Setup) (m : Machine) → IsReachable c m → OneHand c m
 one_hand c m reach =
-    let s = has_trace c m reach in
-    let g = s.ghost in
-    let base = based c s.time g m s.trace in
-    let one = once c s.time g m s.trace in
-    let reach_g = reached c s.time g m s.trace in
-    let few = small c s.time g m s.trace in
+    let past = has_trace c m reach in let base = based c past.time past.ghost m past.trace in
+    let one = once c past.time past.ghost m past.trace in
+    let reach_g = reached c past.time past.ghost m past.trace in
+    let few = small c past.time past.ghost m past.trace in
     record {
-      home = settled c g m base one reach_g;
+      home = settled c past.ghost m base one reach_g;
       alone =
           λ i h l low seen_h seen_l.
-          let a = spotted c g m base i h low seen_h in
-          let b = spotted c g m base i l low seen_l in
+          let a = spotted c past.ghost m base i h low seen_h in
+          let b = spotted c past.ghost m base i l low seen_l in
           let same : a.spot ≡ b.spot = one.alone i a.spot b.spot a.is b.is in
           sym a.home ∙ ap (home_of c) same ∙ b.home;
       in_hands = λ i k some. few.hands k i (times_seen (m.part k).hand i some);
       in_entries =
           λ r s low some.
-          let at = stood_at c g m base r s low some in
+          let at = stood_at c past.ghost m base r s low some in
           few.places r at.place (index_in (ring_slots c) (m.cells.entries.word r s)) at.live.content at.live.maker at.live.is;
     }

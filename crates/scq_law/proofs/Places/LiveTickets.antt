@@ -45,37 +45,22 @@ lives_get g r h x either =
           λ q p i live.
           elim (updated_entry_or g.gets r h x q p) [
             | inl a ↦
-                elim either [
-                  | inl empty ↦
-                      let ring = a.0 in
-                      let ticket = a.1 in
-                      let clash : is_placed (g.puts q p) ≡ true = ap is_placed live.is in
-                      absurd (cc)
-                  | inr same ↦
-                      let old : waiting (g.gets r h) ≡ true = sym same ∙ ap waiting (sym a.2) ∙ live.waits in
-                      record { content = live.content; maker = live.maker; is = live.is; waits = rw (a.0, a.1) old }
-                ]
+                let same = waits_same q p a.0 a.1 (ap is_placed live.is) in
+                let old : waiting (g.gets r h) ≡ true = sym same ∙ ap waiting (sym a.2) ∙ live.waits in
+                record { content = live.content; maker = live.maker; is = live.is; waits = rw (a.0, a.1) old }
             | inr a ↦ record { content = live.content; maker = live.maker; is = live.is; waits = ap waiting (sym a.1) ∙ live.waits }
           ];
       forth =
           λ q p i live.
           elim (updated_entry_or g.gets r h x q p) [
             | inl a ↦
-                elim either [
-                  | inl empty ↦
-                      let ring = a.0 in
-                      let ticket = a.1 in
-                      let clash : is_placed (g.puts q p) ≡ true = ap is_placed live.is in
-                      absurd (cc)
-                  | inr same ↦
-                      let old : waiting (g.gets r h) ≡ true = rw (a.0, a.1) at live.waits in
-                      record {
-                        content = live.content;
-                        maker = live.maker;
-                        is = live.is;
-                        waits = ap waiting a.2 ∙ same ∙ old;
-                      }
-                ]
+                let same = waits_same q p a.0 a.1 (ap is_placed live.is) in
+                let old : waiting (g.gets r h) ≡ true = rw (a.0, a.1) at live.waits in
+                record { content = live.content; maker = live.maker; is = live.is; waits = ap waiting a.2 ∙ same ∙ old }
             | inr a ↦ record { content = live.content; maker = live.maker; is = live.is; waits = ap waiting a.1 ∙ live.waits }
           ];
     }
+  where
+    waits_same : (q p : ℕ) → q ≡ r → p ≡ h → is_placed (g.puts q p) ≡ true → waiting x ≡ waiting (g.gets r h)
+    waits_same q p ring ticket full =
+        elim either [ inl empty ↦ let there : is_placed (g.puts r h) ≡ true = rw (← ring, ← ticket) full in absurd (cc) | inr same ↦ same ]

@@ -5,7 +5,7 @@ use Rattle.std.specs.Prelude.{slice_index_or, ◌==◌}
 use Rattle.std.proofs.lemmas.Bool.{cases_Bool, cases_eq}
 use Rattle.scq_word.specs.declared.setup.Setup.{Setup}
 use Rattle.scq_word.specs.Sizes.{n_of}
-use Rattle.scq_core.specs.Machine.{Part, Machine}
+use Rattle.scq_core.specs.Machine.{SeatPart, Machine}
 use Rattle.scq_core.specs.Table.{ring_slots, hand_without, holds_index}
 use Rattle.scq_core.specs.Start.{start_of}
 use Rattle.scq_core.proofs.UpdatedLemmas.{updated_entry_or, updated_entry_here}
@@ -23,14 +23,22 @@ pub data Spot : Type 0 where
   in_hand : (seat : ℕ) → Spot
   at_place : (ring place : ℕ) → Spot
 
-abbrev pub IsAt : Ghost → Machine → ℕ → Spot → Type 0
-IsAt g m i (in_hand k) = holds_index (m.part k).hand i ≡ true
-IsAt g m i (at_place r t) = Live g r t i
+abbrev pub IsAtSpot : Ghost → Machine → ℕ → Spot → Type 0
+IsAtSpot g m i (in_hand k) = holds_index (m.part k).hand i ≡ true
+IsAtSpot g m i (at_place r t) = Live g r t i
 
 pub record IsAtOneSpot (c : Setup) (g : Ghost) (m : Machine) : Type 0 where
-  pub alone : (i : ℕ) (s z : Spot) → IsAt g m i s → IsAt g m i z → s ≡ z
+  pub alone : (i : ℕ) (s z : Spot) → IsAtSpot g m i s → IsAtSpot g m i z → s ≡ z
   pub single : (k i : ℕ) → times i (m.part k).hand ≤ 1
-  pub somewhere : (i : ℕ) → i < n_of c.order → (s : Spot) × IsAt g m i s
+  pub somewhere : (i : ℕ) → i < n_of c.order → (s : Spot) × IsAtSpot g m i s
+
+-- spots of an index, where all but index i are where they were, and i is at home
+joined : (c : Setup) (g : Ghost) (m : Machine) → IsAtOneSpot c g m → (i : ℕ) (home : Spot) (x : ℕ) (s z : Spot)
+    → (IsAtSpot g m x s × (x ≢ i)) ⊎ ((s ≡ home) × (x ≡ i)) → (IsAtSpot g m x z × (x ≢ i)) ⊎ ((z ≡ home) × (x ≡ i)) → s ≡ z
+joined c g m once i home x s z (inl a) (inl b) = once.alone x s z a.0 b.0
+joined c g m once i home x s z (inl a) (inr b) = absurd (a.1 b.1)
+joined c g m once i home x s z (inr a) (inl b) = absurd (b.1 a.1)
+joined c g m once i home x s z (inr a) (inr b) = a.0 ∙ sym b.0
 
 -- at the start index i is at the opening place 2n + i of ring 0
 pub once_start : (c : Setup) (opening : List (List ℕ)) → IsAtOneSpot c (start_ghost c opening) (start_of c opening)
@@ -45,9 +53,7 @@ once_start c opening =
     start_at r t i live =
         elim (stands_at c opening r t) [
           | inl s ↦
-              let is = live.is in
-              let at = s.is in
-              let first = s.first in
+              let is = live.is in let at = s.is in let first = s.first in
               let index : t - ring_slots c ≡ i = cc in
               let place : t ≡ ring_slots c + i = omega arith in
               let ring = s.ring in
@@ -55,7 +61,7 @@ once_start c opening =
           | inr s ↦ let is = live.is in let at = s.is in absurd (cc)
         ]
 
-    start_alone : (i : ℕ) (s z : Spot) → IsAt (start_ghost c opening) (start_of c opening) i s → IsAt (start_ghost c opening) (start_of c opening) i z → s ≡ z
+    start_alone : (i : ℕ) (s z : Spot) → IsAtSpot (start_ghost c opening) (start_of c opening) i s → IsAtSpot (start_ghost c opening) (start_of c opening) i z → s ≡ z
     start_alone i (in_hand k) z at_s at_z = absurd (cc)
     start_alone i (at_place r t) (in_hand k) at_s at_z = absurd (cc)
     start_alone i (at_place r t) (at_place q p) at_s at_z = start_at r t i at_s ∙ sym (start_at q p i at_z)
@@ -83,11 +89,11 @@ once_still c g h m n lives hands once =
       somewhere = λ i low. let was = once.somewhere i low in (was.0, forth i was.0 was.1);
     }
   where
-    back : (i : ℕ) (s : Spot) → IsAt h n i s → IsAt g m i s
+    back : (i : ℕ) (s : Spot) → IsAtSpot h n i s → IsAtSpot g m i s
     back i (in_hand k) at = ap (λ x. holds_index x i) (sym (hands k)) ∙ at
     back i (at_place r p) at = lives.back r p i at
 
-    forth : (i : ℕ) (s : Spot) → IsAt g m i s → IsAt h n i s
+    forth : (i : ℕ) (s : Spot) → IsAtSpot g m i s → IsAtSpot h n i s
     forth i (in_hand k) at = ap (λ x. holds_index x i) (hands k) ∙ at
     forth i (at_place r p) at = lives.forth r p i at
 
@@ -97,7 +103,7 @@ pub hands_still : (c : Setup) (m : Machine) (g : Ghost) (k : ℕ) (e : TicketEve
 hands_still c m g k e n event_facts same j =
     elim (cases_eq j k) [
       | inl own ↦ ap (λ x. (n.part x).hand) own ∙ event_facts.hand ∙ same ∙ ap (λ x. (m.part x).hand) (sym own)
-      | inr other ↦ ap (λ (p : Part). p.hand) (event_facts.others j other)
+      | inr other ↦ ap (λ (p : SeatPart). p.hand) (event_facts.others j other)
     ]
 
 -- an index goes from a hand to a place
@@ -105,7 +111,7 @@ once_laid : (c : Setup) (time : ℕ) (g : Ghost) (m : Machine) (k r i : ℕ) (w 
     → IsAtOneSpot c g m → IsAtOneSpot c (ghost_next time g m k (laid r i w t)) n
 once_laid c time g m k r i w t n event_step once =
     record {
-      alone = λ x s z at_s at_z. joined x s z (back x s at_s) (back x z at_z);
+      alone = λ x s z at_s at_z. joined c g m once i (at_place r t) x s z (back x s at_s) (back x z at_z);
       single =
           λ j x.
           elim (cases_eq j k) [
@@ -144,7 +150,7 @@ once_laid c time g m k r i w t n event_step once =
     h = with_put g r t (placed i w maker)
 
     -- a spot afterwards was one before, of another index, or is the new place
-    back : (x : ℕ) (s : Spot) → IsAt h n x s → (IsAt g m x s × (x ≢ i)) ⊎ ((s ≡ at_place r t) × (x ≡ i))
+    back : (x : ℕ) (s : Spot) → IsAtSpot h n x s → (IsAtSpot g m x s × (x ≢ i)) ⊎ ((s ≡ at_place r t) × (x ≡ i))
     back x (in_hand j) at =
         elim (cases_eq j k) [
           | inl own ↦
@@ -176,14 +182,7 @@ once_laid c time g m k r i w t n event_step once =
               )
         ]
 
-    joined : (x : ℕ) (s z : Spot) → (IsAt g m x s × (x ≢ i)) ⊎ ((s ≡ at_place r t) × (x ≡ i)) → (IsAt g m x z × (x ≢ i)) ⊎ ((z ≡ at_place r t) × (x ≡ i))
-        → s ≡ z
-    joined x s z (inl a) (inl b) = once.alone x s z a.0 b.0
-    joined x s z (inl a) (inr b) = absurd (a.1 b.1)
-    joined x s z (inr a) (inl b) = absurd (b.1 a.1)
-    joined x s z (inr a) (inr b) = a.0 ∙ sym b.0
-
-    forth : (x : ℕ) (s : Spot) → x ≢ i → IsAt g m x s → IsAt h n x s
+    forth : (x : ℕ) (s : Spot) → x ≢ i → IsAtSpot g m x s → IsAtSpot h n x s
     forth x (in_hand j) other at =
         elim (cases_eq j k) [
           | inl own ↦
@@ -208,7 +207,7 @@ once_taken : (c : Setup) (time : ℕ) (g : Ghost) (m : Machine) (k r p i : ℕ) 
     → IsAtOneSpot c g m → IsAtOneSpot c (ghost_next time g m k (taken r p i w)) n
 once_taken c time g m k r p i w n event_step once =
     record {
-      alone = λ x s z at_s at_z. joined x s z (back x s at_s) (back x z at_z);
+      alone = λ x s z at_s at_z. joined c g m once i (in_hand k) x s z (back x s at_s) (back x z at_z);
       single = single;
       somewhere =
           λ x low.
@@ -236,7 +235,7 @@ once_taken c time g m k r p i w n event_step once =
         let spots : in_hand j ≡ at_place r p = once.alone x (in_hand j) (at_place r p) held (live_there x same) in absurd (cc)
 
     -- a spot afterwards was one before, of another index, or is the seat's hand
-    back : (x : ℕ) (s : Spot) → IsAt h n x s → (IsAt g m x s × (x ≢ i)) ⊎ ((s ≡ in_hand k) × (x ≡ i))
+    back : (x : ℕ) (s : Spot) → IsAtSpot h n x s → (IsAtSpot g m x s × (x ≢ i)) ⊎ ((s ≡ in_hand k) × (x ≡ i))
     back x (in_hand j) at =
         elim (cases_eq j k) [
           | inl own ↦
@@ -260,13 +259,7 @@ once_taken c time g m k r p i w n event_step once =
               )
         ]
 
-    joined : (x : ℕ) (s z : Spot) → (IsAt g m x s × (x ≢ i)) ⊎ ((s ≡ in_hand k) × (x ≡ i)) → (IsAt g m x z × (x ≢ i)) ⊎ ((z ≡ in_hand k) × (x ≡ i)) → s ≡ z
-    joined x s z (inl a) (inl b) = once.alone x s z a.0 b.0
-    joined x s z (inl a) (inr b) = absurd (a.1 b.1)
-    joined x s z (inr a) (inl b) = absurd (b.1 a.1)
-    joined x s z (inr a) (inr b) = a.0 ∙ sym b.0
-
-    forth : (x : ℕ) (s : Spot) → x ≢ i → IsAt g m x s → IsAt h n x s
+    forth : (x : ℕ) (s : Spot) → x ≢ i → IsAtSpot g m x s → IsAtSpot h n x s
     forth x (in_hand j) other at =
         elim (cases_eq j k) [
           | inl own ↦

@@ -6,7 +6,7 @@ use Rattle.scq_word.specs.declared.setup.Setup.{Setup}
 use Rattle.scq_word.specs.Words.{is_none_in}
 use Rattle.scq_core.specs.declared.phase.Phase.{Phase}
 use Rattle.scq_core.specs.declared.phase.Phase.TheVariants.{Idle, AtD4}
-use Rattle.scq_core.specs.Machine.{Part, Machine}
+use Rattle.scq_core.specs.Machine.{SeatPart, Machine}
 use Rattle.scq_core.specs.Table.{ring_slots, slot}
 use Rattle.scq_core.specs.Laws.{word_at}
 use Rattle.scq_core.specs.Reach.{IsReachable}
@@ -106,7 +106,7 @@ module _ (c : Setup) (g : Ghost) (m : Machine) (base : IsBased c g m) (records_a
               | inr high ↦
                   let idle = reach.absent k high in
                   let at : stance m k ≡ trying r h = roots.opens k r h is in
-                  let rests : stance m k ≡ resting = ap (λ (p : Part). stance_of p.phase) idle in
+                  let rests : stance m k ≡ resting = ap (λ (p : SeatPart). stance_of p.phase) idle in
                   absurd (cc)
             ];
         looks = roots.opens k r h is;

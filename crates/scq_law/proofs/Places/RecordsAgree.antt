@@ -7,7 +7,7 @@ use Rattle.scq_word.specs.declared.setup.Setup.{Setup}
 use Rattle.scq_word.specs.Sizes.{n_of}
 use Rattle.scq_core.specs.declared.ended.Ended.{Ended}
 use Rattle.scq_core.specs.declared.ended.Ended.TheVariants.{Done, Got}
-use Rattle.scq_core.specs.Machine.{Part, Machine}
+use Rattle.scq_core.specs.Machine.{SeatPart, Machine}
 use Rattle.scq_core.specs.Table.{ring_slots}
 use Rattle.scq_core.specs.Start.{start_of}
 use Rattle.scq_core.proofs.UpdatedLemmas.{updated_entry_or, updated_entry_here}
@@ -59,12 +59,12 @@ pub record Opens (c : Setup) (m : Machine) (r p i : ℕ) (w : List ℕ) : Type 0
   pub content : w ≡ slice_index_or m.opening (p - ring_slots c) []
 
 -- a call that ended with Done placed there
-pub record Makes (g : Ghost) (r p : ℕ) (w : List ℕ) (k j : ℕ) : Type 0 where
+pub record PlacedThere (g : Ghost) (r p : ℕ) (w : List ℕ) (k j : ℕ) : Type 0 where
   pub index : ℕ
   pub is : g.puts r p ≡ placed index w (call_of k j)
 
 -- a call that ended with Got took there what was placed
-pub record Takes (g : Ghost) (r p : ℕ) (w : List ℕ) (k j : ℕ) : Type 0 where
+pub record TookThere (g : Ghost) (r p : ℕ) (w : List ℕ) (k j : ℕ) : Type 0 where
   pub took : g.gets r p ≡ took k j
   pub index : ℕ
   pub maker : Maker
@@ -74,8 +74,8 @@ abbrev pub Lands : Machine → ℕ → ℕ → ℕ → List ℕ → ℕ → ℕ 
 Lands m r p i w k j = (j ≡ length (m.part k).calls) × (stance m k ≡ landed r i w p)
 
 pub record RecordsAgree (c : Setup) (g : Ghost) (m : Machine) : Type 0 where
-  pub done : (k j r p : ℕ) (w : List ℕ) → slice_get (m.part k).calls j ≡ Some (Done r p w) → Makes g r p w k j
-  pub got : (k j r p : ℕ) (w : List ℕ) → slice_get (m.part k).calls j ≡ Some (Got r p w) → Takes g r p w k j
+  pub done : (k j r p : ℕ) (w : List ℕ) → slice_get (m.part k).calls j ≡ Some (Done r p w) → PlacedThere g r p w k j
+  pub got : (k j r p : ℕ) (w : List ℕ) → slice_get (m.part k).calls j ≡ Some (Got r p w) → TookThere g r p w k j
   pub made : (r p i : ℕ) (w : List ℕ) (k j : ℕ) → g.puts r p ≡ placed i w (call_of k j)
       → (slice_get (m.part k).calls j ≡ Some (Done r p w)) ⊎ Lands m r p i w k j
   pub stood : (r p i : ℕ) (w : List ℕ) → g.puts r p ≡ placed i w opening_put → Opens c m r p i w
@@ -140,12 +140,11 @@ module _ (c : Setup) (time : ℕ) (g : Ghost) (m : Machine) (k : ℕ) (e : Ticke
         | inr other ↦ rw (d.others j other) is
       ]
 
-  done_step : ((r p : ℕ) (w : List ℕ) → ended_by e ≡ Done r p w ∷ [] → Makes g r p w k (length (m.part k).calls)) → (j x r p : ℕ) (w : List ℕ)
-      → slice_get (n.part j).calls x ≡ Some (Done r p w) → Makes h r p w j x
+  done_step : ((r p : ℕ) (w : List ℕ) → ended_by e ≡ Done r p w ∷ [] → PlacedThere g r p w k (length (m.part k).calls)) → (j x r p : ℕ) (w : List ℕ)
+      → slice_get (n.part j).calls x ≡ Some (Done r p w) → PlacedThere h r p w j x
   done_step new j x r p w is =
       elim (called j x (Done r p w) is) [
-        | inl was ↦
-            let made = old.done j x r p w was in
+        | inl was ↦ let made = old.done j x r p w was in
             record { index = made.index; is = event_step.moves.lies r p made.index w (call_of j x) made.is }
         | inr now ↦
             let made = new r p w now.2 in
@@ -153,8 +152,8 @@ module _ (c : Setup) (time : ℕ) (g : Ghost) (m : Machine) (k : ℕ) (e : Ticke
             (record { index = made.index; is = event_step.moves.lies r p made.index w (call_of k (length (m.part k).calls)) made.is })
       ]
 
-  got_step : ((r p : ℕ) (w : List ℕ) → ended_by e ≡ Got r p w ∷ [] → Takes h r p w k (length (m.part k).calls)) → (j x r p : ℕ) (w : List ℕ)
-      → slice_get (n.part j).calls x ≡ Some (Got r p w) → Takes h r p w j x
+  got_step : ((r p : ℕ) (w : List ℕ) → ended_by e ≡ Got r p w ∷ [] → TookThere h r p w k (length (m.part k).calls)) → (j x r p : ℕ) (w : List ℕ)
+      → slice_get (n.part j).calls x ≡ Some (Got r p w) → TookThere h r p w j x
   got_step new j x r p w is =
       elim (called j x (Got r p w) is) [
         | inl was ↦
@@ -202,7 +201,7 @@ module _ (c : Setup) (time : ℕ) (g : Ghost) (m : Machine) (k : ℕ) (e : Ticke
                         ]
                     | inr other ↦
                         inr
-                        (lands.0 ∙ ap (λ (v : Part). length v.calls) (sym (d.others j other)), other_stance c m g k e n j d other ∙ lands.1)
+                        (lands.0 ∙ ap (λ (v : SeatPart). length v.calls) (sym (d.others j other)), other_stance c m g k e n j d other ∙ lands.1)
                   ]
             ]
       ]
@@ -239,8 +238,8 @@ module _ (c : Setup) (time : ℕ) (g : Ghost) (m : Machine) (k : ℕ) (e : Ticke
       ]
 
   -- the parts together, from the call that the event ends and from what it does to the tickets
-  agrees_by : ((r p : ℕ) (w : List ℕ) → ended_by e ≡ Done r p w ∷ [] → Makes g r p w k (length (m.part k).calls))
-      → ((r p : ℕ) (w : List ℕ) → ended_by e ≡ Got r p w ∷ [] → Takes h r p w k (length (m.part k).calls))
+  agrees_by : ((r p : ℕ) (w : List ℕ) → ended_by e ≡ Done r p w ∷ [] → PlacedThere g r p w k (length (m.part k).calls))
+      → ((r p : ℕ) (w : List ℕ) → ended_by e ≡ Got r p w ∷ [] → TookThere h r p w k (length (m.part k).calls))
       → ((r p i : ℕ) (w : List ℕ) (b : Maker) → h.puts r p ≡ placed i w b
       → (g.puts r p ≡ placed i w b) ⊎ ((b ≡ call_of k (length (n.part k).calls)) × (stance n k ≡ landed r i w p)))
       → ((r i : ℕ) (w : List ℕ) (p : ℕ) → stance m k ≡ landed r i w p → (ended_by e ≡ Done r p w ∷ []) ⊎ ((ended_by e ≡ []) × (stance n k ≡ landed r i w p)))

@@ -79,6 +79,13 @@ still_opens c m g k e n event_facts own rooted j r h is =
       | inr other ↦ other_stance c m g k e n j event_facts other ∙ o
     ]
 
+-- no ticket changes
+still_rooted : (c : Setup) (m : Machine) (g : Ghost) (k : ℕ) (e : TicketEvent) (n : Machine) → EventFacts c m g k e n
+    → ((r i : ℕ) (w : List ℕ) (t : ℕ) → stance m k ≡ putting r i w t → stance n k ≡ putting r i w t)
+    → ((r h : ℕ) → stance m k ≡ trying r h → stance n k ≡ trying r h) → IsRooted g m → IsRooted g n
+still_rooted c m g k e n event_facts put get rooted =
+    record { pends = still_pends c m g k e n event_facts put rooted; opens = still_opens c m g k e n event_facts get rooted }
+
 get_opens : (c : Setup) (m : Machine) (g : Ghost) (k : ℕ) (e : TicketEvent) (n : Machine) (r h : ℕ) (x : GetState) → EventFacts c m g k e n
     → ((j : ℕ) → x ≡ opened j → stance n j ≡ trying r h) → ((q u : ℕ) → (q ≡ r → u ≡ h → ⊥) → stance m k ≡ trying q u → stance n k ≡ trying q u) → IsRooted g m
     → (j q u : ℕ) → (with_get g r h x).gets q u ≡ opened j → stance n j ≡ trying q u
@@ -97,10 +104,7 @@ pub rooted_step : (c : Setup) (time : ℕ) (g : Ghost) (m : Machine) (k : ℕ) (
     → IsRooted (ghost_next time g m k e) n
 rooted_step c time g m k (calm) n event_step rooted =
     let d = event_step.event_facts in
-    record {
-      pends = still_pends c m g k (calm) n d (λ q i w u is. d.stance ∙ is) rooted;
-      opens = still_opens c m g k (calm) n d (λ q u is. d.stance ∙ is) rooted;
-    }
+    still_rooted c m g k (calm) n d (λ q i w u is. d.stance ∙ is) (λ q u is. d.stance ∙ is) rooted
 rooted_step c time g m k (drew r i w t) n event_step rooted =
     let d = event_step.event_facts in
     record {
@@ -128,22 +132,13 @@ rooted_step c time g m k (laid r i w t) n event_step rooted =
     }
 rooted_step c time g m k (finished r i w t) n event_step rooted =
     let d = event_step.event_facts in
-    record {
-      pends = still_pends c m g k (finished r i w t) n d (λ q i w u is. let was = d.proper.was in absurd (cc)) rooted;
-      opens = still_opens c m g k (finished r i w t) n d (λ q u is. let was = d.proper.was in absurd (cc)) rooted;
-    }
+    still_rooted c m g k (finished r i w t) n d (λ q i w u is. let was = d.proper.was in absurd (cc)) (λ q u is. let was = d.proper.was in absurd (cc)) rooted
 rooted_step c time g m k (entered r) n event_step rooted =
     let d = event_step.event_facts in
-    record {
-      pends = still_pends c m g k (entered r) n d (λ q i w u is. let was = d.proper.was in let stand = was.rests in absurd (cc)) rooted;
-      opens = still_opens c m g k (entered r) n d (λ q u is. let was = d.proper.was in let stand = was.rests in absurd (cc)) rooted;
-    }
+    still_rooted c m g k (entered r) n d (λ q i w u is. let was = d.proper.was in let stand = was.rests in absurd (cc)) (λ q u is. let was = d.proper.was in let stand = was.rests in absurd (cc)) rooted
 rooted_step c time g m k (refused r) n event_step rooted =
     let d = event_step.event_facts in
-    record {
-      pends = still_pends c m g k (refused r) n d (λ q i w u is. let was = d.proper.was in let stand = was.rests in absurd (cc)) rooted;
-      opens = still_opens c m g k (refused r) n d (λ q u is. let was = d.proper.was in let stand = was.rests in absurd (cc)) rooted;
-    }
+    still_rooted c m g k (refused r) n d (λ q i w u is. let was = d.proper.was in let stand = was.rests in absurd (cc)) (λ q u is. let was = d.proper.was in let stand = was.rests in absurd (cc)) rooted
 rooted_step c time g m k (began r h) n event_step rooted =
     let d = event_step.event_facts in
     record {
@@ -161,16 +156,10 @@ rooted_step c time g m k (died r h) n event_step rooted =
     }
 rooted_step c time g m k (saw_end r h) n event_step rooted =
     let d = event_step.event_facts in
-    record {
-      pends = still_pends c m g k (saw_end r h) n d (λ q i w u is. let was = d.proper.was in absurd (cc)) rooted;
-      opens = still_opens c m g k (saw_end r h) n d (λ q u is. let was = d.proper.was in absurd (cc)) rooted;
-    }
+    still_rooted c m g k (saw_end r h) n d (λ q i w u is. let was = d.proper.was in absurd (cc)) (λ q u is. let was = d.proper.was in absurd (cc)) rooted
 rooted_step c time g m k (lifted r h to) n event_step rooted =
     let d = event_step.event_facts in
-    record {
-      pends = still_pends c m g k (lifted r h to) n d (λ q i w u is. let was = d.proper.was in absurd (cc)) rooted;
-      opens = still_opens c m g k (lifted r h to) n d (λ q u is. let was = d.proper.was in absurd (cc)) rooted;
-    }
+    still_rooted c m g k (lifted r h to) n d (λ q i w u is. let was = d.proper.was in absurd (cc)) (λ q u is. let was = d.proper.was in absurd (cc)) rooted
 rooted_step c time g m k (taken r h i w) n event_step rooted =
     let d = event_step.event_facts in
     record {
@@ -181,10 +170,7 @@ rooted_step c time g m k (taken r h i w) n event_step rooted =
     }
 rooted_step c time g m k (lowered r h) n event_step rooted =
     let d = event_step.event_facts in
-    record {
-      pends = still_pends c m g k (lowered r h) n d (λ q i w u is. let was = d.proper.was in absurd (cc)) rooted;
-      opens = still_opens c m g k (lowered r h) n d (λ q u is. let was = d.proper.was in absurd (cc)) rooted;
-    }
+    still_rooted c m g k (lowered r h) n d (λ q i w u is. let was = d.proper.was in absurd (cc)) (λ q u is. let was = d.proper.was in absurd (cc)) rooted
 rooted_step c time g m k (emptied r h) n event_step rooted =
     let d = event_step.event_facts in
     record {
@@ -204,7 +190,4 @@ rooted_step c time g m k (overran r t true) n event_step rooted =
     }
 rooted_step c time g m k (overran r t false) n event_step rooted =
     let d = event_step.event_facts in
-    record {
-      pends = still_pends c m g k (overran r t false) n d (λ q i w u is. let was = d.proper.was in absurd (cc)) rooted;
-      opens = still_opens c m g k (overran r t false) n d (λ q u is. let was = d.proper.was in absurd (cc)) rooted;
-    }
+    still_rooted c m g k (overran r t false) n d (λ q i w u is. let was = d.proper.was in absurd (cc)) (λ q u is. let was = d.proper.was in absurd (cc)) rooted

@@ -15,11 +15,11 @@ use Rattle.scq_law.proofs.Base.EventSteps.{EventStep, ghost_next}
 use Rattle.scq_law.proofs.Places.HandLemmas.{holds_without, holds_pushed}
 use Rattle.scq_law.proofs.Places.OneSpot.{hands_still}
 
-pub record IsSmall (c : Setup) (g : Ghost) (m : Machine) : Type 0 where
+pub record HasSmallIndices (c : Setup) (g : Ghost) (m : Machine) : Type 0 where
   pub hands : (k i : ℕ) → holds_index (m.part k).hand i ≡ true → i < n_of c.order
   pub places : (r p i : ℕ) (w : List ℕ) (b : Maker) → g.puts r p ≡ placed i w b → i < n_of c.order
 
-pub small_start : (c : Setup) (opening : List (List ℕ)) → IsSmall c (start_ghost c opening) (start_of c opening)
+pub small_start : (c : Setup) (opening : List (List ℕ)) → HasSmallIndices c (start_ghost c opening) (start_of c opening)
 small_start c opening =
     record {
       hands = λ k i has. absurd (cc);
@@ -27,9 +27,7 @@ small_start c opening =
           λ r p i w b is.
           elim (stands_at c opening r p) [
             | inl s ↦
-                let at = s.is in
-                let first = s.first in
-                let last = s.last in
+                let at = s.is in let first = s.first in let last = s.last in
                 let index : p - ring_slots c ≡ i = cc in
                 omega arith
             | inr s ↦ let at = s.is in absurd (cc)
@@ -51,8 +49,8 @@ hands_stay : (c : Setup) (m n : Machine) → ((j : ℕ) → (n.part j).hand ≡ 
     → ((k i : ℕ) → holds_index (m.part k).hand i ≡ true → i < n_of c.order) → (k i : ℕ) → holds_index (n.part k).hand i ≡ true → i < n_of c.order
 hands_stay c m n same old k i has = old k i (ap (λ x. holds_index x i) (sym (same k)) ∙ has)
 
-pub small_step : (c : Setup) (time : ℕ) (g : Ghost) (m : Machine) (k : ℕ) (e : TicketEvent) (n : Machine) → EventStep c time g m k e n → IsSmall c g m
-    → IsSmall c (ghost_next time g m k e) n
+pub small_step : (c : Setup) (time : ℕ) (g : Ghost) (m : Machine) (k : ℕ) (e : TicketEvent) (n : Machine) → EventStep c time g m k e n → HasSmallIndices c g m
+    → HasSmallIndices c (ghost_next time g m k e) n
 small_step c time g m k (drew r i w t) n event_step old =
     record {
       hands = hands_stay c m n (hands_still c m g k (drew r i w t) n event_step.event_facts refl) old.hands;

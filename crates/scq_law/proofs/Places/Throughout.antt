@@ -7,7 +7,7 @@ use Rattle.scq_law.proofs.Base.Traces.{Trace}
 use Rattle.scq_law.proofs.Base.EventSteps.{along}
 use Rattle.scq_law.proofs.Places.SeatTickets.{IsRooted, rooted_start, rooted_step}
 use Rattle.scq_law.proofs.Places.OneSpot.{IsAtOneSpot, once_start, once_step}
-use Rattle.scq_law.proofs.Places.SmallIndices.{IsSmall, small_start, small_step}
+use Rattle.scq_law.proofs.Places.SmallIndices.{HasSmallIndices, small_start, small_step}
 use Rattle.scq_law.proofs.Places.ReachedTickets.{IsReached, reached_start, reached_step}
 use Rattle.scq_law.proofs.Places.RecordsAgree.{RecordsAgree, records_agree_start, records_agree_step}
 
@@ -25,5 +25,5 @@ pub records_agree : (c : Setup) (time : ℕ) (g : Ghost) (m : Machine) → Trace
 records_agree c time g m trace =
     along c (λ t h n. RecordsAgree c h n) (λ o full. records_agree_start c o) (records_agree_step c) time g m trace
 
-pub small : (c : Setup) (time : ℕ) (g : Ghost) (m : Machine) → Trace c time g m → IsSmall c g m
-small c time g m trace = along c (λ t h n. IsSmall c h n) (λ o full. small_start c o) (small_step c) time g m trace
+pub small : (c : Setup) (time : ℕ) (g : Ghost) (m : Machine) → Trace c time g m → HasSmallIndices c g m
+small c time g m trace = along c (λ t h n. HasSmallIndices c h n) (λ o full. small_start c o) (small_step c) time g m trace

@@ -1,30 +1,29 @@
 -- A call that runs alone ends soon, from any reachable state. Plan: what is left to its seat alone
 -- falls with each of its steps while its record stays, is at first no more than the bound, and
 -- never nothing.
-use Rattle.std.proofs.Common.{◌≡◌, ℕ, ◌+◌, ◌<◌, ◌≤◌, List, [], ◌∷◌, ◌++◌, length, refl, sym, ap, ◌∙◌, inl, inr, arith}
+use Rattle.std.proofs.Common.{◌≡◌, ℕ, ◌+◌, ◌<◌, ◌≤◌, List, [], ◌∷◌, length, sym, ap, ◌∙◌, inl, inr, arith}
 use Rattle.std.specs.Prelude.{Some}
 use Rattle.std.specs.List.{All}
-use Rattle.std.proofs.Math.Seq.{drop-append_seam}
 use Rattle.std.proofs.lemmas.Bool.{cases_lt}
-use Rattle.std.proofs.lemmas.List.Elements.{All-head, All-tail, All-drop}
+use Rattle.std.proofs.lemmas.List.Elements.{All-head, All-tail}
 use Rattle.scq_word.specs.declared.setup.Setup.{Setup}
 use Rattle.scq_core.specs.declared.phase.Phase.{Phase}
 use Rattle.scq_core.specs.declared.phase.Phase.TheVariants.{Idle}
 use Rattle.scq_core.specs.declared.step.Step.{Step}
-use Rattle.scq_core.specs.Machine.{Part, Machine, read, beside}
-use Rattle.scq_core.specs.Table.{turn_of, ring_of, location_of, after, moved}
+use Rattle.scq_core.specs.Machine.{SeatPart, Machine}
+use Rattle.scq_core.specs.Table.{turn_of, ring_of, moved}
 use Rattle.scq_core.specs.Reach.{IsReachable}
 use Rattle.scq_core.proofs.UpdatedLemmas.{updated_here}
 use Rattle.scq_core.proofs.Turns.{begins, awake}
-use Rattle.scq_law.specs.Run.{Recorded, recorded_by, recorded_along, IsRun}
+use Rattle.scq_law.specs.Run.{Recorded, recorded_along}
 use Rattle.scq_law.specs.Progress.{alone_steps, EndsAlone}
-use Rattle.scq_law.proofs.Replays.RecordedRuns.{chained, recorded_step, turn_reaches}
-use Rattle.scq_law.proofs.Replays.RunLaws.{run_reaches}
+use Rattle.scq_law.proofs.Replays.RecordedRuns.{first_step, turn_reaches}
 use Rattle.scq_law.proofs.Tickets.TicketLaws.{within_window}
+use Rattle.scq_law.proofs.Progress.Potential.{part_after}
 use Rattle.scq_law.proofs.Progress.LeftBounds.{gap, lag_bit}
 use Rattle.scq_law.proofs.Progress.QuietTurns.{stale_bit}
-use Rattle.scq_law.proofs.Progress.ProgressLaws.{behind_front}
-use Rattle.scq_law.proofs.Progress.CallsProgress.{calls_of_more, calls_same, longer_along}
+use Rattle.scq_law.proofs.Progress.ProgressLaws.{leads_on}
+use Rattle.scq_law.proofs.Progress.CallsProgress.{calls_same, longer_along, stays_same}
 use Rattle.scq_law.proofs.Progress.AloneSteps.{alone_left, alone_less, alone_few, alone_some}
 
 -- what is left to each seat, and that it is few
@@ -42,9 +41,8 @@ few_alone c m reachable phase =
 -- a step of seat j by an enabled turn
 module _ (c : Setup) (m : Machine) (j : ℕ) (s : Step) (turn : Phase) (low : j < c.seats)
     (reachable : IsReachable c m) (enabled : turn_of c (m.part j) s ≡ Some turn) where
-  abbrev part_then : Part
-  part_then = after c turn (read m.cells (location_of c turn)) (beside m.cells (location_of c turn))
-      (m.part j)
+  abbrev part_then : SeatPart
+  part_then = part_after c m j turn
 
   -- leaves it less, where its call goes on
   alone_own : (part_then.phase ≡ Idle → ⊥) → left_alone c (moved c m j turn) j < left_alone c m j
@@ -56,7 +54,7 @@ module _ (c : Setup) (m : Machine) (j : ℕ) (s : Step) (turn : Phase) (low : j 
       alone_less c m.cells p turn (awake c p.hand p.spent p.phase s turn enabled) goes_on
       ((within_window c n next).within (ring_of turn)) in
       let now : left_alone c n j ≡ alone_left c n.cells part_then.phase =
-      ap (λ (v : Part). alone_left c n.cells v.phase) (updated_here m.part j part_then) in
+      ap (λ (v : SeatPart). alone_left c n.cells v.phase) (updated_here m.part j part_then) in
       elim (begins c p.hand p.spent p.phase s turn enabled) [
         | inl same ↦
             let was : left_alone c m j ≡ alone_left c m.cells turn =
@@ -75,7 +73,7 @@ module _ (c : Setup) (m : Machine) (j : ℕ) (s : Step) (turn : Phase) (low : j 
       let n = moved c m j turn in
       let here : length (n.part k).calls ≡ length part_then.calls =
       ap (λ (i : ℕ). length (n.part i).calls) (sym own)
-      ∙ ap (λ (v : Part). length v.calls) (updated_here m.part j part_then) in
+      ∙ ap (λ (v : SeatPart). length v.calls) (updated_here m.part j part_then) in
       let was : length (m.part k).calls ≡ length (m.part j).calls =
       ap (λ (i : ℕ). length (m.part i).calls) (sym own) in
       let less = alone_own (calls_same c m j s turn low reachable enabled
@@ -93,27 +91,15 @@ alone_along : (c : Setup) (k : ℕ) (own : List (ℕ × Step)) (t last : Recorde
 alone_along c k [] t last its seats reachable e same =
     let is : t ≡ last = cc in rw (← is) (omega arith)
 alone_along c k (x ∷ xs) t last its seats reachable e same =
-    let h = chained (λ next. recorded_along c next xs) (recorded_by c t x) last e in
-    let u = recorded_step c t x h.0 h.1 in
-    let low = All-head (λ (y : ℕ × Step). y.0 < c.seats) x xs seats in
-    let rest_low = All-tail (λ (y : ℕ × Step). y.0 < c.seats) x xs seats in
-    let n = moved c t.state x.0 u.turn in
-    let next_state : h.0.state ≡ n = ap (λ (z : Recorded). z.state) u.is in
-    let next_reach : IsReachable c h.0.state =
-    rw next_state (turn_reaches c t.state x.0 x.1 u.turn low u.enabled reachable) in
-    let longer = longer_along c k xs h.0 last rest_low next_reach h.2 in
-    let here = calls_of_more c t.state x.0 x.1 u.turn low reachable u.enabled k in
-    let calls_are : length (h.0.state.part k).calls ≡ length (n.part k).calls =
-    ap (λ (z : Machine). length (z.part k).calls) next_state in
-    let same_next : length (h.0.state.part k).calls ≡ length (last.state.part k).calls =
-    omega arith in
-    let same_here : length (t.state.part k).calls ≡ length (n.part k).calls = omega arith in
-    let rest = alone_along c k xs h.0 last (All-tail (λ (y : ℕ × Step). y.0 ≡ k) x xs its) rest_low
-    next_reach h.2 same_next in
-    let step = alone_step c t.state x.0 x.1 u.turn low reachable u.enabled k
-    (All-head (λ (y : ℕ × Step). y.0 ≡ k) x xs its) same_here in
-    let left_is : left_alone c h.0.state k ≡ left_alone c n k =
-    ap (λ (z : Machine). left_alone c z k) next_state in
+    let f = first_step c x xs t last seats reachable e in
+    let n = moved c t.state x.0 f.turn in
+    let stay = stays_same c k x xs t last f reachable same in
+    let rest = alone_along c k xs f.next last (All-tail (λ (y : ℕ × Step). y.0 ≡ k) x xs its)
+    f.rest_low f.reach f.along stay.next in
+    let step = alone_step c t.state x.0 x.1 f.turn f.low reachable f.enabled k
+    (All-head (λ (y : ℕ × Step). y.0 ≡ k) x xs its) stay.here in
+    let left_is : left_alone c f.next.state k ≡ left_alone c n k =
+    ap (λ (z : Machine). left_alone c z k) f.state in
     omega arith
 
 pub ends_alone : (c : Setup) (opening : List (List ℕ)) (steps : List (ℕ × Step))
@@ -122,19 +108,15 @@ ends_alone c opening steps =
     record {
       ends =
           λ k front own was now within its front_run back_run many.
-          let low : All (λ (x : ℕ × Step). x.0 < c.seats) own =
-          rw (drop-append_seam front own) at
-          (All-drop (λ (x : ℕ × Step). x.0 < c.seats) (length front) (front ++ own)
-          back_run.seats) in
-          let reachable = run_reaches c opening front was front_run in
-          let along = behind_front c opening front own was now front_run back_run in
+          let on = leads_on c opening front own was now front_run back_run in
           elim (cases_lt (length (was.state.part k).calls) (length (now.state.part k).calls)) [
             | inl more ↦ more
             | inr high ↦
-                let longer = longer_along c k own was now low reachable along in
-                let few = alone_along c k own was now its low reachable along (omega arith) in
+                let longer = longer_along c k own was now on.low on.reachable on.along in
+                let few = alone_along c k own was now its on.low on.reachable on.along
+                (omega arith) in
                 let some = alone_some c now.state.cells (now.state.part k).phase in
-                let most = few_alone c was.state reachable (was.state.part k).phase in
+                let most = few_alone c was.state on.reachable (was.state.part k).phase in
                 absurd (omega arith)
           ];
     }

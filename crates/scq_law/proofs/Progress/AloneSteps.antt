@@ -5,12 +5,12 @@
 -- changed before.
 use Rattle.std.proofs.Common.{◌≡◌, ℕ, ◌+◌, ◌-◌, ◌*◌, ◌<◌, ◌≤◌, true, false, ◌&&◌, refl, inl, inr, arith, eq-eqb, ne_eqb}
 use Rattle.std.specs.Prelude.{◌==◌, nat_lt, nat_le, min, Bool, if◌then◌else◌}
-use Rattle.std.proofs.lemmas.Bool.{cases_Bool, cases_eq, leb-true, leb-false}
+use Rattle.std.proofs.lemmas.Bool.{cases_Bool, cases_eq, leb-false}
 use Rattle.scq_word.specs.declared.setup.Setup.{Setup}
 use Rattle.scq_word.specs.Words.{safe_in, cycle_in, is_none_in}
 use Rattle.scq_core.specs.declared.phase.Phase.{Phase}
 use Rattle.scq_core.specs.declared.phase.Phase.TheVariants.{Idle, AtE1, AtE2, AtE3, AtE4, AtE5, AtE6, AtD1, AtD2, AtD3, AtD4, AtD5, AtD6, AtD7, AtD8, AtD9, AtD10}
-use Rattle.scq_core.specs.Machine.{Cells, Part, read, beside}
+use Rattle.scq_core.specs.Machine.{Cells, SeatPart, read, beside}
 use Rattle.scq_core.specs.Table.{ring_slots, cycle, slot, zero_level, reset_level, ring_of, location_of, after, cells_after}
 use Rattle.scq_core.specs.Laws.{word_at}
 use Rattle.scq_core.proofs.Entries.{some_indices, some_seats}
@@ -48,7 +48,7 @@ alone_left c m (AtD9 r h from to) = 3
 alone_left c m (AtD10 r h true) = 1
 alone_left c m (AtD10 r h false) = 5 * ahead c m r + 7
 
-module _ (c : Setup) (m : Cells) (p : Part) where
+module _ (c : Setup) (m : Cells) (p : SeatPart) where
   -- of a turn whose call goes on, with Tail in the window of Head after it
   abbrev AloneLessBy : Phase → Type 0
   AloneLessBy turn =

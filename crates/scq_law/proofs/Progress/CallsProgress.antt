@@ -4,9 +4,7 @@
 use Rattle.std.proofs.Common.{◌≡◌, ℕ, ◌+◌, ◌*◌, ◌<◌, ◌≤◌, true, false, ◌&&◌, List, [], ◌∷◌, ◌++◌, length, length-append, refl, sym, ap, ◌∙◌, inl, inr, arith, eq-eqb, ne_eqb}
 use Rattle.std.specs.Prelude.{◌==◌, nat_lt, nat_le, if◌then◌else◌, Some}
 use Rattle.std.specs.List.{All}
-use Rattle.std.proofs.Math.Seq.{drop-append_seam}
 use Rattle.std.proofs.lemmas.Bool.{cases_eq}
-use Rattle.std.proofs.lemmas.List.Elements.{All-head, All-tail, All-drop}
 use Rattle.std.proofs.lemmas.List.Sums.{sum_by-append}
 use Rattle.scq_word.specs.declared.setup.Setup.{Setup}
 use Rattle.scq_word.specs.Words.{safe_in, cycle_in, is_none_in}
@@ -15,7 +13,7 @@ use Rattle.scq_core.specs.declared.ended.Ended.TheVariants.{Done, Got, Nothing, 
 use Rattle.scq_core.specs.declared.phase.Phase.{Phase}
 use Rattle.scq_core.specs.declared.phase.Phase.TheVariants.{Idle, AtE1, AtE2, AtE3, AtE4, AtE5, AtE6, AtD1, AtD2, AtD3, AtD4, AtD5, AtD6, AtD7, AtD8, AtD9, AtD10}
 use Rattle.scq_core.specs.declared.step.Step.{Step}
-use Rattle.scq_core.specs.Machine.{Part, Machine, read, beside}
+use Rattle.scq_core.specs.Machine.{SeatPart, Machine, read, beside}
 use Rattle.scq_core.specs.Table.{ring_slots, cycle, zero_level, reset_level, turn_of, ring_of, location_of, after, moved}
 use Rattle.scq_core.specs.Reach.{IsReachable}
 use Rattle.scq_core.proofs.UpdatedLemmas.{updated_here, updated_else}
@@ -24,26 +22,25 @@ use Rattle.scq_core.proofs.Steady.{steady, either_way}
 use Rattle.scq_core.proofs.Counts.{total_updated}
 use Rattle.scq_law.specs.Bounds.{tally}
 use Rattle.scq_law.specs.CallSteps.{steps_of}
-use Rattle.scq_law.specs.Run.{Recorded, recorded_by, recorded_along, IsRun}
+use Rattle.scq_law.specs.Run.{Recorded, recorded_along, IsRun}
 use Rattle.scq_law.specs.Prefixes.{IsPrefix}
 use Rattle.scq_law.specs.Progress.{quiet_steps, ring_ended, end_delay, delay_on, delays}
 use Rattle.scq_law.proofs.Base.SeatSums.{tally-append}
-use Rattle.scq_law.proofs.Replays.RecordedRuns.{chained, recorded_step, turn_reaches}
-use Rattle.scq_law.proofs.Replays.RunLaws.{run_reaches}
+use Rattle.scq_law.proofs.Replays.RecordedRuns.{FirstStep, first_step, turn_reaches}
 use Rattle.scq_law.proofs.Retries.StepLaws.{steps-first}
-use Rattle.scq_law.proofs.Progress.Potential.{draws_on, changes_on, left}
+use Rattle.scq_law.proofs.Progress.Potential.{part_after, draws_on, changes_on, left_to_seat}
 use Rattle.scq_law.proofs.Progress.TurnEffects.{ring_after}
 use Rattle.scq_law.proofs.Progress.EndedTurns.{is_done, end_units, end_left}
 use Rattle.scq_law.proofs.Progress.LeftBounds.{left_of, most_left, idle_or}
-use Rattle.scq_law.proofs.Progress.ProgressLaws.{own_less, others_less, behind_front}
+use Rattle.scq_law.proofs.Progress.ProgressLaws.{own_less, others_less, leads_on}
 
 -- a seat's call has ended on this ring, or goes on
-pub data AfterOn (r : ℕ) (p q : Part) : Type 0 where
+pub data AfterOn (r : ℕ) (p q : SeatPart) : Type 0 where
   ended_there : (e : Ended) → q.phase ≡ Idle → ring_ended e ≡ r → q.calls ≡ p.calls ++ e ∷ []
       → AfterOn r p q
   stays_there : (q.phase ≡ Idle → ⊥) → q.calls ≡ p.calls → AfterOn r p q
 
-module _ (c : Setup) (x : ℕ) (y : List ℕ) (p : Part) where
+module _ (c : Setup) (x : ℕ) (y : List ℕ) (p : SeatPart) where
   pub after_on : (turn : Phase) → (turn ≡ Idle → ⊥) → AfterOn (ring_of turn) p (after c turn x y p)
   after_on Idle awake = absurd (awake refl)
   after_on (AtE1 q i w l) awake =
@@ -111,9 +108,8 @@ units_delay c (Spent r t is_put) = omega arith
 -- a step of seat j
 module _ (c : Setup) (m : Machine) (j : ℕ) (s : Step) (turn : Phase) (low : j < c.seats)
     (reachable : IsReachable c m) (enabled : turn_of c (m.part j) s ≡ Some turn) where
-  abbrev part_then : Part
-  part_then = after c turn (read m.cells (location_of c turn)) (beside m.cells (location_of c turn))
-      (m.part j)
+  abbrev part_then : SeatPart
+  part_then = part_after c m j turn
 
   part_after_on : AfterOn (ring_of turn) (m.part j) part_then
   part_after_on =
@@ -124,12 +120,12 @@ module _ (c : Setup) (m : Machine) (j : ℕ) (s : Step) (turn : Phase) (low : j 
   -- what ends come to on a ring: more by its end where its call ended there
   pub ended_more : (r : ℕ) → delays c m r ≤ delays c (moved c m j turn) r
   ended_more r =
-      let sum = total_updated (λ (p : Part). tally (delay_on c r) p.calls) m.part j part_then
+      let sum = total_updated (λ (p : SeatPart). tally (delay_on c r) p.calls) m.part j part_then
       c.seats low in
       let grows = by part_then part_after_on in
       omega arith
     where
-      by : (q : Part) → AfterOn (ring_of turn) (m.part j) q
+      by : (q : SeatPart) → AfterOn (ring_of turn) (m.part j) q
           → tally (delay_on c r) (m.part j).calls ≤ tally (delay_on c r) q.calls
       by q (ended_there e idle ring calls) =
           let sum = tally-append (delay_on c r) (m.part j).calls (e ∷ []) in
@@ -140,7 +136,7 @@ module _ (c : Setup) (m : Machine) (j : ℕ) (s : Step) (turn : Phase) (low : j 
       → part_then.calls ≡ (m.part j).calls ++ e ∷ []
       → delays c m (ring_of turn) + end_delay c e ≤ delays c (moved c m j turn) (ring_of turn)
   ended_one e ring calls =
-      let sum = total_updated (λ (p : Part). tally (delay_on c (ring_of turn)) p.calls) m.part j
+      let sum = total_updated (λ (p : SeatPart). tally (delay_on c (ring_of turn)) p.calls) m.part j
       part_then c.seats low in
       let more = tally-append (delay_on c (ring_of turn)) (m.part j).calls (e ∷ []) in
       let is : tally (delay_on c (ring_of turn)) part_then.calls
@@ -159,17 +155,17 @@ module _ (c : Setup) (m : Machine) (j : ℕ) (s : Step) (turn : Phase) (low : j 
   ended_call : part_then.phase ≡ Idle → EndedCall
   ended_call = by part_then refl part_after_on
     where
-      by : (q : Part) → q ≡ part_then → AfterOn (ring_of turn) (m.part j) q → q.phase ≡ Idle
+      by : (q : SeatPart) → q ≡ part_then → AfterOn (ring_of turn) (m.part j) q → q.phase ≡ Idle
           → EndedCall
       by q is (ended_there e idle ring calls) rests =
-          record { ended = e; ring = ring; calls = ap (λ (v : Part). v.calls) (sym is) ∙ calls }
+          record { ended = e; ring = ring; calls = ap (λ (v : SeatPart). v.calls) (sym is) ∙ calls }
       by q is (stays_there busy calls) rests = absurd (busy rests)
 
   -- a record never gets shorter, and stays as long only where the call goes on
   calls_more : length (m.part j).calls ≤ length part_then.calls
   calls_more = by part_then part_after_on
     where
-      by : (q : Part) → AfterOn (ring_of turn) (m.part j) q
+      by : (q : SeatPart) → AfterOn (ring_of turn) (m.part j) q
           → length (m.part j).calls ≤ length q.calls
       by q (ended_there e idle ring calls) = let sum = length-append (m.part j).calls (e ∷ []) in
           rw calls (omega arith)
@@ -178,7 +174,7 @@ module _ (c : Setup) (m : Machine) (j : ℕ) (s : Step) (turn : Phase) (low : j 
   pub calls_same : length (m.part j).calls ≡ length part_then.calls → part_then.phase ≡ Idle → ⊥
   calls_same = by part_then part_after_on
     where
-      by : (q : Part) → AfterOn (ring_of turn) (m.part j) q
+      by : (q : SeatPart) → AfterOn (ring_of turn) (m.part j) q
           → length (m.part j).calls ≡ length q.calls → q.phase ≡ Idle → ⊥
       by q (ended_there e idle ring calls) same is =
           let sum = length-append (m.part j).calls (e ∷ []) in
@@ -194,14 +190,14 @@ module _ (c : Setup) (m : Machine) (j : ℕ) (s : Step) (turn : Phase) (low : j 
         | inl own ↦
             let here : length ((moved c m j turn).part k).calls ≡ length part_then.calls =
             ap (λ (i : ℕ). length ((moved c m j turn).part i).calls) own
-            ∙ ap (λ (v : Part). length v.calls) (updated_here m.part j part_then) in
+            ∙ ap (λ (v : SeatPart). length v.calls) (updated_here m.part j part_then) in
             let was : length (m.part k).calls ≡ length (m.part j).calls =
             ap (λ (i : ℕ). length (m.part i).calls) own in
             let more = calls_more in
             omega arith
         | inr other ↦
             let there : length ((moved c m j turn).part k).calls ≡ length (m.part k).calls =
-            ap (λ (v : Part). length v.calls) (updated_else m.part j part_then k other) in
+            ap (λ (v : SeatPart). length v.calls) (updated_else m.part j part_then k other) in
             omega arith
       ]
 
@@ -218,7 +214,7 @@ module _ (c : Setup) (m : Machine) (j : ℕ) (s : Step) (turn : Phase) (low : j 
         | inl own ↦
             let here : length ((moved c m j turn).part k).calls ≡ length part_then.calls =
             ap (λ (i : ℕ). length ((moved c m j turn).part i).calls) (sym own)
-            ∙ ap (λ (v : Part). length v.calls) (updated_here m.part j part_then) in
+            ∙ ap (λ (v : SeatPart). length v.calls) (updated_here m.part j part_then) in
             let was : length (m.part k).calls ≡ length (m.part j).calls =
             ap (λ (i : ℕ). length (m.part i).calls) (sym own) in
             let less = own_less c m j s turn low reachable enabled
@@ -230,15 +226,15 @@ module _ (c : Setup) (m : Machine) (j : ℕ) (s : Step) (turn : Phase) (low : j 
             let part_is : n.part k ≡ m.part k =
             updated_else m.part j part_then k (λ e. other (sym e)) in
             let left_now : left_of c n k
-            ≡ left c n.cells (draws_on c n) (changes_on c n) (m.part k).phase =
-            ap (λ (v : Part). left c n.cells (draws_on c n) (changes_on c n) v.phase) part_is in
+            ≡ left_to_seat c n.cells (draws_on c n) (changes_on c n) (m.part k).phase =
+            ap (λ (v : SeatPart). left_to_seat c n.cells (draws_on c n) (changes_on c n) v.phase) part_is in
             rw (ne_eqb j k other)
             (elim (idle_or (m.part k).phase) [
               | inl idle ↦
                   let left_was : left_of c m k ≡ quiet_steps c =
-                  ap (left c m.cells (draws_on c m) (changes_on c m)) idle in
+                  ap (left_to_seat c m.cells (draws_on c m) (changes_on c m)) idle in
                   let left_idle : left_of c n k ≡ quiet_steps c =
-                  left_now ∙ ap (left c n.cells (draws_on c n) (changes_on c n)) idle in
+                  left_now ∙ ap (left_to_seat c n.cells (draws_on c n) (changes_on c n)) idle in
                   omega arith
               | inr busy ↦
                   elim (idle_or part_then.phase) [
@@ -283,7 +279,7 @@ module _ (c : Setup) (m : Machine) (j : ℕ) (s : Step) (turn : Phase) (low : j 
             let part_is : n.part k ≡ part_then = ap n.part own ∙ updated_here m.part j part_then in
             let was : length (m.part k).calls ≡ length (m.part j).calls =
             ap (λ (i : ℕ). length (m.part i).calls) own in
-            let goes = calls_same (sym was ∙ same ∙ ap (λ (v : Part). length v.calls) part_is) in
+            let goes = calls_same (sym was ∙ same ∙ ap (λ (v : SeatPart). length v.calls) part_is) in
             let ring = ring_after c (read m.cells (location_of c turn))
             (beside m.cells (location_of c turn)) (m.part j) turn
             (awake c (m.part j).hand (m.part j).spent (m.part j).phase s turn enabled) goes in
@@ -294,15 +290,15 @@ module _ (c : Setup) (m : Machine) (j : ℕ) (s : Step) (turn : Phase) (low : j 
               | inl is ↦ is
               | inr new ↦ absurd (busy (phase_was ∙ new.0))
             ] in (
-              (λ idle. goes (sym (ap (λ (v : Part). v.phase) part_is) ∙ idle)),
-              ap (λ (v : Part). ring_of v.phase) part_is ∙ ring
+              (λ idle. goes (sym (ap (λ (v : SeatPart). v.phase) part_is) ∙ idle)),
+              ap (λ (v : SeatPart). ring_of v.phase) part_is ∙ ring
                   ∙ ap ring_of (turn_is ∙ sym phase_was),
             )
         | inr other ↦
             let part_is : n.part k ≡ m.part k = updated_else m.part j part_then k other in (
-              (λ idle. busy (sym (ap (λ (v : Part). v.phase) part_is) ∙ idle)),
+              (λ idle. busy (sym (ap (λ (v : SeatPart). v.phase) part_is) ∙ idle)),
               ap
-                  (λ (v : Part). ring_of v.phase) part_is,
+                  (λ (v : SeatPart). ring_of v.phase) part_is,
             )
       ]
 
@@ -313,19 +309,32 @@ pub longer_along : (c : Setup) (k : ℕ) (steps : List (ℕ × Step)) (t last : 
     → length (t.state.part k).calls ≤ length (last.state.part k).calls
 longer_along c k [] t last seats reachable e = let same : t ≡ last = cc in rw (← same) (omega arith)
 longer_along c k (x ∷ xs) t last seats reachable e =
-    let h = chained (λ next. recorded_along c next xs) (recorded_by c t x) last e in
-    let u = recorded_step c t x h.0 h.1 in
-    let low = All-head (λ (y : ℕ × Step). y.0 < c.seats) x xs seats in
-    let next_state : h.0.state ≡ moved c t.state x.0 u.turn = ap (λ (z : Recorded). z.state) u.is in
-    let next_reach : IsReachable c h.0.state =
-    rw next_state (turn_reaches c t.state x.0 x.1 u.turn low u.enabled reachable) in
-    let rest = longer_along c k xs h.0 last (All-tail (λ (y : ℕ × Step). y.0 < c.seats) x xs seats)
-    next_reach h.2 in
-    let here = calls_of_more c t.state x.0 x.1 u.turn low reachable u.enabled k in
-    let calls_are : length (h.0.state.part k).calls
-    ≡ length ((moved c t.state x.0 u.turn).part k).calls =
-    ap (λ (z : Machine). length (z.part k).calls) next_state in
+    let f = first_step c x xs t last seats reachable e in
+    let rest = longer_along c k xs f.next last f.rest_low f.reach f.along in
+    let here = calls_of_more c t.state x.0 x.1 f.turn f.low reachable f.enabled k in
+    let calls_are : length (f.next.state.part k).calls
+    ≡ length ((moved c t.state x.0 f.turn).part k).calls =
+    ap (λ (z : Machine). length (z.part k).calls) f.state in
     omega arith
+
+-- a seat's record that is as long at the end is as long after the first step
+pub record Stays (c : Setup) (k : ℕ) (x : ℕ × Step) (xs : List (ℕ × Step)) (t last : Recorded)
+    (f : FirstStep c x xs t last) : Type 0 where
+  pub next : length (f.next.state.part k).calls ≡ length (last.state.part k).calls
+  pub here : length (t.state.part k).calls
+      ≡ length ((moved c t.state x.0 f.turn).part k).calls
+
+pub stays_same : (c : Setup) (k : ℕ) (x : ℕ × Step) (xs : List (ℕ × Step)) (t last : Recorded)
+    (f : FirstStep c x xs t last) → IsReachable c t.state
+    → length (t.state.part k).calls ≡ length (last.state.part k).calls
+    → Stays c k x xs t last f
+stays_same c k x xs t last f reachable same =
+    let longer = longer_along c k xs f.next last f.rest_low f.reach f.along in
+    let here = calls_of_more c t.state x.0 x.1 f.turn f.low reachable f.enabled k in
+    let calls_are : length (f.next.state.part k).calls
+    ≡ length ((moved c t.state x.0 f.turn).part k).calls =
+    ap (λ (z : Machine). length (z.part k).calls) f.state in
+    record { next = omega arith; here = omega arith }
 
 -- while a seat's record stays, its steps, what is left to it, and the calls that ended on the ring
 -- of its call
@@ -345,25 +354,13 @@ pub along_kept : (c : Setup) (k : ℕ) (steps : List (ℕ × Step)) (t last : Re
 along_kept c k [] t last small seats reachable e same =
     let is : t ≡ last = cc in rw (← is) (record { few = omega arith; ring = λ busy. (busy, refl) })
 along_kept c k (x ∷ xs) t last small seats reachable e same =
-    let h = chained (λ next. recorded_along c next xs) (recorded_by c t x) last e in
-    let u = recorded_step c t x h.0 h.1 in
-    let low = All-head (λ (y : ℕ × Step). y.0 < c.seats) x xs seats in
-    let rest_low = All-tail (λ (y : ℕ × Step). y.0 < c.seats) x xs seats in
-    let n = moved c t.state x.0 u.turn in
-    let next_state : h.0.state ≡ n = ap (λ (z : Recorded). z.state) u.is in
-    let next_reach : IsReachable c h.0.state =
-    rw next_state (turn_reaches c t.state x.0 x.1 u.turn low u.enabled reachable) in
-    let longer = longer_along c k xs h.0 last rest_low next_reach h.2 in
-    let here = calls_of_more c t.state x.0 x.1 u.turn low reachable u.enabled k in
-    let calls_are : length (h.0.state.part k).calls ≡ length (n.part k).calls =
-    ap (λ (z : Machine). length (z.part k).calls) next_state in
-    let same_next : length (h.0.state.part k).calls ≡ length (last.state.part k).calls =
-    omega arith in
-    let same_here : length (t.state.part k).calls ≡ length (n.part k).calls = omega arith in
-    let rest = along_kept c k xs h.0 last small rest_low next_reach h.2 same_next in
-    let stays = ring_stays c t.state x.0 x.1 u.turn low reachable u.enabled k same_here in
-    let phase_is : (h.0.state.part k).phase ≡ (n.part k).phase =
-    ap (λ (z : Machine). (z.part k).phase) next_state in
+    let f = first_step c x xs t last seats reachable e in
+    let n = moved c t.state x.0 f.turn in
+    let stay = stays_same c k x xs t last f reachable same in
+    let rest = along_kept c k xs f.next last small f.rest_low f.reach f.along stay.next in
+    let stays = ring_stays c t.state x.0 x.1 f.turn f.low reachable f.enabled k stay.here in
+    let phase_is : (f.next.state.part k).phase ≡ (n.part k).phase =
+    ap (λ (z : Machine). (z.part k).phase) f.state in
     let ring : ((t.state.part k).phase ≡ Idle → ⊥)
     → ((last.state.part k).phase ≡ Idle → ⊥)
     × (ring_of (last.state.part k).phase ≡ ring_of (t.state.part k).phase) =
@@ -372,12 +369,12 @@ along_kept c k (x ∷ xs) t last small seats reachable e same =
     let far = rest.ring (λ idle. on.0 (sym phase_is ∙ idle)) in
     (far.0, far.1 ∙ ap ring_of phase_is ∙ on.1) in
     let r = ring_of (last.state.part k).phase in
-    let step = kept_step c t.state x.0 x.1 u.turn low reachable u.enabled k r small same_here
+    let step = kept_step c t.state x.0 x.1 f.turn f.low reachable f.enabled k r small stay.here
     (λ busy. sym (ring busy).1) in
-    let left_is : left_of c h.0.state k ≡ left_of c n k =
-    ap (λ (z : Machine). left_of c z k) next_state in
-    let ended_is : delays c h.0.state r ≡ delays c n r =
-    ap (λ (z : Machine). delays c z r) next_state in
+    let left_is : left_of c f.next.state k ≡ left_of c n k =
+    ap (λ (z : Machine). left_of c z k) f.state in
+    let ended_is : delays c f.next.state r ≡ delays c n r =
+    ap (λ (z : Machine). delays c z r) f.state in
     let first = steps-first k x xs in
     let few = rest.few in
     record { few = omega arith; ring = ring }
@@ -390,15 +387,9 @@ pub delayed_so_far : (c : Setup) (opening : List (List ℕ)) (k : ℕ) → k < c
     → steps_of k back + delays c was.state (ring_of (now.state.part k).phase)
     ≤ steps_of k front + quiet_steps c + delays c now.state (ring_of (now.state.part k).phase)
 delayed_so_far c opening k small front back was now one front_run back_run same =
-    let whole : IsRun c opening (front ++ one.more) now = rw one.is at back_run in
-    let low : All (λ (x : ℕ × Step). x.0 < c.seats) one.more =
-    rw (drop-append_seam front one.more)
-    at (All-drop (λ (x : ℕ × Step). x.0 < c.seats) (length front) (front ++ one.more)
-    whole.seats) in
-    let reachable = run_reaches c opening front was front_run in
-    let along = (along_kept c k one.more was now small low reachable
-    (behind_front c opening front one.more was now front_run whole) same).few in
-    let most = most_left c was.state reachable k small in
+    let on = leads_on c opening front one.more was now front_run (rw one.is at back_run) in
+    let along = (along_kept c k one.more was now small on.low on.reachable on.along same).few in
+    let most = most_left c was.state on.reachable k small in
     let size : steps_of k back ≡ steps_of k front + steps_of k one.more =
     ap (steps_of k) one.is ∙ sum_by-append (λ (z : ℕ × Step). if z.0 == k then 1 else 0) front
     one.more in

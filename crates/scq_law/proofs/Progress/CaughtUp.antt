@@ -8,7 +8,7 @@ use Rattle.scq_word.specs.Words.{safe_in, cycle_in, is_none_in}
 use Rattle.scq_core.specs.declared.phase.Phase.{Phase}
 use Rattle.scq_core.specs.declared.phase.Phase.TheVariants.{Idle, AtE1, AtE2, AtE3, AtE4, AtE5, AtE6, AtD1, AtD2, AtD3, AtD4, AtD5, AtD6, AtD7, AtD8, AtD9, AtD10}
 use Rattle.scq_core.specs.declared.step.Step.{Step}
-use Rattle.scq_core.specs.Machine.{Cells, Part, Machine, read, beside}
+use Rattle.scq_core.specs.Machine.{Cells, SeatPart, Machine, read, beside}
 use Rattle.scq_core.specs.Table.{ring_slots, cycle, zero_level, reset_level, turn_of, location_of, after, cells_after, moved}
 use Rattle.scq_core.specs.Reach.{IsReachable, at_start, by_step}
 use Rattle.scq_core.specs.Laws.{CountersRise, Busy, word_at}
@@ -35,7 +35,7 @@ caught_lasts m n (AtD9 r h from to) up low = low
 caught_lasts m n (AtD10 r h leaving) up low = let rises = up.tail r in omega arith
 caught_lasts m n phase up low = tt
 
-module _ (c : Setup) (m : Cells) (p : Part) where
+module _ (c : Setup) (m : Cells) (p : SeatPart) where
   abbrev CaughtThen : Phase → Type 0
   CaughtThen turn = Caught (cells_after c turn m)
       (after c turn (read m (location_of c turn)) (beside m (location_of c turn)) p).phase
@@ -110,7 +110,7 @@ begun_caught c m hand turn (begins_put r i w low small held) = tt
 begun_caught c m hand turn (begins_get r low) = tt
 
 -- an enabled turn has what its seat's phase has
-pub caught_at : (c : Setup) (m : Cells) (p : Part) (s : Step) (turn : Phase)
+pub caught_at : (c : Setup) (m : Cells) (p : SeatPart) (s : Step) (turn : Phase)
     → turn_of c p s ≡ Some turn → Caught m p.phase → Caught m turn
 caught_at c m p s turn enabled was =
     elim (begins c p.hand p.spent p.phase s turn enabled) [
@@ -129,7 +129,7 @@ caught_step c m j s turn reach enabled was k =
     let n = cells_after c turn m.cells in
     let up = counters_rise c m.cells p.hand turn busy in
     updated_cases
-    (λ (_ : ℕ) (v : Part). Caught n v.phase)
+    (λ (_ : ℕ) (v : SeatPart). Caught n v.phase)
     m.part
     j
     (after c turn (read m.cells (location_of c turn)) (beside m.cells (location_of c turn)) p)
@@ -145,12 +145,12 @@ caught c m (by_step {m = b} seat step reach low e) k =
     rw t.next (caught_step c b seat step t.turn reach t.enabled (caught c b reach) k)
 
 -- where a dequeue is about to take, Tail is past its ticket
-abbrev pub Takes : Cells → Phase → Type 0
-Takes m (AtD4 r h) = h < m.tail r
-Takes m phase = Unit {0}
+abbrev pub TakesBelowTail : Cells → Phase → Type 0
+TakesBelowTail m (AtD4 r h) = h < m.tail r
+TakesBelowTail m phase = Unit {0}
 
 takes_turn : (c : Setup) (m : Machine) (g : Ghost) (turn : Phase) → IsBased c g m
-    → Knows c m.cells.entries.word g.gets turn → Takes m.cells turn
+    → Knows c m.cells.entries.word g.gets turn → TakesBelowTail m.cells turn
 takes_turn c m g (AtD4 r h) base knows =
     elim (cases_lt h (m.cells.tail r)) [
       | inl less ↦ less
@@ -163,7 +163,7 @@ takes_turn c m g (AtD4 r h) base knows =
 takes_turn c m g turn base knows = tt
 
 pub takes_at : (c : Setup) (m : Machine) (j : ℕ) (s : Step) (turn : Phase) → IsReachable c m
-    → turn_of c (m.part j) s ≡ Some turn → Takes m.cells turn
+    → turn_of c (m.part j) s ≡ Some turn → TakesBelowTail m.cells turn
 takes_at c m j s turn reach enabled =
     let t = has_trace c m reach in
     let base = based c t.time t.ghost m t.trace in

@@ -11,7 +11,7 @@ use Rattle.scq_core.specs.declared.ended.Ended.TheVariants.{Done, Got, Nothing, 
 use Rattle.scq_core.specs.declared.phase.Phase.{Phase}
 use Rattle.scq_core.specs.declared.phase.Phase.TheVariants.{Idle, AtE1, AtE2, AtE3, AtE4, AtE5, AtE6, AtD1, AtD2, AtD3, AtD4, AtD5, AtD6, AtD7, AtD8, AtD9, AtD10}
 use Rattle.scq_core.specs.declared.step.Step.{Step}
-use Rattle.scq_core.specs.Machine.{Cells, Part, Machine, read, beside}
+use Rattle.scq_core.specs.Machine.{Cells, SeatPart, Machine, read, beside}
 use Rattle.scq_core.specs.Table.{ring_slots, cycle, slot, zero_level, reset_level, turn_of, ring_of, location_of, after, cells_after, moved}
 use Rattle.scq_core.specs.Stances.{resting, stance_of}
 use Rattle.scq_core.specs.Reach.{IsReachable}
@@ -19,8 +19,9 @@ use Rattle.scq_core.specs.Laws.{Busy, word_at}
 use Rattle.scq_core.proofs.UpdatedLemmas.{updated_here}
 use Rattle.scq_core.proofs.Turns.{awake}
 use Rattle.scq_core.proofs.Counts.{total_updated}
-use Rattle.scq_law.proofs.Progress.Potential.{draw_of, draw_on, change_on, draws_on, changes_on, spare_at, left, Leaves, others_left}
+use Rattle.scq_law.proofs.Progress.Potential.{part_after, draw_of, draw_on, change_on, draws_on, changes_on, left_to_seat, Leaves, others_left}
 use Rattle.scq_law.proofs.Progress.SeatCounts.{own_draw, own_change, draw_bit}
+use Rattle.scq_law.proofs.Progress.TurnEffects.{Effect, quiet}
 use Rattle.scq_law.proofs.Progress.QuietTurns.{stale_same, stale_bit, draw_before, change_before, rises}
 
 -- how many units a call costs that ends so, other than by Done: each is 6 steps
@@ -38,15 +39,8 @@ pub last_call : (xs : List Ended) (a b : Ended) → xs ++ a ∷ [] ≡ xs ++ b �
 last_call [] a b same = cc
 last_call (x ∷ xs) a b same = last_call xs a b (cc)
 
--- what the turn does to its ring
-record EndEffect (m n : Cells) (r draw draw' change units : ℕ) : Type 0 where
-  ends : n.head r + spare_at n r + draw' ≤ m.head r + spare_at m r + draw + units
-  level : spare_at n r ≤ spare_at m r
-  entries : (((s : ℕ) → n.entries.word r s ≡ m.entries.word r s)
-      × (spare_at n r + 1 ≤ spare_at m r + change + units))
-      ⊎ (spare_at n r + 2 ≤ spare_at m r + change + units)
-
-module _ (c : Setup) (m : Cells) (p : Part) where
+-- what the turn does to its ring, with so many units spare
+module _ (c : Setup) (m : Cells) (p : SeatPart) where
   abbrev EndBy : Phase → Type 0
   EndBy turn =
       (e : Ended) → (after c turn (read m (location_of c turn)) (beside m (location_of c turn))
@@ -54,24 +48,19 @@ module _ (c : Setup) (m : Cells) (p : Part) where
       → (after c turn (read m (location_of c turn)) (beside m (location_of c turn)) p).calls
       ≡ p.calls ++ e ∷ []
       → (is_done e ≡ true)
-      ⊎ EndEffect m (cells_after c turn m) (ring_of turn) (own_draw turn)
+      ⊎ Effect m (cells_after c turn m) (ring_of turn) (own_draw turn + end_units e)
       (draw_of (ring_of turn) (after c turn (read m (location_of c turn))
-      (beside m (location_of c turn)) p).spent resting) (own_change turn) (end_units e)
+      (beside m (location_of c turn)) p).spent resting) (own_change turn + end_units e) 1
+
+  units_of : (x e : Ended) → p.calls ++ x ∷ [] ≡ p.calls ++ e ∷ [] → end_units e ≡ end_units x
+  units_of x e calls = ap end_units (sym (last_call p.calls x e calls))
 
   end_turn : (turn : Phase) → (turn ≡ Idle → ⊥) → EndBy turn
   end_turn Idle awake = absurd (awake refl)
   end_turn (AtE1 r i w l) awake =
       elim (cases_Bool (nat_le c.limit (m.tail r))) [
-        | inl past ↦
-            rw past
-            (λ e rests calls.
-            let units : end_units e ≡ 0 =
-            ap end_units (sym (last_call p.calls (Spent r (m.tail r) true) e calls)) in
-            inr (record {
-              ends = omega arith;
-              level = omega arith;
-              entries = inl ((λ s. refl), omega arith);
-            }))
+        | inl past ↦ rw past (λ e rests calls.
+            let units = units_of (Spent r (m.tail r) true) e calls in inr (quiet (λ s. refl) (omega arith) (omega arith) (omega arith)))
         | inr under ↦ rw under (λ e rests calls. absurd (cc))
       ]
   end_turn (AtE2 r i w t l) awake =
@@ -79,10 +68,8 @@ module _ (c : Setup) (m : Cells) (p : Part) where
       elim (cases_Bool (nat_lt (cycle_in (ring_slots c) x) (cycle c t) && is_none_in (ring_slots c)
       x)) [
         | inl fits ↦
-            elim (cases_Bool (safe_in (ring_slots c) x == 1)) [
-              | inl safe ↦ rw (fits, safe) (λ e rests calls. absurd (cc))
-              | inr unsafe ↦ rw (fits, unsafe) (λ e rests calls. absurd (cc))
-            ]
+            elim (cases_Bool (safe_in (ring_slots c) x == 1))
+            [ inl safe ↦ rw (fits, safe) (λ e rests calls. absurd (cc)) | inr unsafe ↦ rw (fits, unsafe) (λ e rests calls. absurd (cc)) ]
         | inr fails ↦ rw fails (λ e rests calls. absurd (cc))
       ]
   end_turn (AtE3 r i w t v) awake =
@@ -106,32 +93,15 @@ module _ (c : Setup) (m : Cells) (p : Part) where
   end_turn (AtD1 r) awake =
       let same = updated_here m.threshold r (m.threshold r) in
       elim (cases_Bool (nat_lt (m.threshold r) zero_level)) [
-        | inl low ↦
-            rw low
-            (λ e rests calls.
-            let units : end_units e ≡ 1 =
-            ap end_units (sym (last_call p.calls (Nothing r) e calls)) in
-            let bit = draw_bit r p.spent resting in
-            inr (record {
-              ends = omega arith;
-              level = omega arith;
-              entries = inl ((λ s. refl), omega arith);
-            }))
+        | inl low ↦ rw low (λ e rests calls.
+            let units = units_of (Nothing r) e calls in let bit = draw_bit r p.spent resting in inr (quiet (λ s. refl) (omega arith) (omega arith) (omega arith)))
         | inr high ↦ rw high (λ e rests calls. absurd (cc))
       ]
   end_turn (AtD2 r l) awake =
       let next = updated_here m.head r (m.head r + 1) in
       elim (cases_Bool (nat_le c.limit (m.head r))) [
-        | inl past ↦
-            rw past
-            (λ e rests calls.
-            let units : end_units e ≡ 0 =
-            ap end_units (sym (last_call p.calls (Spent r (m.head r) false) e calls)) in
-            inr (record {
-              ends = omega arith;
-              level = omega arith;
-              entries = inl ((λ s. refl), omega arith);
-            }))
+        | inl past ↦ rw past (λ e rests calls.
+            let units = units_of (Spent r (m.head r) false) e calls in inr (quiet (λ s. refl) (omega arith) (omega arith) (omega arith)))
         | inr under ↦ rw under (λ e rests calls. absurd (cc))
       ]
   end_turn (AtD3 r h l) awake =
@@ -175,27 +145,14 @@ module _ (c : Setup) (m : Cells) (p : Part) where
   end_turn (AtD10 r h true) awake =
       let less = updated_here m.threshold r (m.threshold r - 1) in
       λ e rests calls.
-      let units : end_units e ≡ 1 = ap end_units (sym (last_call p.calls (Nothing r) e calls)) in
+      let units = units_of (Nothing r) e calls in
       let bit = draw_bit r p.spent resting in
-      inr (record {
-        ends = omega arith;
-        level = omega arith;
-        entries = inl ((λ s. refl), omega arith);
-      })
+      inr (quiet (λ s. refl) (omega arith) (omega arith) (omega arith))
   end_turn (AtD10 r h false) awake =
       let less = updated_here m.threshold r (m.threshold r - 1) in
       elim (cases_Bool (nat_le (m.threshold r) zero_level)) [
-        | inl low ↦
-            rw low
-            (λ e rests calls.
-            let units : end_units e ≡ 1 =
-            ap end_units (sym (last_call p.calls (Nothing r) e calls)) in
-            let bit = draw_bit r p.spent resting in
-            inr (record {
-              ends = omega arith;
-              level = omega arith;
-              entries = inl ((λ s. refl), omega arith);
-            }))
+        | inl low ↦ rw low (λ e rests calls.
+            let units = units_of (Nothing r) e calls in let bit = draw_bit r p.spent resting in inr (quiet (λ s. refl) (omega arith) (omega arith) (omega arith)))
         | inr high ↦ rw high (λ e rests calls. absurd (cc))
       ]
 
@@ -203,9 +160,8 @@ module _ (c : Setup) (m : Cells) (p : Part) where
 -- for each unit, unless it ends with Done
 module _ (c : Setup) (m : Machine) (j : ℕ) (s : Step) (turn : Phase) (low : j < c.seats)
     (reachable : IsReachable c m) (enabled : turn_of c (m.part j) s ≡ Some turn) where
-  abbrev part_then : Part
-  part_then = after c turn (read m.cells (location_of c turn)) (beside m.cells (location_of c turn))
-      (m.part j)
+  abbrev part_then : SeatPart
+  part_then = part_after c m j turn
 
   left_by_end : (e : Ended) → part_then.phase ≡ Idle → part_then.calls ≡ (m.part j).calls ++ e ∷ []
       → (is_done e ≡ true)
@@ -219,11 +175,11 @@ module _ (c : Setup) (m : Machine) (j : ℕ) (s : Step) (turn : Phase) (low : j 
       calls) [
         | inl done ↦ inl done
         | inr effect ↦
-            let draws = total_updated (λ (p : Part). draw_on r p) m.part j part_then c.seats low in
+            let draws = total_updated (λ (p : SeatPart). draw_on r p) m.part j part_then c.seats low in
             let draw_was = draw_before c m j s turn low reachable enabled in
             let draw_now : draw_on r part_then ≡ draw_of r part_then.spent resting =
             ap (λ (v : Phase). draw_of r part_then.spent (stance_of v)) rests in
-            let bits = total_updated (λ (p : Part). change_on r p) m.part j part_then c.seats low in
+            let bits = total_updated (λ (p : SeatPart). change_on r p) m.part j part_then c.seats low in
             let bit_was = change_before c m j s turn low reachable enabled in
             let bit_now : change_on r part_then ≡ 1 = rw rests refl in
             let ends = effect.ends in
@@ -250,9 +206,9 @@ module _ (c : Setup) (m : Machine) (j : ℕ) (s : Step) (turn : Phase) (low : j 
       → ring_of phase ≡ ring_of turn → part_then.phase ≡ Idle
       → part_then.calls ≡ (m.part j).calls ++ e ∷ []
       → (is_done e ≡ true)
-      ⊎ (left c (cells_after c turn m.cells) (draws_on c (moved c m j turn))
+      ⊎ (left_to_seat c (cells_after c turn m.cells) (draws_on c (moved c m j turn))
       (changes_on c (moved c m j turn)) phase
-      ≤ left c m.cells (draws_on c m) (changes_on c m) phase + 6 * end_units e)
+      ≤ left_to_seat c m.cells (draws_on c m) (changes_on c m) phase + 6 * end_units e)
   end_left e hand phase busy ring rests calls =
       elim (left_by_end e rests calls) [
         | inl done ↦ inl done

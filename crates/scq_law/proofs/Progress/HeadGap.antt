@@ -11,7 +11,7 @@ use Rattle.scq_core.specs.declared.phase.Phase.{Phase}
 use Rattle.scq_core.specs.declared.phase.Phase.TheVariants.{AtE3, AtD2, AtD3, AtD4, AtD5, AtD6, AtD7, AtD8, AtD9, AtD10}
 use Rattle.scq_core.specs.declared.step.Step.{Step}
 use Rattle.scq_core.specs.Updated.{updated}
-use Rattle.scq_core.specs.Machine.{Cells, Part, Machine, read, beside}
+use Rattle.scq_core.specs.Machine.{Cells, SeatPart, Machine, read, beside}
 use Rattle.scq_core.specs.Table.{ring_slots, cycle, turn_of, location_of, after, cells_after, moved}
 use Rattle.scq_core.specs.Stances.{Stance, trying, gave_up, stance_of}
 use Rattle.scq_core.specs.Reach.{IsReachable, at_start, by_step}
@@ -22,7 +22,7 @@ use Rattle.scq_core.proofs.Steady.{has, steady, keeps_none, either_way}
 use Rattle.scq_core.proofs.Ranks.{counters_rise}
 use Rattle.scq_core.proofs.Counts.{total_one}
 use Rattle.scq_law.proofs.Base.SeatSums.{total_le, total_plus}
-use Rattle.scq_law.proofs.Progress.CaughtUp.{Caught, Takes, caught_at, caught, takes_at}
+use Rattle.scq_law.proofs.Progress.CaughtUp.{Caught, TakesBelowTail, caught_at, caught, takes_at}
 
 -- the ticket of Head that a seat has on a ring: the one that it keeps, or the one that its dequeue
 -- looks at or gave up
@@ -32,7 +32,7 @@ ticket_held r None (trying q h) = if q == r then Some h else None
 ticket_held r None (gave_up q h leaves) = if q == r then Some h else None
 ticket_held r None s = None
 
-abbrev pub ticket_on : ℕ → Part → Option ℕ
+abbrev pub ticket_on : ℕ → SeatPart → Option ℕ
 ticket_on r p = ticket_held r p.spent (stance_of p.phase)
 
 with_none : (r : ℕ) (o : Option ℕ) (s : Stance) (t : ℕ) → o ≡ None → ticket_held r None s ≡ Some t
@@ -58,16 +58,16 @@ past_tail m q r h t e low =
     omega arith
 
 -- the seat of a turn keeps its ticket, or Tail is past that
-module _ (c : Setup) (m : Cells) (p : Part) (none : p.spent ≡ None) (r t : ℕ) where
+module _ (c : Setup) (m : Cells) (p : SeatPart) (none : p.spent ≡ None) (r t : ℕ) where
   abbrev StaysFor : Phase → Type 0
   StaysFor turn = (ticket_on r
       (after c turn (read m (location_of c turn)) (beside m (location_of c turn)) p) ≡ Some t)
       ⊎ (t < m.tail r)
 
-  abbrev HasIt : Part → Type 0
+  abbrev HasIt : SeatPart → Type 0
   HasIt v = ticket_on r v ≡ Some t
 
-  stays_for : (turn : Phase) → Caught m turn → Takes m turn
+  stays_for : (turn : Phase) → Caught m turn → TakesBelowTail m turn
       → ticket_held r None (stance_of turn) ≡ Some t → StaysFor turn
   stays_for (AtD3 q h l) low takes e =
       let x = word_at c m q h in
@@ -101,7 +101,7 @@ module _ (c : Setup) (m : Cells) (p : Part) (none : p.spent ≡ None) (r t : ℕ
   stays_for turn low takes e = let clash : ◌≡◌ {A = Option ℕ} None (Some t) = e in absurd (cc)
 
 -- a turn's seat has the ticket that its part has
-turn_ticket : (c : Setup) (p : Part) (s : Step) (turn : Phase) (r t : ℕ) → turn_of c p s ≡ Some turn
+turn_ticket : (c : Setup) (p : SeatPart) (s : Step) (turn : Phase) (r t : ℕ) → turn_of c p s ≡ Some turn
     → p.spent ≡ None → ticket_on r p ≡ Some t
     → ticket_held r None (stance_of turn) ≡ Some t
 turn_ticket c p s turn r t enabled none is =
@@ -116,7 +116,7 @@ pub same_value : (f : ℕ → ℕ) (q r : ℕ) → updated f q (f q) r ≡ f r
 same_value f q r = elim (updated_or f q (f q) r) [ inl a ↦ a.1 ∙ ap f (sym a.0) | inr a ↦ a.1 ]
 
 -- a ticket that Head passes in a turn is the turn's seat's
-module _ (c : Setup) (m : Cells) (p : Part) (none : p.spent ≡ None) (r t : ℕ) (high : m.head r ≤ t)
+module _ (c : Setup) (m : Cells) (p : SeatPart) (none : p.spent ≡ None) (r t : ℕ) (high : m.head r ≤ t)
   where
     new_ticket : (turn : Phase) → t < (cells_after c turn m).head r
         → ticket_on r (after c turn (read m (location_of c turn)) (beside m (location_of c turn)) p)
@@ -173,7 +173,7 @@ held_step c m j s turn low reach enabled was r t high under =
                       record {
                         seat = j;
                         low = low;
-                        is = ap (λ (v : Part). ticket_on r v) (updated_here m.part j q) ∙ still;
+                        is = ap (λ (v : SeatPart). ticket_on r v) (updated_here m.part j q) ∙ still;
                       }
                   | inr past ↦ absurd (omega arith)
                 ]
@@ -181,7 +181,7 @@ held_step c m j s turn low reach enabled was r t high under =
                 record {
                   seat = one.seat;
                   low = one.low;
-                  is = ap (λ (v : Part). ticket_on r v) (updated_else m.part j q one.seat other)
+                  is = ap (λ (v : SeatPart). ticket_on r v) (updated_else m.part j q one.seat other)
                       ∙ one.is;
                 }
           ]
@@ -189,7 +189,7 @@ held_step c m j s turn low reach enabled was r t high under =
           record {
             seat = j;
             low = low;
-            is = ap (λ (v : Part). ticket_on r v) (updated_here m.part j q)
+            is = ap (λ (v : SeatPart). ticket_on r v) (updated_here m.part j q)
                 ∙ new_ticket c m.cells p none r t new turn under;
           }
     ]
@@ -252,7 +252,7 @@ in_any a d None = let none = in_none a d in omega arith
 in_any a d (Some u) = in_one a d u
 
 -- so many tickets in a row, each of a seat, are of as many seats
-many_held : (f : Part → Option ℕ) (part : ℕ → Part) (n a d : ℕ)
+many_held : (f : SeatPart → Option ℕ) (part : ℕ → SeatPart) (n a d : ℕ)
     → ((t : ℕ) → a ≤ t → t < a + d → (k : ℕ) × (k < n) × (f (part k) ≡ Some t))
     → d ≤ total (λ p. is_in a d (f p)) part n
 many_held f part n a zero each = omega arith

@@ -7,7 +7,7 @@ use Rattle.std.proofs.lemmas.Bool.{cases_eq}
 use Rattle.scq_word.specs.declared.setup.Setup.{Setup}
 use Rattle.scq_core.specs.declared.phase.Phase.{Phase}
 use Rattle.scq_core.specs.declared.phase.Phase.TheVariants.{Idle, AtE1, AtE2, AtE3, AtE4, AtE5, AtE6, AtD1, AtD2, AtD3, AtD4, AtD5, AtD6, AtD7, AtD8, AtD9, AtD10}
-use Rattle.scq_core.specs.Machine.{Cells, Part, Machine}
+use Rattle.scq_core.specs.Machine.{Cells, SeatPart, Machine}
 use Rattle.scq_core.specs.Table.{ring_of}
 use Rattle.scq_core.specs.Stances.{Stance, trying, gave_up, stance_of, put_ring}
 use Rattle.scq_core.specs.Reach.{IsReachable}
@@ -19,7 +19,7 @@ use Rattle.scq_word.specs.Bounds.{reset_value}
 use Rattle.scq_law.specs.Progress.{quiet_steps}
 use Rattle.scq_law.proofs.Base.SeatSums.{total_plus}
 use Rattle.scq_law.proofs.Progress.HeadGap.{ticket_held, ticket_on, is_any, head_gap}
-use Rattle.scq_law.proofs.Progress.Potential.{draw_of, draw_on, change_of, change_on, draws_on, changes_on, spare_at, put_draws, changes, behind, rounds, lag, left}
+use Rattle.scq_law.proofs.Progress.Potential.{draw_of, draw_on, change_of, change_on, draws_on, changes_on, spare_at, put_draws, changes, behind, rounds, lag, left_to_seat}
 use Rattle.scq_law.proofs.Progress.SeatCounts.{own_draw, draw_own}
 use Rattle.scq_law.proofs.Progress.QuietTurns.{stale_bit}
 
@@ -41,7 +41,7 @@ one_or_other r None (gave_up q h leaves) =
 one_or_other r None s = omega arith
 
 -- what counts of a seat: that it may draw a ticket of Head, or has one
-abbrev counts_on : ℕ → Part → ℕ
+abbrev counts_on : ℕ → SeatPart → ℕ
 counts_on r p = draw_on r p + is_any (ticket_on r p)
 
 change_few : (r : ℕ) (s : Stance) → change_of r s ≤ 1
@@ -57,7 +57,7 @@ module _ (c : Setup) (m : Machine) (reachable : IsReachable c m) where
   spare_few r = let high = (threshold_floor c m reachable).ceiling r in omega arith
 
   changes_few : (r : ℕ) → changes_on c m r ≤ c.seats
-  changes_few r = total_few (λ (p : Part). change_on r p) m.part
+  changes_few r = total_few (λ (p : SeatPart). change_on r p) m.part
       (λ p. change_few r (stance_of p.phase)) c.seats
 
   -- Head with the draws that are left, before Threshold falls
@@ -65,7 +65,7 @@ module _ (c : Setup) (m : Machine) (reachable : IsReachable c m) where
   gap r =
       let few = total_few (counts_on r) m.part (λ p. one_or_other r p.spent (stance_of p.phase))
       c.seats in
-      let sum = total_plus (λ (p : Part). draw_on r p) (λ (p : Part). is_any (ticket_on r p)) m.part
+      let sum = total_plus (λ (p : SeatPart). draw_on r p) (λ (p : SeatPart). is_any (ticket_on r p)) m.part
       c.seats in
       let head = head_gap c m reachable r in
       omega arith
@@ -76,7 +76,7 @@ module _ (c : Setup) (m : Machine) (reachable : IsReachable c m) where
   gap_less r k low none =
       let few = total_less (counts_on r) m.part (λ p. one_or_other r p.spent (stance_of p.phase))
       c.seats k low none in
-      let sum = total_plus (λ (p : Part). draw_on r p) (λ (p : Part). is_any (ticket_on r p)) m.part
+      let sum = total_plus (λ (p : SeatPart). draw_on r p) (λ (p : SeatPart). is_any (ticket_on r p)) m.part
       c.seats in
       let head = head_gap c m reachable r in
       omega arith
@@ -112,16 +112,14 @@ module _ (c : Setup) (m : Machine) (reachable : IsReachable c m) where
   get_few r =
       let spare = spare_few r in
       let bits = changes_few r in
-      let some = some_indices c in
-      let covers = reset_covers c in
+      let some = some_indices c in let covers = reset_covers c in
       omega arith
 
   catch_few : (r : ℕ) → 3 * (behind m.cells (draws_on c m) r + 1) + 1 < quiet_steps c
   catch_few r =
       let head = gap r in
       let spare = spare_few r in
-      let some = some_indices c in
-      let covers = reset_covers c in
+      let some = some_indices c in let covers = reset_covers c in
       omega arith
 
   pub lag_bit : (r from : ℕ) → lag m.cells r from ≤ 1
@@ -129,7 +127,7 @@ module _ (c : Setup) (m : Machine) (reachable : IsReachable c m) where
       (omega arith)
 
   few_at : (k : ℕ) (phase : Phase) → k < c.seats → (m.part k).phase ≡ phase → (phase ≡ Idle → ⊥)
-      → left c m.cells (draws_on c m) (changes_on c m) phase < quiet_steps c
+      → left_to_seat c m.cells (draws_on c m) (changes_on c m) phase < quiet_steps c
   few_at k Idle low is busy = absurd (busy refl)
   few_at k (AtE1 r i w l) low is busy =
       let few = put_few k r low (put_counts k (AtE1 r i w l) is busy refl refl refl) in omega arith
@@ -167,7 +165,7 @@ idle_or phase = inr (λ e. cc)
 
 -- what is left to each seat
 abbrev pub left_of : Setup → Machine → ℕ → ℕ
-left_of c m k = left c m.cells (draws_on c m) (changes_on c m) (m.part k).phase
+left_of c m k = left_to_seat c m.cells (draws_on c m) (changes_on c m) (m.part k).phase
 
 pub few_left : (c : Setup) (m : Machine) → IsReachable c m → (k : ℕ) → k < c.seats
     → ((m.part k).phase ≡ Idle → ⊥) → left_of c m k < quiet_steps c
@@ -183,7 +181,7 @@ most_left c m reachable k low =
 
 -- each call has something left
 pub some_left : (c : Setup) (m : Cells) (draws bits : ℕ → ℕ) (phase : Phase)
-    → 1 ≤ left c m draws bits phase
+    → 1 ≤ left_to_seat c m draws bits phase
 some_left c m draws bits Idle = let some = some_indices c in omega arith
 some_left c m draws bits (AtD10 r h true) = omega arith
 some_left c m draws bits (AtD10 r h false) = omega arith

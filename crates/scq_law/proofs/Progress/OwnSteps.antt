@@ -8,16 +8,16 @@ use Rattle.scq_word.specs.declared.setup.Setup.{Setup}
 use Rattle.scq_word.specs.Words.{safe_in, cycle_in, is_none_in}
 use Rattle.scq_core.specs.declared.phase.Phase.{Phase}
 use Rattle.scq_core.specs.declared.phase.Phase.TheVariants.{Idle, AtE1, AtE2, AtE3, AtE4, AtE5, AtE6, AtD1, AtD2, AtD3, AtD4, AtD5, AtD6, AtD7, AtD8, AtD9, AtD10}
-use Rattle.scq_core.specs.Machine.{Cells, Part, read, beside}
+use Rattle.scq_core.specs.Machine.{Cells, SeatPart, read, beside}
 use Rattle.scq_core.specs.Table.{ring_slots, cycle, slot, zero_level, reset_level, ring_of, location_of, after, cells_after}
 use Rattle.scq_core.specs.Laws.{Busy, word_at}
 use Rattle.scq_core.proofs.UpdatedLemmas.{updated_here, updated_entry_here}
-use Rattle.scq_law.proofs.Progress.Potential.{stale_fresh, lag, left, Leaves}
+use Rattle.scq_law.proofs.Progress.Potential.{stale_fresh, lag, left_to_seat, Leaves}
 use Rattle.scq_law.proofs.Progress.SeatCounts.{own_change}
 
 -- dm and bm are the counts of draws and of changes of all seats before the turn, dn and bn those
 -- after it
-module _ (c : Setup) (m : Cells) (p : Part) (dm bm : ℕ → ℕ) where
+module _ (c : Setup) (m : Cells) (p : SeatPart) (dm bm : ℕ → ℕ) where
   -- of a turn whose call goes on: where its ring has no more of anything, its seat's count of
   -- changes moves as the phase says, and Tail and Head stand in the window and in the gap, fewer
   -- steps are left
@@ -35,9 +35,9 @@ module _ (c : Setup) (m : Cells) (p : Part) (dm bm : ℕ → ℕ) where
       → min ((cells_after c turn m).tail (ring_of turn)) c.limit + 1
       ≤ (cells_after c turn m).head (ring_of turn) + ring_slots c
       → m.head (ring_of turn) + dm (ring_of turn) ≤ m.tail (ring_of turn) + c.seats
-      → left c (cells_after c turn m) dn bn
+      → left_to_seat c (cells_after c turn m) dn bn
       (after c turn (read m (location_of c turn)) (beside m (location_of c turn)) p).phase
-      < left c m dm bm turn
+      < left_to_seat c m dm bm turn
 
   pub fewer : (turn : Phase) → (turn ≡ Idle → ⊥) → Busy c m p.hand turn → FewerBy turn
   fewer Idle awake busy = absurd (awake refl)
@@ -58,14 +58,8 @@ module _ (c : Setup) (m : Cells) (p : Part) (dm bm : ℕ → ℕ) where
       x)) [
         | inl fits ↦
             elim (cases_Bool (safe_in (ring_slots c) x == 1)) [
-              | inl safe ↦
-                  rw (fits, safe)
-                  (λ dn bn goes q bit some window gap.
-                  let a = q.ends in let b = q.tail in let d = q.change in omega arith)
-              | inr unsafe ↦
-                  rw (fits, unsafe)
-                  (λ dn bn goes q bit some window gap.
-                  let a = q.ends in let b = q.tail in let d = q.change in omega arith)
+              | inl safe ↦ rw (fits, safe) (λ dn bn goes q bit some window gap. let a = q.ends in let b = q.tail in let d = q.change in omega arith)
+              | inr unsafe ↦ rw (fits, unsafe) (λ dn bn goes q bit some window gap. let a = q.ends in let b = q.tail in let d = q.change in omega arith)
             ]
         | inr fails ↦
             rw fails (λ dn bn goes q bit some window gap.
@@ -84,10 +78,7 @@ module _ (c : Setup) (m : Cells) (p : Part) (dm bm : ℕ → ℕ) where
       let x = word_at c m r t in
       elim (cases_eq x e) [
         | inl hit ↦ rw (eq-eqb x e hit) (λ dn bn goes q bit some window gap. omega arith)
-        | inr miss ↦
-            rw (ne_eqb x e miss)
-            (λ dn bn goes q bit some window gap.
-            let a = q.ends in let b = q.tail in let d = q.change in omega arith)
+        | inr miss ↦ rw (ne_eqb x e miss) (λ dn bn goes q bit some window gap. let a = q.ends in let b = q.tail in let d = q.change in omega arith)
       ]
   fewer (AtE5 r i w t) awake busy =
       elim (cases_Bool (m.threshold r == reset_level c)) [

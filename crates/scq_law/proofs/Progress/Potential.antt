@@ -9,18 +9,23 @@ use Rattle.std.proofs.lemmas.Bool.{cases_eq}
 use Rattle.scq_word.specs.declared.setup.Setup.{Setup}
 use Rattle.scq_core.specs.declared.phase.Phase.{Phase}
 use Rattle.scq_core.specs.declared.phase.Phase.TheVariants.{Idle, AtE1, AtE2, AtE3, AtE4, AtE5, AtE6, AtD1, AtD2, AtD3, AtD4, AtD5, AtD6, AtD7, AtD8, AtD9, AtD10}
-use Rattle.scq_core.specs.Machine.{Cells, Part, Machine}
-use Rattle.scq_core.specs.Table.{zero_level, ring_slots, slot, ring_of}
+use Rattle.scq_core.specs.Machine.{Cells, SeatPart, Machine, read, beside}
+use Rattle.scq_core.specs.Table.{zero_level, ring_slots, slot, ring_of, location_of, after}
 use Rattle.scq_core.specs.Stances.{Stance, gave_up, stance_of, placed_ring, put_ring, attempt_ring, one_on}
 use Rattle.scq_core.specs.Laws.{Busy, word_at, total}
 use Rattle.scq_law.specs.Progress.{quiet_steps}
+
+-- a seat's part after its turn
+abbrev pub part_after : Setup → Machine → ℕ → Phase → SeatPart
+part_after c m j turn =
+    after c turn (read m.cells (location_of c turn)) (beside m.cells (location_of c turn)) (m.part j)
 
 -- 1 for a seat that may yet draw a ticket of a ring's Head before Threshold falls by it
 abbrev pub draw_of : ℕ → Option ℕ → Stance → ℕ
 draw_of r (Some t) s = 0
 draw_of r None s = 1 - (one_on r (put_ring s) + one_on r (attempt_ring s))
 
-abbrev pub draw_on : ℕ → Part → ℕ
+abbrev pub draw_on : ℕ → SeatPart → ℕ
 draw_on r p = draw_of r p.spent (stance_of p.phase)
 
 -- 1 for one that may yet change an entry of the ring before that
@@ -31,7 +36,7 @@ gave_ring s = None
 abbrev pub change_of : ℕ → Stance → ℕ
 change_of r s = 1 - (one_on r (placed_ring s) + one_on r (gave_ring s))
 
-abbrev pub change_on : ℕ → Part → ℕ
+abbrev pub change_on : ℕ → SeatPart → ℕ
 change_on r p = change_of r (stance_of p.phase)
 
 -- how many seats may, by ring
@@ -76,27 +81,27 @@ pub stale_fresh : (c : Setup) (m n : Cells) (r t : ℕ)
 stale_fresh c m n r t same = rw (same, eq-eqb (word_at c m r t) (word_at c m r t) refl) refl
 
 -- what is left to a seat, by the phase that it is at
-abbrev pub left : Setup → Cells → (ℕ → ℕ) → (ℕ → ℕ) → Phase → ℕ
-left c m draws bits Idle = quiet_steps c
-left c m draws bits (AtE1 r i w l) = 3 * put_draws c m draws r + 3 * changes m bits r + 1
-left c m draws bits (AtE2 r i w t l) = 3 * put_draws c m draws r + 3 * changes m bits r + 3
-left c m draws bits (AtE3 r i w t e) =
+abbrev pub left_to_seat : Setup → Cells → (ℕ → ℕ) → (ℕ → ℕ) → Phase → ℕ
+left_to_seat c m draws bits Idle = quiet_steps c
+left_to_seat c m draws bits (AtE1 r i w l) = 3 * put_draws c m draws r + 3 * changes m bits r + 1
+left_to_seat c m draws bits (AtE2 r i w t l) = 3 * put_draws c m draws r + 3 * changes m bits r + 3
+left_to_seat c m draws bits (AtE3 r i w t e) =
     3 * put_draws c m draws r + 3 * (changes m bits r + stale c m r t e) + 2
-left c m draws bits (AtE4 r i w t e) =
+left_to_seat c m draws bits (AtE4 r i w t e) =
     3 * put_draws c m draws r + 3 * (changes m bits r + stale c m r t e) + 1
-left c m draws bits (AtE5 r i w t) = 2
-left c m draws bits (AtE6 r i w t) = 1
-left c m draws bits (AtD1 r) = rounds c m bits r + 7
-left c m draws bits (AtD2 r l) = rounds c m bits r + 6
-left c m draws bits (AtD3 r h l) = rounds c m bits r + 5
-left c m draws bits (AtD4 r h) = 1
-left c m draws bits (AtD5 r h e) = rounds c m bits r + 2 * stale c m r h e + 4
-left c m draws bits (AtD6 r h) = rounds c m bits r + 5
-left c m draws bits (AtD7 r h from to) = 3 * (behind m draws r + lag m r from) + 1
-left c m draws bits (AtD8 r h from) = 3 * behind m draws r + 3
-left c m draws bits (AtD9 r h from to) = 3 * behind m draws r + 2
-left c m draws bits (AtD10 r h true) = 1
-left c m draws bits (AtD10 r h false) = rounds c m bits r + 4
+left_to_seat c m draws bits (AtE5 r i w t) = 2
+left_to_seat c m draws bits (AtE6 r i w t) = 1
+left_to_seat c m draws bits (AtD1 r) = rounds c m bits r + 7
+left_to_seat c m draws bits (AtD2 r l) = rounds c m bits r + 6
+left_to_seat c m draws bits (AtD3 r h l) = rounds c m bits r + 5
+left_to_seat c m draws bits (AtD4 r h) = 1
+left_to_seat c m draws bits (AtD5 r h e) = rounds c m bits r + 2 * stale c m r h e + 4
+left_to_seat c m draws bits (AtD6 r h) = rounds c m bits r + 5
+left_to_seat c m draws bits (AtD7 r h from to) = 3 * (behind m draws r + lag m r from) + 1
+left_to_seat c m draws bits (AtD8 r h from) = 3 * behind m draws r + 3
+left_to_seat c m draws bits (AtD9 r h from to) = 3 * behind m draws r + 2
+left_to_seat c m draws bits (AtD10 r h true) = 1
+left_to_seat c m draws bits (AtD10 r h false) = rounds c m bits r + 4
 
 -- what a step leaves on a ring: so many units more at most, and no unit where it ends no call there
 pub record Leaves (units : ℕ) (c : Setup) (m n : Cells) (dm bm dn bn : ℕ → ℕ) (r : ℕ) : Type 0 where
@@ -130,7 +135,7 @@ lag_left tail tail' far far' from up down low =
 -- so a seat that makes no step has at most 6 steps more left for each unit
 pub others_left : (units : ℕ) (c : Setup) (m n : Cells) (dm bm dn bn : ℕ → ℕ) (hand : List ℕ)
     (phase : Phase) → Busy c m hand phase → Leaves units c m n dm bm dn bn (ring_of phase)
-    → left c n dn bn phase ≤ left c m dm bm phase + 6 * units
+    → left_to_seat c n dn bn phase ≤ left_to_seat c m dm bm phase + 6 * units
 others_left u c m n dm bm dn bn hand Idle busy q = omega arith
 others_left u c m n dm bm dn bn hand (AtE1 r i w l) busy q =
     let a = q.ends in let b = q.tail in let d = q.change in omega arith

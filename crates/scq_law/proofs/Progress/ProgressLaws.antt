@@ -5,27 +5,27 @@ use Rattle.std.specs.Prelude.{Some}
 use Rattle.std.specs.List.{All}
 use Rattle.std.proofs.Math.Seq.{drop-append_seam}
 use Rattle.std.proofs.lemmas.Bool.{cases_eq}
-use Rattle.std.proofs.lemmas.List.Elements.{All-head, All-tail, All-drop}
+use Rattle.std.proofs.lemmas.List.Elements.{All-drop}
 use Rattle.scq_word.specs.declared.setup.Setup.{Setup}
 use Rattle.scq_core.specs.declared.phase.Phase.{Phase}
 use Rattle.scq_core.specs.declared.phase.Phase.TheVariants.{Idle}
 use Rattle.scq_core.specs.declared.step.Step.{Step}
-use Rattle.scq_core.specs.Machine.{Part, Machine, read, beside}
+use Rattle.scq_core.specs.Machine.{SeatPart, Machine, read, beside}
 use Rattle.scq_core.specs.Table.{turn_of, ring_of, location_of, after, moved}
 use Rattle.scq_core.specs.Reach.{IsReachable}
 use Rattle.scq_core.proofs.UpdatedLemmas.{updated_here, updated_else}
 use Rattle.scq_core.proofs.Turns.{begins, awake}
 use Rattle.scq_core.proofs.Steady.{has, steady}
 use Rattle.scq_core.proofs.Counts.{total_updated}
-use Rattle.scq_law.specs.Run.{Recorded, recorded_by, recorded_first, recorded_along, recorded_of, IsRun}
+use Rattle.scq_law.specs.Run.{Recorded, recorded_first, recorded_along, recorded_of, IsRun}
 use Rattle.scq_law.specs.Sums.{sum_to}
 use Rattle.scq_law.specs.Progress.{quiet_steps, progress_bound, ended_calls, HasProgress}
-use Rattle.scq_law.proofs.Replays.RecordedRuns.{chained, recorded_step, turn_reaches}
+use Rattle.scq_law.proofs.Replays.RecordedRuns.{chained, first_step, turn_reaches}
 use Rattle.scq_law.proofs.Replays.RisingWords.{recorded_along-append}
 use Rattle.scq_law.proofs.Replays.RunLaws.{run_reaches}
 use Rattle.scq_law.proofs.Retries.StepLaws.{After, rests, goes, after_turn}
 use Rattle.scq_law.proofs.Tickets.TicketLaws.{within_window}
-use Rattle.scq_law.proofs.Progress.Potential.{draws_on, changes_on, left, others_left}
+use Rattle.scq_law.proofs.Progress.Potential.{part_after, draws_on, changes_on, left_to_seat, others_left}
 use Rattle.scq_law.proofs.Progress.QuietTurns.{changes_move, change_some, quieter}
 use Rattle.scq_law.proofs.Progress.OwnSteps.{fewer}
 use Rattle.scq_law.proofs.Progress.LeftBounds.{gap, left_of, few_left, most_left, some_left}
@@ -33,15 +33,14 @@ use Rattle.scq_law.proofs.Progress.LeftBounds.{gap, left_of, few_left, most_left
 -- a step of seat j by an enabled turn
 module _ (c : Setup) (m : Machine) (j : ℕ) (s : Step) (turn : Phase) (low : j < c.seats)
     (reachable : IsReachable c m) (enabled : turn_of c (m.part j) s ≡ Some turn) where
-  abbrev part_then : Part
-  part_then = after c turn (read m.cells (location_of c turn)) (beside m.cells (location_of c turn))
-      (m.part j)
+  abbrev part_then : SeatPart
+  part_then = part_after c m j turn
 
   next_reaches : IsReachable c (moved c m j turn)
   next_reaches = turn_reaches c m j s turn low enabled reachable
 
   phase_here : ((moved c m j turn).part j).phase ≡ part_then.phase
-  phase_here = ap (λ (v : Part). v.phase) (updated_here m.part j part_then)
+  phase_here = ap (λ (v : SeatPart). v.phase) (updated_here m.part j part_then)
 
   -- its own seat has less left, where its call goes on
   pub own_less : (part_then.phase ≡ Idle → ⊥) → left_of c (moved c m j turn) j < left_of c m j
@@ -60,16 +59,16 @@ module _ (c : Setup) (m : Machine) (j : ℕ) (s : Step) (turn : Phase) (low : j 
             (changes_move c m j s turn low reachable enabled goes_on)
             (change_some c m j s turn low reachable enabled)
             ((within_window c n next_reaches).within r) (gap c m reachable r) in
-            let now : left_of c n j ≡ left c n.cells (draws_on c n) (changes_on c n)
-            part_then.phase = ap (left c n.cells (draws_on c n) (changes_on c n))
+            let now : left_of c n j ≡ left_to_seat c n.cells (draws_on c n) (changes_on c n)
+            part_then.phase = ap (left_to_seat c n.cells (draws_on c n) (changes_on c n))
             phase_here in
-            let was : left_of c m j ≡ left c m.cells (draws_on c m) (changes_on c m) turn =
-            ap (left c m.cells (draws_on c m) (changes_on c m)) (sym same) in
+            let was : left_of c m j ≡ left_to_seat c m.cells (draws_on c m) (changes_on c m) turn =
+            ap (left_to_seat c m.cells (draws_on c m) (changes_on c m)) (sym same) in
             omega arith
         | inr new ↦
             let few = few_left c n next_reaches j low (λ idle. goes_on (sym phase_here ∙ idle)) in
             let was : left_of c m j ≡ quiet_steps c =
-            ap (left c m.cells (draws_on c m) (changes_on c m)) new.0 in
+            ap (left_to_seat c m.cells (draws_on c m) (changes_on c m)) new.0 in
             omega arith
       ]
 
@@ -80,9 +79,9 @@ module _ (c : Setup) (m : Machine) (j : ℕ) (s : Step) (turn : Phase) (low : j 
   others_less k other goes_on =
       let n = moved c m j turn in
       let same : ((moved c m j turn).part k).phase ≡ (m.part k).phase =
-      ap (λ (v : Part). v.phase) (updated_else m.part j part_then k other) in
-      let now : left_of c n k ≡ left c n.cells (draws_on c n) (changes_on c n) (m.part k).phase =
-      ap (left c n.cells (draws_on c n) (changes_on c n)) same in
+      ap (λ (v : SeatPart). v.phase) (updated_else m.part j part_then k other) in
+      let now : left_of c n k ≡ left_to_seat c n.cells (draws_on c n) (changes_on c n) (m.part k).phase =
+      ap (left_to_seat c n.cells (draws_on c n) (changes_on c n)) same in
       let most =
       others_left 0 c m.cells n.cells (draws_on c m) (changes_on c m) (draws_on c n)
       (changes_on c n)
@@ -150,12 +149,12 @@ all_step c m j s turn low reachable enabled =
     let x = read m.cells (location_of c turn) in
     let y = beside m.cells (location_of c turn) in
     let n = moved c m j turn in
-    let counted = total_updated (λ (v : Part). length v.calls) m.part j (after c turn x y p) c.seats
+    let counted = total_updated (λ (v : SeatPart). length v.calls) m.part j (after c turn x y p) c.seats
     low in
     by (after c turn x y p) counted
     (after_turn c x y p turn (awake c p.hand p.spent p.phase s turn enabled)) refl
   where
-    by : (q : Part) → ended_calls c (moved c m j turn) + length (m.part j).calls
+    by : (q : SeatPart) → ended_calls c (moved c m j turn) + length (m.part j).calls
         ≡ ended_calls c m + length q.calls → After (m.part j) q
         → q ≡ after c turn (read m.cells (location_of c turn)) (beside m.cells (location_of c turn))
         (m.part j)
@@ -174,9 +173,9 @@ all_step c m j s turn low reachable enabled =
         let less =
         sum_less (left_of c m) (left_of c (moved c m j turn)) c.seats j low
         (own_less c m j s turn low reachable enabled
-        (λ idle. busy (ap (λ (v : Part). v.phase) is ∙ idle)))
+        (λ idle. busy (ap (λ (v : SeatPart). v.phase) is ∙ idle)))
         (λ k other. others_less c m j s turn low reachable enabled k other
-        (λ _ idle. busy (ap (λ (v : Part). v.phase) is ∙ idle))) in
+        (λ _ idle. busy (ap (λ (v : SeatPart). v.phase) is ∙ idle))) in
         let next : ended_calls c (moved c m j turn) ≡ ended_calls c m = omega arith in
         let product : ended_calls c (moved c m j turn) * progress_bound c
         ≡ ended_calls c m * progress_bound c =
@@ -191,20 +190,14 @@ all_along_left : (c : Setup) (steps : List (ℕ × Step)) (r last : Recorded)
     ≤ all_left c r.state + ended_calls c last.state * progress_bound c
 all_along_left c [] r last seats reachable e = let same : r ≡ last = cc in rw (← same) (omega arith)
 all_along_left c (x ∷ xs) r last seats reachable e =
-    let h = chained (λ next. recorded_along c next xs) (recorded_by c r x) last e in
-    let t = recorded_step c r x h.0 h.1 in
-    let low = All-head (λ (y : ℕ × Step). y.0 < c.seats) x xs seats in
-    let step = all_step c r.state x.0 x.1 t.turn low reachable t.enabled in
-    let next_state : h.0.state ≡ moved c r.state x.0 t.turn = ap (λ (z : Recorded). z.state) t.is in
-    let next_reach : IsReachable c h.0.state =
-    rw next_state (turn_reaches c r.state x.0 x.1 t.turn low t.enabled reachable) in
-    let rest = all_along_left c xs h.0 last (All-tail (λ (y : ℕ × Step). y.0 < c.seats) x xs seats)
-    next_reach h.2 in
-    let left_is : all_left c h.0.state ≡ all_left c (moved c r.state x.0 t.turn) =
-    ap (all_left c) next_state in
-    let ended_is : ended_calls c h.0.state * progress_bound c
-    ≡ ended_calls c (moved c r.state x.0 t.turn) * progress_bound c =
-    ap (λ (z : Machine). ended_calls c z * progress_bound c) next_state in
+    let f = first_step c x xs r last seats reachable e in
+    let step = all_step c r.state x.0 x.1 f.turn f.low reachable f.enabled in
+    let rest = all_along_left c xs f.next last f.rest_low f.reach f.along in
+    let left_is : all_left c f.next.state ≡ all_left c (moved c r.state x.0 f.turn) =
+    ap (all_left c) f.state in
+    let ended_is : ended_calls c f.next.state * progress_bound c
+    ≡ ended_calls c (moved c r.state x.0 f.turn) * progress_bound c =
+    ap (λ (z : Machine). ended_calls c z * progress_bound c) f.state in
     omega arith
 
 -- the steps behind a front of a run lead on from what is recorded of the front
@@ -219,21 +212,32 @@ behind_front c opening front more was recorded one run =
     let same : two.0 ≡ was = cc in
     rw (← same) two.2
 
+pub record LeadsOn (c : Setup) (more : List (ℕ × Step)) (was now : Recorded) : Type 0 where
+  pub low : All (λ (x : ℕ × Step). x.0 < c.seats) more
+  pub reachable : IsReachable c was.state
+  pub along : recorded_along c was more ≡ Some now
+
+pub leads_on : (c : Setup) (opening : List (List ℕ)) (front more : List (ℕ × Step))
+    (was now : Recorded) → IsRun c opening front was → IsRun c opening (front ++ more) now
+    → LeadsOn c more was now
+leads_on c opening front more was now one whole =
+    record {
+      low = rw (drop-append_seam front more)
+          at (All-drop (λ (x : ℕ × Step). x.0 < c.seats) (length front) (front ++ more)
+          whole.seats);
+      reachable = run_reaches c opening front was one;
+      along = behind_front c opening front more was now one whole;
+    }
+
 pub has_progress : (c : Setup) (opening : List (List ℕ)) (steps : List (ℕ × Step))
     → HasProgress c opening steps
 has_progress c opening steps =
     record {
       soon =
           λ front back was now one within front_run back_run.
-          let whole : IsRun c opening (front ++ one.more) now = rw one.is at back_run in
-          let low : All (λ (x : ℕ × Step). x.0 < c.seats) one.more =
-          rw (drop-append_seam front one.more)
-          at (All-drop (λ (x : ℕ × Step). x.0 < c.seats) (length front) (front ++ one.more)
-          whole.seats) in
-          let reachable = run_reaches c opening front was front_run in
-          let along = all_along_left c one.more was now low reachable
-          (behind_front c opening front one.more was now front_run whole) in
-          let few = all_few c was.state reachable in
+          let on = leads_on c opening front one.more was now front_run (rw one.is at back_run) in
+          let along = all_along_left c one.more was now on.low on.reachable on.along in
+          let few = all_few c was.state on.reachable in
           let size : length back ≡ length front + length one.more =
           ap (λ (l : List (ℕ × Step)). length l) one.is ∙ length-append front one.more in
           let product = one_more (ended_calls c now.state) (progress_bound c) in

@@ -10,8 +10,8 @@ use Rattle.scq_core.specs.declared.phase.Phase.TheVariants.{Idle}
 use Rattle.scq_core.specs.declared.slot.Cell.{Cell}
 use Rattle.scq_core.specs.declared.slot.Cell.TheVariants.{Tail, Head, Threshold, Entry}
 use Rattle.scq_core.specs.declared.step.Step.{Step}
-use Rattle.scq_core.specs.Machine.{Cells, Part, Machine, location_at, read, beside, written}
-use Rattle.scq_core.specs.Table.{slot, zero_level, turn_of, ring_of, cell_of, location_of, after, cells_after, moved, writes, stores}
+use Rattle.scq_core.specs.Machine.{Cells, SeatPart, Machine, location_at, read, beside, written}
+use Rattle.scq_core.specs.Table.{slot, zero_level, turn_of, ring_of, cell_of, location_of, cells_after, moved, writes, stores}
 use Rattle.scq_core.specs.Stances.{stance_of}
 use Rattle.scq_core.specs.Reach.{IsReachable}
 use Rattle.scq_core.specs.Laws.{CountersRise, word_at}
@@ -20,7 +20,7 @@ use Rattle.scq_core.proofs.Turns.{Begins, begins_put, begins_get, begins, awake}
 use Rattle.scq_core.proofs.Steady.{has, steady, keeps_none, kept_after, either_way}
 use Rattle.scq_core.proofs.Ranks.{counters_rise}
 use Rattle.scq_core.proofs.Counts.{total_updated, total_one}
-use Rattle.scq_law.proofs.Progress.Potential.{draw_of, draw_on, change_of, change_on, draws_on, changes_on, spare_at, stale, Leaves}
+use Rattle.scq_law.proofs.Progress.Potential.{part_after, draw_of, draw_on, change_of, change_on, draws_on, changes_on, spare_at, stale, Leaves}
 use Rattle.scq_law.proofs.Progress.SeatCounts.{own_draw, own_change, draw_own, change_own, draw_apart, change_apart, draw_bit}
 use Rattle.scq_law.proofs.Progress.TurnEffects.{ring_after, effect_turn}
 
@@ -75,9 +75,8 @@ stale_bit c m r t e = either_way (λ (v : ℕ). v ≤ 1) (word_at c m r t == e) 
 -- a step of seat j by an enabled turn
 module _ (c : Setup) (m : Machine) (j : ℕ) (s : Step) (turn : Phase) (low : j < c.seats)
     (reachable : IsReachable c m) (enabled : turn_of c (m.part j) s ≡ Some turn) where
-  abbrev part_then : Part
-  part_then = after c turn (read m.cells (location_of c turn)) (beside m.cells (location_of c turn))
-      (m.part j)
+  abbrev part_then : SeatPart
+  part_then = part_after c m j turn
 
   -- what its seat counted before the turn
   pub draw_before : own_draw turn ≤ draw_on (ring_of turn) (m.part j)
@@ -149,25 +148,21 @@ module _ (c : Setup) (m : Machine) (j : ℕ) (s : Step) (turn : Phase) (low : j 
       → draws_on c (moved c m j turn) (ring_of turn) + own_draw turn
       ≤ draws_on c m (ring_of turn) + own_draw part_then.phase
   draws_move goes =
-      let sum = total_updated (λ (p : Part). draw_on (ring_of turn) p) m.part j part_then c.seats
+      let sum = total_updated (λ (p : SeatPart). draw_on (ring_of turn) p) m.part j part_then c.seats
       low in
-      let was = draw_before in
-      let now = draw_then goes in
-      omega arith
+      let was = draw_before in let now = draw_then goes in omega arith
 
   pub changes_move : (part_then.phase ≡ Idle → ⊥)
       → changes_on c (moved c m j turn) (ring_of turn) + own_change turn
       ≡ changes_on c m (ring_of turn) + own_change part_then.phase
   changes_move goes =
-      let sum = total_updated (λ (p : Part). change_on (ring_of turn) p) m.part j part_then c.seats
+      let sum = total_updated (λ (p : SeatPart). change_on (ring_of turn) p) m.part j part_then c.seats
       low in
-      let was = change_before in
-      let now = change_then goes in
-      omega arith
+      let was = change_before in let now = change_then goes in omega arith
 
   pub change_some : own_change turn ≤ changes_on c m (ring_of turn)
   change_some =
-      let one = total_one (λ (p : Part). change_on (ring_of turn) p) m.part c.seats j low in
+      let one = total_one (λ (p : SeatPart). change_on (ring_of turn) p) m.part c.seats j low in
       let was = change_before in
       omega arith
 
@@ -195,14 +190,10 @@ module _ (c : Setup) (m : Machine) (j : ℕ) (s : Step) (turn : Phase) (low : j 
         level = effect.level;
         change = elim effect.entries
             [ inl same ↦ let less = same.1 in omega arith | inr less ↦ omega arith ];
-        looks =
-            λ t e.
-            elim effect.entries [
-              | inl same ↦
-                  let less = same.1 in let word = stale_same c m.cells n r same.0 t e in
-                  omega arith
-              | inr less ↦ let bit = stale_bit c n r t e in omega arith
-            ];
+        looks = λ t e. elim effect.entries [
+          | inl same ↦ let less = same.1 in let word = stale_same c m.cells n r same.0 t e in omega arith
+          | inr less ↦ let bit = stale_bit c n r t e in omega arith
+        ];
       }
 
   -- what its seat counts on another ring
@@ -239,10 +230,10 @@ module _ (c : Setup) (m : Machine) (j : ℕ) (s : Step) (turn : Phase) (low : j 
       let head = same.head in
       let level : spare_at n r ≡ spare_at m.cells r =
       ap (λ (v : ℕ). v - zero_level) same.threshold in
-      let draws = total_updated (λ (p : Part). draw_on r p) m.part j part_then c.seats low in
+      let draws = total_updated (λ (p : SeatPart). draw_on r p) m.part j part_then c.seats low in
       let draw = draw_there r other in
       let draw_few = draw_bit r part_then.spent (stance_of part_then.phase) in
-      let bits = total_updated (λ (p : Part). change_on r p) m.part j part_then c.seats low in
+      let bits = total_updated (λ (p : SeatPart). change_on r p) m.part j part_then c.seats low in
       let bit = change_there r other in
       let tail = same.tail in
       record {

@@ -8,7 +8,7 @@ use Rattle.scq_word.specs.declared.setup.Setup.{Setup}
 use Rattle.scq_word.specs.Words.{safe_in, cycle_in, is_none_in}
 use Rattle.scq_core.specs.declared.phase.Phase.{Phase}
 use Rattle.scq_core.specs.declared.phase.Phase.TheVariants.{Idle, AtE1, AtE2, AtE3, AtE4, AtE5, AtE6, AtD1, AtD2, AtD3, AtD4, AtD5, AtD6, AtD7, AtD8, AtD9, AtD10}
-use Rattle.scq_core.specs.Machine.{Cells, Part, read, beside, updated_entry}
+use Rattle.scq_core.specs.Machine.{Cells, SeatPart, read, beside, updated_entry}
 use Rattle.scq_core.specs.Table.{ring_slots, cycle, slot, zero_level, reset_level, ring_of, location_of, after, cells_after}
 use Rattle.scq_core.specs.Laws.{word_at}
 use Rattle.scq_core.proofs.UpdatedLemmas.{updated_here, updated_entry_same}
@@ -17,8 +17,8 @@ use Rattle.scq_law.proofs.Progress.Potential.{spare_at}
 use Rattle.scq_law.proofs.Progress.SeatCounts.{own_draw, own_change}
 
 -- a part after a turn: its call has ended, or is on the turn's ring
-module _ (c : Setup) (x : ℕ) (y : List ℕ) (p : Part) where
-  abbrev OnRing : ℕ → Part → Type 0
+module _ (c : Setup) (x : ℕ) (y : List ℕ) (p : SeatPart) where
+  abbrev OnRing : ℕ → SeatPart → Type 0
   OnRing r v = (v.phase ≡ Idle → ⊥) → ring_of v.phase ≡ r
 
   pub ring_after : (turn : Phase) → (turn ≡ Idle → ⊥) → OnRing (ring_of turn) (after c turn x y p)
@@ -68,11 +68,17 @@ pub record Effect (m n : Cells) (r draw draw' change change' : ℕ) : Type 0 whe
       × (spare_at n r + change' ≤ spare_at m r + change))
       ⊎ (spare_at n r + change' + 1 ≤ spare_at m r + change)
 
+-- no entry changes, and none of the rest counts more
+pub quiet : {m n : Cells} {r draw draw' change change' : ℕ} → ((s : ℕ) → n.entries.word r s ≡ m.entries.word r s)
+    → n.head r + spare_at n r + draw' ≤ m.head r + spare_at m r + draw → spare_at n r ≤ spare_at m r
+    → spare_at n r + change' ≤ spare_at m r + change → Effect m n r draw draw' change change'
+quiet same ends level less = record { ends = ends; level = level; entries = inl (same, less) }
+
 -- an entry that is only read
 same_entry : (f : ℕ → ℕ → ℕ) (r s z : ℕ) → updated_entry f r s (f r s) r z ≡ f r z
 same_entry f r s z = ap (λ (g : ℕ → ℕ → ℕ). g r z) (updated_entry_same f r s)
 
-module _ (c : Setup) (m : Cells) (p : Part) where
+module _ (c : Setup) (m : Cells) (p : SeatPart) where
   abbrev pub EffectBy : Phase → Type 0
   EffectBy turn =
       ((after c turn (read m (location_of c turn)) (beside m (location_of c turn)) p).phase ≡ Idle
@@ -88,12 +94,7 @@ module _ (c : Setup) (m : Cells) (p : Part) where
   effect_turn (AtE1 r i w l) awake =
       elim (cases_Bool (nat_le c.limit (m.tail r))) [
         | inl past ↦ rw past (λ goes. absurd (goes refl))
-        | inr under ↦ rw under (λ goes.
-            record {
-              ends = omega arith;
-              level = omega arith;
-              entries = inl ((λ s. refl), omega arith);
-            })
+        | inr under ↦ rw under (λ goes. quiet (λ s. refl) (omega arith) (omega arith) (omega arith))
       ]
   effect_turn (AtE2 r i w t l) awake =
       let x = word_at c m r t in
@@ -101,114 +102,53 @@ module _ (c : Setup) (m : Cells) (p : Part) where
       x)) [
         | inl fits ↦
             elim (cases_Bool (safe_in (ring_slots c) x == 1)) [
-              | inl safe ↦
-                  rw (fits, safe)
-                  (λ goes. record {
-                    ends = omega arith;
-                    level = omega arith;
-                    entries = inl (same_entry m.entries.word r (slot c t), omega arith);
-                  })
-              | inr unsafe ↦
-                  rw (fits, unsafe)
-                  (λ goes. record {
-                    ends = omega arith;
-                    level = omega arith;
-                    entries = inl (same_entry m.entries.word r (slot c t), omega arith);
-                  })
+              | inl safe ↦ rw (fits, safe) (λ goes. quiet (same_entry m.entries.word r (slot c t)) (omega arith) (omega arith) (omega arith))
+              | inr unsafe ↦ rw (fits, unsafe) (λ goes. quiet (same_entry m.entries.word r (slot c t)) (omega arith) (omega arith) (omega arith))
             ]
         | inr fails ↦
-            rw fails (λ goes. record {
-              ends = omega arith;
-              level = omega arith;
-              entries = inl (same_entry m.entries.word r (slot c t), omega arith);
-            })
+            rw fails (λ goes. quiet (same_entry m.entries.word r (slot c t)) (omega arith) (omega arith) (omega arith))
       ]
   effect_turn (AtE3 r i w t e) awake =
       let same = updated_here m.head r (m.head r) in
       elim (cases_Bool (nat_le (m.head r) t)) [
-        | inl low ↦ rw low (λ goes.
-            record {
-              ends = omega arith;
-              level = omega arith;
-              entries = inl ((λ s. refl), omega arith);
-            })
-        | inr fails ↦ rw fails (λ goes.
-            record {
-              ends = omega arith;
-              level = omega arith;
-              entries = inl ((λ s. refl), omega arith);
-            })
+        | inl low ↦ rw low (λ goes. quiet (λ s. refl) (omega arith) (omega arith) (omega arith))
+        | inr fails ↦ rw fails (λ goes. quiet (λ s. refl) (omega arith) (omega arith) (omega arith))
       ]
   effect_turn (AtE4 r i w t e) awake =
       elim (cases_Bool (word_at c m r t == e)) [
         | inl hit ↦ rw hit (λ goes.
             record { ends = omega arith; level = omega arith; entries = inr (omega arith) })
         | inr miss ↦
-            rw miss (λ goes. record {
-              ends = omega arith;
-              level = omega arith;
-              entries = inl (same_entry m.entries.word r (slot c t), omega arith);
-            })
+            rw miss (λ goes. quiet (same_entry m.entries.word r (slot c t)) (omega arith) (omega arith) (omega arith))
       ]
   effect_turn (AtE5 r i w t) awake =
       let same = updated_here m.threshold r (m.threshold r) in
       elim (cases_Bool (m.threshold r == reset_level c)) [
         | inl high ↦ rw high (λ goes. absurd (goes refl))
-        | inr low ↦ rw low (λ goes.
-            record {
-              ends = omega arith;
-              level = omega arith;
-              entries = inl ((λ s. refl), omega arith);
-            })
+        | inr low ↦ rw low (λ goes. quiet (λ s. refl) (omega arith) (omega arith) (omega arith))
       ]
   effect_turn (AtE6 r i w t) awake = λ goes. absurd (goes refl)
   effect_turn (AtD1 r) awake =
       let same = updated_here m.threshold r (m.threshold r) in
       elim (cases_Bool (nat_lt (m.threshold r) zero_level)) [
         | inl low ↦ rw low (λ goes. absurd (goes refl))
-        | inr high ↦ rw high (λ goes.
-            record {
-              ends = omega arith;
-              level = omega arith;
-              entries = inl ((λ s. refl), omega arith);
-            })
+        | inr high ↦ rw high (λ goes. quiet (λ s. refl) (omega arith) (omega arith) (omega arith))
       ]
   effect_turn (AtD2 r l) awake =
       let next = updated_here m.head r (m.head r + 1) in
       elim (cases_Bool (nat_le c.limit (m.head r))) [
         | inl past ↦ rw past (λ goes. absurd (goes refl))
-        | inr under ↦ rw under (λ goes.
-            record {
-              ends = omega arith;
-              level = omega arith;
-              entries = inl ((λ s. refl), omega arith);
-            })
+        | inr under ↦ rw under (λ goes. quiet (λ s. refl) (omega arith) (omega arith) (omega arith))
       ]
   effect_turn (AtD3 r h l) awake =
       let x = word_at c m r h in
       elim (cases_Bool (cycle_in (ring_slots c) x == cycle c h)) [
         | inl same ↦
-            rw same (λ goes. record {
-              ends = omega arith;
-              level = omega arith;
-              entries = inl (same_entry m.entries.word r (slot c h), omega arith);
-            })
+            rw same (λ goes. quiet (same_entry m.entries.word r (slot c h)) (omega arith) (omega arith) (omega arith))
         | inr other ↦
             elim (cases_Bool (nat_lt (cycle_in (ring_slots c) x) (cycle c h))) [
-              | inl lower ↦
-                  rw (other, lower)
-                  (λ goes. record {
-                    ends = omega arith;
-                    level = omega arith;
-                    entries = inl (same_entry m.entries.word r (slot c h), omega arith);
-                  })
-              | inr higher ↦
-                  rw (other, higher)
-                  (λ goes. record {
-                    ends = omega arith;
-                    level = omega arith;
-                    entries = inl (same_entry m.entries.word r (slot c h), omega arith);
-                  })
+              | inl lower ↦ rw (other, lower) (λ goes. quiet (same_entry m.entries.word r (slot c h)) (omega arith) (omega arith) (omega arith))
+              | inr higher ↦ rw (other, higher) (λ goes. quiet (same_entry m.entries.word r (slot c h)) (omega arith) (omega arith) (omega arith))
             ]
       ]
   effect_turn (AtD4 r h) awake = λ goes. absurd (goes refl)
@@ -217,63 +157,25 @@ module _ (c : Setup) (m : Cells) (p : Part) where
         | inl hit ↦ rw hit (λ goes.
             record { ends = omega arith; level = omega arith; entries = inr (omega arith) })
         | inr miss ↦
-            rw miss (λ goes. record {
-              ends = omega arith;
-              level = omega arith;
-              entries = inl (same_entry m.entries.word r (slot c h), omega arith);
-            })
+            rw miss (λ goes. quiet (same_entry m.entries.word r (slot c h)) (omega arith) (omega arith) (omega arith))
       ]
   effect_turn (AtD6 r h) awake =
       elim (cases_Bool (nat_le (m.tail r) (h + 1))) [
-        | inl low ↦ rw low (λ goes.
-            record {
-              ends = omega arith;
-              level = omega arith;
-              entries = inl ((λ s. refl), omega arith);
-            })
-        | inr high ↦ rw high (λ goes.
-            record {
-              ends = omega arith;
-              level = omega arith;
-              entries = inl ((λ s. refl), omega arith);
-            })
+        | inl low ↦ rw low (λ goes. quiet (λ s. refl) (omega arith) (omega arith) (omega arith))
+        | inr high ↦ rw high (λ goes. quiet (λ s. refl) (omega arith) (omega arith) (omega arith))
       ]
   effect_turn (AtD7 r h from to) awake =
       elim (cases_Bool (m.tail r == from)) [
-        | inl hit ↦ rw hit (λ goes.
-            record {
-              ends = omega arith;
-              level = omega arith;
-              entries = inl ((λ s. refl), omega arith);
-            })
-        | inr miss ↦ rw miss (λ goes.
-            record {
-              ends = omega arith;
-              level = omega arith;
-              entries = inl ((λ s. refl), omega arith);
-            })
+        | inl hit ↦ rw hit (λ goes. quiet (λ s. refl) (omega arith) (omega arith) (omega arith))
+        | inr miss ↦ rw miss (λ goes. quiet (λ s. refl) (omega arith) (omega arith) (omega arith))
       ]
   effect_turn (AtD8 r h from) awake =
       let same = updated_here m.head r (m.head r) in
-      (λ goes. record {
-        ends = omega arith;
-        level = omega arith;
-        entries = inl ((λ s. refl), omega arith);
-      })
+      (λ goes. quiet (λ s. refl) (omega arith) (omega arith) (omega arith))
   effect_turn (AtD9 r h from to) awake =
       elim (cases_Bool (nat_le to (m.tail r))) [
-        | inl caught ↦ rw caught (λ goes.
-            record {
-              ends = omega arith;
-              level = omega arith;
-              entries = inl ((λ s. refl), omega arith);
-            })
-        | inr under ↦ rw under (λ goes.
-            record {
-              ends = omega arith;
-              level = omega arith;
-              entries = inl ((λ s. refl), omega arith);
-            })
+        | inl caught ↦ rw caught (λ goes. quiet (λ s. refl) (omega arith) (omega arith) (omega arith))
+        | inr under ↦ rw under (λ goes. quiet (λ s. refl) (omega arith) (omega arith) (omega arith))
       ]
   effect_turn (AtD10 r h true) awake = λ goes. absurd (goes refl)
   effect_turn (AtD10 r h false) awake =
@@ -282,9 +184,5 @@ module _ (c : Setup) (m : Cells) (p : Part) where
         | inl low ↦ rw low (λ goes. absurd (goes refl))
         | inr high ↦
             let over = leb-false (m.threshold r) zero_level high in
-            rw high (λ goes. record {
-              ends = omega arith;
-              level = omega arith;
-              entries = inl ((λ s. refl), omega arith);
-            })
+            rw high (λ goes. quiet (λ s. refl) (omega arith) (omega arith) (omega arith))
       ]

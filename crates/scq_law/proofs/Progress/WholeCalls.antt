@@ -4,39 +4,35 @@
 use Rattle.std.proofs.Common.{◌≡◌, ℕ, ◌+◌, ◌<◌, ◌≤◌, ◌⊎◌, List, [], ◌∷◌, ◌++◌, length, length-append, refl, sym, ap, ◌∙◌, inl, inr, arith, eq-eqb, ne_eqb}
 use Rattle.std.specs.Prelude.{◌==◌, if◌then◌else◌, Some}
 use Rattle.std.specs.List.{All}
-use Rattle.std.proofs.Math.Seq.{drop-append_seam}
 use Rattle.std.proofs.lemmas.Bool.{cases_eq}
-use Rattle.std.proofs.lemmas.List.Elements.{All-head, All-tail, All-drop}
 use Rattle.std.proofs.lemmas.List.Sums.{sum_by-append}
 use Rattle.scq_word.specs.declared.setup.Setup.{Setup}
 use Rattle.scq_core.specs.declared.ended.Ended.{Ended}
 use Rattle.scq_core.specs.declared.phase.Phase.{Phase}
 use Rattle.scq_core.specs.declared.phase.Phase.TheVariants.{Idle}
 use Rattle.scq_core.specs.declared.step.Step.{Step}
-use Rattle.scq_core.specs.Machine.{Part, Machine, read, beside}
+use Rattle.scq_core.specs.Machine.{SeatPart, Machine, read, beside}
 use Rattle.scq_core.specs.Table.{turn_of, ring_of, location_of, after, moved}
 use Rattle.scq_core.specs.Reach.{IsReachable}
 use Rattle.scq_core.proofs.UpdatedLemmas.{updated_here, updated_else}
 use Rattle.scq_core.proofs.Turns.{begins, awake}
 use Rattle.scq_law.specs.CallSteps.{steps_of}
-use Rattle.scq_law.specs.Run.{Recorded, recorded_by, recorded_along, IsRun}
+use Rattle.scq_law.specs.Run.{Recorded, recorded_along}
 use Rattle.scq_law.specs.Prefixes.{IsPrefix, IsRecordAfter}
 use Rattle.scq_law.specs.Progress.{ring_ended, end_delay, delays, WholeCallIsDelayedByEnds, DelayedByEnds}
-use Rattle.scq_law.proofs.Replays.RecordedRuns.{chained, recorded_step, turn_reaches}
-use Rattle.scq_law.proofs.Replays.RunLaws.{run_reaches}
+use Rattle.scq_law.proofs.Replays.RecordedRuns.{first_step}
 use Rattle.scq_law.proofs.Retries.StepLaws.{steps-first}
-use Rattle.scq_law.proofs.Progress.Potential.{draws_on, changes_on}
+use Rattle.scq_law.proofs.Progress.Potential.{part_after, draws_on, changes_on}
 use Rattle.scq_law.proofs.Progress.LeftBounds.{left_of, most_left, some_left}
-use Rattle.scq_law.proofs.Progress.ProgressLaws.{behind_front}
+use Rattle.scq_law.proofs.Progress.ProgressLaws.{leads_on}
 use Rattle.scq_law.proofs.Progress.EndedTurns.{last_call}
-use Rattle.scq_law.proofs.Progress.CallsProgress.{AfterOn, ended_there, stays_there, after_on, ended_more, ended_one, calls_of_more, calls_same, kept_step, ring_stays, longer_along, along_kept, delayed_so_far}
+use Rattle.scq_law.proofs.Progress.CallsProgress.{stays_same, AfterOn, ended_there, stays_there, after_on, ended_more, ended_one, calls_same, kept_step, ring_stays, along_kept, delayed_so_far}
 
 -- a step of seat j, as seat k has it
 module _ (c : Setup) (m : Machine) (j : ℕ) (s : Step) (turn : Phase) (low : j < c.seats)
     (reachable : IsReachable c m) (enabled : turn_of c (m.part j) s ≡ Some turn) (k : ℕ) where
-  abbrev part_then : Part
-  part_then = after c turn (read m.cells (location_of c turn)) (beside m.cells (location_of c turn))
-      (m.part j)
+  abbrev part_then : SeatPart
+  part_then = part_after c m j turn
 
   -- its call has ended by this step
   record EndedHere : Type 0 where
@@ -59,14 +55,14 @@ module _ (c : Setup) (m : Machine) (j : ℕ) (s : Step) (turn : Phase) (low : j 
             (after_on c (read m.cells (location_of c turn)) (beside m.cells (location_of c turn))
             (m.part j) turn
             (awake c (m.part j).hand (m.part j).spent (m.part j).phase s turn enabled))
-        | inr other ↦ inl (ap (λ (v : Part). v.calls) (updated_else m.part j part_then k other))
+        | inr other ↦ inl (ap (λ (v : SeatPart). v.calls) (updated_else m.part j part_then k other))
       ]
     where
-      by : k ≡ j → (moved c m j turn).part k ≡ part_then → (q : Part) → q ≡ part_then
+      by : k ≡ j → (moved c m j turn).part k ≡ part_then → (q : SeatPart) → q ≡ part_then
           → AfterOn (ring_of turn) (m.part j) q
           → (((moved c m j turn).part k).calls ≡ (m.part k).calls) ⊎ EndedHere
       by own part_is q is (stays_there busy calls) =
-          inl (ap (λ (v : Part). v.calls) (part_is ∙ sym is) ∙ calls
+          inl (ap (λ (v : SeatPart). v.calls) (part_is ∙ sym is) ∙ calls
           ∙ ap (λ (i : ℕ). (m.part i).calls) (sym own))
       by own part_is q is (ended_there e idle ring calls) =
           inr
@@ -75,9 +71,9 @@ module _ (c : Setup) (m : Machine) (j : ℕ) (s : Step) (turn : Phase) (low : j 
             ended = e;
             ring = ring;
             calls =
-                ap (λ (v : Part). v.calls) (part_is ∙ sym is) ∙ calls
+                ap (λ (v : SeatPart). v.calls) (part_is ∙ sym is) ∙ calls
                 ∙ ap (λ (i : ℕ). (m.part i).calls ++ e ∷ []) (sym own);
-            rests = ap (λ (v : Part). v.phase) (part_is ∙ sym is) ∙ idle;
+            rests = ap (λ (v : SeatPart). v.phase) (part_is ∙ sym is) ∙ idle;
             had =
                 λ busy.
                 elim (begins c (m.part j).hand (m.part j).spent (m.part j).phase s turn enabled) [
@@ -85,7 +81,7 @@ module _ (c : Setup) (m : Machine) (j : ℕ) (s : Step) (turn : Phase) (low : j 
                   | inr new ↦ absurd (busy (ap (λ (i : ℕ). (m.part i).phase) own ∙ new.0))
                 ];
             more = ended_one c m j s turn low reachable enabled e ring
-                (ap (λ (v : Part). v.calls) (sym is) ∙ calls);
+                (ap (λ (v : SeatPart). v.calls) (sym is) ∙ calls);
           })
 
   -- where it makes the step and its record stays, it is in a call
@@ -97,8 +93,8 @@ module _ (c : Setup) (m : Machine) (j : ℕ) (s : Step) (turn : Phase) (low : j 
       let was : length (m.part k).calls ≡ length (m.part j).calls =
       ap (λ (i : ℕ). length (m.part i).calls) own in
       calls_same c m j s turn low reachable enabled
-      (sym was ∙ same ∙ ap (λ (v : Part). length v.calls) part_is)
-      (sym (ap (λ (v : Part). v.phase) part_is) ∙ idle)
+      (sym was ∙ same ∙ ap (λ (v : SeatPart). length v.calls) part_is)
+      (sym (ap (λ (v : SeatPart). v.phase) part_is) ∙ idle)
 
 -- a seat that rests with the record that it rested with made no step
 rests_still : (c : Setup) (k : ℕ) (steps : List (ℕ × Step)) (t last : Recorded) → k < c.seats
@@ -110,35 +106,23 @@ rests_still : (c : Setup) (k : ℕ) (steps : List (ℕ × Step)) (t last : Recor
 rests_still c k [] t last small seats reachable e first end same =
     let is : t ≡ last = cc in (refl, ap (λ (z : Recorded). z.state.part k) (sym is))
 rests_still c k (x ∷ xs) t last small seats reachable e first end same =
-    let h = chained (λ next. recorded_along c next xs) (recorded_by c t x) last e in
-    let u = recorded_step c t x h.0 h.1 in
-    let low = All-head (λ (y : ℕ × Step). y.0 < c.seats) x xs seats in
-    let rest_low = All-tail (λ (y : ℕ × Step). y.0 < c.seats) x xs seats in
-    let n = moved c t.state x.0 u.turn in
-    let next_state : h.0.state ≡ n = ap (λ (z : Recorded). z.state) u.is in
-    let next_reach : IsReachable c h.0.state =
-    rw next_state (turn_reaches c t.state x.0 x.1 u.turn low u.enabled reachable) in
-    let longer = longer_along c k xs h.0 last rest_low next_reach h.2 in
-    let here = calls_of_more c t.state x.0 x.1 u.turn low reachable u.enabled k in
-    let part_eq : h.0.state.part k ≡ n.part k = ap (λ (z : Machine). z.part k) next_state in
-    let calls_are : length (h.0.state.part k).calls ≡ length (n.part k).calls =
-    ap (λ (v : Part). length v.calls) part_eq in
-    let same_next : length (h.0.state.part k).calls ≡ length (last.state.part k).calls =
-    omega arith in
-    let same_here : length (t.state.part k).calls ≡ length (n.part k).calls = omega arith in
+    let f = first_step c x xs t last seats reachable e in
+    let n = moved c t.state x.0 f.turn in
+    let part_eq : f.next.state.part k ≡ n.part k = ap (λ (z : Machine). z.part k) f.state in
+    let stay = stays_same c k x xs t last f reachable same in
     elim (cases_eq k x.0) [
       | inl own ↦
-          let busy = busy_then c t.state x.0 x.1 u.turn low reachable u.enabled k own same_here in
-          let far = (along_kept c k xs h.0 last small rest_low next_reach h.2 same_next).ring
-          (λ idle. busy (sym (ap (λ (v : Part). v.phase) part_eq) ∙ idle)) in
+          let busy = busy_then c t.state x.0 x.1 f.turn f.low reachable f.enabled k own stay.here in
+          let far = (along_kept c k xs f.next last small f.rest_low f.reach f.along stay.next).ring
+          (λ idle. busy (sym (ap (λ (v : SeatPart). v.phase) part_eq) ∙ idle)) in
           absurd (far.0 end)
       | inr other ↦
           let part_is : n.part k ≡ t.state.part k =
           updated_else t.state.part x.0
-          (after c u.turn (read t.state.cells (location_of c u.turn))
-          (beside t.state.cells (location_of c u.turn)) (t.state.part x.0)) k other in
-          let rest = rests_still c k xs h.0 last small rest_low next_reach h.2
-          (ap (λ (v : Part). v.phase) (part_eq ∙ part_is) ∙ first) end same_next in
+          (after c f.turn (read t.state.cells (location_of c f.turn))
+          (beside t.state.cells (location_of c f.turn)) (t.state.part x.0)) k other in
+          let rest = rests_still c k xs f.next last small f.rest_low f.reach f.along
+          (ap (λ (v : SeatPart). v.phase) (part_eq ∙ part_is) ∙ first) end stay.next in
           let none = rest.0 in
           let first_is = steps-first k x xs in
           let not : ◌≡◌ {A = ℕ} (if x.0 == k then 1 else 0) 0 =
@@ -152,17 +136,11 @@ ended_along : (c : Setup) (r : ℕ) (steps : List (ℕ × Step)) (t last : Recor
     → recorded_along c t steps ≡ Some last → delays c t.state r ≤ delays c last.state r
 ended_along c r [] t last seats reachable e = let same : t ≡ last = cc in rw (← same) (omega arith)
 ended_along c r (x ∷ xs) t last seats reachable e =
-    let h = chained (λ next. recorded_along c next xs) (recorded_by c t x) last e in
-    let u = recorded_step c t x h.0 h.1 in
-    let low = All-head (λ (y : ℕ × Step). y.0 < c.seats) x xs seats in
-    let next_state : h.0.state ≡ moved c t.state x.0 u.turn = ap (λ (z : Recorded). z.state) u.is in
-    let next_reach : IsReachable c h.0.state =
-    rw next_state (turn_reaches c t.state x.0 x.1 u.turn low u.enabled reachable) in
-    let rest = ended_along c r xs h.0 last (All-tail (λ (y : ℕ × Step). y.0 < c.seats) x xs seats)
-    next_reach h.2 in
-    let here = ended_more c t.state x.0 x.1 u.turn low reachable u.enabled r in
-    let ended_is : delays c h.0.state r ≡ delays c (moved c t.state x.0 u.turn) r =
-    ap (λ (z : Machine). delays c z r) next_state in
+    let f = first_step c x xs t last seats reachable e in
+    let rest = ended_along c r xs f.next last f.rest_low f.reach f.along in
+    let here = ended_more c t.state x.0 x.1 f.turn f.low reachable f.enabled r in
+    let ended_is : delays c f.next.state r ≡ delays c (moved c t.state x.0 f.turn) r =
+    ap (λ (z : Machine). delays c z r) f.state in
     omega arith
 
 -- one call more of a seat that rests at the end
@@ -185,38 +163,32 @@ whole_along c k [] t last small seats reachable e end more =
     ap (λ (z : Recorded). length (z.state.part k).calls) (sym is) in
     absurd (omega arith)
 whole_along c k (x ∷ xs) t last small seats reachable e end more =
-    let h = chained (λ next. recorded_along c next xs) (recorded_by c t x) last e in
-    let u = recorded_step c t x h.0 h.1 in
-    let low = All-head (λ (y : ℕ × Step). y.0 < c.seats) x xs seats in
-    let rest_low = All-tail (λ (y : ℕ × Step). y.0 < c.seats) x xs seats in
-    let n = moved c t.state x.0 u.turn in
-    let next_state : h.0.state ≡ n = ap (λ (z : Recorded). z.state) u.is in
-    let next_reach : IsReachable c h.0.state =
-    rw next_state (turn_reaches c t.state x.0 x.1 u.turn low u.enabled reachable) in
-    let part_eq : h.0.state.part k ≡ n.part k = ap (λ (z : Machine). z.part k) next_state in
-    let left_is : left_of c h.0.state k ≡ left_of c n k =
-    ap (λ (z : Machine). left_of c z k) next_state in
+    let f = first_step c x xs t last seats reachable e in
+    let n = moved c t.state x.0 f.turn in
+    let part_eq : f.next.state.part k ≡ n.part k = ap (λ (z : Machine). z.part k) f.state in
+    let left_is : left_of c f.next.state k ≡ left_of c n k =
+    ap (λ (z : Machine). left_of c z k) f.state in
     let first = steps-first k x xs in
-    elim (calls_or c t.state x.0 x.1 u.turn low reachable u.enabled k) [
+    elim (calls_or c t.state x.0 x.1 f.turn f.low reachable f.enabled k) [
       | inl same ↦
-          let calls_next : (h.0.state.part k).calls ≡ (t.state.part k).calls =
-          ap (λ (v : Part). v.calls) part_eq ∙ same in
-          let size : length (h.0.state.part k).calls ≡ length (t.state.part k).calls =
+          let calls_next : (f.next.state.part k).calls ≡ (t.state.part k).calls =
+          ap (λ (v : SeatPart). v.calls) part_eq ∙ same in
+          let size : length (f.next.state.part k).calls ≡ length (t.state.part k).calls =
           ap (λ (l : List Ended). length l) calls_next in
           let same_here : length (t.state.part k).calls ≡ length (n.part k).calls =
           ap (λ (l : List Ended). length l) (sym same) in
-          let rest = whole_along c k xs h.0 last small rest_low next_reach h.2 end (omega arith) in
+          let rest = whole_along c k xs f.next last small f.rest_low f.reach f.along end (omega arith) in
           let r = ring_ended rest.ended in
           let ring : ((t.state.part k).phase ≡ Idle → ⊥) → ring_of (t.state.part k).phase ≡ r =
           λ busy.
-          let on = ring_stays c t.state x.0 x.1 u.turn low reachable u.enabled k same_here busy in
-          let phase_is : (h.0.state.part k).phase ≡ (n.part k).phase =
-          ap (λ (v : Part). v.phase) part_eq in
+          let on = ring_stays c t.state x.0 x.1 f.turn f.low reachable f.enabled k same_here busy in
+          let phase_is : (f.next.state.part k).phase ≡ (n.part k).phase =
+          ap (λ (v : SeatPart). v.phase) part_eq in
           sym on.1 ∙ ap ring_of (sym phase_is) ∙ rest.ring (λ idle. on.0 (sym phase_is ∙ idle)) in
-          let step = kept_step c t.state x.0 x.1 u.turn low reachable u.enabled k r small same_here
+          let step = kept_step c t.state x.0 x.1 f.turn f.low reachable f.enabled k r small same_here
           ring in
-          let ended_is : delays c h.0.state r ≡ delays c n r =
-          ap (λ (z : Machine). delays c z r) next_state in
+          let ended_is : delays c f.next.state r ≡ delays c n r =
+          ap (λ (z : Machine). delays c z r) f.state in
           let few = rest.few in
           record {
             ended = rest.ended;
@@ -225,20 +197,20 @@ whole_along c k (x ∷ xs) t last small seats reachable e end more =
             few = omega arith;
           }
       | inr over ↦
-          let r = ring_of u.turn in
-          let calls_next : (h.0.state.part k).calls ≡ (t.state.part k).calls ++ over.ended ∷ [] =
-          ap (λ (v : Part). v.calls) part_eq ∙ over.calls in
-          let size : length (h.0.state.part k).calls ≡ length (t.state.part k).calls + 1 =
+          let r = ring_of f.turn in
+          let calls_next : (f.next.state.part k).calls ≡ (t.state.part k).calls ++ over.ended ∷ [] =
+          ap (λ (v : SeatPart). v.calls) part_eq ∙ over.calls in
+          let size : length (f.next.state.part k).calls ≡ length (t.state.part k).calls + 1 =
           ap (λ (l : List Ended). length l) calls_next
           ∙ length-append (t.state.part k).calls (over.ended ∷ []) in
-          let still = rests_still c k xs h.0 last small rest_low next_reach h.2
-          (ap (λ (v : Part). v.phase) part_eq ∙ over.rests) end (omega arith) in
+          let still = rests_still c k xs f.next last small f.rest_low f.reach f.along
+          (ap (λ (v : SeatPart). v.phase) part_eq ∙ over.rests) end (omega arith) in
           let none = still.0 in
           let own : ◌≡◌ {A = ℕ} (if x.0 == k then 1 else 0) 1 =
           rw (eq-eqb x.0 k (sym over.own)) refl in
-          let grown = ended_along c r xs h.0 last rest_low next_reach h.2 in
-          let ended_is : delays c h.0.state r ≡ delays c n r =
-          ap (λ (z : Machine). delays c z r) next_state in
+          let grown = ended_along c r xs f.next last f.rest_low f.reach f.along in
+          let ended_is : delays c f.next.state r ≡ delays c n r =
+          ap (λ (z : Machine). delays c z r) f.state in
           let ends = over.more in
           let some = some_left c t.state.cells (draws_on c t.state) (changes_on c t.state)
           (t.state.part k).phase in
@@ -246,7 +218,7 @@ whole_along c k (x ∷ xs) t last small seats reachable e end more =
           ≤ left_of c t.state k + delays c last.state r = omega arith in
           record {
             ended = over.ended;
-            calls = ap (λ (v : Part). v.calls) still.1 ∙ calls_next;
+            calls = ap (λ (v : SeatPart). v.calls) still.1 ∙ calls_next;
             ring = λ busy. over.had busy ∙ sym over.ring;
             few = rw over.ring few;
           }
@@ -258,26 +230,21 @@ pub whole_calls_delayed : (c : Setup) (opening : List (List ℕ)) (before after 
     → (now : IsRecordAfter c opening after seat (calls ++ ended ∷ []))
     → WholeCallIsDelayedByEnds c before after was.recorded.state now.recorded.state seat ended
 whole_calls_delayed c opening before after seat calls ended small one was now =
-    let whole : IsRun c opening (before ++ one.more) now.recorded = rw one.is at now.is_run in
-    let low : All (λ (x : ℕ × Step). x.0 < c.seats) one.more =
-    rw (drop-append_seam before one.more)
-    at (All-drop (λ (x : ℕ × Step). x.0 < c.seats) (length before) (before ++ one.more)
-    whole.seats) in
-    let reachable = run_reaches c opening before was.recorded was.is_run in
+    let on = leads_on c opening before one.more was.recorded now.recorded was.is_run
+    (rw one.is at now.is_run) in
     let calls_was = was.calls_are in
     let size : length (now.recorded.state.part seat).calls
     ≡ length (was.recorded.state.part seat).calls + 1 =
     ap (λ (l : List Ended). length l) now.calls_are ∙ length-append calls (ended ∷ [])
     ∙ ap (λ (l : List Ended). length l + 1) (sym was.calls_are) in
-    let made = whole_along c seat one.more was.recorded now.recorded small low reachable
-    (behind_front c opening before one.more was.recorded now.recorded was.is_run whole) now.idle
-    size in
+    let made = whole_along c seat one.more was.recorded now.recorded small on.low on.reachable
+    on.along now.idle size in
     let lists : calls ++ made.ended ∷ [] ≡ calls ++ ended ∷ [] =
     ap (λ (l : List Ended). l ++ made.ended ∷ []) (sym was.calls_are) ∙ sym made.calls
     ∙ now.calls_are in
     let is = last_call calls made.ended ended lists in
     let r = ring_ended ended in
-    let most = most_left c was.recorded.state reachable seat small in
+    let most = most_left c was.recorded.state on.reachable seat small in
     let few : steps_of seat one.more + delays c was.recorded.state r + end_delay c ended
     ≤ left_of c was.recorded.state seat + delays c now.recorded.state r =
     rw is at made.few in

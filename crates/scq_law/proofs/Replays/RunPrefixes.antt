@@ -7,7 +7,7 @@ use Rattle.std.proofs.lemmas.List.Elements.{All-take, All-drop}
 use Rattle.scq_word.specs.declared.setup.Setup.{Setup}
 use Rattle.scq_core.specs.declared.step.Step.{Step}
 use Rattle.scq_hist.specs.declared.events.Event.{Event}
-use Rattle.scq_law.specs.Run.{Recorded, starts, finishes, recorded_after, recorded_first, recorded_along, recorded_of, IsRun}
+use Rattle.scq_law.specs.Run.{Recorded, starts, end_if_idle, recorded_after, recorded_first, recorded_along, recorded_of, IsRun}
 use Rattle.scq_law.specs.Prefixes.{IsPrefix, AllPrefixes, IsPrefixOfRun}
 use Rattle.scq_law.proofs.Replays.RecordedRuns.{chained, all_along}
 use Rattle.scq_law.proofs.Replays.RisingWords.{recorded_along-append}
@@ -46,8 +46,8 @@ grows c more t u low is =
     let n = recorded_after c k turn v in
     let p = v.state.part k in
     let q = n.state.part k in
-    let new = starts k p.phase turn ++ finishes k n.placer q.phase q.calls in
-    let last : n.events ≡ v.events ++ new = append_assoc v.events (starts k p.phase turn) (finishes k n.placer q.phase q.calls) in
+    let new = starts k p.phase turn ++ end_if_idle k n.placer q.phase q.calls in
+    let last : n.events ≡ v.events ++ new = append_assoc v.events (starts k p.phase turn) (end_if_idle k n.placer q.phase q.calls) in
     (so_far.0 ++ new, last ∙ ap (λ (l : List Event). l ++ new) so_far.1 ∙ append_assoc t.events so_far.0 new))
     more t u low is ([], sym (append-nil t.events))
 

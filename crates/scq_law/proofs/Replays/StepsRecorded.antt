@@ -13,7 +13,7 @@ use Rattle.scq_core.proofs.UpdatedLemmas.{updated_cases}
 use Rattle.scq_law.specs.declared.recording.Recording.{Recording}
 use Rattle.scq_law.specs.Run.{Recorded, puts_after, resets_after, fails_after, recorded_after, recorded_by, recorded_first, recorded_along, recorded_of, IsRun}
 use Rattle.scq_law.specs.Replay.{StopsAt}
-use Rattle.scq_law.specs.Recording.{Shows, HasRoom}
+use Rattle.scq_law.specs.Recording.{Shows, CountsCanRise}
 use Rattle.scq_law.proofs.Replays.RecordedRuns.{recorded_step}
 use Rattle.scq_law.proofs.Replays.LongerRuns.{run_last, run_stops}
 
@@ -73,7 +73,7 @@ few_along c n (x ∷ xs) recorded last few e =
 
 -- so after the first steps of a list there is room in each count
 pub run_room : (c : Setup) (opening : List (List ℕ)) (steps : List (ℕ × Step)) (at : ℕ) (t : Recording) → at < length steps → length steps < 2 ^ 64
-    → IsRecording c opening (take at steps) t → HasRoom t
+    → IsRecording c opening (take at steps) t → CountsCanRise t
 run_room c opening steps at t low small recorded =
     let few = few_along c 0 (take at steps) (recorded_first c opening) recorded.recorded
     (record { puts = λ k. omega arith; resets = λ r. omega arith; fails = λ r. omega arith }) recorded.run.recorded_is in

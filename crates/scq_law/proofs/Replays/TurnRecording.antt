@@ -13,7 +13,7 @@ use Rattle.scq_core.specs.declared.phase.Phase.TheVariants.{Idle, AtE1, AtE4, At
 use Rattle.scq_core.specs.declared.step.Step.{Step}
 use Rattle.scq_core.specs.declared.step.Step.TheVariants.{E1, E4, D1}
 use Rattle.scq_core.specs.Updated.{updated}
-use Rattle.scq_core.specs.Machine.{Cells, Machine, Part, read, beside, updated_entry}
+use Rattle.scq_core.specs.Machine.{Cells, Machine, SeatPart, read, beside, updated_entry}
 use Rattle.scq_core.specs.Table.{turn_at, turn_of, next_step, step_of, moved, after, location_of}
 use Rattle.scq_core.specs.StateLists.{machine_of}
 use Rattle.scq_core.specs.Laws.{Busy}
@@ -29,8 +29,8 @@ use Rattle.scq_law.specs.declared.act.Act.{Act}
 use Rattle.scq_law.specs.declared.act.Act.TheVariants.{Exchanges, Settles}
 use Rattle.scq_core.specs.StateLists.{StateLists}
 use Rattle.scq_law.specs.declared.recording.Recording.{Recording}
-use Rattle.scq_law.specs.Run.{Recorded, first_placer, starts, end_of, finishes, puts_after, placer_after, is_reset, resets_after, fails_after, recorded_after, recorded_by}
-use Rattle.scq_law.specs.Acts.{act_of, IsOnRing, starts_by, puts_by, names_by, resets_by, fails_by, ended_in}
+use Rattle.scq_law.specs.Run.{Recorded, first_placer, starts, end_of, end_if_idle, puts_after, placer_after, is_reset, resets_after, fails_after, recorded_after, recorded_by}
+use Rattle.scq_law.specs.Acts.{act_of, IsOnRing, starts_by, puts_after_act, names_by, resets_by, fails_by, ended_in}
 use Rattle.scq_law.specs.Names.{name_at, placer_in}
 use Rattle.scq_law.specs.Replay.{Counts}
 use Rattle.scq_law.specs.Recording.{Shows, AddsTurn, finishes_by}
@@ -71,7 +71,7 @@ started_recorded k phase step turn (goes_on p s awake) = refl
 
 -- the puts that each seat has begun
 pub puts_recorded : (n k : ℕ) (xs : List ℕ) (f : ℕ → ℕ) (phase : Phase) (step : Step) (turn : Phase) → Counts n xs f → k < n → Taken phase step turn
-    → Counts n (puts_by k (act_of phase step) xs) (puts_after k phase turn f)
+    → Counts n (puts_after_act k (act_of phase step) xs) (puts_after k phase turn f)
 puts_recorded n k xs f phase step turn old low (begins_put r i w) =
     counts_updated n xs f k _ _ old low (ap (λ u. u + 1) (old.each k))
 puts_recorded n k xs f phase step turn old low (begins_get r) = old
@@ -79,7 +79,7 @@ puts_recorded n k xs f phase step turn old low (goes_on Idle s awake) = absurd (
 puts_recorded n k xs f phase step turn old low (goes_on p s awake) = old
 
 -- an exchange that has failed places nothing, and one that has succeeded places the put of this name
-placed_recorded : (c : Setup) (r i t e : ℕ) (w : List ℕ) (x : ℕ) (y : List ℕ) (q : Part) (a b : PutName) (names : ℕ → ℕ → Option PutName)
+placed_recorded : (c : Setup) (r i t e : ℕ) (w : List ℕ) (x : ℕ) (y : List ℕ) (q : SeatPart) (a b : PutName) (names : ℕ → ℕ → Option PutName)
     (placer : ℕ → ℕ → PutName) → a ≡ b → ((s u : ℕ) → placer_in c names s u ≡ placer s u)
     → (s u : ℕ) → placer_in c (names_by (act_of (AtE4 r i w t e) E4) (after c (AtE4 r i w t e) x y q).phase a names) s u
     ≡ (if x == e then updated_entry placer r t b else placer) s u
@@ -95,7 +95,7 @@ placed_recorded c r i t e w x y q a b names placer same old s u =
     ]
 
 -- who placed where
-pub placer_recorded : (c : Setup) (k : ℕ) (phase : Phase) (step : Step) (turn : Phase) (x : ℕ) (y : List ℕ) (q : Part) (a : PutName)
+pub placer_recorded : (c : Setup) (k : ℕ) (phase : Phase) (step : Step) (turn : Phase) (x : ℕ) (y : List ℕ) (q : SeatPart) (a : PutName)
     (names : ℕ → ℕ → Option PutName) (puts : ℕ → ℕ) (placer : ℕ → ℕ → PutName)
     → Taken phase step turn → ((r t : ℕ) → act_of phase step ≡ Exchanges r t → a ≡ Of k (puts k)) → ((s u : ℕ) → placer_in c names s u ≡ placer s u)
     → (s u : ℕ) → placer_in c (names_by (act_of phase step) (after c turn x y q).phase a names) s u ≡ placer_after k turn x puts placer s u
@@ -149,7 +149,7 @@ fails_recorded n xs f phase step turn later old low (goes_on p s awake) = old
 
 -- the End, as the phase and the record afterwards say
 finished_recorded : (k : ℕ) (placer : ℕ → ℕ → PutName) (phase : Phase) (calls : List Ended)
-    → end_of k placer (ended_in phase calls) ≡ finishes k placer phase calls
+    → end_of k placer (ended_in phase calls) ≡ end_if_idle k placer phase calls
 finished_recorded k placer Idle calls = refl
 finished_recorded k placer phase calls = refl
 
@@ -165,7 +165,7 @@ act_within c m hand (AtD10 r h leaving) step busy = busy.0
 act_within c m hand phase step busy = tt
 
 -- an exchange of an entry begins no put
-exchange_begins_none : (k : ℕ) (phase : Phase) (step : Step) (xs : List ℕ) (r t : ℕ) → act_of phase step ≡ Exchanges r t → puts_by k (act_of phase step) xs ≡ xs
+exchange_begins_none : (k : ℕ) (phase : Phase) (step : Step) (xs : List ℕ) (r t : ℕ) → act_of phase step ≡ Exchanges r t → puts_after_act k (act_of phase step) xs ≡ xs
 exchange_begins_none k phase step xs r t is = rw is refl
 
 -- after an enabled turn, the lists with what it adds show what is recorded after it
@@ -191,7 +191,7 @@ shown c k step turn recorded old middle new low shows enabled within same setup 
     (ap (λ (v : List ℕ). slice_index v k) (adds.puts ∙ exchange_begins_none k before.phase step middle.puts.items r u ex ∙ puts_old) ∙ shows.puts.each k) in
     let placed : (r u : ℕ) → placer_in c (name_at new.names.items) r u ≡ placer_after k turn x recorded.puts recorded.placer r u =
     λ r u. ap (λ (o : Option PutName). unwrap_or o (first_placer c r u))
-    (adds.names r u ∙ ap (λ (p : Part). names_by act p.phase name (name_at middle.names.items) r u) is
+    (adds.names r u ∙ ap (λ (p : SeatPart). names_by act p.phase name (name_at middle.names.items) r u) is
     ∙ ap (λ (g : ℕ → ℕ → Option PutName). names_by act (after c turn x y before).phase name g r u) names_old)
     ∙ placer_recorded c k before.phase step turn x y before name (name_at old.names.items) recorded.puts recorded.placer t counted shows.placer r u in
     let placer_is : placer_in c (name_at new.names.items) ≡ placer_after k turn x recorded.puts recorded.placer = λ i r u. placed r u i in
@@ -206,7 +206,7 @@ shown c k step turn recorded old middle new low shows enabled within same setup 
           (started_recorded k before.phase step turn t)
           ∙ ap (λ (es : List Event). recorded.events ++ starts k before.phase turn ++ es)
           (finished_recorded k (placer_in c (name_at new.names.items)) later.phase later.calls
-          ∙ ap (λ (f : ℕ → ℕ → PutName). finishes k f later.phase later.calls) placer_is);
+          ∙ ap (λ (f : ℕ → ℕ → PutName). end_if_idle k f later.phase later.calls) placer_is);
       puts = rw (adds.puts, puts_old) (puts_recorded c.seats k old.puts.items recorded.puts before.phase step turn shows.puts low t);
       rings = adds.rings ∙ ap (λ (u : Recording). length u.names.items) same ∙ shows.rings;
       placer = placed;

@@ -8,7 +8,7 @@ use Rattle.scq_word.specs.declared.setup.Setup.{Setup}
 use Rattle.scq_word.specs.Words.{safe_in, cycle_in, is_none_in, rank_in}
 use Rattle.scq_core.specs.declared.phase.Phase.{Phase}
 use Rattle.scq_core.specs.declared.phase.Phase.TheVariants.{Idle, AtE1, AtE2, AtE3, AtE4, AtE5, AtE6, AtD1, AtD2, AtD3, AtD4, AtD5, AtD6, AtD7, AtD8, AtD9, AtD10}
-use Rattle.scq_core.specs.Machine.{Cells, Part, Machine, read, beside}
+use Rattle.scq_core.specs.Machine.{Cells, SeatPart, Machine, read, beside}
 use Rattle.scq_core.specs.Table.{ring_slots, cycle, zero_level, reset_level, location_of, after}
 use Rattle.scq_core.specs.Reach.{IsReachable}
 use Rattle.scq_core.specs.Laws.{Busy, word_at}
@@ -16,7 +16,7 @@ use Rattle.scq_core.proofs.Turns.{awake}
 use Rattle.scq_core.proofs.Entries.{some_slots, cycle_below_limit}
 use Rattle.scq_core.proofs.Steady.{has, steady}
 use Rattle.scq_core.proofs.Limits.{counters_bounded}
-use Rattle.scq_law.specs.CallSteps.{top, ticket_steps, steps_past, steps_from, call_steps, steps_left, CallsEnd}
+use Rattle.scq_law.specs.CallSteps.{top, ticket_steps, steps_past, ticket_steps_from, call_steps, steps_left, CallsEnd}
 use Rattle.scq_law.proofs.Retries.RetryLaws.{earlier_rank, risen}
 
 module _ (c : Setup) where
@@ -33,19 +33,19 @@ module _ (c : Setup) where
   past_later : (t u : ℕ) → t ≤ u → steps_past c u ≤ steps_past c t
   past_later t u le = mul-le-mul_right (ticket_steps c) (omega arith)
 
-  from_is : (l : ℕ) → steps_from c l ≡ steps_past c l + ticket_steps c
+  from_is : (l : ℕ) → ticket_steps_from c l ≡ steps_past c l + ticket_steps c
   from_is l = grind arith
 
   -- the next ticket after one below the limit
-  from_next : (t : ℕ) → t < c.limit → steps_from c (t + 1) ≡ steps_past c t
+  from_next : (t : ℕ) → t < c.limit → ticket_steps_from c (t + 1) ≡ steps_past c t
   from_next t low = let same : c.limit - (t + 1) + 1 ≡ c.limit - t = omega arith in rw same refl
 
   -- a ticket that is drawn
-  drawn_fewer : (l x much : ℕ) → l ≤ x → much < ticket_steps c → steps_past c x + much < steps_from c l
+  drawn_fewer : (l x much : ℕ) → l ≤ x → much < ticket_steps c → steps_past c x + much < ticket_steps_from c l
   drawn_fewer l x much le few =
       let later = past_later l x le in let sum = from_is l in omega arith
 
-  module _ (m : Cells) (p : Part) (bound : (r : ℕ) → m.tail r ≤ c.limit + c.seats) where
+  module _ (m : Cells) (p : SeatPart) (bound : (r : ℕ) → m.tail r ≤ c.limit + c.seats) where
     abbrev FewerBy : Phase → Type 0
     FewerBy turn = steps_left c (after c turn (read m (location_of c turn)) (beside m (location_of c turn)) p).phase < steps_left c turn
 
@@ -78,15 +78,10 @@ module _ (c : Setup) where
           | inr fails ↦ rw fails (let next = from_next t low in omega arith)
         ]
     fewer (AtE4 r i w t e) awake busy =
-        let x = word_at c m r t in
-        let drawn = busy.1 in
-        let lags = busy.2 in
+        let x = word_at c m r t in let drawn = busy.1 in let lags = busy.2 in
         let high = below_top e t drawn.below_limit lags.earlier in
-        elim (cases_eq x e) [
-          | inl hit ↦ rw (eq-eqb x e hit) (omega arith)
-          | inr miss ↦
-              let rose = risen (ring_slots c) e x lags.above miss in rw (ne_eqb x e miss) (omega arith)
-        ]
+        elim (cases_eq x e)
+        [ inl hit ↦ rw (eq-eqb x e hit) (omega arith) | inr miss ↦ let rose = risen (ring_slots c) e x lags.above miss in rw (ne_eqb x e miss) (omega arith) ]
     fewer (AtE5 r i w t) awake busy =
         elim (cases_Bool (m.threshold r == reset_level c)) [ inl high ↦ rw high (omega arith) | inr low ↦ rw low (omega arith) ]
     fewer (AtE6 r i w t) awake busy = omega arith
@@ -104,10 +99,8 @@ module _ (c : Setup) where
         elim (cases_Bool (cycle_in (ring_slots c) x == cycle c h)) [
           | inl same ↦ rw same (omega arith)
           | inr other ↦
-              elim (cases_Bool (nat_lt (cycle_in (ring_slots c) x) (cycle c h))) [
-                | inl lower ↦ rw (other, lower) (omega arith)
-                | inr higher ↦ rw (other, higher) (omega arith)
-              ]
+              elim (cases_Bool (nat_lt (cycle_in (ring_slots c) x) (cycle c h)))
+              [ inl lower ↦ rw (other, lower) (omega arith) | inr higher ↦ rw (other, higher) (omega arith) ]
         ]
     fewer (AtD4 r h) awake busy = omega arith
     fewer (AtD5 r h e) awake busy =
@@ -115,11 +108,8 @@ module _ (c : Setup) where
         let drawn = busy.1 in
         let lags = busy.2 in
         let high = below_top e h drawn.below_limit lags.earlier in
-        elim (cases_eq x e) [
-          | inl hit ↦ rw (eq-eqb x e hit) (omega arith)
-          | inr miss ↦
-              let rose = risen (ring_slots c) e x lags.above miss in rw (ne_eqb x e miss) (omega arith)
-        ]
+        elim (cases_eq x e)
+        [ inl hit ↦ rw (eq-eqb x e hit) (omega arith) | inr miss ↦ let rose = risen (ring_slots c) e x lags.above miss in rw (ne_eqb x e miss) (omega arith) ]
     fewer (AtD6 r h) awake busy =
         elim (cases_Bool (nat_le (m.tail r) (h + 1))) [ inl low ↦ rw low (omega arith) | inr high ↦ rw high (omega arith) ]
     fewer (AtD7 r h from to) awake busy =
@@ -154,7 +144,6 @@ module _ (c : Setup) where
 
 pub calls_end : (c : Setup) (m : Machine) → IsReachable c m → CallsEnd c m
 calls_end c m reach =
-    let all = steady c m reach in
     let bounds = counters_bounded c m reach in
     record {
       fewer =
@@ -164,6 +153,6 @@ calls_end c m reach =
           (λ r. let few = bounds.spent in let tail = bounds.tail r in omega arith)
           turn
           (awake c p.hand p.spent p.phase s turn enabled)
-          (has c m.cells p s turn (all.busy k) enabled);
+          (has c m.cells p s turn ((steady c m reach).busy k) enabled);
       most = most_steps c;
     }

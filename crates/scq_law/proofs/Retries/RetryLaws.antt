@@ -8,16 +8,16 @@ use Rattle.scq_word.specs.Words.{safe_in, cycle_in, is_none_in, rank_in}
 use Rattle.scq_word.proofs.WordLemmas.{rank_in_range}
 use Rattle.scq_core.specs.declared.phase.Phase.{Phase}
 use Rattle.scq_core.specs.declared.phase.Phase.TheVariants.{Idle, AtE1, AtE2, AtE3, AtE4, AtE5, AtE6, AtD1, AtD2, AtD3, AtD4, AtD5, AtD6, AtD7, AtD8, AtD9, AtD10}
-use Rattle.scq_core.specs.Machine.{Cells, Part, Machine, read, beside}
+use Rattle.scq_core.specs.Machine.{Cells, SeatPart, Machine, read, beside}
 use Rattle.scq_core.specs.Table.{ring_slots, cycle, zero_level, location_of, after}
 use Rattle.scq_core.specs.Reach.{IsReachable}
 use Rattle.scq_core.specs.Laws.{IsAbove, Busy, word_at}
 use Rattle.scq_core.proofs.Steady.{has, steady}
 use Rattle.scq_core.proofs.Limits.{counters_bounded}
-use Rattle.scq_law.specs.Retries.{Finds, Rises, RetriesRise}
+use Rattle.scq_law.specs.Retries.{FindsAtLeast, Rises, RetriesRise}
 
 -- what a turn finds is what its seat has of it
-finds_turn : (c : Setup) (m : Cells) (hand : List ℕ) (turn : Phase) → Busy c m hand turn → Finds c turn (read m (location_of c turn))
+finds_turn : (c : Setup) (m : Cells) (hand : List ℕ) (turn : Phase) → Busy c m hand turn → FindsAtLeast c turn (read m (location_of c turn))
 finds_turn c m hand (AtE1 r i w l) busy = busy.1
 finds_turn c m hand (AtE2 r i w t l) busy = busy.2
 finds_turn c m hand (AtE4 r i w t e) busy = busy.2.above
@@ -36,7 +36,7 @@ earlier_rank m x t earlier = let range = rank_in_range m x in let high = range.1
 pub risen : (m e x : ℕ) → IsAbove m e x → (x ≡ e → ⊥) → rank_in m e < rank_in m x
 risen m e x up miss = elim up.above [ inl same ↦ absurd (miss same) | inr rose ↦ rose ]
 
-module _ (c : Setup) (m : Cells) (p : Part) (bound : (r : ℕ) → m.tail r ≤ c.limit + c.seats) where
+module _ (c : Setup) (m : Cells) (p : SeatPart) (bound : (r : ℕ) → m.tail r ≤ c.limit + c.seats) where
   abbrev RisesBy : Phase → Type 0
   RisesBy turn = Rises c turn (after c turn (read m (location_of c turn)) (beside m (location_of c turn)) p).phase
 

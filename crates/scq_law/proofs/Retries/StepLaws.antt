@@ -11,7 +11,7 @@ use Rattle.scq_core.specs.declared.ended.Ended.{Ended}
 use Rattle.scq_core.specs.declared.phase.Phase.{Phase}
 use Rattle.scq_core.specs.declared.phase.Phase.TheVariants.{Idle, AtE1, AtE2, AtE3, AtE4, AtE5, AtE6, AtD1, AtD2, AtD3, AtD4, AtD5, AtD6, AtD7, AtD8, AtD9, AtD10}
 use Rattle.scq_core.specs.declared.step.Step.{Step}
-use Rattle.scq_core.specs.Machine.{Part, Machine, read, beside}
+use Rattle.scq_core.specs.Machine.{SeatPart, Machine, read, beside}
 use Rattle.scq_core.specs.Table.{ring_slots, cycle, zero_level, reset_level, turn_of, location_of, after}
 use Rattle.scq_core.specs.Reach.{IsReachable, at_start}
 use Rattle.scq_core.proofs.UpdatedLemmas.{updated_or}
@@ -23,11 +23,11 @@ use Rattle.scq_law.proofs.Retries.CallLaws.{calls_end}
 use Rattle.scq_law.proofs.Replays.RecordedRuns.{chained, recorded_step, turn_reaches}
 
 -- a seat is at rest after its turn, with one call more, or it goes on
-pub data After (p q : Part) : Type 0 where
+pub data After (p q : SeatPart) : Type 0 where
   rests : q.phase ≡ Idle → length q.calls ≡ length p.calls + 1 → After p q
   goes : (q.phase ≡ Idle → ⊥) → length q.calls ≡ length p.calls → After p q
 
-module _ (c : Setup) (x : ℕ) (y : List ℕ) (p : Part) where
+module _ (c : Setup) (x : ℕ) (y : List ℕ) (p : SeatPart) where
   ended : (e : Ended) → length (p.calls ++ e ∷ []) ≡ length p.calls + 1
   ended e = length-append p.calls (e ∷ [])
 
@@ -67,34 +67,34 @@ module _ (c : Setup) where
   most = call_steps c
 
   -- the steps that the call under way may have taken
-  abbrev pub taken_by : Phase → ℕ
-  taken_by Idle = 0
-  taken_by phase = most - steps_left c phase
+  abbrev pub steps_taken : Phase → ℕ
+  steps_taken Idle = 0
+  steps_taken phase = most - steps_left c phase
 
-  taken_on : (phase : Phase) → (phase ≡ Idle → ⊥) → taken_by phase ≡ most - steps_left c phase
+  taken_on : (phase : Phase) → (phase ≡ Idle → ⊥) → steps_taken phase ≡ most - steps_left c phase
   taken_on Idle awake = absurd (awake refl)
   taken_on phase awake = refl
 
   -- the steps that a seat may have made
-  abbrev pub made : Part → ℕ
-  made p = length p.calls * most + taken_by p.phase
+  abbrev pub steps_made : SeatPart → ℕ
+  steps_made p = length p.calls * most + steps_taken p.phase
 
   -- at its turn a seat has made no more than what is left to the turn says
-  made_before : (p : Part) (s : Step) (turn : Phase) → turn_of c p s ≡ Some turn → made p ≤ length p.calls * most + (most - steps_left c turn)
+  made_before : (p : SeatPart) (s : Step) (turn : Phase) → turn_of c p s ≡ Some turn → steps_made p ≤ length p.calls * most + (most - steps_left c turn)
   made_before p s turn enabled =
       elim (begins c p.hand p.spent p.phase s turn enabled) [
         | inl same ↦
             let is = taken_on p.phase (λ idle. awake c p.hand p.spent p.phase s turn enabled (same ∙ idle)) in
             let left : steps_left c turn ≡ steps_left c p.phase = ap (steps_left c) same in
             omega arith
-        | inr new ↦ let none : taken_by p.phase ≡ 0 = ap taken_by new.0 in omega arith
+        | inr new ↦ let none : steps_taken p.phase ≡ 0 = ap steps_taken new.0 in omega arith
       ]
 
   -- and one more after it
-  made_after : (p q : Part) (turn : Phase) → steps_left c turn ≤ most → steps_left c q.phase < steps_left c turn → After p q
-      → length p.calls * most + (most - steps_left c turn) + 1 ≤ made q
+  made_after : (p q : SeatPart) (turn : Phase) → steps_left c turn ≤ most → steps_left c q.phase < steps_left c turn → After p q
+      → length p.calls * most + (most - steps_left c turn) + 1 ≤ steps_made q
   made_after p q turn few fewer (rests idle calls) =
-      let none : taken_by q.phase ≡ 0 = ap taken_by idle in
+      let none : steps_taken q.phase ≡ 0 = ap steps_taken idle in
       let sum : length q.calls * most ≡ length p.calls * most + most = rw calls (one_more (length p.calls) most) in
       omega arith
     where
@@ -106,7 +106,7 @@ module _ (c : Setup) where
       omega arith
 
   made_turn : (m : Machine) (k : ℕ) (s : Step) (turn : Phase) → CallsEnd c m → turn_of c (m.part k) s ≡ Some turn
-      → made (m.part k) + 1 ≤ made (after c turn (read m.cells (location_of c turn)) (beside m.cells (location_of c turn)) (m.part k))
+      → steps_made (m.part k) + 1 ≤ steps_made (after c turn (read m.cells (location_of c turn)) (beside m.cells (location_of c turn)) (m.part k))
   made_turn m k s turn ends enabled =
       let p = m.part k in
       let x = read m.cells (location_of c turn) in
@@ -118,23 +118,23 @@ module _ (c : Setup) where
 
   -- a step of some seat
   pub made_step : (r : Recorded) (k j : ℕ) (s : Step) (turn : Phase) → IsReachable c r.state → turn_of c (r.state.part j) s ≡ Some turn
-      → made (r.state.part k) + (if j == k then 1 else 0) ≤ made ((recorded_after c j turn r).state.part k)
+      → steps_made (r.state.part k) + (if j == k then 1 else 0) ≤ steps_made ((recorded_after c j turn r).state.part k)
   made_step r k j s turn reach enabled =
       let m = r.state in
       let p = after c turn (read m.cells (location_of c turn)) (beside m.cells (location_of c turn)) (m.part j) in
       elim (updated_or m.part j p k) [
         | inl here ↦
             let own = made_turn m j s turn (calls_end c m reach) enabled in
-            let new : made ((recorded_after c j turn r).state.part k) ≡ made p = ap made here.1 in
-            let old : made (m.part k) ≡ made (m.part j) = ap (λ (i : ℕ). made (m.part i)) here.0 in
+            let new : steps_made ((recorded_after c j turn r).state.part k) ≡ steps_made p = ap steps_made here.1 in
+            let old : steps_made (m.part k) ≡ steps_made (m.part j) = ap (λ (i : ℕ). steps_made (m.part i)) here.0 in
             rw (eq-eqb j k (sym here.0)) (omega arith)
         | inr there ↦
-            let same : made ((recorded_after c j turn r).state.part k) ≡ made (m.part k) = ap made there.1 in
+            let same : steps_made ((recorded_after c j turn r).state.part k) ≡ steps_made (m.part k) = ap steps_made there.1 in
             rw (ne_eqb j k (λ e. there.0 (sym e))) (omega arith)
       ]
 
   made_along : (k : ℕ) (steps : List (ℕ × Step)) (r last : Recorded) → All (λ (x : ℕ × Step). x.0 < c.seats) steps → IsReachable c r.state
-      → recorded_along c r steps ≡ Some last → made (r.state.part k) + steps_of k steps ≤ made (last.state.part k)
+      → recorded_along c r steps ≡ Some last → steps_made (r.state.part k) + steps_of k steps ≤ steps_made (last.state.part k)
   made_along k [] r last seats reach e = let same : r ≡ last = cc in rw (← same) (omega arith)
   made_along k (x ∷ xs) r last seats reach e =
       let h = chained (λ next. recorded_along c next xs) (recorded_by c r x) last e in
@@ -143,7 +143,7 @@ module _ (c : Setup) where
       let rest_low = All-tail (λ (y : ℕ × Step). y.0 < c.seats) x xs seats in
       let step = made_step r k x.0 x.1 t.turn reach t.enabled in
       let next_reach : IsReachable c h.0.state = rw t.is (turn_reaches c r.state x.0 x.1 t.turn low t.enabled reach) in
-      let next : made (h.0.state.part k) ≡ made ((recorded_after c x.0 t.turn r).state.part k) = ap (λ (z : Recorded). made (z.state.part k)) t.is in
+      let next : steps_made (h.0.state.part k) ≡ steps_made ((recorded_after c x.0 t.turn r).state.part k) = ap (λ (z : Recorded). steps_made (z.state.part k)) t.is in
       let rest = made_along k xs h.0 last rest_low next_reach h.2 in
       let first = steps-first k x xs in
       omega arith
@@ -160,7 +160,7 @@ few_steps c opening steps recorded run =
           omega arith;
     }
   where
-    taken_few : (c : Setup) (phase : Phase) → taken_by c phase ≤ most c
+    taken_few : (c : Setup) (phase : Phase) → steps_taken c phase ≤ most c
     taken_few c Idle = omega arith
     taken_few c phase = omega arith
 

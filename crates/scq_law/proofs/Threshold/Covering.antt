@@ -5,7 +5,7 @@ use Rattle.std.specs.Prelude.{◌==◌, if◌then◌else◌}
 use Rattle.std.proofs.lemmas.Bool.{cases_eq, cases_lt}
 use Rattle.scq_word.specs.declared.setup.Setup.{Setup}
 use Rattle.scq_core.specs.declared.ended.Ended.TheVariants.{Done}
-use Rattle.scq_core.specs.Machine.{Part, Machine}
+use Rattle.scq_core.specs.Machine.{SeatPart, Machine}
 use Rattle.scq_core.specs.Updated.{updated}
 use Rattle.scq_core.specs.Table.{ring_slots, zero_level, reset_level}
 use Rattle.scq_core.specs.Start.{start_of}
@@ -111,7 +111,7 @@ level_event c time g m k e n event_step not r =
 pub flights_move : (c : Setup) (time : ℕ) (g : Ghost) (m : Machine) (k : ℕ) (e : TicketEvent) (n : Machine) → EventStep c time g m k e n → (r : ℕ)
     → attempts_in_flight c n r + flying r (stance m k) ≡ attempts_in_flight c m r + flying r (stance n k)
 flights_move c time g m k e n event_step r =
-    let sum = total_change (λ (p : Part). in_flight r p.phase) m.part n.part k c.seats event_step.low event_step.event_facts.others in
+    let sum = total_change (λ (p : SeatPart). in_flight r p.phase) m.part n.part k c.seats event_step.low event_step.event_facts.others in
     omega arith
 
 covers_start : (c : Setup) (opening : List (List ℕ)) → ThresholdCovers c (start_of c opening)
@@ -120,7 +120,7 @@ covers_start c opening =
       covers =
           λ r p fin high.
           let none : attempts_in_flight c (start_of c opening) r ≡ 0 =
-          total_none (λ (p : Part). in_flight r p.phase) (start_of c opening).part c.seats (λ k low. refl) in
+          total_none (λ (p : SeatPart). in_flight r p.phase) (start_of c opening).part c.seats (λ k low. refl) in
           elim fin [
             | inl done ↦ absurd (contains_none (Done r p done.content) done.ended)
             | inr opens ↦
@@ -196,7 +196,7 @@ covers_step c time g m k (finished q i w t) n trace event_step was =
                 let near = finished_near c g m event_step.base.drawn (windowed c time g m trace) r p there in
                 let idle : in_flight r (n.part k).phase ≡ 0 = ap (flying r) d.stance in
                 let few =
-                total_less (λ (a : Part). in_flight r a.phase) n.part (λ a. one_on_bit r (attempt_ring (stance_of a.phase))) c.seats k event_step.low idle in
+                total_less (λ (a : SeatPart). in_flight r a.phase) n.part (λ a. one_on_bit r (attempt_ring (stance_of a.phase))) c.seats k event_step.low idle in
                 let reaches = reset_reaches c in
                 let reset : n.cells.threshold r ≡ reset_level c = rw (d.threshold, same) (updated_here m.cells.threshold q (reset_level c)) in
                 let head : n.cells.head r ≡ m.cells.head r = rw d.head refl in

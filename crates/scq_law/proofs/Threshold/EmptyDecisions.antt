@@ -17,10 +17,10 @@ use Rattle.scq_law.proofs.Threshold.Covering.{covers}
 
 -- a deciding event of a ring: a dequeue is refused at once, one sees that nothing is behind its ticket, or one that would
 -- go on finds Threshold used up
-pub data Decides (m : Machine) (k : ℕ) : TicketEvent → ℕ → Type 0 where
-  by_refusal : (r : ℕ) → Decides m k (refused r) r
-  by_end : (r h : ℕ) → Decides m k (saw_end r h) r
-  by_level : (r h : ℕ) → stance m k ≡ gave_up r h false → Decides m k (emptied r h) r
+pub data DecidesEmpty (m : Machine) (k : ℕ) : TicketEvent → ℕ → Type 0 where
+  by_refusal : (r : ℕ) → DecidesEmpty m k (refused r) r
+  by_end : (r h : ℕ) → DecidesEmpty m k (saw_end r h) r
+  by_level : (r h : ℕ) → stance m k ≡ gave_up r h false → DecidesEmpty m k (emptied r h) r
 
 -- where Threshold is at most 0
 low_level : (c : Setup) (time : ℕ) (g : Ghost) (m : Machine) → Trace c time g m → (r : ℕ) → m.cells.threshold r ≤ zero_level → (p : ℕ) → IsFinished c m r p
@@ -32,7 +32,7 @@ low_level c time g m trace r low p fin =
     ]
 
 pub decides : (c : Setup) (time : ℕ) (g : Ghost) (m : Machine) (k : ℕ) (e : TicketEvent) (n : Machine) → Trace c time g m → EventStep c time g m k e n
-    → (r : ℕ) → Decides m k e r → (p : ℕ) → IsFinished c m r p → p < m.cells.head r
+    → (r : ℕ) → DecidesEmpty m k e r → (p : ℕ) → IsFinished c m r p → p < m.cells.head r
 decides c time g m k e n trace event_step q (by_refusal r) p fin =
     let level = event_step.event_facts.proper.level in low_level c time g m trace r (omega arith) p fin
 decides c time g m k e n trace event_step q (by_end r h) p fin =

@@ -9,7 +9,7 @@ use Rattle.scq_word.specs.Sizes.{n_of}
 use Rattle.scq_core.specs.declared.phase.Phase.{Phase}
 use Rattle.scq_core.specs.declared.phase.Phase.TheVariants.{Idle, AtE5, AtE6, AtD1, AtD10}
 use Rattle.scq_core.specs.declared.step.Step.{Step}
-use Rattle.scq_core.specs.Machine.{Cells, Part, read, beside}
+use Rattle.scq_core.specs.Machine.{Cells, SeatPart, read, beside}
 use Rattle.scq_core.specs.Updated.{updated}
 use Rattle.scq_core.specs.Table.{turn_of, location_of, after, cells_after, moved, reset_level}
 use Rattle.scq_core.specs.Start.{start_of}
@@ -23,7 +23,7 @@ use Rattle.scq_law.specs.Bounds.{FailsBounded}
 use Rattle.scq_law.proofs.Replays.RecordedRuns.{all_along, turn_reaches}
 
 -- the phase of a seat after its turn
-abbrev phase_then : Setup → Cells → Part → Phase → Phase
+abbrev phase_then : Setup → Cells → SeatPart → Phase → Phase
 phase_then c m p turn = (after c turn (read m (location_of c turn)) (beside m (location_of c turn)) p).phase
 
 -- a value that is written, where it and all old ones are within a bound with their fails
@@ -54,7 +54,7 @@ updated_read f g q bound old r =
 updated_reset : (f g : ℕ → ℕ) (q bound : ℕ) → ((r : ℕ) → f r + g r ≤ bound) → (r : ℕ) → updated f q (f q) r + updated g q 0 r ≤ bound
 updated_reset f g q bound old r = let here = old q in updated_both f g q (f q) 0 bound (omega arith) old r
 
-fails_turn : (c : Setup) (m : Cells) (p : Part) (turn : Phase) (fails : ℕ → ℕ) → (turn ≡ Idle → ⊥) → ((r : ℕ) → 0 < m.threshold r)
+fails_turn : (c : Setup) (m : Cells) (p : SeatPart) (turn : Phase) (fails : ℕ → ℕ) → (turn ≡ Idle → ⊥) → ((r : ℕ) → 0 < m.threshold r)
     → ((r : ℕ) → m.threshold r + fails r ≤ reset_level c) → (r : ℕ)
     → (cells_after c turn m).threshold r + fails_after turn (is_reset turn (phase_then c m p turn)) fails r ≤ reset_level c
 fails_turn c m p Idle fails awake some old r = absurd (awake refl)
@@ -90,7 +90,7 @@ sums_step c recorded k s turn low enabled sums =
           let kept = fails_turn c m.cells p turn recorded.fails (awake c p.hand p.spent p.phase s turn enabled) (λ q. let some = fits.threshold q in some.0)
           sums.within r in
           let there : ((moved c m k turn).part k).phase ≡ phase_then c m.cells p turn =
-          ap (λ (x : Part). x.phase) (updated_here m.part k (after c turn (read m.cells (location_of c turn)) (beside m.cells (location_of c turn)) p)) in
+          ap (λ (x : SeatPart). x.phase) (updated_here m.part k (after c turn (read m.cells (location_of c turn)) (beside m.cells (location_of c turn)) p)) in
           subst (λ (x : Phase). (cells_after c turn m.cells).threshold r + fails_after turn (is_reset turn x) recorded.fails r ≤ reset_level c) (sym there)
           kept;
     }

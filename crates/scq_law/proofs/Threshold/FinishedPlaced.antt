@@ -8,7 +8,7 @@ use Rattle.scq_word.specs.declared.setup.Setup.{Setup}
 use Rattle.scq_core.specs.declared.ended.Ended.TheVariants.{Done, Got, Nothing, Spent}
 use Rattle.scq_core.specs.Machine.{Machine}
 use Rattle.scq_core.specs.Start.{start_of}
-use Rattle.scq_law.specs.Bounds.{IsDone, IsFinished}
+use Rattle.scq_law.specs.Bounds.{SomePutEndedAt, IsFinished}
 use Rattle.scq_law.proofs.Base.Ghosts.{Ghost, is_placed, start_ghost}
 use Rattle.scq_law.proofs.Base.TicketEvents.{TicketEvent, finished, refused, taken, emptied, overran, ended_by}
 use Rattle.scq_law.proofs.Base.EventFacts.{EventFacts}
@@ -25,19 +25,15 @@ is_finish e = false
 -- no other event ends a put
 pub ends_none : (e : TicketEvent) (r p : ℕ) (w : List ℕ) → is_finish e ≡ false → Contains (ended_by e) (Done r p w) → ⊥
 ends_none (finished q i v t) r p w not has = absurd (cc)
-ends_none (refused q) r p w not has =
-    let same : Nothing q ≡ Done r p w = contains_one (Nothing q) (Done r p w) has in absurd (cc)
-ends_none (taken q h i v) r p w not has =
-    let same : Got q h v ≡ Done r p w = contains_one (Got q h v) (Done r p w) has in absurd (cc)
-ends_none (emptied q h) r p w not has =
-    let same : Nothing q ≡ Done r p w = contains_one (Nothing q) (Done r p w) has in absurd (cc)
-ends_none (overran q t is_put) r p w not has =
-    let same : Spent q t is_put ≡ Done r p w = contains_one (Spent q t is_put) (Done r p w) has in absurd (cc)
+ends_none (refused q) r p w not has = let same : Nothing q ≡ Done r p w = contains_one (Nothing q) (Done r p w) has in absurd (cc)
+ends_none (taken q h i v) r p w not has = let same : Got q h v ≡ Done r p w = contains_one (Got q h v) (Done r p w) has in absurd (cc)
+ends_none (emptied q h) r p w not has = let same : Nothing q ≡ Done r p w = contains_one (Nothing q) (Done r p w) has in absurd (cc)
+ends_none (overran q t is_put) r p w not has = let same : Spent q t is_put ≡ Done r p w = contains_one (Spent q t is_put) (Done r p w) has in absurd (cc)
 ends_none e r p w not has = contains_none (Done r p w) has
 
 -- an ended put afterwards ended before or by the event
-pub done_back : (c : Setup) (g : Ghost) (m : Machine) (k : ℕ) (e : TicketEvent) (n : Machine) → EventFacts c m g k e n → (r p : ℕ) → IsDone n r p
-    → IsDone m r p ⊎ ((w : List ℕ) × Contains (ended_by e) (Done r p w))
+pub done_back : (c : Setup) (g : Ghost) (m : Machine) (k : ℕ) (e : TicketEvent) (n : Machine) → EventFacts c m g k e n → (r p : ℕ) → SomePutEndedAt n r p
+    → SomePutEndedAt m r p ⊎ ((w : List ℕ) × Contains (ended_by e) (Done r p w))
 done_back c g m k e n event_facts r p done =
     elim (cases_eq done.seat k) [
       | inl same ↦

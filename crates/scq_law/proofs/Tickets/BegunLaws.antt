@@ -11,7 +11,7 @@ use Rattle.scq_core.specs.declared.ended.Ended.TheVariants.{Done, Got, Nothing, 
 use Rattle.scq_core.specs.declared.phase.Phase.{Phase}
 use Rattle.scq_core.specs.declared.phase.Phase.TheVariants.{Idle, AtE1, AtE2, AtE3, AtE4, AtE5, AtE6, AtD1, AtD2, AtD3, AtD4, AtD5, AtD6, AtD7, AtD8, AtD9, AtD10}
 use Rattle.scq_core.specs.declared.step.Step.{Step}
-use Rattle.scq_core.specs.Machine.{Part, read, beside}
+use Rattle.scq_core.specs.Machine.{SeatPart, read, beside}
 use Rattle.scq_core.specs.Table.{ring_slots, cycle, zero_level, reset_level, turn_of, location_of, after}
 use Rattle.scq_core.specs.Start.{start_of}
 use Rattle.scq_core.proofs.Steady.{either_way}
@@ -19,19 +19,19 @@ use Rattle.scq_core.proofs.Counts.{total_updated, total_none}
 use Rattle.scq_core.proofs.Turns.{Begins, begins_put, begins_get, begins, awake}
 use Rattle.scq_hist.specs.declared.events.Event.{Event}
 use Rattle.scq_hist.specs.declared.events.PutName.{PutName}
-use Rattle.scq_law.specs.Run.{Recorded, starts, end_of, finishes, recorded_after, recorded_first, IsRun}
+use Rattle.scq_law.specs.Run.{Recorded, starts, end_of, end_if_idle, recorded_after, recorded_first, IsRun}
 use Rattle.scq_law.specs.Bounds.{tally, was_put, is_putting, enqueues, openings}
 use Rattle.scq_law.specs.Begun.{starts_put, puts_started, EnqueuesBegun}
 use Rattle.scq_law.proofs.Base.SeatSums.{tally-append}
 use Rattle.scq_law.proofs.Replays.RecordedRuns.{all_along}
 
 -- how many puts on a ring a seat has begun
-abbrev begun_of : ℕ → Part → ℕ
+abbrev begun_of : ℕ → SeatPart → ℕ
 begun_of r p = tally (was_put r) p.calls + is_putting r p.phase
 
-module _ (c : Setup) (x : ℕ) (y : List ℕ) (p : Part) (r : ℕ) where
+module _ (c : Setup) (x : ℕ) (y : List ℕ) (p : SeatPart) (r : ℕ) where
   -- so many, where the seat's turn is this one
-  abbrev With : Phase → Part → Type 0
+  abbrev With : Phase → SeatPart → Type 0
   With turn q = begun_of r q ≡ tally (was_put r) p.calls + is_putting r turn
 
   -- a call that ends
@@ -79,12 +79,12 @@ no_start : (r k : ℕ) (placer : ℕ → ℕ → PutName) (o : Option Ended) →
 no_start r k placer None = refl
 no_start r k placer (Some call) = refl
 
-none_finishes : (r k : ℕ) (placer : ℕ → ℕ → PutName) (phase : Phase) (calls : List Ended) → puts_started r (finishes k placer phase calls) ≡ 0
+none_finishes : (r k : ℕ) (placer : ℕ → ℕ → PutName) (phase : Phase) (calls : List Ended) → puts_started r (end_if_idle k placer phase calls) ≡ 0
 none_finishes r k placer Idle calls = no_start r k placer _
 none_finishes r k placer phase calls = refl
 
 -- what the turn is, is what the phase was and the Start that is recorded
-begun_start : (c : Setup) (p : Part) (k r : ℕ) (s : Step) (turn : Phase) → turn_of c p s ≡ Some turn
+begun_start : (c : Setup) (p : SeatPart) (k r : ℕ) (s : Step) (turn : Phase) → turn_of c p s ≡ Some turn
     → is_putting r turn ≡ is_putting r p.phase + puts_started r (starts k p.phase turn)
 begun_start c p k r s turn enabled =
     elim (begins c p.hand p.spent p.phase s turn enabled) [
@@ -109,7 +109,7 @@ begun_step c recorded k s turn low enabled was r =
     let own = begun_turn c x y p r turn (awake c p.hand p.spent p.phase s turn enabled) in
     let start = begun_start c p k r s turn enabled in
     let begins = starts k p.phase turn in
-    let ends = finishes k next.placer (next.state.part k).phase (next.state.part k).calls in
+    let ends = end_if_idle k next.placer (next.state.part k).phase (next.state.part k).calls in
     let none = none_finishes r k next.placer (next.state.part k).phase (next.state.part k).calls in
     let with_ends : puts_started r next.events ≡ puts_started r (recorded.events ++ begins) + puts_started r ends =
     started-append r (recorded.events ++ begins) ends in

@@ -4,7 +4,7 @@ use Rattle.std.specs.Prelude.{Option, Some, None}
 use Rattle.scq_word.specs.declared.setup.Setup.{Setup}
 use Rattle.scq_word.specs.Sizes.{n_of}
 use Rattle.scq_core.specs.declared.ended.Ended.{Ended}
-use Rattle.scq_core.specs.Machine.{Part, Machine}
+use Rattle.scq_core.specs.Machine.{SeatPart, Machine}
 use Rattle.scq_core.specs.Updated.{updated}
 use Rattle.scq_core.specs.Table.{ring_slots, reset_level}
 use Rattle.scq_core.specs.Start.{start_of}
@@ -37,10 +37,10 @@ trace_reaches c time g m (trace_step {time = t} {g = h} {m = old} k s turn trace
     turn_reaches c old k s turn low enabled (trace_reaches c t h old trace)
 
 -- what a seat counts for: its ended puts; its gets that took, its attempt in flight and its kept ticket
-abbrev pub done_of : ℕ → Part → ℕ
+abbrev pub done_of : ℕ → SeatPart → ℕ
 done_of r p = tally (was_done r) p.calls
 
-abbrev pub spend_of : ℕ → Part → ℕ
+abbrev pub spend_of : ℕ → SeatPart → ℕ
 spend_of r p = tally (was_got r) p.calls + (flying r (stance_of p.phase) + spent_of p.spent)
 
 pub record IsTallied (c : Setup) (time : ℕ) (g : Ghost) (m : Machine) : Type 0 where

@@ -7,7 +7,7 @@ use Rattle.std.proofs.lemmas.Bool.{cases_eq, cases_lt}
 use Rattle.std.proofs.lemmas.List.Elements.{Contains-push}
 use Rattle.scq_word.specs.declared.setup.Setup.{Setup}
 use Rattle.scq_core.specs.declared.ended.Ended.TheVariants.{Spent}
-use Rattle.scq_core.specs.Machine.{Part, Machine}
+use Rattle.scq_core.specs.Machine.{SeatPart, Machine}
 use Rattle.scq_core.specs.Table.{moved}
 use Rattle.scq_core.specs.Reach.{IsReachable}
 use Rattle.scq_core.proofs.Steady.{keeps_none}
@@ -24,7 +24,7 @@ use Rattle.scq_law.proofs.Base.SeatSums.{contains_none, contains_one}
 use Rattle.scq_law.proofs.Tickets.SpentTickets.{overrun, spent_back, ends_otherwise, none_spent}
 
 -- the seat's last call ended with Spent and this ticket
-abbrev IsLast : Part → ℕ → Type 0
+abbrev IsLast : SeatPart → ℕ → Type 0
 IsLast p t = (r : ℕ) × EndedSpent p r t
 
 -- a kept ticket is that of the seat's last call, and a call that ended with Spent is followed by none
@@ -105,8 +105,7 @@ spent_kept c m reach =
     let s = has_trace c m reach in
     let ties = keeps_last c s.time s.ghost m s.trace in
     record {
-      last =
-          λ k t keeps.
+      last = λ k t keeps.
           let ended = ties.last k t keeps in
           let r = ended.0 in
           let e = ended.1 in

@@ -9,7 +9,7 @@ use Rattle.scq_word.specs.declared.setup.Setup.{Setup}
 use Rattle.scq_word.specs.Sizes.{n_of}
 use Rattle.scq_core.specs.declared.ended.Ended.{Ended}
 use Rattle.scq_core.specs.declared.ended.Ended.TheVariants.{Done}
-use Rattle.scq_core.specs.Machine.{Part, Machine}
+use Rattle.scq_core.specs.Machine.{SeatPart, Machine}
 use Rattle.scq_core.specs.Reach.{IsReachable}
 use Rattle.scq_core.specs.Laws.{total, dequeues, dequeues_of, spent_of}
 use Rattle.scq_core.proofs.Entries.{some_indices}
@@ -78,7 +78,7 @@ head_bounded c time g m trace r =
     let spends = t.spends r in
     let floor = (threshold_floor c m reach).floor r in
     let few = (counters_bounded c m reach).spent in
-    let puts = λ (p : Part). tally (was_put r) p.calls + is_putting r p.phase in
+    let puts = λ (p : SeatPart). tally (was_put r) p.calls + is_putting r p.phase in
     let placed : total (puts_of r) m.part c.seats ≤ total puts m.part c.seats =
     total_le (puts_of r) puts m.part
     (λ k.
@@ -87,10 +87,10 @@ head_bounded c time g m trace r =
     c.seats in
     let dones : total (done_of r) m.part c.seats ≤ total puts m.part c.seats =
     total_le (done_of r) puts m.part (λ k. let calls = tally_le (was_done r) (was_put r) (done_put r) (m.part k).calls in omega arith) c.seats in
-    let split = total_plus (gets_of r) (λ (p : Part). flying r (stance_of p.phase) + spent_of p.spent) m.part c.seats in
-    let again = total_plus (λ (p : Part). flying r (stance_of p.phase)) (λ (p : Part). spent_of p.spent) m.part c.seats in
-    let attempts_in_flight : total (λ (p : Part). flying r (stance_of p.phase)) m.part c.seats ≤ dequeues_of c m r =
-    total_le (λ (p : Part). flying r (stance_of p.phase)) (λ (p : Part). dequeues r p.phase) m.part
+    let split = total_plus (gets_of r) (λ (p : SeatPart). flying r (stance_of p.phase) + spent_of p.spent) m.part c.seats in
+    let again = total_plus (λ (p : SeatPart). flying r (stance_of p.phase)) (λ (p : SeatPart). spent_of p.spent) m.part c.seats in
+    let attempts_in_flight : total (λ (p : SeatPart). flying r (stance_of p.phase)) m.part c.seats ≤ dequeues_of c m r =
+    total_le (λ (p : SeatPart). flying r (stance_of p.phase)) (λ (p : SeatPart). dequeues r p.phase) m.part
     (λ k. flying_dequeues r (stance_of (m.part k).phase)) c.seats in
     let product : total (done_of r) m.part c.seats * (reset_value c.order c.seats + c.seats) ≤ enqueues c m r * (reset_value c.order c.seats + c.seats) =
     mul-le-mul_right (reset_value c.order c.seats + c.seats) (omega arith) in

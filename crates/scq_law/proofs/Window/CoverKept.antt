@@ -9,15 +9,15 @@ use Rattle.scq_core.specs.Machine.{Entries}
 use Rattle.scq_core.specs.Table.{ring_slots, slot}
 use Rattle.scq_law.proofs.Base.Ghosts.{Ghost, PutState, fresh, pending, failed, placed, waiting}
 use Rattle.scq_law.proofs.Base.BaseGroup.{IsBooked, IsDrawn}
-use Rattle.scq_law.proofs.Window.FailedTickets.{IsAlone, IsCovered, IsAfter, Bars, FailedTickets, IsWindow}
-use Rattle.scq_law.proofs.Window.TicketFlows.{Fails, Flows, Advances}
+use Rattle.scq_law.proofs.Window.FailedTickets.{StandsAtMostOnce, TicketsAreDrawn, IsAfter, Bars, FailedTickets, IsWindow}
+use Rattle.scq_law.proofs.Window.TicketFlows.{Fails, Flows, HeadAndTailAdvance}
 
 -- tickets of one slot are a round of the ring apart
 turn_apart : (c : Setup) (t u : ℕ) → slot c t ≡ slot c u → t < u → t + ring_slots c ≤ u
 turn_apart c t u slot less = earlier_cycle c.order t u slot (lower_ticket c.order t u slot less)
 
-pub covered_step : (c : Setup) (g h : Ghost) (tail head tail' head' : ℕ → ℕ) (time : ℕ) → Flows c g tail head time h → Advances c tail head tail' head' h
-    → IsCovered c g tail head → IsCovered c h tail' head'
+pub covered_step : (c : Setup) (g h : Ghost) (tail head tail' head' : ℕ → ℕ) (time : ℕ) → Flows c g tail head time h → HeadAndTailAdvance c tail head tail' head' h
+    → TicketsAreDrawn c g tail head → TicketsAreDrawn c h tail' head'
 covered_step c g h tail head tail' head' time flows advances was =
     record {
       covered =
@@ -30,7 +30,7 @@ covered_step c g h tail head tail' head' time flows advances was =
     }
 
 module _ (c : Setup) (e : Entries) (g h : Ghost) (tail head head' : ℕ → ℕ) (time : ℕ) (flows : Flows c g tail head time h) (rises : (r : ℕ) → head r ≤ head' r)
-    (booked : IsBooked c e g) (drawn : IsDrawn c tail head g) (alone : IsAlone c g) (window : IsWindow c tail head) (book : FailedTickets c g head time) where
+    (booked : IsBooked c e g) (drawn : IsDrawn c tail head g) (alone : StandsAtMostOnce c g) (window : IsWindow c tail head) (book : FailedTickets c g head time) where
   -- a drawn ticket is below Tail and the limit, and in the window
   below : (r t : ℕ) (x : PutState) → g.puts r t ≡ x → x ≢ fresh → t < tail r
   below r t x is some =
@@ -178,7 +178,7 @@ module _ (c : Setup) (e : Entries) (g h : Ghost) (tail head head' : ℕ → ℕ)
       ]
 
 module _ (c : Setup) (e : Entries) (g h : Ghost) (tail head head' : ℕ → ℕ) (time : ℕ) (flows : Flows c g tail head time h) (rises : (r : ℕ) → head r ≤ head' r)
-    (booked : IsBooked c e g) (drawn : IsDrawn c tail head g) (alone : IsAlone c g) (window : IsWindow c tail head) (book : FailedTickets c g head time) where
+    (booked : IsBooked c e g) (drawn : IsDrawn c tail head g) (alone : StandsAtMostOnce c g) (window : IsWindow c tail head) (book : FailedTickets c g head time) where
   pub book_step : FailedTickets c h head' (time + 1)
   book_step =
       record {
@@ -240,13 +240,12 @@ module _ (c : Setup) (e : Entries) (g h : Ghost) (tail head head' : ℕ → ℕ)
             let one = noted c e g h tail head head' time flows rises booked drawn alone window book r t y d b is over in
             let two = noted c e g h tail head head' time flows rises booked drawn alone window book r s z f i so high in
             elim two.was [
-              | inl old ↦
-                  elim one.was [
-                    | inl older ↦ book.apart r t y d b s z f i older old one.high two.high other same
-                    | inr new ↦
-                        found_apart c e g h tail head head' time flows rises booked drawn alone window book r s z f i t y d b two one
-                        (λ e. other (sym e)) new.1 (sym same)
-                  ]
+              | inl old ↦ elim one.was [
+                | inl older ↦ book.apart r t y d b s z f i older old one.high two.high other same
+                | inr new ↦
+                    found_apart c e g h tail head head' time flows rises booked drawn alone window book r s z f i t y d b two one
+                    (λ e. other (sym e)) new.1 (sym same)
+              ]
               | inr new ↦ found_apart c e g h tail head head' time flows rises booked drawn alone window book r t y d b s z f i one two other new.1 same
             ];
         other =

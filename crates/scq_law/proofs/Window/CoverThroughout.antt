@@ -21,7 +21,7 @@ use Rattle.scq_law.proofs.Places.Throughout.{rooted, once}
 use Rattle.scq_law.proofs.Base.SeatStances.{stance_has}
 use Rattle.scq_law.proofs.Places.SeatTickets.{IsRooted}
 use Rattle.scq_law.proofs.Places.OneSpot.{in_hand, at_place, IsAtOneSpot}
-use Rattle.scq_law.proofs.Window.FailedTickets.{IsAlone, IsCovered, FailedTickets, IsWindow}
+use Rattle.scq_law.proofs.Window.FailedTickets.{StandsAtMostOnce, TicketsAreDrawn, FailedTickets, IsWindow}
 use Rattle.scq_law.proofs.Window.WindowOfCover.{window}
 use Rattle.scq_law.proofs.Window.TicketFlows.{flows, advances}
 use Rattle.scq_law.proofs.Window.CoverKept.{covered_step, book_step}
@@ -44,7 +44,7 @@ one_ticket m j k r i t u w v same one two =
     let f : putting r i w t ≡ putting r i v u = sym one ∙ e ∙ two in
     cc
 
-pub alone_of : (c : Setup) (g : Ghost) (m : Machine) → IsBased c g m → IsRooted g m → IsAtOneSpot c g m → IsAlone c g
+pub alone_of : (c : Setup) (g : Ghost) (m : Machine) → IsBased c g m → IsRooted g m → IsAtOneSpot c g m → StandsAtMostOnce c g
 alone_of c g m base rooted once =
     record {
       pends =
@@ -67,10 +67,10 @@ alone_of c g m base rooted once =
     }
 
 pub record IsNoted (c : Setup) (time : ℕ) (g : Ghost) (m : Machine) : Type 0 where
-  pub covered : IsCovered c g m.cells.tail m.cells.head
+  pub covered : TicketsAreDrawn c g m.cells.tail m.cells.head
   pub book : FailedTickets c g m.cells.head time
 
-alone : (c : Setup) (time : ℕ) (g : Ghost) (m : Machine) → Trace c time g m → IsBased c g m → IsAlone c g
+alone : (c : Setup) (time : ℕ) (g : Ghost) (m : Machine) → Trace c time g m → IsBased c g m → StandsAtMostOnce c g
 alone c time g m trace base = alone_of c g m base (rooted c time g m trace) (once c time g m trace)
 
 -- the window in a state with both

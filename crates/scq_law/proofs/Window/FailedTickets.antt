@@ -7,14 +7,14 @@ use Rattle.scq_law.proofs.Base.Ghosts.{Ghost, fresh, pending, failed}
 use Rattle.scq_law.proofs.Base.EventFacts.{Live}
 
 -- an index stands at no more than one place of a ring, or belongs to no more than one pending ticket there
-pub record IsAlone (c : Setup) (g : Ghost) : Type 0 where
+pub record StandsAtMostOnce (c : Setup) (g : Ghost) : Type 0 where
   pub pends : (r t u j k i : ℕ) → g.puts r t ≡ pending j i → g.puts r u ≡ pending k i → t ≡ u
   pub apart : (r t p j i : ℕ) → g.puts r t ≡ pending j i → Live g r p i → ⊥
   pub lives : (r p q i : ℕ) → Live g r p i → Live g r q i → p ≡ q
   pub low : (r t k i : ℕ) → g.puts r t ≡ pending k i → i < n_of c.order
 
 -- each ticket between Head and Tail was drawn: it is pending, failed or placed
-pub record IsCovered (c : Setup) (g : Ghost) (tail head : ℕ → ℕ) : Type 0 where
+pub record TicketsAreDrawn (c : Setup) (g : Ghost) (tail head : ℕ → ℕ) : Type 0 where
   pub covered : (r t : ℕ) → head r ≤ t → t < tail r → t < c.limit → g.puts r t ≢ fresh
 
 -- on this ring an index stands at places and belongs to pending tickets above this ticket only

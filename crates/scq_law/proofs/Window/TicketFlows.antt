@@ -3,6 +3,7 @@ use Rattle.std.proofs.Common.{◌≡◌, ◌≢◌, ℕ, ◌+◌, ◌<◌, ◌�
 use Rattle.std.proofs.lemmas.Bool.{cases_Bool, cases_lt}
 use Rattle.scq_word.specs.declared.setup.Setup.{Setup}
 use Rattle.scq_core.specs.Machine.{Machine}
+use Rattle.scq_core.specs.Updated.{updated}
 use Rattle.scq_core.proofs.UpdatedLemmas.{updated_or, updated_entry_or, updated_entry_here}
 use Rattle.scq_law.specs.Places.{Maker, call_of}
 use Rattle.scq_law.proofs.Base.Ghosts.{Ghost, PutState, GetState, fresh, pending, failed, placed, opened, dead, took, is_placed, waiting, with_put, with_get}
@@ -141,117 +142,73 @@ flows c time g m k (taken r h i w) n event_step =
 flows c time g m k e n event_step = same_flows c g m.cells.tail m.cells.head time
 
 -- Head and Tail after an event: Head no lower, and below Tail no ticket at or past Head that was not drawn before or now
-pub record Advances (c : Setup) (tail head tail' head' : ℕ → ℕ) (h : Ghost) : Type 0 where
+pub record HeadAndTailAdvance (c : Setup) (tail head tail' head' : ℕ → ℕ) (h : Ghost) : Type 0 where
   pub tails : (r : ℕ) → tail r ≤ tail' r
   pub heads : (r : ℕ) → head r ≤ head' r
   pub drawn : (r t : ℕ) → head' r ≤ t → t < tail' r → t < c.limit → (t < tail r) ⊎ (h.puts r t ≢ fresh)
 
+-- a counter that moved up
+moved_up : (f : ℕ → ℕ) (r x : ℕ) → f r ≤ x → (q : ℕ) → f q ≤ updated f r x q
+moved_up f r x up q =
+    elim (updated_or f r x q) [
+      | inl a ↦ rw a.1 (rw a.0 up)
+      | inr a ↦ rw a.1 (omega arith)
+    ]
+
+-- Tail moves up, or Head, or neither
+tail_moves : (c : Setup) (tail head : ℕ → ℕ) (h : Ghost) (r x : ℕ) → tail r ≤ x
+    → ((u : ℕ) → head r ≤ u → u < x → u < c.limit → (u < tail r) ⊎ (h.puts r u ≢ fresh)) → HeadAndTailAdvance c tail head (updated tail r x) head h
+tail_moves c tail head h r x up drawn =
+    record {
+      tails = moved_up tail r x up;
+      heads = λ q. omega arith;
+      drawn =
+          λ q u high less below_limit.
+          elim (updated_or tail r x q) [
+            | inl a ↦ rw a.0 (drawn u (rw a.0 at high) (rw a.1 at less) below_limit)
+            | inr a ↦ inl (rw a.1 at less)
+          ];
+    }
+
+head_moves : (c : Setup) (tail head : ℕ → ℕ) (h : Ghost) (r x : ℕ) → head r ≤ x → HeadAndTailAdvance c tail head tail (updated head r x) h
+head_moves c tail head h r x up = record { tails = λ q. omega arith; heads = moved_up head r x up; drawn = λ q u high less below_limit. inl less }
+
+none_moves : (c : Setup) (tail head : ℕ → ℕ) (h : Ghost) → HeadAndTailAdvance c tail head tail head h
+none_moves c tail head h = record { tails = λ q. omega arith; heads = λ q. omega arith; drawn = λ q u high less below_limit. inl less }
+
 pub advances : (c : Setup) (time : ℕ) (g : Ghost) (m : Machine) (k : ℕ) (e : TicketEvent) (n : Machine) → EventStep c time g m k e n
-    → Advances c m.cells.tail m.cells.head n.cells.tail n.cells.head (ghost_next time g m k e)
+    → HeadAndTailAdvance c m.cells.tail m.cells.head n.cells.tail n.cells.head (ghost_next time g m k e)
 advances c time g m k (drew r i w t) n event_step =
     let d = event_step.event_facts in
     let at = d.proper.at_tail in
     rw (d.tail, d.head)
-    (record {
-      tails =
-          λ q.
-          elim (updated_or m.cells.tail r (t + 1) q) [
-            | inl a ↦ rw a.1 (rw a.0 (omega arith))
-            | inr a ↦ rw a.1 (omega arith)
-          ];
-      heads = λ q. omega arith;
-      drawn =
-          λ q u high less below_limit.
-          elim (updated_or m.cells.tail r (t + 1) q) [
-            | inl a ↦
-                let top : u < t + 1 = rw a.1 at less in
-                elim (cases_lt u t) [
-                  | inl below ↦ inl (rw a.0 (omega arith))
-                  | inr above ↦
-                      let one : u ≡ t = omega arith in
-                      inr
-                      (rw (a.0, one)
-                      (λ is. let there = updated_entry_here g.puts r t (pending k i) in absurd (cc)))
-                ]
-            | inr a ↦ inl (rw a.1 at less)
-          ];
-    })
+    (tail_moves c m.cells.tail m.cells.head (ghost_next time g m k (drew r i w t)) r (t + 1) (omega arith)
+    (λ u high top below_limit.
+    elim (cases_lt u t) [
+      | inl below ↦ inl (omega arith)
+      | inr above ↦
+          let one : u ≡ t = omega arith in
+          inr (rw one (λ is. let there = updated_entry_here g.puts r t (pending k i) in absurd (cc)))
+    ]))
 advances c time g m k (lifted r h to) n event_step =
     let d = event_step.event_facts in
     let rises = d.proper.rises in
     let low = d.proper.low in
     rw (d.tail, d.head)
-    (record {
-      tails =
-          λ q.
-          elim (updated_or m.cells.tail r to q) [
-            | inl a ↦ rw a.1 (rw a.0 (omega arith))
-            | inr a ↦ rw a.1 (omega arith)
-          ];
-      heads = λ q. omega arith;
-      drawn =
-          λ q u high less below_limit.
-          elim (updated_or m.cells.tail r to q) [
-            | inl a ↦
-                let top : u < to = rw a.1 at less in
-                let from : m.cells.head r ≤ u = rw a.0 at high in
-                absurd (omega arith)
-            | inr a ↦ inl (rw a.1 at less)
-          ];
-    })
+    (tail_moves c m.cells.tail m.cells.head (ghost_next time g m k (lifted r h to)) r to (omega arith) (λ u high top below_limit. absurd (omega arith)))
 advances c time g m k (overran r t true) n event_step =
     let d = event_step.event_facts in
     let at = d.proper.at_tail in
     let past = d.proper.past in
     rw (d.tail, d.head)
-    (record {
-      tails =
-          λ q.
-          elim (updated_or m.cells.tail r (t + 1) q) [
-            | inl a ↦ rw a.1 (rw a.0 (omega arith))
-            | inr a ↦ rw a.1 (omega arith)
-          ];
-      heads = λ q. omega arith;
-      drawn =
-          λ q u high less below_limit.
-          elim (updated_or m.cells.tail r (t + 1) q) [
-            | inl a ↦ inl (rw a.0 (omega arith))
-            | inr a ↦ inl (rw a.1 at less)
-          ];
-    })
+    (tail_moves c m.cells.tail m.cells.head (ghost_next time g m k (overran r t true)) r (t + 1) (omega arith) (λ u high top below_limit. inl (omega arith)))
 advances c time g m k (overran r t false) n event_step =
     let d = event_step.event_facts in
     let at = d.proper.at_head in
-    rw (d.tail, d.head)
-    (record {
-      tails = λ q. omega arith;
-      heads =
-          λ q.
-          elim (updated_or m.cells.head r (t + 1) q) [
-            | inl a ↦ rw a.1 (rw a.0 (omega arith))
-            | inr a ↦ rw a.1 (omega arith)
-          ];
-      drawn = λ q u high less below_limit. inl less;
-    })
+    rw (d.tail, d.head) (head_moves c m.cells.tail m.cells.head (ghost_next time g m k (overran r t false)) r (t + 1) (omega arith))
 advances c time g m k (began r h) n event_step =
     let d = event_step.event_facts in
     let at = d.proper.at_head in
-    rw (d.tail, d.head)
-    (record {
-      tails = λ q. omega arith;
-      heads =
-          λ q.
-          elim (updated_or m.cells.head r (h + 1) q) [
-            | inl a ↦ rw a.1 (rw a.0 (omega arith))
-            | inr a ↦ rw a.1 (omega arith)
-          ];
-      drawn = λ q u high less below_limit. inl less;
-    })
+    rw (d.tail, d.head) (head_moves c m.cells.tail m.cells.head (ghost_next time g m k (began r h)) r (h + 1) (omega arith))
 advances c time g m k e n event_step =
-    let d = event_step.event_facts in
-    rw (d.tail, d.head)
-    (record {
-      tails = λ q. omega arith;
-      heads = λ q. omega arith;
-      drawn = λ q u high less below_limit. inl less;
-    })
+    let d = event_step.event_facts in rw (d.tail, d.head) (none_moves c m.cells.tail m.cells.head (ghost_next time g m k e))

@@ -11,7 +11,7 @@ use Rattle.scq_core.proofs.Entries.{some_indices}
 use Rattle.scq_law.proofs.Base.Ghosts.{Ghost, PutState, fresh, pending, failed, placed, waiting}
 use Rattle.scq_law.proofs.Base.EventFacts.{Live}
 use Rattle.scq_law.proofs.Base.BaseGroup.{IsBooked, IsDrawn}
-use Rattle.scq_law.proofs.Window.FailedTickets.{IsAlone, IsCovered, FailedTickets, IsWindow}
+use Rattle.scq_law.proofs.Window.FailedTickets.{StandsAtMostOnce, TicketsAreDrawn, FailedTickets, IsWindow}
 use Rattle.scq_law.proofs.Window.OneToOne.{IsOneToOne, onto}
 
 abbrev label : ℕ → PutState → ℕ
@@ -20,8 +20,8 @@ label n (pending k i) = i
 label n (failed y d b) = n + b
 label n (placed i w b) = i
 
-module _ (c : Setup) (e : Entries) (g : Ghost) (tail head : ℕ → ℕ) (time r : ℕ) (booked : IsBooked c e g) (drawn : IsDrawn c tail head g) (alone : IsAlone c g)
-    (covered : IsCovered c g tail head) (book : FailedTickets c g head time) where
+module _ (c : Setup) (e : Entries) (g : Ghost) (tail head : ℕ → ℕ) (time r : ℕ) (booked : IsBooked c e g) (drawn : IsDrawn c tail head g) (alone : StandsAtMostOnce c g)
+    (covered : TicketsAreDrawn c g tail head) (book : FailedTickets c g head time) where
   abbrev n : ℕ
   n = n_of c.order
 
@@ -159,7 +159,7 @@ module _ (c : Setup) (e : Entries) (g : Ghost) (tail head : ℕ → ℕ) (time r
             (never_full (λ x low. covered.covered r (head r + x) (omega arith) (omega arith) (omega arith)))
       ]
 
-pub window : (c : Setup) (e : Entries) (g : Ghost) (tail head : ℕ → ℕ) (time : ℕ) → IsBooked c e g → IsDrawn c tail head g → IsAlone c g
-    → IsCovered c g tail head → FailedTickets c g head time → IsWindow c tail head
+pub window : (c : Setup) (e : Entries) (g : Ghost) (tail head : ℕ → ℕ) (time : ℕ) → IsBooked c e g → IsDrawn c tail head g → StandsAtMostOnce c g
+    → TicketsAreDrawn c g tail head → FailedTickets c g head time → IsWindow c tail head
 window c e g tail head time booked drawn alone covered book =
     record { within = λ r t below below_limit. within_ring c e g tail head time r booked drawn alone covered book t below below_limit }

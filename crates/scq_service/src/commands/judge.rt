@@ -5,6 +5,7 @@ ghost use Rattle.std.specs.Prelude.{string_bytes, IfOk, IfErr};
 ghost use Rattle.scq_judge.specs.Files.{HaveContents};
 ghost use Rattle.scq_judge.specs.Judged.{IsJudged};
 ghost use Rattle.scq_judge.specs.Reads.{AreReadWhole};
+ghost use Rattle.scq_service.specs.Answers.{HasNoWorkers};
 ghost use Rattle.scq_service.specs.Ends.{EndsJudged, HasGotSources, HaveAll, IsUnwritten, Wrote};
 ghost use Rattle.scq_service.specs.Ends.{inputs_of, wrote_of};
 ghost use Rattle.scq_service.specs.Faults.{status_of};
@@ -34,10 +35,7 @@ pub fn run_judge<F: Files, K: Sink>(
     ensures ends { EndsJudged F.Src.Source room (map string_bytes names.now) result.got.items
         (inputs_of F.Files files.old files.new result.sources.items result.read)
         (wrote_of K.Sink out.old out.new) result.fault }
-    ensures worked { result.worked ≡ None }
-    ensures unstaged { result.staged ≡ None }
-    ensures left { result.left ≡ None }
-    ensures leaves { result.waited ≡ None }
+    ensures workless { HasNoWorkers result }
 {
     let Reported {
         report,

@@ -73,8 +73,8 @@ pub fn run_files_waiting<R: Threads + Wait + Sync, F: Files, K: Sink, G: Gate + 
         (inputs_of F.Files files.old files.new result.sources.items result.read)
         (wrote_of K.Sink out.old out.new) result.fault }
     ensures waited { IfSome result.waited (λ waited. IsSomeAnd result.passes (λ passes.
-        HaveWaited (length job.now.topics
-        + 1) (takes_behind job.now.most) job.now.workers passes.value.items waited.saw.items waited.rested.items)) }
+        HaveWaited (length job.now.topics + 1) (takes_behind job.now.most) job.now.workers
+        passes.value.items waited.saw.items waited.rested.items)) }
     ensures waits { IsNone result.waited → result.fault ≡ Some Fault.NoMemory }
     ensures both { OnSome result.waited (IsSome result.left) }
 {

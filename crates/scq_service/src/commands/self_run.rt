@@ -1,5 +1,5 @@
-ghost use Rattle.std.specs.Prelude.{◌≡◌, ℕ, ◌+◌, ◌<◌, ◌≤◌, ◌^◌, [], ◌∷◌, Some, None, IfOk, IfSome};
-ghost use Rattle.std.specs.Prelude.{IsNone, IsSome, IsSomeAnd, length, map};
+ghost use Rattle.std.specs.Prelude.{◌≡◌, ℕ, ◌+◌, ◌<◌, ◌≤◌, ◌^◌, [], ◌∷◌, IfOk, IfSome, IsSome};
+ghost use Rattle.std.specs.Prelude.{IsSomeAnd, length, map};
 ghost use Rattle.std.specs.List.{All};
 ghost use Rattle.std.specs.List.Sorted.{IsPermutation};
 ghost use Rattle.scq_collect.specs.Collected.{messages_to};
@@ -9,9 +9,8 @@ ghost use Rattle.scq_self.specs.Generated.{generated as the_file, self_topics as
 ghost use Rattle.scq_self.specs.Summary.{self_summary};
 ghost use Rattle.scq_work.specs.AllWorkers.{HasWorked, NothingIsStranded};
 ghost use Rattle.scq_files.specs.Ends.{messages_in};
-ghost use Rattle.scq_service.specs.Answers.{WorkedAt};
-ghost use Rattle.scq_service.specs.Ends.{EndsAlone, wrote_of};
-ghost use Rattle.scq_service.specs.Faults.{status_of};
+ghost use Rattle.scq_service.specs.Answers.{TellsSelf};
+ghost use Rattle.scq_service.specs.Ends.{EndsWithoutFiles, wrote_of};
 
 use crate::job::job_of;
 use crate::writing::write_all;
@@ -48,24 +47,9 @@ pub fn run_self<R: Threads + Sync, S: Drop, K: Sink, G: Gate + Sync>(
 ) -> Outcome<S>
     requires seed { seed < 2 ^ 31 }
     requires workers { (0 < workers) × (workers ≤ 4096) }
-    ensures ends { EndsAlone (self_summary seed lines)
+    ensures ends { EndsWithoutFiles (self_summary seed lines)
         (wrote_of K.Sink out.old out.new) result.fault }
-    ensures sources { result.sources.items ≡ [] }
-    ensures read { result.read ≡ 0 }
-    ensures status { result.status ≡ status_of result.fault }
-    ensures worked { WorkedAt result.fault result.worked }
-    ensures unstaged { result.staged ≡ None }
-    ensures told { IfSome result.worked (λ w.
-        HasWorked the_topics (2 ^ 16) 0 workers
-        (messages_in the_topics 1 (the_file seed lines ∷ [])) w) }
-    ensures left { IfSome result.left (λ left.
-        IsSomeAnd result.passes (λ passes. IsSomeAnd result.frames (λ frames.
-        NothingIsStranded 6 (length the_topics
-        + 1) workers passes.value.items frames.value.items left.items))) }
-    ensures seen { IsNone result.left → result.fault ≡ Some Fault.NoMemory }
-    ensures same { IfSome result.worked (λ w.
-        IsSomeAnd result.passes (λ passes. passes.value.items ≡ w.passes.value.items)) }
-    ensures leaves { result.waited ≡ None }
+    ensures tells { TellsSelf seed lines workers result }
 {
     let Ok(answers) = answer_file(rt, alloc, seed, lines, workers, gate) else {
         return Outcome::at(Vec::new(alloc), Fault::NoMemory);

@@ -1,13 +1,7 @@
 //! The run over files whose messages go through two stages.
-ghost use Rattle.std.specs.Prelude.{◌≡◌, ℕ, ◌<◌, ◌≤◌, List, [], None, Some, length, map};
-ghost use Rattle.std.specs.Prelude.{slice_index_or, string_bytes, IfOk, IfErr, IfSome, IsErrOf};
-ghost use Rattle.std.specs.Prelude.{IsSomeAnd, OnOk};
+ghost use Rattle.std.specs.Prelude.{◌≡◌, ℕ, ◌≤◌, List, length, map, string_bytes, IfOk};
 ghost use Rattle.std.specs.List.Sorted.{IsPermutation};
-ghost use Rattle.scq_frames.specs.declared.message.Message.{Message as TheMessage};
-ghost use Rattle.scq_files.specs.Ends.{AreGiven, HasMoved, all_left, messages_in};
-ghost use Rattle.scq_files.specs.Reading.{IsWhole};
-ghost use Rattle.scq_desk.specs.Faults.{HasCause};
-ghost use Rattle.scq_stages.specs.AllStages.{HasStaged, NothingIsStranded};
+ghost use Rattle.scq_stages.specs.Ends.{EndsStages};
 ghost use Rattle.scq_stages.specs.Output.{finished_in, one_thread_stage_output, all_handled};
 ghost use Rattle.scq_stages.specs.Output.{without_way};
 ghost use Rattle.scq_service.specs.Answers.{HaveAllCome, HaveCome, TellsStages};
@@ -16,7 +10,7 @@ ghost use Rattle.scq_service.specs.Ends.{EndsOver, ReadsOver, inputs_of, wrote_o
 use crate::reading::get_sources;
 use crate::writing::write_all;
 use crate::{Fault, Outcome};
-use scq_desk::{End, EndFault};
+use scq_desk::End;
 use scq_outside::{Failed, Files, Sink};
 use scq_stages::{StageEnd, StageJob, Staged, stage_output, stage_work};
 use scq_word::{Bytes, NoMemory};
@@ -112,31 +106,7 @@ fn conclude<F: Files>(
         (inputs_of F.Files was.now.value files.now got.value.items 0) }
     requires all { HaveAllCome (map string_bytes names.now)
         (inputs_of F.Files was.now.value files.now got.value.items 0) all }
-    requires count { length end.sources.items ≡ length got.value.items }
-    requires moved { (k : ℕ) (d : F.Src) → k < length got.value.items
-        → HasMoved F.Src.Source (slice_index_or got.value.items k d)
-        (slice_index_or end.sources.items k d) }
-    requires whole { OnOk end.result ((k : ℕ) (d : F.Src) → k < length got.value.items
-        → IsWhole job.now.size F.Src.Source
-        (slice_index_or got.value.items k d) (slice_index_or end.sources.items k d)) }
-    requires handled { IfOk end.result (λ s.
-        IfSome (all_left F.Src.left got.value.items) (λ contents.
-        IsPermutation (map without_way (finished_in s.done.items)) (all_handled 1 contents))) }
-    requires told { IfOk end.result (λ s. IfSome (all_left F.Src.left got.value.items) (λ contents.
-        HasStaged job.now.workers (messages_in [] 1 contents) s)) }
-    requires staged { IfOk end.result (λ s.
-        (given : List (List TheMessage))
-        × AreGiven [] job.now.size F.Src.left 1 got.value.items given
-        × HasStaged job.now.workers given s) }
-    requires left { IfSome end.left (λ left.
-        IsSomeAnd end.passes (λ passes. IsSomeAnd end.frames (λ frames.
-        NothingIsStranded job.now.order job.now.workers passes.value.items frames.value.items
-        left.items))) }
-    requires none { end.left ≡ None → IsErrOf end.result EndFault.NoMemory }
-    requires same { IfOk end.result (λ s.
-        IsSomeAnd end.passes (λ passes. passes.value.items ≡ s.passes.value.items)) }
-    requires cause { IfErr end.result
-        (HasCause job.now.size F.Src.Source got.value.items end.sources.items) }
+    requires end { EndsStages job.now F.Src.Source got.value.items end }
     ensures tells { TellsStages job.now F.Src.Source (map string_bytes names.now)
         (inputs_of F.Files was.now.value files.now result.sources.items result.read) result }
     ensures ends { ReadsOver job.now.size F.Src.Source (map string_bytes names.now)

@@ -2,7 +2,8 @@
 ghost use Rattle.std.specs.Prelude.{◌≡◌, ◌⊎◌, None, Ok, Err, IfOk, IfErr};
 ghost use Rattle.scq_lines.specs.Lines.{lines_of};
 ghost use Rattle.scq_words.specs.declared.text_request.TextCommand.{TextCommand as TheCommand};
-ghost use Rattle.scq_service.specs.Ends.{Wrote, IsUnwritten, EndsWhole, IfContent, IsReadWhole};
+ghost use Rattle.scq_service.specs.Answers.{HasNoWorkers};
+ghost use Rattle.scq_service.specs.Ends.{Wrote, IsUnwritten, EndsWhole, IfContent, FileIsReadWhole};
 ghost use Rattle.scq_service.specs.Ends.{inputs_of, wrote_of};
 ghost use Rattle.scq_service.specs.Faults.{status_of};
 ghost use Rattle.scq_service.specs.Telling.{Tells, IsOfText};
@@ -32,10 +33,7 @@ pub fn run_text<F: Files, K: Sink>(
     ensures ends { EndsWhole command F.Src.Source name.now result.got.items
         (inputs_of F.Files files.old files.new result.sources.items result.read)
         (wrote_of K.Sink out.old out.new) result.fault }
-    ensures worked { result.worked ≡ None }
-    ensures unstaged { result.staged ≡ None }
-    ensures left { result.left ≡ None }
-    ensures leaves { result.waited ≡ None }
+    ensures workless { HasNoWorkers result }
 {
     match read_one(alloc, name, files) {
         Ok(whole) => match tell(alloc, command, whole.text.bytes()) {
@@ -68,7 +66,7 @@ fn read_one<F: Files>(
     files: &mut F,
 ) -> Result<Whole<F::Src>, Outcome<F::Src>>
     ensures whole { IfOk result (λ whole.
-        IsReadWhole F.Src.Source name.now whole.got.value.items
+        FileIsReadWhole F.Src.Source name.now whole.got.value.items
         (inputs_of F.Files files.old files.new whole.sources.items 0)) }
     ensures text { IfOk result (λ whole.
         IfContent F.Src.left whole.got.value.items (λ content. content ≡ whole.text)) }

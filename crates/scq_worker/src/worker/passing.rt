@@ -1,17 +1,16 @@
 //! What a worker does with each message of its files: it gathers its parts, and passes them on,
 //! several in one value where they fit.
-ghost use Rattle.std.specs.Prelude.{◌≡◌, ◌≤◌, ◌<◌, ◌+◌, ◌++◌, ◌∷◌, ◌==◌, ℕ, List, true, false, []};
+ghost use Rattle.std.specs.Prelude.{◌≡◌, ◌≤◌, ◌<◌, ◌+◌, ◌++◌, ◌∷◌, ◌==◌, ℕ, true, false, []};
 ghost use Rattle.std.specs.Prelude.{count_by, length, max, None, IfErr, OnOk, All, if◌then◌else◌};
-ghost use Rattle.scq_frames.specs.Parts.{Part as ThePart, IsNumbered, all_parts};
-ghost use Rattle.scq_frames.specs.Parts.{parts_of as the_parts_of, part_of};
+ghost use Rattle.scq_frames.specs.Parts.{IsNumbered, all_parts, parts_of as the_parts_of, part_of};
 ghost use Rattle.scq_passes.specs.Records.{is_take};
-ghost use Rattle.scq_passes.specs.Waiting.{HelpsInVain, TookInVain};
-ghost use Rattle.scq_passes.specs.Calls.{Suits, HasTaken, HasLeft};
-ghost use Rattle.scq_worker.specs.Bells.{RingsOn};
+ghost use Rattle.scq_passes.specs.Calls.{Suits};
 ghost use Rattle.scq_worker.specs.Loads.{parts_of_load, IsLoad};
 ghost use Rattle.scq_worker.specs.Opening.{AreOpen, IsOpen, NoneIsOpen, open_on, takes_behind};
-ghost use Rattle.scq_worker.specs.Reading.{IsWorking};
-ghost use Rattle.scq_worker.specs.Working.{HasAnswered, HasPassed, HasStopped};
+ghost use Rattle.scq_worker.specs.Reading.{KeepsCalling, HasGathered, HasPassedOn};
+ghost use Rattle.scq_worker.specs.Reading.{HasStoppedBehind};
+ghost use Rattle.scq_worker.specs.Reading.{HasStoppedIn, IsSameWorker};
+ghost use Rattle.scq_worker.specs.Sweeping.{HasLeftAt, HasTakenAll, KeepsItsOwn};
 
 use crate::bell::Bell;
 use crate::worker::{Load, Worker};
@@ -51,22 +50,14 @@ impl<B: BufferMut> Worker<B> {
     ) -> Result<(), AtLimit<B>>
         requires suits { Suits queue.now (length job.now.topics) self.old.pass }
         requires topic { topic ≤ length job.now.topics }
-        ensures taken { OnOk result (HasTaken self.old.pass self.new.pass) }
+        ensures took { OnOk result (HasTakenAll job.now.topics (takes_behind job.now.most) self.old
+            self.new) }
         ensures one { OnOk result ((t : ℕ)
             → count_by (is_take t) self.new.pass.calls
             ≡ count_by (is_take t) self.old.pass.calls
             + (if topic == t then takes_behind job.now.most else 0)) }
-        ensures answered { OnOk result (self.new.starved ≡ false
-            → HasAnswered job.now.topics self.old.pass self.new.pass self.old.members
-            self.new.members) }
-        ensures vain { OnOk result
-            (TookInVain (takes_behind job.now.most) self.old.pass self.new.pass) }
-        ensures gates { OnOk result (self.new.pass.gates ≡ self.old.pass.gates) }
-        ensures left { IfErr result (λ l. (parts : ℕ)
-            → HasLeft parts parts self.old.pass self.new.pass l.held) }
-        ensures starved { self.new.starved ≡ false → self.old.starved ≡ false }
-        ensures number { self.new.number ≡ self.old.number }
-        ensures opens { self.new.open ≡ self.old.open }
+        ensures left { IfErr result (λ l. HasLeftAt self.old self.new l.held) }
+        ensures kept { KeepsItsOwn self.old self.new }
     {
         if job.most > 0 {
             self.take_one(alloc, job, queue, gate, topic)?;
@@ -74,8 +65,8 @@ impl<B: BufferMut> Worker<B> {
         Ok(())
     }
 
-    /// Passes on what is to go in one value: sends it in a buffer that nobody holds, or, where there
-    /// is none, answers it itself and helps.
+    /// Passes on what is to go in one value: sends it in a buffer that nobody holds, or, where
+    /// there is none, answers it itself and helps.
     fn pass_load<G: Gate, T, W: Bell<T>>(
         &mut self,
         alloc: Global,
@@ -93,25 +84,14 @@ impl<B: BufferMut> Worker<B> {
         requires load { IsLoad job.now.size job.now.longest job.now.most topic load }
         requires room { All (λ b. job.now.size + 24 ≤ length (B.contents b)) queue.now.given }
         requires bell { W.fits bell.now (W.kept stand.old) job.now.workers }
-        ensures suits { OnOk result (Suits queue.now (length job.now.topics) self.new.pass) }
-        ensures stays { OnOk result (self.new.pass.retired ≡ None) }
-        ensures passed { OnOk result ((batches : List (List ThePart))
-            → HasPassed job.now.topics batches self.old.pass self.old.members self.old.starved
-            → HasPassed job.now.topics (batches ++ parts_of_load job.now.size load.entry
-            ∷ []) self.new.pass self.new.members self.new.starved) }
-        ensures left { IfErr result (λ l. (batches : List (List ThePart))
-            → HasPassed job.now.topics batches self.old.pass self.old.members self.old.starved
-            → HasStopped queue.now (length batches + 1) self.new.pass l.held) }
-        ensures vain { OnOk result
-            (HelpsInVain (length job.now.topics + 1) (takes_behind job.now.most) self.old.pass
-            → HelpsInVain (length job.now.topics + 1) (takes_behind job.now.most) self.new.pass) }
-        ensures bell { W.kept stand.new ≡ W.kept stand.old }
-        ensures rung { OnOk result (RingsOn self.old.number job.now.workers self.old.pass
-            self.new.pass (W.wakes stand.old) (W.wakes stand.new)) }
-        ensures starved { self.new.starved ≡ false → self.old.starved ≡ false }
-        ensures number { (self.new.number ≡ self.old.number)
-            × (self.new.pass.number ≡ self.old.pass.number) }
-        ensures opens { self.new.open ≡ self.old.open }
+        ensures goes { OnOk result (KeepsCalling queue.now job.now self.old self.new
+            (W.wakes stand.old) (W.wakes stand.new)) }
+        ensures passed { OnOk result
+            (HasPassedOn job.now (parts_of_load job.now.size load.entry) self.old self.new) }
+        ensures left { IfErr result (λ l.
+            HasStoppedBehind queue.now job.now self.old self.new l.held) }
+        ensures still { IsSameWorker self.old self.new (W.kept stand.old) (W.kept stand.new) }
+        ensures opens { self.new.opens ≡ self.old.opens }
     {
         match queue.lend(&mut self.pass) {
             Ok(held) => {
@@ -132,11 +112,11 @@ impl<B: BufferMut> Worker<B> {
 
     /// Whether parts are open on a topic.
     fn has_open(&self, topic: u32) -> bool
-        ensures some { result ≡ true → (topic < length self.now.open.items)
-            × (0 < length (open_on topic self.now.open.items)) }
-        ensures none { result ≡ false → open_on topic self.now.open.items ≡ [] }
+        ensures some { result ≡ true → (topic < length self.now.opens.items)
+            × (0 < length (open_on topic self.now.opens.items)) }
+        ensures none { result ≡ false → open_on topic self.now.opens.items ≡ [] }
     {
-        match self.open.get(topic as usize) {
+        match self.opens.get(topic as usize) {
             Some(batch) => !batch.is_empty(),
             None => false,
         }
@@ -158,37 +138,23 @@ impl<B: BufferMut> Worker<B> {
         requires topic { topic ≤ length job.now.topics }
         requires room { All (λ b. job.now.size + 24 ≤ length (B.contents b)) queue.now.given }
         requires bell { W.fits bell.now (W.kept stand.old) job.now.workers }
-        requires opens { AreOpen job.now.most (length job.now.topics + 1) self.old.open.items }
-        ensures suits { OnOk result (Suits queue.now (length job.now.topics) self.new.pass) }
-        ensures stays { OnOk result (self.new.pass.retired ≡ None) }
-        ensures opens { OnOk result
-            (AreOpen job.now.most (length job.now.topics + 1) self.new.open.items) }
-        ensures closed { OnOk result ((t : ℕ) → open_on t self.new.open.items
-            ≡ if t == topic then [] else open_on t self.old.open.items) }
-        ensures work { OnOk result ((parts : List ThePart)
-            → IsWorking job.now.topics job.now.most parts self.old
-            → IsWorking job.now.topics job.now.most parts self.new) }
-        ensures left { IfErr result (λ l. (parts : List ThePart)
-            → IsWorking job.now.topics job.now.most parts self.old
-            → HasStopped queue.now (length parts) self.new.pass l.held) }
-        ensures vain { OnOk result
-            (HelpsInVain (length job.now.topics + 1) (takes_behind job.now.most) self.old.pass
-            → HelpsInVain (length job.now.topics + 1) (takes_behind job.now.most) self.new.pass) }
-        ensures bell { W.kept stand.new ≡ W.kept stand.old }
-        ensures rung { OnOk result (RingsOn self.old.number job.now.workers self.old.pass
-            self.new.pass (W.wakes stand.old) (W.wakes stand.new)) }
-        ensures starved { self.new.starved ≡ false → self.old.starved ≡ false }
-        ensures number { (self.new.number ≡ self.old.number)
-            × (self.new.pass.number ≡ self.old.pass.number) }
+        requires opens { AreOpen job.now.most (length job.now.topics + 1) self.old.opens.items }
+        ensures gathered { OnOk result (HasGathered queue.now job.now [] self.old self.new
+            (W.wakes stand.old) (W.wakes stand.new)) }
+        ensures closed { OnOk result ((t : ℕ) → open_on t self.new.opens.items
+            ≡ if t == topic then [] else open_on t self.old.opens.items) }
+        ensures left { IfErr result (λ l.
+            HasStoppedIn queue.now job.now [] self.old self.new l.held) }
+        ensures still { IsSameWorker self.old self.new (W.kept stand.old) (W.kept stand.new) }
     {
         if !self.has_open(topic) {
             return Ok(());
         }
-        let mut batch = mem::replace(&mut self.open[topic as usize], Batch::new(alloc));
+        let mut batch = mem::replace(&mut self.opens[topic as usize], Batch::new(alloc));
         let load = Load::Together(&batch);
         self.pass_load(alloc, job, queue, gate, bell, stand, topic, load)?;
         batch.clear();
-        self.open[topic as usize] = batch;
+        self.opens[topic as usize] = batch;
         Ok(())
     }
 
@@ -206,27 +172,13 @@ impl<B: BufferMut> Worker<B> {
         requires stays { self.old.pass.retired ≡ None }
         requires room { All (λ b. job.now.size + 24 ≤ length (B.contents b)) queue.now.given }
         requires bell { W.fits bell.now (W.kept stand.old) job.now.workers }
-        requires opens { AreOpen job.now.most (length job.now.topics + 1) self.old.open.items }
-        ensures suits { OnOk result (Suits queue.now (length job.now.topics) self.new.pass) }
-        ensures stays { OnOk result (self.new.pass.retired ≡ None) }
-        ensures opens { OnOk result
-            (AreOpen job.now.most (length job.now.topics + 1) self.new.open.items) }
-        ensures closed { OnOk result (NoneIsOpen self.new.open.items) }
-        ensures work { OnOk result ((parts : List ThePart)
-            → IsWorking job.now.topics job.now.most parts self.old
-            → IsWorking job.now.topics job.now.most parts self.new) }
-        ensures left { IfErr result (λ l. (parts : List ThePart)
-            → IsWorking job.now.topics job.now.most parts self.old
-            → HasStopped queue.now (length parts) self.new.pass l.held) }
-        ensures vain { OnOk result
-            (HelpsInVain (length job.now.topics + 1) (takes_behind job.now.most) self.old.pass
-            → HelpsInVain (length job.now.topics + 1) (takes_behind job.now.most) self.new.pass) }
-        ensures bell { W.kept stand.new ≡ W.kept stand.old }
-        ensures rung { OnOk result (RingsOn self.old.number job.now.workers self.old.pass
-            self.new.pass (W.wakes stand.old) (W.wakes stand.new)) }
-        ensures starved { self.new.starved ≡ false → self.old.starved ≡ false }
-        ensures number { (self.new.number ≡ self.old.number)
-            × (self.new.pass.number ≡ self.old.pass.number) }
+        requires opens { AreOpen job.now.most (length job.now.topics + 1) self.old.opens.items }
+        ensures gathered { OnOk result (HasGathered queue.now job.now [] self.old self.new
+            (W.wakes stand.old) (W.wakes stand.new)) }
+        ensures closed { OnOk result (NoneIsOpen self.new.opens.items) }
+        ensures left { IfErr result (λ l.
+            HasStoppedIn queue.now job.now [] self.old self.new l.held) }
+        ensures still { IsSameWorker self.old self.new (W.kept stand.old) (W.kept stand.new) }
     {
         'topics: for topic in 0..job.topics.len() + 1 {
             self.pass_open(alloc, job, queue, gate, bell, stand, topic)?;
@@ -236,14 +188,14 @@ impl<B: BufferMut> Worker<B> {
 
     /// Begins batches up to that of a topic: whether there was memory for them.
     fn begin_up_to(&mut self, alloc: Global, topic: u32) -> bool
-        ensures long { result ≡ true → topic < length self.new.open.items }
-        ensures few { length self.new.open.items ≤ max (length self.old.open.items) (topic + 1) }
-        ensures opens { (t : ℕ) → open_on t self.new.open.items ≡ open_on t self.old.open.items }
+        ensures long { result ≡ true → topic < length self.new.opens.items }
+        ensures few { length self.new.opens.items ≤ max (length self.old.opens.items) (topic + 1) }
+        ensures opens { (t : ℕ) → open_on t self.new.opens.items ≡ open_on t self.old.opens.items }
         ensures same { (self.new.pass ≡ self.old.pass) × (self.new.members ≡ self.old.members)
             × (self.new.starved ≡ self.old.starved) × (self.new.number ≡ self.old.number) }
     {
-        'topics: while self.open.len() <= topic as usize {
-            if self.open.push(Batch::new(alloc)).is_err() {
+        'topics: while self.opens.len() <= topic as usize {
+            if self.opens.push(Batch::new(alloc)).is_err() {
                 return false;
             }
         }
@@ -256,26 +208,26 @@ impl<B: BufferMut> Worker<B> {
         requires topic { message.now.topic ≤ length job.now.topics }
         requires short { length message.now.payload ≤ job.now.longest }
         requires numbered { IsNumbered part (the_parts_of job.now.size message.now.payload) }
-        requires opens { AreOpen job.now.most (length job.now.topics + 1) self.old.open.items }
-        ensures opens { AreOpen job.now.most (length job.now.topics + 1) self.new.open.items }
-        ensures added { result ≡ true → (t : ℕ) → open_on t self.new.open.items
-            ≡ open_on t self.old.open.items
+        requires opens { AreOpen job.now.most (length job.now.topics + 1) self.old.opens.items }
+        ensures opens { AreOpen job.now.most (length job.now.topics + 1) self.new.opens.items }
+        ensures added { result ≡ true → (t : ℕ) → open_on t self.new.opens.items
+            ≡ open_on t self.old.opens.items
             ++ (if t == message.now.topic then part_of job.now.size message.now part ∷ [] else []) }
         ensures many { result ≡ true → 0 < job.now.most }
         ensures none { result ≡ false
-            → (t : ℕ) → open_on t self.new.open.items ≡ open_on t self.old.open.items }
+            → (t : ℕ) → open_on t self.new.opens.items ≡ open_on t self.old.opens.items }
         ensures same { (self.new.pass ≡ self.old.pass) × (self.new.members ≡ self.old.members)
             × (self.new.starved ≡ self.old.starved) × (self.new.number ≡ self.old.number) }
     {
         if job.most == 0 || !self.begin_up_to(alloc, message.topic) {
             return false;
         }
-        add_to(&mut self.open[message.topic as usize], job, message, part)
+        add_to(&mut self.opens[message.topic as usize], job, message, part)
     }
 
-    /// Passes a part of a message on: gathers it with those that are open on its topic, or, where it
-    /// doesn't fit behind them, passes these on first. Alone it goes where there is no room for it
-    /// then.
+    /// Passes a part of a message on: gathers it with those that are open on its topic, or, where
+    /// it doesn't fit behind them, passes these on first. Alone it goes where there is no room for
+    /// it then.
     fn pass_part<G: Gate, T, W: Bell<T>>(
         &mut self,
         alloc: Global,
@@ -294,28 +246,13 @@ impl<B: BufferMut> Worker<B> {
         requires numbered { IsNumbered part (the_parts_of job.now.size message.now.payload) }
         requires room { All (λ b. job.now.size + 24 ≤ length (B.contents b)) queue.now.given }
         requires bell { W.fits bell.now (W.kept stand.old) job.now.workers }
-        requires opens { AreOpen job.now.most (length job.now.topics + 1) self.old.open.items }
-        ensures suits { OnOk result (Suits queue.now (length job.now.topics) self.new.pass) }
-        ensures stays { OnOk result (self.new.pass.retired ≡ None) }
-        ensures opens { OnOk result
-            (AreOpen job.now.most (length job.now.topics + 1) self.new.open.items) }
-        ensures work { OnOk result ((parts : List ThePart)
-            → IsWorking job.now.topics job.now.most parts self.old
-            → IsWorking job.now.topics job.now.most (parts
-            ++ part_of job.now.size message.now part ∷ []) self.new) }
-        ensures left { IfErr result (λ l. (parts : List ThePart)
-            → IsWorking job.now.topics job.now.most parts self.old
-            → HasStopped queue.now
-            (length (parts ++ part_of job.now.size message.now part ∷ [])) self.new.pass l.held) }
-        ensures vain { OnOk result
-            (HelpsInVain (length job.now.topics + 1) (takes_behind job.now.most) self.old.pass
-            → HelpsInVain (length job.now.topics + 1) (takes_behind job.now.most) self.new.pass) }
-        ensures bell { W.kept stand.new ≡ W.kept stand.old }
-        ensures rung { OnOk result (RingsOn self.old.number job.now.workers self.old.pass
-            self.new.pass (W.wakes stand.old) (W.wakes stand.new)) }
-        ensures starved { self.new.starved ≡ false → self.old.starved ≡ false }
-        ensures number { (self.new.number ≡ self.old.number)
-            × (self.new.pass.number ≡ self.old.pass.number) }
+        requires opens { AreOpen job.now.most (length job.now.topics + 1) self.old.opens.items }
+        ensures gathered { OnOk result (HasGathered queue.now job.now
+            (part_of job.now.size message.now part ∷ []) self.old self.new
+            (W.wakes stand.old) (W.wakes stand.new)) }
+        ensures left { IfErr result (λ l. HasStoppedIn queue.now job.now
+            (part_of job.now.size message.now part ∷ []) self.old self.new l.held) }
+        ensures still { IsSameWorker self.old self.new (W.kept stand.old) (W.kept stand.new) }
     {
         if self.gather(alloc, job, message, part) {
             return Ok(());
@@ -347,28 +284,13 @@ impl<B: BufferMut> Worker<B> {
         requires short { length message.now.payload ≤ job.now.longest }
         requires room { All (λ b. job.now.size + 24 ≤ length (B.contents b)) queue.now.given }
         requires bell { W.fits bell.now (W.kept stand.old) job.now.workers }
-        requires opens { AreOpen job.now.most (length job.now.topics + 1) self.old.open.items }
-        ensures suits { OnOk result (Suits queue.now (length job.now.topics) self.new.pass) }
-        ensures stays { OnOk result (self.new.pass.retired ≡ None) }
-        ensures opens { OnOk result
-            (AreOpen job.now.most (length job.now.topics + 1) self.new.open.items) }
-        ensures work { OnOk result ((parts : List ThePart)
-            → IsWorking job.now.topics job.now.most parts self.old
-            → IsWorking job.now.topics job.now.most (parts
-            ++ all_parts job.now.size message.now) self.new) }
-        ensures left { IfErr result (λ l. (parts : List ThePart)
-            → IsWorking job.now.topics job.now.most parts self.old
-            → HasStopped queue.now
-            (length (parts ++ all_parts job.now.size message.now)) self.new.pass l.held) }
-        ensures vain { OnOk result
-            (HelpsInVain (length job.now.topics + 1) (takes_behind job.now.most) self.old.pass
-            → HelpsInVain (length job.now.topics + 1) (takes_behind job.now.most) self.new.pass) }
-        ensures bell { W.kept stand.new ≡ W.kept stand.old }
-        ensures rung { OnOk result (RingsOn self.old.number job.now.workers self.old.pass
-            self.new.pass (W.wakes stand.old) (W.wakes stand.new)) }
-        ensures starved { self.new.starved ≡ false → self.old.starved ≡ false }
-        ensures number { (self.new.number ≡ self.old.number)
-            × (self.new.pass.number ≡ self.old.pass.number) }
+        requires opens { AreOpen job.now.most (length job.now.topics + 1) self.old.opens.items }
+        ensures gathered { OnOk result (HasGathered queue.now job.now
+            (all_parts job.now.size message.now) self.old self.new
+            (W.wakes stand.old) (W.wakes stand.new)) }
+        ensures left { IfErr result (λ l. HasStoppedIn queue.now job.now
+            (all_parts job.now.size message.now) self.old self.new l.held) }
+        ensures still { IsSameWorker self.old self.new (W.kept stand.old) (W.kept stand.new) }
     {
         let parts = parts_of(message, job.size);
         'parts: for before in 0..parts {

@@ -23,11 +23,14 @@ pub(crate) struct Calls<'a, G, W> {
 }
 
 impl<'a, G: Gate, T, W: Bell<T>> Handler<Calls<'a, G, W>, T> for Worker<Frame> {
-    ghost use Rattle.std.proofs.Common.{refl, sym, ◌∙◌, subst};
-    ghost use Rattle.scq_desk.specs.GoingOn.{gone-none, gone-along, gone-stopped};
-    ghost use Rattle.scq_worker.specs.Bells.{RingsOn, rings-along};
+    ghost use Rattle.std.proofs.Common.{sym, subst};
+    ghost use Rattle.std.proofs.lemmas.Grind.{flat_map-append};
+    ghost use Rattle.scq_frames.specs.Parts.{all_parts};
     ghost use Rattle.scq_worker.specs.Opening.{AreOpen, NoneIsOpen};
-    ghost use Rattle.scq_worker.specs.Reading.{IsAt, IsOver, HasGoneOn, HasStoppedAt};
+    ghost use Rattle.scq_worker.specs.Passing.{parts_in};
+    ghost use Rattle.scq_worker.specs.Reading.{HasGathered, gathered-along, gathered-nothing};
+    ghost use Rattle.scq_worker.specs.Reading.{HasStoppedIn, stopped-along};
+    ghost use Rattle.scq_worker.specs.Reading.{IsSameWorker, still-along, still-same};
 
     type Stop = AtLimit<Frame>;
 
@@ -35,24 +38,22 @@ impl<'a, G: Gate, T, W: Bell<T>> Handler<Calls<'a, G, W>, T> for Worker<Frame> {
         × (w.pass.retired ≡ None)
         × All (λ b. c.job.now.size + 24 ≤ length b.bytes.items) c.queue.now.given
         × W.fits c.bell.now (W.kept t) c.job.now.workers
-        × AreOpen c.job.now.most (length c.job.now.topics + 1) w.open.items };
+        × AreOpen c.job.now.most (length c.job.now.topics + 1) w.opens.items };
 
     ghost takes = { λ c m. (m.topic ≤ length c.job.now.topics)
         × (length m.payload ≤ c.job.now.longest) };
 
     ghost handled = { λ c ms t old s new.
-        HasGoneOn c.queue.now c.job.now.topics c.job.now.size c.job.now.most ms old new
-        × (W.kept s ≡ W.kept t) × (new.number ≡ old.number)
-        × RingsOn old.number c.job.now.workers old.pass new.pass (W.wakes t) (W.wakes s)
-        × AreOpen c.job.now.most (length c.job.now.topics + 1) new.open.items };
+        HasGathered c.queue.now c.job.now (parts_in c.job.now.size ms) old new (W.wakes t)
+        (W.wakes s) × IsSameWorker old new (W.kept t) (W.kept s) };
 
     ghost stopped = { λ c ms t old s new stop.
-        HasStoppedAt c.queue.now c.job.now.topics c.job.now.size c.job.now.most ms old new stop.held
-        × (W.kept s ≡ W.kept t) };
+        HasStoppedIn c.queue.now c.job.now (parts_in c.job.now.size ms) old new stop.held
+        × IsSameWorker old new (W.kept t) (W.kept s) };
 
     ghost wanted = { λ w. w.starved };
 
-    ghost rested = { λ w. NoneIsOpen w.open.items };
+    ghost rested = { λ w. NoneIsOpen w.opens.items };
 
     /// Passes a message on.
     fn handle(
@@ -80,39 +81,33 @@ impl<'a, G: Gate, T, W: Bell<T>> Handler<Calls<'a, G, W>, T> for Worker<Frame> {
     }
 
     ghost none_handled = { λ c t w ready. (
-      gone-none (λ w. w.pass) (λ w. w.starved)
-          (IsAt c.queue.now c.job.now.topics c.job.now.size c.job.now.most) c.queue.now (length c.job.now.topics)
-          w ready.0 ready.1,
-      refl,
-      refl,
-      λ first was. was,
-      ready.4,
+      gathered-nothing c.queue.now c.job.now w (W.wakes t) ready.0 ready.1 ready.4,
+      still-same w (W.kept t),
     ) };
 
     ghost stays_ready = { λ c ms t s old new ready its. (
-      its.0.suits,
-      its.0.stays,
+      its.0.goes.suits,
+      its.0.goes.stays,
       ready.2,
-      subst (λ k. W.fits c.bell.now k c.job.now.workers) (sym its.1) ready.3,
-      its.4,
+      subst (λ k. W.fits c.bell.now k c.job.now.workers) (sym its.1.bell) ready.3,
+      its.0.opens,
     ) };
 
-    ghost more_handled = { λ c ms ns t s u old mid new one more. (
-      gone-along (λ w. w.pass) (λ w. w.starved)
-          (IsAt c.queue.now c.job.now.topics c.job.now.size c.job.now.most) c.queue.now (length c.job.now.topics)
-          ms ns old mid new one.0 more.0,
-      more.1 ∙ one.1,
-      more.2 ∙ one.2,
-      rings-along c.job.now.workers old.number mid.number old.pass mid.pass new.pass
-          (W.wakes t) (W.wakes s) (W.wakes u) one.2 one.3 more.3,
-      more.4,
-    ) };
+    ghost more_handled = { λ c ms ns t s u old mid new one more.
+        let parts = parts_in c.job.now.size in (
+          subst (λ l. HasGathered c.queue.now c.job.now l old new (W.wakes t) (W.wakes u))
+              (sym (flat_map-append (all_parts c.job.now.size) ms ns))
+              (gathered-along c.queue.now c.job.now (parts ms) (parts ns) old mid new
+              (W.wakes t) (W.wakes s) (W.wakes u) one.1.number one.0 more.0),
+          still-along old mid new (W.kept t) (W.kept s) (W.kept u) one.1 more.1,
+        ) };
 
-    ghost then_stopped = { λ c ms ns t s u old mid new stop one more. (
-      gone-stopped (λ w. w.pass) (λ w. w.starved)
-          (IsAt c.queue.now c.job.now.topics c.job.now.size c.job.now.most) c.queue.now (length c.job.now.topics)
-          (IsOver c.queue.now c.job.now.topics c.job.now.size c.job.now.most)
-          ms ns old mid new stop.held one.0 more.0,
-      more.1 ∙ one.1,
-    ) };
+    ghost then_stopped = { λ c ms ns t s u old mid new stop one more.
+        let parts = parts_in c.job.now.size in (
+          subst (λ l. HasStoppedIn c.queue.now c.job.now l old new stop.held)
+              (sym (flat_map-append (all_parts c.job.now.size) ms ns))
+              (stopped-along c.queue.now c.job.now (parts ms) (parts ns) old mid new
+              (W.wakes t) (W.wakes s) stop.held one.0 more.0),
+          still-along old mid new (W.kept t) (W.kept s) (W.kept u) one.1 more.1,
+        ) };
 }

@@ -1,9 +1,10 @@
-use Rattle.std.proofs.Common.{◌≡◌, ℕ, ◌≤◌, List, [], ◌∷◌, ◌∙◌, ap, subst}
+use Rattle.std.proofs.Common.{◌≡◌, ℕ, List, [], ◌∷◌, ◌∙◌, ap, subst}
 use Rattle.std.specs.Prelude.{Result, Ok, Err, Some, None, IfOk, IfErr}
 use Rattle.scq_band.specs.Buffers.{opening_of}
 use Rattle.scq_band.specs.RunSeen.{IsCallInRun}
 use Rattle.scq_band.specs.Standing.{Identity}
-use Rattle.scq_queue.specs.Passes.{PassStanding, HeldStanding, HasGot, FoundEmpty, after_spent_get, having_seen, caller_of}
+use Rattle.scq_queue.specs.Passes.{PassStanding, HeldStanding, having_seen, caller_of}
+use Rattle.scq_queue.specs.Calls.{CameOff, FoundTopicEmpty, GetWasSpent}
 use Rattle.scq_queue.specs.HoldsJust.{HoldsJust}
 use Rattle.scq_queue.specs.declared.calls.TakeRefusal.{TakeRefusal}
 use Rattle.scq_queue.specs.declared.calls.TakeRefusal.TheVariants.{Empty, Spent}
@@ -23,30 +24,27 @@ module _ {B : Type 0} (queue : Identity B) (old new : PassStanding B) where
       })
 
   -- what a take leaves
-  holds_taken : (contents : B → List ℕ) (r : Result (ℕ × HeldStanding B) TakeRefusal) → HoldsJust queue old []
-      → IfOk r (λ v. HasGot contents 1 v.0 old new v.1) → IfOk r (λ v. HoldsJust queue new (v.1 ∷ []))
-  holds_taken contents (Ok v) before got = holds_more queue old new [] v.1 1 v.0 (contents v.1.buffer) before got.pass got.held got.came
-  holds_taken contents (Err e) before got = tt
+  holds_taken : (contents : B → List ℕ) (IsSame : B → B → Type 0) (r : Result (ℕ × HeldStanding B) TakeRefusal) → HoldsJust queue old []
+      → IfOk r (λ v. CameOff contents IsSame queue 1 v.0 old new v.1) → IfOk r (λ v. HoldsJust queue new (v.1 ∷ []))
+  holds_taken contents IsSame (Ok v) before took = holds_more contents queue old new [] v.1 1 v.0 before took.got
+  holds_taken contents IsSame (Err e) before took = tt
 
-  holds_none : (limit : ℕ) (r : Result (ℕ × HeldStanding B) TakeRefusal) → HoldsJust queue old []
-      → ((head : ℕ) → r ≡ Err (Empty head) → FoundEmpty 0 head old new)
-      → ((ticket : ℕ) → r ≡ Err (Spent ticket) → old.spent ≡ None → (new ≡ having_seen new.seen (after_spent_get 1 ticket old)) × (limit ≤ ticket))
+  holds_none : (contents : B → List ℕ) (r : Result (ℕ × HeldStanding B) TakeRefusal) → HoldsJust queue old []
+      → ((head : ℕ) → r ≡ Err (Empty head) → FoundTopicEmpty contents queue 0 head old new)
+      → ((ticket : ℕ) → r ≡ Err (Spent ticket) → GetWasSpent queue 1 ticket old new)
       → ((ticket : ℕ) → old.spent ≡ Some ticket → (r ≡ Err (Spent ticket)) × (new ≡ old))
       → IfErr r (λ e. HoldsJust queue new [])
-  holds_none limit (Ok v) before empty spent kept = tt
-  holds_none limit (Err e) before empty spent kept =
-      holds_same queue old new [] before
-      (take_refused 0 old new e (λ head is. empty head (ap (λ (x : TakeRefusal). Err x) is))
-      (λ ticket is none. (spent ticket (ap (λ (x : TakeRefusal). Err x) is) none).0) (λ ticket some. (kept ticket some).1))
+  holds_none contents (Ok v) before empty spent kept = tt
+  holds_none contents (Err e) before empty spent kept = holds_same queue old new [] before (take_refused old new kept 0 e empty spent)
 
 pub returns-clause-took : goal.returns-clause-took
 returns-clause-took g c =
-    holds_taken c.args.queue.now c.heed.new.pass c.take.new.pass g.B.Buffer.contents c.take.result
+    holds_taken c.args.queue.now c.heed.new.pass c.take.new.pass g.B.Buffer.contents g.B.Buffer.IsSameBuffer c.take.result
     (heeded c.args.queue.now c.args.pass.now c.heed.new.pass _ c.requires.pass c.heed.ensures) c.take.ensures.took
 
 pub returns-clause-refused : goal.returns-clause-refused
 returns-clause-refused g c =
-    holds_none c.args.queue.now c.heed.new.pass c.take.new.pass _ c.take.result
+    holds_none c.args.queue.now c.heed.new.pass c.take.new.pass g.B.Buffer.contents c.take.result
     (heeded c.args.queue.now c.args.pass.now c.heed.new.pass _ c.requires.pass c.heed.ensures) c.take.ensures.empty c.take.ensures.spent
     c.take.ensures.kept
 

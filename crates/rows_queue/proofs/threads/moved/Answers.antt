@@ -2,7 +2,7 @@ use Rattle.std.proofs.Common.{refl, ◌∙◌, ap}
 use Rattle.std.specs.Prelude.{Err}
 use Rattle.scq_queue.specs.declared.heap_buffer.HeapBuffer.{HeapBuffer}
 use Rattle.scq_queue.specs.contracts.heap_buffer.HeapBufferBuffer.TheImpl as buffer
-use Rattle.scq_band.specs.Standing.{Standing, in_hand, bytes_in_hand, having_seen, after_spent_put, after_spent_get}
+use Rattle.scq_band.specs.Standing.{Standing, in_hand, bytes_in_hand, having_seen, seat_after_spent_put, seat_after_spent_get}
 use Rattle.scq_band.proofs.Starting.{in_hand-come}
 use Rattle.rows_queue.proofs.NoneLent.{lent_after_get, lent_after_nothing, lent_after_put, lent_after_spent}
 use Rattle.rows_queue.proofs.threads.moved.Goals as goal
@@ -23,7 +23,7 @@ returns-in-Ok-enq-clause-laid c =
 pub returns-in-Err-enq-clause-laid : goal.returns-in-Err-enq-clause-laid
 returns-in-Err-enq-clause-laid c =
     lent_after_spent c.deq.new.seat.spent (λ z. having_seen c.enq.new.seat.seen
-    (after_spent_put c.args.to c.in-Err-enq.spent.ticket z)) c.deq.new.seat c.enq.new.seat refl (λ z. refl)
+    (seat_after_spent_put c.args.to c.in-Err-enq.spent.ticket z)) c.deq.new.seat c.enq.new.seat refl (λ z. refl)
     (λ none. (c.in-Err-enq.ensures.spent none).0) (λ t some. (c.enq.ensures.kept t some).1)
     (lent_after_get buffer.ghosts.contents buffer.ghosts.IsSameBuffer c.args.from c.in-Ok.place c.in-Ok.index c.args.seat.now c.deq.new.seat c.in-Ok.ensures.got c.requires.laid)
 
@@ -35,6 +35,6 @@ returns-in-Empty-clause-laid c =
 pub returns-in-Spent-clause-laid : goal.returns-in-Spent-clause-laid
 returns-in-Spent-clause-laid c =
     lent_after_spent c.args.seat.now.spent (λ z. having_seen c.deq.new.seat.seen
-    (after_spent_get c.args.from c.in-Spent.ticket z)) c.args.seat.now c.deq.new.seat refl (λ z. refl)
+    (seat_after_spent_get c.args.from c.in-Spent.ticket z)) c.args.seat.now c.deq.new.seat refl (λ z. refl)
     (λ none. (c.deq.ensures.spent c.in-Spent.ticket (c.in-Err.is ∙ ap (λ r. Err r) c.in-Spent.is) none).0) (λ t some. (c.deq.ensures.kept t some).1)
     c.requires.laid

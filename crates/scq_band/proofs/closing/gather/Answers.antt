@@ -11,7 +11,7 @@ use Rattle.scq_band.specs.Sights.{Sight, both_sight, spent_sight}
 use Rattle.scq_band.specs.Standing.{Standing}
 use Rattle.scq_band.specs.Kept.{identity_of}
 use Rattle.scq_band.specs.Closing.{indices_of, lifted_of}
-use Rattle.scq_band.specs.Homes.{OutOrHome, AreGathered}
+use Rattle.scq_band.specs.Homes.{OutOrHome, SeatsAreGathered}
 use Rattle.scq_band.proofs.RunShown.{joins_run}
 use Rattle.scq_band.proofs.Views.{joins}
 use Rattle.scq_band.proofs.Gathering.{gathered_first, gathered_more, out_joined, all_home_then, out_some, out_less, none_out, sum_none}
@@ -89,7 +89,7 @@ loop-seat-preserved g c =
           (times i (indices_of (map g.T.Lifted.pair c.loop-seat.out.items)))
           (times i (indices_of (map g.T.Lifted.pair c.bring_seat_home-token.new.out.items))) (c.loop-seat.invariant.2 i) c.in-Some-pop.ensures.items (e.less i),
       e.given,
-      subst (λ (m : Me (Slot g.row.B.Denot) Sight). AreGathered g.B.Buffer.contents rings c.args.seats.items left m.0.known m.0.seen)
+      subst (λ (m : Me (Slot g.row.B.Denot) Sight). SeatsAreGathered g.B.Buffer.contents rings c.args.seats.items left m.0.known m.0.seen)
           (sym c.join_seat.ensures.2) more,
       subst (λ (m : Me (Slot g.row.B.Denot) Sight). OutOrHome g.B.Buffer.contents out still m.0.known.seats) (sym c.join_seat.ensures.2) home,
     )

@@ -3,7 +3,7 @@ use Rattle.scq_law.specs.Hands.{times}
 use Rattle.scq_band.specs.Standing.{Standing}
 use Rattle.scq_band.specs.Kept.{identity_of}
 use Rattle.scq_band.specs.Closing.{indices_of, lifted_of}
-use Rattle.scq_band.specs.Homes.{AllOutGiven, OutOrHome, AreGathered}
+use Rattle.scq_band.specs.Homes.{AllOutGiven, OutOrHome, SeatsAreGathered}
 use Rattle.scq_band.proofs.closing.gather.Given as goal
 
 abbrev pub invariant-loop-seat : goal.invariant-loop-seat
@@ -12,7 +12,7 @@ invariant-loop-seat g l =
     × All (λ (s : Standing g.row.B.Denot). s.band ≡ identity_of l.words.table_id l.words.key) l.seats.items
     × ((i : ℕ) → times i (indices_of (map g.T.Lifted.pair l.out.items)) ≡ sum_by (λ (s : Standing g.row.B.Denot). times i (lifted_of s.hand)) l.seats.items)
     × AllOutGiven g.B.Buffer.IsSameBuffer l.words.key.given.value.items (map g.T.Lifted.pair l.out.items)
-    × AreGathered g.B.Buffer.contents l.words.key.setup.rings l.fn.seats.items l.seats.items l.first.me.0.known l.first.me.0.seen
+    × SeatsAreGathered g.B.Buffer.contents l.words.key.setup.rings l.fn.seats.items l.seats.items l.first.me.0.known l.first.me.0.seen
     × OutOrHome g.B.Buffer.contents (map g.T.Lifted.pair l.fn.out.items) (map g.T.Lifted.pair l.out.items) l.first.me.0.known.seats
 
 abbrev pub decreases-loop-seat : goal.decreases-loop-seat

@@ -6,17 +6,14 @@ use Rattle.scq_band.specs.Sights.{known_me}
 use Rattle.scq_band.specs.Layout.{ring_of_word}
 use Rattle.scq_band.specs.Buffers.{LiesIn, opening_of}
 use Rattle.scq_band.specs.Steps.{my_phase, loading}
-use Rattle.scq_band.proofs.RingLemmas.{tail_fits, word_low}
-use Rattle.scq_band.proofs.Grounds.{tail_location, head_location}
+use Rattle.scq_band.proofs.RingLemmas.{tail_fits, tail_low, head_low}
 use Rattle.scq_band.proofs.Outcomes.{may_load, may_phase, alone_at}
 use Rattle.scq_band.proofs.Leaving.{lift_missed, saw_head_again}
 use Rattle.scq_band.proofs.RunShown.{went_on, goes_then}
 use Rattle.scq_band.proofs.dequeue.catch_up.Goals as goal
 
 pub exchange-requires-clause-low : goal.exchange-requires-clause-low
-exchange-requires-clause-low g c κs within =
-    let k = c.args.words.now.key.setup in
-    word_low k (tail_of c.args.ring.now.number) c.args.ring.now.tail _ (tail_location k c.args.ring.now.number c.requires.ring.low) c.requires.ring.tail c.requires.own.1
+exchange-requires-clause-low g c κs within = tail_low c.requires.ring c.requires.ring.tail c.requires.own.1
 
 pub exchange-requires-clause-may : goal.exchange-requires-clause-may
 exchange-requires-clause-may g c κs within =
@@ -29,10 +26,7 @@ pub head-requires : goal.head-requires
 head-requires g c = tail_fits c.args.words.now.key.setup c.args.ring.now c.requires.ring
 
 pub load-to-requires-clause-low : goal.load-to-requires-clause-low
-load-to-requires-clause-low g c κs within =
-    let k = c.args.words.now.key.setup in
-    word_low k (head_of c.args.ring.now.number) c.head.result _ (head_location k c.args.ring.now.number c.requires.ring.low) (c.head.ensures k c.requires.ring)
-    c.requires.own.1
+load-to-requires-clause-low g c κs within = head_low c.requires.ring (c.head.ensures _ c.requires.ring) c.requires.own.1
 
 pub load-to-requires-clause-may : goal.load-to-requires-clause-may
 load-to-requires-clause-may g c κs within =
@@ -49,9 +43,7 @@ load-to-requires-clause-may g c κs within =
     may_load k w c.head.result (AtD8 r h c.tries.from) D8 (alone_at v w (AtD8 r h c.tries.from) alone next) (ap my_phase next) refl refl
 
 pub load-from-requires-clause-low : goal.load-from-requires-clause-low
-load-from-requires-clause-low g c κs within =
-    let k = c.args.words.now.key.setup in
-    word_low k (tail_of c.args.ring.now.number) c.args.ring.now.tail _ (tail_location k c.args.ring.now.number c.requires.ring.low) c.requires.ring.tail c.requires.own.1
+load-from-requires-clause-low g c κs within = tail_low c.requires.ring c.requires.ring.tail c.requires.own.1
 
 pub load-from-requires-clause-may : goal.load-from-requires-clause-may
 load-from-requires-clause-may g c κs within =
@@ -74,33 +66,18 @@ load-from-requires-clause-may g c κs within =
 
 pub returns-then-exchange-from-clause-went : goal.returns-then-exchange-from-clause-went
 returns-then-exchange-from-clause-went g c =
-    let key = c.args.words.now.key in
-    let opening = opening_of g.B.Buffer.contents key.given.value.items in
-    goes_then key.setup opening c.args.token.now.me.0 c.tries.token.me.0 c.exchange.new.token.me.0 c.tries.invariant.4 c.exchange.ensures.went
+    goes_then c.tries.invariant.4 c.exchange.ensures.went
 
 pub returns-then-from-to-clause-went : goal.returns-then-from-to-clause-went
 returns-then-from-to-clause-went g c =
-    let key = c.args.words.now.key in
-    let opening = opening_of g.B.Buffer.contents key.given.value.items in
-    let a = c.tries.token.me.0 in
-    let b = c.exchange.new.token.me.0 in
-    let d = c.load-to.new.token.me.0 in
-    let e = c.load-from.new.token.me.0 in
-    goes_then key.setup opening c.args.token.now.me.0 a e c.tries.invariant.4 (went_on key.setup opening a b e c.exchange.ensures.went
-    (went_on key.setup opening b d e c.load-to.ensures.went c.load-from.ensures.went))
+    goes_then c.tries.invariant.4 (went_on c.exchange.ensures.went (went_on c.load-to.ensures.went c.load-from.ensures.went))
 
 pub tries-preserved : goal.tries-preserved
-tries-preserved g c =
-    let key = c.args.words.now.key in
-    let opening = opening_of g.B.Buffer.contents key.given.value.items in
-    let a = c.tries.token.me.0 in
-    let b = c.exchange.new.token.me.0 in
-    let d = c.load-to.new.token.me.0 in
-    let e = c.load-from.new.token.me.0 in (
-      c.load-from.ensures.own.0 ∙ c.load-to.ensures.own.0 ∙ c.exchange.ensures.own.0 ∙ c.tries.invariant.0,
-      c.load-from.ensures.own.1 ∙ c.load-to.ensures.own.1 ∙ c.exchange.ensures.own.1 ∙ c.tries.invariant.1,
-      search rules,
-      search rules,
-      inr (goes_then key.setup opening c.args.token.now.me.0 a e c.tries.invariant.4 (went_on key.setup opening a b e c.exchange.ensures.went
-          (went_on key.setup opening b d e c.load-to.ensures.went c.load-from.ensures.went))),
-    )
+tries-preserved g c = (
+  c.load-from.ensures.own.0 ∙ c.load-to.ensures.own.0 ∙ c.exchange.ensures.own.0 ∙ c.tries.invariant.0,
+  c.load-from.ensures.own.1 ∙ c.load-to.ensures.own.1 ∙ c.exchange.ensures.own.1 ∙ c.tries.invariant.1,
+  search rules,
+  search rules,
+  inr (goes_then c.tries.invariant.4 (went_on c.exchange.ensures.went
+      (went_on c.load-to.ensures.went c.load-from.ensures.went))),
+)

@@ -1,22 +1,34 @@
-use Rattle.std.proofs.Common.{rules, inr, sym, ◌∙◌, ap, subst, arith}
+use Rattle.std.proofs.Common.{rules, ◌<◌, ◌≤◌, refl, inr, sym, ◌∙◌, ap, subst, arith}
 use Rattle.scq_core.specs.Machine.{tail_of}
 use Rattle.scq_core.specs.declared.phase.Phase.{Phase}
 use Rattle.scq_core.specs.Table.{location_of}
 use Rattle.scq_band.specs.Sights.{known_me}
 use Rattle.scq_band.specs.Layout.{at}
-use Rattle.scq_band.specs.Buffers.{LiesIn, opening_of}
+use Rattle.scq_band.specs.Buffers.{LiesIn}
 use Rattle.scq_band.specs.Turns.{MayTurn}
+use Rattle.atomic_table.specs.Table.{rest}
 use Rattle.scq_band.specs.Steps.{my_phase, front_bytes}
-use Rattle.scq_band.proofs.RingLemmas.{word_low}
-use Rattle.scq_band.proofs.Grounds.{tail_location}
-use Rattle.scq_band.proofs.Drawing.{turn_of_draw, may_draw, drew_past, drew, drew_above, looks_as}
+use Rattle.scq_band.specs.Seats.{done_at, placed_to, content_of}
+use Rattle.scq_band.proofs.RingLemmas.{tail_low}
+use Rattle.scq_band.proofs.Drawing.{DrewFromTail, drew_from_tail, turn_of_draw, may_draw, looks_as}
 use Rattle.scq_band.proofs.RunShown.{went_on, goes_then}
 use Rattle.scq_band.proofs.enqueue.enqueue.Goals as goal
+use Rattle.scq_band.proofs.enqueue.enqueue.Goals.{After-draw-ticket}
+
+-- what the draw tells
+drawn : (g : _) (c : After-draw-ticket g) → DrewFromTail c.args.words.now.key.setup c.args.token.now.me.0.known c.args.token.now.me.1 c.draw-ticket.result
+    c.args.ring.now.number c.args.index (front_bytes g.B.Buffer.contents c.args.token.now.me.1) (known_me c.draw-ticket.new.token.me)
+drawn g c =
+    let contents = g.B.Buffer.contents in
+    let slots = c.args.token.now.me.1 in
+    let turn = turn_of_draw contents c.args.words.now.key.setup c.args.ring.now (known_me c.draws.token.me) slots c.args.index c.requires.ring
+    c.draws.invariant.2 c.requires.first c.draws.invariant.4 in
+    drew_from_tail (LiesIn contents g.B.Buffer.IsSameBuffer c.args.words.now.key.given.value.items) c.args.words.now.key.setup c.args.token.now.me.0.known slots
+    (known_me c.draws.token.me) (known_me c.draw-ticket.new.token.me) _ c.draw-ticket.result c.args.ring.now.number c.args.index
+    (front_bytes contents slots) _ turn c.requires.alone c.draws.invariant.3 c.draws.invariant.2 c.draw-ticket.ensures.turned
 
 pub draw-ticket-requires-clause-low : goal.draw-ticket-requires-clause-low
-draw-ticket-requires-clause-low g c κs within =
-    let k = c.args.words.now.key.setup in
-    word_low k (tail_of c.args.ring.now.number) c.args.ring.now.tail _ (tail_location k c.args.ring.now.number c.requires.ring.low) c.requires.ring.tail c.requires.own.1
+draw-ticket-requires-clause-low g c κs within = tail_low c.requires.ring c.requires.ring.tail c.requires.own.1
 
 pub draw-ticket-requires-clause-may : goal.draw-ticket-requires-clause-may
 draw-ticket-requires-clause-may g c κs within =
@@ -41,78 +53,50 @@ draw-ticket-requires-clause-word g c κs within =
 
 pub returns-then-ticket-ring-clause-spent : goal.returns-then-ticket-ring-clause-spent
 returns-then-ticket-ring-clause-spent g c =
-    let k = c.args.words.now.key.setup in
-    let contents = g.B.Buffer.contents in
-    let Lie = LiesIn contents g.B.Buffer.IsSameBuffer c.args.words.now.key.given.value.items in
-    let slots = c.args.token.now.me.1 in
+    let its = drawn g (goal.at.returns-then-ticket-ring-clause-spent g c).After-draw-ticket in
     let limit = c.requires.ring.limit in
-    let past = c.if-ticket-ring.true in
-    let turn = turn_of_draw contents k c.args.ring.now (known_me c.draws.token.me) slots c.args.index c.requires.ring c.draws.invariant.2 c.requires.first
-    c.draws.invariant.4 in
-    drew_past Lie k c.args.token.now.me.0.known (known_me c.draws.token.me)
-    (known_me c.draw-ticket.new.token.me) _ c.draw-ticket.result c.args.ring.now.number c.args.index
-    (front_bytes contents slots) _ turn c.requires.alone c.draws.invariant.3 (omega arith) c.draw-ticket.ensures.turned
+    let past : c.args.words.now.key.setup.limit ≤ c.draw-ticket.result = let more = c.if-ticket-ring.true in omega (arith, limit, more) in
+    record { view = its.past past; slots = its.kept; past = past }
 
 pub try_place-requires-clause-looks : goal.try_place-requires-clause-looks
 try_place-requires-clause-looks g c κs within =
-    let k = c.args.words.now.key.setup in
-    let contents = g.B.Buffer.contents in
-    let Lie = LiesIn contents g.B.Buffer.IsSameBuffer c.args.words.now.key.given.value.items in
-    let slots = c.args.token.now.me.1 in
+    let its = drawn g (goal.at.try_place-requires-clause-looks g c).After-draw-ticket in
     let limit = c.requires.ring.limit in
     let low = c.if-ticket-ring.false in
-    let turn = turn_of_draw contents k c.args.ring.now (known_me c.draws.token.me) slots c.args.index c.requires.ring c.draws.invariant.2 c.requires.first
-    c.draws.invariant.4 in
-    let now = drew Lie k c.args.token.now.me.0.known (known_me c.draws.token.me)
-    (known_me c.draw-ticket.new.token.me) _ c.draw-ticket.result c.args.ring.now.number c.args.index
-    (front_bytes contents slots) _ turn c.requires.alone c.draws.invariant.3 (omega arith) c.draw-ticket.ensures.turned in
-    looks_as c.draw-ticket.new.token.me.0.known c.args.ring.now.number c.args.index (front_bytes contents slots) c.draw-ticket.result 0 (ap my_phase now)
+    looks_as c.draw-ticket.new.token.me.0.known c.args.ring.now.number c.args.index (front_bytes g.B.Buffer.contents c.args.token.now.me.1)
+    c.draw-ticket.result 0 (ap my_phase (its.within (omega (arith, limit, low))))
 
-pub returns-then-try_place-clause-above : goal.returns-then-try_place-clause-above
-returns-then-try_place-clause-above g c =
-    let k = c.args.words.now.key.setup in
-    let contents = g.B.Buffer.contents in
-    let Lie = LiesIn contents g.B.Buffer.IsSameBuffer c.args.words.now.key.given.value.items in
-    let slots = c.args.token.now.me.1 in
+pub returns-then-try_place-clause-put : goal.returns-then-try_place-clause-put
+returns-then-try_place-clause-put g c =
+    let its = drawn g (goal.at.returns-then-try_place-clause-put g c).After-draw-ticket in
     let limit = c.requires.ring.limit in
-    let low = c.if-ticket-ring.false in
-    let turn = turn_of_draw contents k c.args.ring.now (known_me c.draws.token.me) slots c.args.index c.requires.ring c.draws.invariant.2 c.requires.first
-    c.draws.invariant.4 in (
-      omega arith,
-      drew_above Lie k c.args.token.now.me.0.known (known_me c.draws.token.me)
-          (known_me c.draw-ticket.new.token.me) _ c.draw-ticket.result c.args.ring.now.number c.args.index
-          (front_bytes contents slots) _ turn c.draws.invariant.3 c.draw-ticket.ensures.turned,
-    )
+    let low : c.draw-ticket.result < c.args.words.now.key.setup.limit = let less = c.if-ticket-ring.false in omega (arith, limit, less) in
+    let r = c.args.ring.now.number in
+    let t = c.draw-ticket.result in
+    record {
+      view =
+          c.reset_threshold.ensures.done ∙ ap (λ u. done_at r t (content_of (my_phase u)) u)
+          (c.if-try_place.ensures.placed refl ∙ ap (λ u. placed_to r c.args.index (content_of (my_phase u)) t u) (its.within low));
+      slots = c.reset_threshold.ensures.slots ∙ c.if-try_place.ensures.slots ∙ ap rest its.kept;
+      low = low;
+      above = its.above;
+    }
 
 pub returns-then-ticket-ring-clause-went : goal.returns-then-ticket-ring-clause-went
 returns-then-ticket-ring-clause-went g c =
-    let key = c.args.words.now.key in
-    let opening = opening_of g.B.Buffer.contents key.given.value.items in
-    goes_then key.setup opening c.args.token.now.me.0 c.draws.token.me.0 c.draw-ticket.new.token.me.0 c.draws.invariant.5 c.draw-ticket.ensures.went
+    goes_then c.draws.invariant.5 c.draw-ticket.ensures.went
 
 pub returns-then-try_place-clause-went : goal.returns-then-try_place-clause-went
 returns-then-try_place-clause-went g c =
-    let key = c.args.words.now.key in
-    let opening = opening_of g.B.Buffer.contents key.given.value.items in
-    let a = c.draws.token.me.0 in
-    let b = c.draw-ticket.new.token.me.0 in
-    let d = c.try_place.new.token.me.0 in
-    let e = c.reset_threshold.new.token.me.0 in
-    goes_then key.setup opening c.args.token.now.me.0 a e c.draws.invariant.5
-    (went_on key.setup opening a b e c.draw-ticket.ensures.went (went_on key.setup opening b d e c.try_place.ensures.went c.reset_threshold.ensures.went))
+    goes_then c.draws.invariant.5 (went_on c.draw-ticket.ensures.went (went_on c.try_place.ensures.went c.reset_threshold.ensures.went))
 
 pub draws-preserved : goal.draws-preserved
-draws-preserved g c =
-    let key = c.args.words.now.key in
-    let opening = opening_of g.B.Buffer.contents key.given.value.items in
-    let a = c.draws.token.me.0 in
-    let b = c.draw-ticket.new.token.me.0 in
-    let d = c.try_place.new.token.me.0 in (
-      c.try_place.ensures.own.0 ∙ c.draw-ticket.ensures.own.0 ∙ c.draws.invariant.0,
-      c.try_place.ensures.own.1 ∙ c.draw-ticket.ensures.own.1 ∙ c.draws.invariant.1,
-      search rules,
-      search rules,
-      search rules,
-      inr (goes_then key.setup opening c.args.token.now.me.0 a d c.draws.invariant.5
-          (went_on key.setup opening a b d c.draw-ticket.ensures.went c.try_place.ensures.went)),
-    )
+draws-preserved g c = (
+  c.try_place.ensures.own.0 ∙ c.draw-ticket.ensures.own.0 ∙ c.draws.invariant.0,
+  c.try_place.ensures.own.1 ∙ c.draw-ticket.ensures.own.1 ∙ c.draws.invariant.1,
+  search rules,
+  search rules,
+  search rules,
+  inr (goes_then c.draws.invariant.5
+      (went_on c.draw-ticket.ensures.went c.try_place.ensures.went)),
+)

@@ -8,8 +8,7 @@ use Rattle.scq_band.specs.Layout.{entry_at}
 use Rattle.scq_band.specs.Buffers.{LiesIn, opening_of}
 use Rattle.scq_band.specs.Steps.{my_phase}
 use Rattle.scq_band.specs.Seats.{content_of, least_of}
-use Rattle.scq_band.proofs.RingLemmas.{tail_fits, word_low}
-use Rattle.scq_band.proofs.Grounds.{entry_location}
+use Rattle.scq_band.proofs.RingLemmas.{tail_fits, entry_low}
 use Rattle.scq_band.proofs.Outcomes.{may_phase, alone_at}
 use Rattle.scq_band.proofs.Placing.{room_then, missed_rises, saw_missed, rank_fits}
 use Rattle.scq_band.proofs.RunShown.{went_on, goes_then}
@@ -24,10 +23,7 @@ pub entry-word-requires : goal.entry-word-requires
 entry-word-requires g c = tail_fits c.args.words.now.key.setup c.args.ring.now c.requires.ring
 
 pub exchange-requires-clause-low : goal.exchange-requires-clause-low
-exchange-requires-clause-low g c κs within =
-    let k = c.args.words.now.key.setup in
-    word_low k (entry_at k c.args.ring.now.number c.args.ticket) c.entry-word.result _ (entry_location k c.args.ring.now.number c.args.ticket c.requires.ring.low)
-    (c.entry-word.ensures k c.requires.ring) c.requires.own.1
+exchange-requires-clause-low g c κs within = entry_low c.args.ticket c.requires.ring (c.entry-word.ensures _ c.requires.ring) c.requires.own.1
 
 pub exchange-requires-clause-may : goal.exchange-requires-clause-may
 exchange-requires-clause-may g c κs within =
@@ -65,31 +61,18 @@ tries-smaller g c =
 
 pub returns-in_default-clause-went : goal.returns-in_default-clause-went
 returns-in_default-clause-went g c =
-    let key = c.args.words.now.key in
-    let opening = opening_of g.B.Buffer.contents key.given.value.items in
-    goes_then key.setup opening c.args.token.now.me.0 c.tries.token.me.0 c.load_vacant.new.token.me.0 c.tries.invariant.4 c.load_vacant.ensures.went
+    goes_then c.tries.invariant.4 c.load_vacant.ensures.went
 
 pub returns-then-exchange-found-clause-went : goal.returns-then-exchange-found-clause-went
 returns-then-exchange-found-clause-went g c =
-    let key = c.args.words.now.key in
-    let opening = opening_of g.B.Buffer.contents key.given.value.items in
-    let a = c.tries.token.me.0 in
-    let b = c.load_vacant.new.token.me.0 in
-    let d = c.exchange.new.token.me.0 in
-    goes_then key.setup opening c.args.token.now.me.0 a d c.tries.invariant.4
-    (went_on key.setup opening a b d c.load_vacant.ensures.went c.exchange.ensures.went)
+    goes_then c.tries.invariant.4 (went_on c.load_vacant.ensures.went c.exchange.ensures.went)
 
 pub tries-preserved : goal.tries-preserved
-tries-preserved g c =
-    let key = c.args.words.now.key in
-    let opening = opening_of g.B.Buffer.contents key.given.value.items in
-    let a = c.tries.token.me.0 in
-    let b = c.load_vacant.new.token.me.0 in
-    let d = c.exchange.new.token.me.0 in (
-      c.exchange.ensures.own.0 ∙ c.load_vacant.ensures.own.0 ∙ c.tries.invariant.0,
-      c.exchange.ensures.own.1 ∙ c.load_vacant.ensures.own.1 ∙ c.tries.invariant.1,
-      search rules,
-      search rules,
-      inr (goes_then key.setup opening c.args.token.now.me.0 a d c.tries.invariant.4
-          (went_on key.setup opening a b d c.load_vacant.ensures.went c.exchange.ensures.went)),
-    )
+tries-preserved g c = (
+  c.exchange.ensures.own.0 ∙ c.load_vacant.ensures.own.0 ∙ c.tries.invariant.0,
+  c.exchange.ensures.own.1 ∙ c.load_vacant.ensures.own.1 ∙ c.tries.invariant.1,
+  search rules,
+  search rules,
+  inr (goes_then c.tries.invariant.4
+      (went_on c.load_vacant.ensures.went c.exchange.ensures.went)),
+)

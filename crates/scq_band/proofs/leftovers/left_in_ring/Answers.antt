@@ -1,12 +1,12 @@
 use Rattle.std.proofs.Common.{◌≡◌, ◌∙◌, sym, ap, subst, arith, ℕ, true, false}
 use Rattle.std.specs.Prelude.{is_some}
 use Rattle.std.specs.Mem.Slots.{slots_items, slots_len}
-use Rattle.scq_word.specs.Entries.{index_of, IsIndexOrMark}
+use Rattle.scq_word.specs.Entries.{index_unless_mark, IsIndexOrMark}
 use Rattle.scq_word.specs.Sizes.{slots_of}
 use Rattle.scq_word.specs.declared.entry.Entry.{Entry}
 use Rattle.scq_core.specs.Table.{ring_slots}
 use Rattle.scq_law.specs.Sums.{sum_to}
-use Rattle.scq_band.proofs.LeftWords.{counted, word_has, counts_next, counts_all, slot_word_low}
+use Rattle.scq_band.proofs.LeftWords.{index_count, word_has, counts_next, counts_all, slot_word_low}
 use Rattle.scq_band.proofs.leftovers.left_in_ring.Goals as goal
 use Rattle.scq_band.proofs.leftovers.left_in_ring.Goals.{then-is_some, else-is_some}
 
@@ -25,7 +25,7 @@ returns g c m shows =
     let slots : c.slots-slot-end.result ≡ ring_slots k = c.slots-slot-end.ensures ∙ ap slots_of c.shape-shape.ensures in
     let last : c.loop-slot.slot ≡ ring_slots k = omega arith in
     counts_all k (slots_items c.args.closed.now.words) m c.args.ring c.loop-slot.left shows c.requires.ring
-    (c.loop-slot.invariant.1 ∙ ap (sum_to (counted k (slots_items c.args.closed.now.words) c.args.ring)) last)
+    (c.loop-slot.invariant.1 ∙ ap (sum_to (index_count k (slots_items c.args.closed.now.words) c.args.ring)) last)
 
 pub word-requires : goal.word-requires
 word-requires g c =
@@ -43,8 +43,8 @@ loop-slot-preserved g c =
     let k = c.args.setup.now in
     let words = slots_items c.args.closed.now.words in
     let slots : c.slots-slot-end.result ≡ ring_slots k = c.slots-slot-end.ensures ∙ ap slots_of c.shape-shape.ensures in
-    let index : c.unpack.result.index ≡ index_of k.order c.word.result =
-    ap (λ (e : Entry). e.index) c.unpack.ensures.entry ∙ ap (λ o. index_of o c.word.result) c.shape-shape.ensures in
+    let index : c.unpack.result.index ≡ index_unless_mark k.order c.word.result =
+    ap (λ (e : Entry). e.index) c.unpack.ensures.entry ∙ ap (λ o. index_unless_mark o c.word.result) c.shape-shape.ensures in
     let next = λ (later : ℕ). counts_next k words c.args.ring c.loop-slot.slot _ c.word.result c.loop-slot.left later c.unpack.result.index
     (c.entry_word.ensures k c.args.ring c.tail_word-tail.ensures.word) c.word.ensures index c.loop-slot.invariant.1 in
     elim c.if-is_some.branch [

@@ -1,8 +1,8 @@
 use Rattle.std.proofs.Common.{◌≡◌, ◌≤◌}
 use Rattle.std.specs.Mem.Slots.{slots_items}
 use Rattle.scq_law.specs.Sums.{sum_to}
-use Rattle.scq_band.proofs.LeftWords.{counted}
+use Rattle.scq_band.proofs.LeftWords.{index_count}
 use Rattle.scq_band.proofs.leftovers.left_in_ring.Given as goal
 
 abbrev pub invariant-loop-slot : goal.invariant-loop-slot
-invariant-loop-slot g l = (l.left ≤ l.slot) × (l.left ≡ sum_to (counted l.setup (slots_items l.closed.words) l.ring) l.slot)
+invariant-loop-slot g l = (l.left ≤ l.slot) × (l.left ≡ sum_to (index_count l.setup (slots_items l.closed.words) l.ring) l.slot)

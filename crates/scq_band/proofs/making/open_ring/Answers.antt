@@ -6,7 +6,7 @@ use Rattle.scq_core.specs.Machine.{Machine, tail_of, head_of, threshold_of, entr
 use Rattle.scq_core.specs.Start.{start_cells}
 use Rattle.scq_core.specs.Table.{ring_slots}
 use Rattle.scq_band.specs.Layout.{at}
-use Rattle.scq_band.specs.Making.{AreOpened}
+use Rattle.scq_band.specs.Making.{WordsAreOpened}
 use Rattle.scq_band.proofs.Layouts.{at_low}
 use Rattle.scq_band.proofs.StartWords.{opens_next}
 use Rattle.scq_band.proofs.making.open_ring.Goals as goal
@@ -68,6 +68,6 @@ loop-slot-preserved c =
     let slots = c.slots-slot-end.ensures ∙ ap slots_of (c.shape.ensures ∙ ap (λ (s : Setup). s.order) c.setup-setup.ensures) in
     let small : s < ring_slots k = omega (arith, c.loop-slot-test.true, slots) in
     let next : suc (3 + s) ≡ 3 + (s + 1) = omega arith in
-    subst (AreOpened k (slice_set c.loop-slot.words.items c.entry_word.result c.entry.result) r) next
+    subst (WordsAreOpened k (slice_set c.loop-slot.words.items c.entry_word.result c.entry.result) r) next
     (opens_next k c.loop-slot.words.items r (3 + s) c.entry_word.result c.entry.result (entry_of r s) c.loop-slot.invariant (c.requires.ring, small) refl refl
     (c.entry_word.ensures k r at_tail) (c.entry.ensures.word ∙ ap (λ (m : Machine). m.cells.entries.word r s) c.requires.start.start))

@@ -1,15 +1,5 @@
-use Rattle.scq_band.specs.Buffers.{LiesIn, opening_of}
-use Rattle.scq_band.specs.Turns.{Turned}
-use Rattle.scq_band.specs.Sights.{known_me, Went}
-use Rattle.scq_band.specs.Steps.{my_phase}
+use Rattle.scq_band.proofs.Operations.{TellsOfPhase}
 use Rattle.scq_band.proofs.steps.exchange.Given as goal
 
 abbrev pub ghosts-compare_exchange : goal.ghosts-compare_exchange
-ghosts-compare_exchange g a =
-    record {
-      then =
-          λ st me x later.
-          Turned (LiesIn g.B.Buffer.contents g.B.Buffer.IsSameBuffer a.self.now.key.given.value.items) a.self.now.key.setup
-          (my_phase a.seat.now.me.0.known) (known_me me) x (known_me later)
-          × Went a.self.now.key.setup (opening_of g.B.Buffer.contents a.self.now.key.given.value.items) me.0 later.0;
-    }
+ghosts-compare_exchange g a = record { then = λ st. TellsOfPhase g.B.Buffer.contents g.B.Buffer.IsSameBuffer a.self.now.key a.seat.now.me }

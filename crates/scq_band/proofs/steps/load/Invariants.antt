@@ -1,15 +1,8 @@
-use Rattle.scq_band.specs.Buffers.{LiesIn, opening_of}
-use Rattle.scq_band.specs.Turns.{Turned}
-use Rattle.scq_band.specs.Sights.{known_me, Went}
 use Rattle.scq_band.specs.Steps.{load_turn}
+use Rattle.scq_band.proofs.Operations.{Tells}
 use Rattle.scq_band.proofs.steps.load.Given as goal
 
 abbrev pub ghosts-load : goal.ghosts-load
 ghosts-load g a =
-    record {
-      then =
-          λ st me x later.
-          Turned (LiesIn g.B.Buffer.contents g.B.Buffer.IsSameBuffer a.self.now.key.given.value.items) a.self.now.key.setup
-          (load_turn a.self.now.key.setup a.word a.seat.now.me.0.known) (known_me me) x (known_me later)
-          × Went a.self.now.key.setup (opening_of g.B.Buffer.contents a.self.now.key.given.value.items) me.0 later.0;
-    }
+    let key = a.self.now.key in
+    record { then = λ st. Tells g.B.Buffer.contents g.B.Buffer.IsSameBuffer key (load_turn key.setup a.word a.seat.now.me.0.known) }

@@ -1,6 +1,6 @@
 use Rattle.std.proofs.Common.{◌≡◌, List, map, ap, inl, inr, sym, subst, ◌∙◌, arith}
 use Rattle.scq_queue.specs.declared.counts.Counts.{Counts}
-use Rattle.scq_port.specs.Ports.{bytes_of}
+use Rattle.scq_port.specs.Ports.{buffer_bytes}
 use Rattle.scq_c.specs.declared.exports.End.{End}
 use Rattle.scq_c.specs.declared.tally.Tally.{Tally}
 use Rattle.scq_c.specs.Tallies.{AreWritten}
@@ -20,7 +20,7 @@ returns c =
                 record {
                   passes = w.in-Some.closed.passes.value.items;
                   left = w.in-Some.closed.left.items;
-                  bytes = map bytes_of w.in-Some.closed.buffers.items;
+                  bytes = map buffer_bytes w.in-Some.closed.buffers.items;
                   closed = if_some_at _ c.close-ended.result.1 w.in-Some.closed c.close-ended.ensures.closed w.in-Some.is;
                   counts =
                       let told = if_some_at _ c.close-ended.result.1 w.in-Some.closed c.close-ended.ensures.counts w.in-Some.is in

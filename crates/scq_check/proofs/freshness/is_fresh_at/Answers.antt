@@ -1,6 +1,6 @@
 use Rattle.std.proofs.Common.{◌≡◌, ℕ, ◌↔◌, List, Bool, IsTrue, Some, slice_get, refl, sym, ap, ◌∙◌, subst}
 use Rattle.scq_hist.specs.Calls.{IsCall}
-use Rattle.scq_hist.specs.Aspects.{Suits, IsAnswer, IsLawfulAt, IsLawful, IsBegun, IsFreshAt}
+use Rattle.scq_hist.specs.Aspects.{SuitsCall, IsAnswer, IsLawfulAt, IsLawful, IsBegun, IsFreshAt}
 use Rattle.scq_hist.specs.declared.events.Call.{Call}
 use Rattle.scq_hist.specs.declared.events.Call.TheVariants.{Put, Get}
 use Rattle.scq_hist.specs.declared.events.Event.{Event}
@@ -13,7 +13,7 @@ use Rattle.scq_check.specs.Tables.{IsQueueOf}
 use Rattle.scq_check.proofs.freshness.is_fresh_at.Goals as goal
 
 -- a call that ends with Got is a get
-a_get : (call : Call) (name : PutName) (content : List ℕ) → Suits call (Got name content) → (queue : ℕ) × (call ≡ Get queue)
+a_get : (call : Call) (name : PutName) (content : List ℕ) → SuitsCall call (Got name content) → (queue : ℕ) × (call ≡ Get queue)
 a_get (Put q c) name content suits = absurd suits
 a_get (Get q) name content suits = (q, refl)
 

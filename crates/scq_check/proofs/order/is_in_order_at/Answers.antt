@@ -20,7 +20,7 @@ returns-in-Some c = λ opening saved at.
     (Start c.in-Some.ensures.seat (Put c.in-Some.queue c.in-Some.ensures.content)) put.starts in
     let many = c.requires.many in omega arith) in
     claims_decide opening _ _ _ _ _ c.in-Some.ensures
-    (claims_iff _ _ _ _ _ _ _ _ c.requires.lawful
+    (claims_iff _ _ _ _ _ _ _ _ c.requires.event.lawful
     (saved.before _ _ _ _ _ put.starts (slice_get-get_or c.args.tallies.now c.in-Some.start (record { ungot = 0; claimed_from = 0 }) within))
     (subst (λ (q : Queue). IsCount (IsPending c.args.events.now c.in-Some.queue c.args.e) q.pending) (sym c.get.ensures) (at.each c.in-Some.queue).pending)
     c.is_claimed.ensures)

@@ -1,13 +1,6 @@
-use Rattle.std.proofs.Common.{◌≤◌, length}
 use Rattle.scq_hist.specs.Aspects.{IsInOrderAt}
-use Rattle.scq_check.specs.Failures.{AreFailuresBefore}
-use Rattle.scq_check.specs.Queues.{AreQueuesAt, AreSmall}
+use Rattle.scq_check.proofs.Saved.{AreJudged}
 use Rattle.scq_check.proofs.order.out_of_order.Given as goal
 
 abbrev pub invariant-loop-e : goal.invariant-loop-e
-invariant-loop-e l = record {
-  few : l.queues.tokens.ungot ≤ length l.opening;
-  small : AreSmall l.e l.queues;
-  at : AreQueuesAt l.opening l.events l.e l.queues;
-  failures : AreFailuresBefore (IsInOrderAt l.opening l.events) l.e l.failures;
-}
+invariant-loop-e l = AreJudged (IsInOrderAt l.opening l.events) l.opening l.events l.e l.queues l.failures

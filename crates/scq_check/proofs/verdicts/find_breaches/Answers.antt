@@ -1,14 +1,29 @@
+use Rattle.scq_check.proofs.CounterpartLemmas.{fresh_without, in_order_without, names_some}
 use Rattle.scq_check.proofs.verdicts.find_breaches.Goals as goal
 
-pub returns-clause-counterparts : goal.returns-clause-counterparts
-returns-clause-counterparts c =
+pub origin_of_first-requires-clause-named : goal.origin_of_first-requires-clause-named
+origin_of_first-requires-clause-named c = names_some _ _ _ (fresh_without c.args.opening.now c.args.events.now) c.unfresh-fresh.ensures.failures.first
+
+pub origin_of_first-requires-2-clause-named : goal.origin_of_first-requires-2-clause-named
+origin_of_first-requires-2-clause-named c =
+    names_some _ _ _ (in_order_without c.args.opening.now c.args.events.now) c.in_ok-in_order.ensures.failures.first
+
+pub returns-clause-breaches : goal.returns-clause-breaches
+returns-clause-breaches c =
     record {
-      fresh = c.origin_first.ensures.first;
-      once = c.named_first.ensures.first;
-      in_order = c.overtaken.ensures.first;
-      overtaker = c.overtaker_first.ensures.first;
-      empty_right = c.waiting_beside.ensures.first;
-      accepted = c.in_ok-refused.ensures.first;
+      fresh = c.unfresh-fresh.ensures.failures;
+      once = c.repeated-once.ensures.failures;
+      in_order = c.in_ok-in_order.ensures.failures;
+      empty_right = c.in_ok-empty_right.ensures.failures;
+      accepted = c.in_ok-accepted.ensures.failures;
+      against = record {
+        fresh = c.origin_of_first.ensures.first;
+        once = c.named_first.ensures.first;
+        in_order = c.overtaken.ensures.first;
+        overtaker = c.origin_of_first-2.ensures.first;
+        empty_right = c.waiting_beside.ensures.first;
+        accepted = c.in_ok-refused.ensures.first;
+      };
     }
 
 pub returns-clause-within : goal.returns-clause-within
@@ -19,10 +34,10 @@ returns-clause-within c =
       in_order = c.in_ok-in_order.ensures.within;
       empty_right = c.in_ok-empty_right.ensures.within;
       accepted = c.in_ok-accepted.ensures.within;
-      origin = c.origin_first.ensures.within;
+      origin = c.origin_of_first.ensures.within;
       named = c.named_first.ensures.within;
       overtaken = c.overtaken.ensures.within;
-      overtaker = c.overtaker_first.ensures.within;
+      overtaker = c.origin_of_first-2.ensures.within;
       waiting = c.waiting_beside.ensures.within;
       refused = c.in_ok-refused.ensures.within;
     }

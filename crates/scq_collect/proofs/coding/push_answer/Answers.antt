@@ -1,19 +1,19 @@
 -- What is pushed in seven steps is the answer's bytes.
 use Rattle.std.proofs.Common.{◌≡◌, ◌∙◌, ap, Bool, List, ℕ, ◌+◌, ◌*◌, ◌++◌, [], cond, length, arith}
-use Rattle.scq_collect.specs.Coding.{answer_bytes, body_bytes, number_bytes, part_bytes, step, topic_code}
-use Rattle.scq_collect.specs.PartViews.{part_of_view}
+use Rattle.scq_collect.specs.Coding.{answer_bytes, body_bytes, number_bytes, part_numbers, step, topic_code}
+use Rattle.scq_collect.specs.PartViews.{viewed_answer}
 use Rattle.scq_collect.proofs.CodingLaws.{in-two, pushed}
 use Rattle.scq_collect.proofs.coding.push_answer.Goals as goal
 
 pub returns-clause-bytes : goal.returns-clause-bytes
 unfolding answer_bytes body_bytes
 returns-clause-bytes c =
-    let a = part_of_view c.args.answer in
+    let a = viewed_answer c.args.answer in
     let items : List ℕ = c.args.block.now.items in
     let n1 : List ℕ = number_bytes (step c.args.before.0 a.file) in
     let n2 : List ℕ = number_bytes (step c.args.before.1 a.line) in
     let n3 : List ℕ = number_bytes (topic_code a) in
-    let n4 : List ℕ = part_bytes a in
+    let n4 : List ℕ = part_numbers a in
     let n5 : List ℕ = number_bytes a.bytes in
     let n6 : List ℕ = number_bytes (length a.text) in
     let code = c.topic_code.ensures ∙ ap (λ (b : Bool). 2 * a.topic + (cond b 0 1)) c.is_alone-alone.ensures in

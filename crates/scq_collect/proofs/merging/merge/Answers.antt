@@ -3,7 +3,7 @@ use Rattle.std.specs.List.{All}
 use Rattle.std.proofs.lemmas.Result.{IfOk-weaker}
 use Rattle.scq_collect.specs.declared.spots.Spot.{Spot}
 use Rattle.scq_collect.specs.Joined.{IsJoined, answers_of, without_way}
-use Rattle.scq_collect.specs.Merging.{IsInOrder, members_of, position_of_answer}
+use Rattle.scq_collect.specs.Merging.{StandInOrder, members_of, position_of_answer}
 use Rattle.scq_collect.specs.Output.{answer_of_whole, answers_to}
 use Rattle.scq_collect.specs.Spots.{plain, spot_answer}
 use Rattle.scq_collect.proofs.Merged.{merged-exactly, merged-one-thread}
@@ -30,7 +30,7 @@ returns-clause-joined c =
 
 pub returns-clause-in_order : goal.returns-clause-in_order
 returns-clause-in_order c whole =
-    IfOk-weaker c.wholes_of.result _ (λ wholes. IsInOrder position_of_answer (map answer_of_whole wholes.items))
+    IfOk-weaker c.wholes_of.result _ (λ wholes. StandInOrder position_of_answer (map answer_of_whole wholes.items))
     (λ wholes j. joined-in-order c.args.topics.now (members_of c.args.lists.now) (map answer_of_whole wholes.items) j whole) (returns-clause-joined c)
 
 pub returns-clause-exact : goal.returns-clause-exact

@@ -11,10 +11,10 @@ use Rattle.scq_topics.specs.declared.kind.Kind.{Kind}
 use Rattle.scq_word.specs.declared.NoMemory.{NoMemory}
 use Rattle.scq_collect.specs.declared.stretches.Stretch.{Stretch}
 use Rattle.scq_collect.specs.Output.{Answer, reply_line, total_lines}
-use Rattle.scq_collect.specs.Pieces.{AreStretchesOf, IsStretchOf, all_answers, bytes_of}
+use Rattle.scq_collect.specs.Pieces.{AreStretchesOf, IsStretchOf, all_answers, pieces_bytes}
 use Rattle.scq_collect.specs.Sums.{AreTotals}
 use Rattle.scq_collect.proofs.InChunks.{behind-front, flat-push, nothing-left}
-use Rattle.scq_collect.proofs.Stretched.{IsMade}
+use Rattle.scq_collect.proofs.Stretched.{WasMade}
 use Rattle.scq_collect.proofs.pieces.joined.Goals as goal
 
 -- the lists of the stretches so far, and that of the one that comes next
@@ -83,9 +83,9 @@ stretches-preserved c =
           omega arith;
       texts = λ lists are.
           let its = next lists are in
-          ap bytes_of c.push_reserved.ensures.items
+          ap pieces_bytes c.push_reserved.ensures.items
           ∙ flat-push (λ (t : Vec ℕ Global). t.items) at.texts.items text
-          ∙ ap (λ (last : List ℕ). bytes_of at.texts.items ++ last) its.is.piece.text
+          ∙ ap (λ (last : List ℕ). pieces_bytes at.texts.items ++ last) its.is.piece.text
           ∙ ap (λ (first : List ℕ). first ++ flat_map line its.answers) (at.invariant.texts lists are)
           ∙ sym (flat_map-append line (all_answers (take n lists)) its.answers)
           ∙ ap (flat_map line) (up lists are);
@@ -96,8 +96,8 @@ stretches-preserved c =
       few = λ lists are.
           let its = next lists are in
           omega (arith, ap length (up lists are), length-append (all_answers (take n lists)) its.answers, at.invariant.few lists are, its.is.few, sum);
-      made = All-append IsMade at.yielded (x ∷ []) at.invariant.made
-          (All-cons IsMade x [] (ap (λ (r : Result Stretch NoMemory). is_ok r) c.in_ok-stretch.was) (All-nil IsMade));
+      made = All-append WasMade at.yielded (x ∷ []) at.invariant.made
+          (All-cons WasMade x [] (ap (λ (r : Result Stretch NoMemory). is_ok r) c.in_ok-stretch.was) (All-nil WasMade));
       count = omega (arith, c.push_reserved.ensures.len, at.invariant.count, long);
       room = omega (arith, c.push_reserved.ensures.capacity, at.invariant.room);
     }
@@ -118,9 +118,9 @@ returns-clause-text c = λ lists are.
     let last : Vec ℕ Global = c.push_all_totals.new.text in
     let ends : last.items ≡ total_lines topics (all_answers lists) =
     c.in_ok-push_all_totals.ensures (all_answers lists) totals ∙ ap (λ (front : List ℕ). front ++ total_lines topics (all_answers lists)) c.new-last.ensures.items in
-    ap bytes_of c.in_ok-push.ensures.items
+    ap pieces_bytes c.in_ok-push.ensures.items
     ∙ flat-push (λ (t : Vec ℕ Global). t.items) at.texts.items last
-    ∙ ap (λ (more : List ℕ). bytes_of at.texts.items ++ more) ends
+    ∙ ap (λ (more : List ℕ). pieces_bytes at.texts.items ++ more) ends
     ∙ ap (λ (first : List ℕ). first ++ total_lines topics (all_answers lists))
     (at.invariant.texts lists are ∙ ap (λ (ls : List (List Answer)). flat_map line (all_answers ls)) whole)
 
@@ -131,4 +131,4 @@ returns-clause-made c =
     let empty : into_iter_items at.stretch-iterator ≡ [] = nothing-left _ (sym at.invariant.left ∙ none.0) in
     let same : at.yielded ≡ c.args.made.items =
     sym (append-nil at.yielded) ∙ rw empty at at.invariant.all ∙ c.into_iter-stretch-iterator.ensures.into_iter_gives.0 in
-    subst (All IsMade) same at.invariant.made
+    subst (All WasMade) same at.invariant.made

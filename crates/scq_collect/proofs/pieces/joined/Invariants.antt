@@ -3,9 +3,9 @@ use Rattle.std.specs.List.{All}
 use Rattle.std.specs.Prelude.{flat_map, vec_capacity, vec_len}
 use Rattle.std.specs.Vec.Iter.{into_iter_items, into_iter_len}
 use Rattle.scq_collect.specs.Output.{Answer, reply_line}
-use Rattle.scq_collect.specs.Pieces.{AreStretchesOf, all_answers, bytes_of}
+use Rattle.scq_collect.specs.Pieces.{AreStretchesOf, all_answers, pieces_bytes}
 use Rattle.scq_collect.specs.Sums.{AreTotals}
-use Rattle.scq_collect.proofs.Stretched.{IsMade}
+use Rattle.scq_collect.proofs.Stretched.{WasMade}
 use Rattle.scq_collect.proofs.pieces.joined.Given as goal
 
 -- the texts of the stretches so far, which were made, and the totals of their answers
@@ -14,12 +14,12 @@ invariant-stretches l = record {
   all : l.yielded ++ into_iter_items l.stretch-iterator ≡ into_iter_items l.initial.stretch-iterator;
   left : into_iter_len l.stretch-iterator ≡ length (into_iter_items l.stretch-iterator);
   texts : (lists : List (List Answer)) → AreStretchesOf l.topics lists l.fn.made.items
-      → bytes_of l.texts.items ≡ flat_map (reply_line l.topics) (all_answers (take (length l.yielded) lists));
+      → pieces_bytes l.texts.items ≡ flat_map (reply_line l.topics) (all_answers (take (length l.yielded) lists));
   totals : (lists : List (List Answer)) → AreStretchesOf l.topics lists l.fn.made.items
       → AreTotals l.totals (all_answers (take (length l.yielded) lists));
   few : (lists : List (List Answer)) → AreStretchesOf l.topics lists l.fn.made.items
       → length (all_answers (take (length l.yielded) lists)) ≤ l.parts;
-  made : All IsMade l.yielded;
+  made : All WasMade l.yielded;
   count : vec_len l.texts ≡ length l.yielded;
   room : into_iter_len l.initial.stretch-iterator ≤ vec_capacity l.texts;
 }

@@ -1,7 +1,7 @@
 -- What was put is what is found.
 use Rattle.std.proofs.Common.{◌≡◌, ◌∙◌, ℕ, List, Option, Some, None, arith}
 use Rattle.scq_collect.specs.Joined.{PartAnswer}
-use Rattle.scq_collect.specs.PartViews.{part_of_view}
+use Rattle.scq_collect.specs.PartViews.{viewed_answer}
 use Rattle.scq_collect.proofs.SpotLaws.{found, some-body, some-place}
 use Rattle.scq_collect.proofs.spots.next_spot.Goals as goal
 
@@ -20,5 +20,5 @@ returns-in_err-answer-clause-again c = λ answer rest fits its.
 
 pub returns-clause-again : goal.returns-clause-again
 returns-clause-again c = λ answer rest fits its.
-    found c.args.before answer c.args.bytes.now rest c.in_ok-place.place c.in_ok-place.body.now (part_of_view c.in_ok-answer.answer) c.in_ok-answer.behind.now
+    found c.args.before answer c.args.bytes.now rest c.in_ok-place.place c.in_ok-place.body.now (viewed_answer c.in_ok-answer.answer) c.in_ok-answer.behind.now
     (omega arith) (omega arith) fits its c.in_ok-place.ensures.read c.in_ok-answer.ensures.read

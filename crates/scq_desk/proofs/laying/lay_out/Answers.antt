@@ -6,7 +6,7 @@ use Rattle.scq_files.specs.Desks.{AreDealt, workers_at}
 use Rattle.scq_files.specs.OwnFiles.{IsNew}
 use Rattle.scq_files.specs.declared.desk.Desk.{Desk}
 use Rattle.scq_files.proofs.Lists.{written-back}
-use Rattle.scq_desk.specs.Seats.{IsFresh}
+use Rattle.scq_desk.specs.Seats.{IsToBegin}
 use Rattle.scq_desk.specs.declared.seat.Seat.{Seat}
 use Rattle.scq_desk.proofs.Settled.{all-same, pass_at, place-numbers, same-shown}
 use Rattle.scq_desk.proofs.laying.lay_out.Goals as goal
@@ -29,7 +29,7 @@ returns-clause-count g c =
 pub returns-clause-fresh : goal.returns-clause-fresh
 returns-clause-fresh g c =
     let at = (goal.at.returns-clause-fresh g c).After-deal in
-    let P : Seat _ Frame → Type 0 = IsFresh g.W.Sits.pass_of g.W.Sits.has_none c.args.queue.now in
+    let P : Seat _ Frame → Type 0 = IsToBegin g.W.Sits.pass_of g.W.Sits.has_none c.args.queue.now in
     subst (λ (ds : List (Desk (Seat _ Frame) _)). All (λ d. P d.worker) ds) (sym (whole g at))
     (all-same P c.make_desks.new.desks.items c.deal.new.desks (sym (same g at)) c.make_desks.ensures.fresh)
 

@@ -9,7 +9,7 @@ use Rattle.scq_files.specs.declared.desk.Desk.{Desk}
 use Rattle.scq_files.proofs.Lists.{all-front, all-last}
 use Rattle.scq_passes.proofs.FirstPasses.{first-length, pass-at}
 use Rattle.scq_passes.proofs.Parting.{turned}
-use Rattle.scq_desk.specs.Seats.{IsFresh}
+use Rattle.scq_desk.specs.Seats.{IsToBegin}
 use Rattle.scq_desk.specs.declared.seat.Seat.{Seat}
 use Rattle.scq_desk.proofs.making.make_desks.Goals as goal
 
@@ -21,7 +21,7 @@ passes-init g c =
     let none = c.requires.none in
     let long : length all ≡ c.args.queue.now.setup.seats = ap length c.requires.new ∙ first-length c.args.queue.now c.args.queue.now.setup.seats in
     let ok = c.args.passes.ok.0 in
-    let Fresh : D → Type 0 = λ d. IsFresh g.W.Sits.pass_of g.W.Sits.has_none c.args.queue.now d.worker in
+    let Fresh : D → Type 0 = λ d. IsToBegin g.W.Sits.pass_of g.W.Sits.has_none c.args.queue.now d.worker in
     let Empty : D → Type 0 = λ d. (d.files.items ≡ []) × (vec_len d.files ≡ 0) × (c.args.files ≤ vec_capacity d.files) in
     record {
       passes = rw (none, back) refl;
@@ -54,7 +54,7 @@ passes-preserved g c =
     ap (λ (l : List (PassStanding Frame)). front ++ l) (sym (turned c.passes.passes.items rest pass c.in-Some.ensures.items)) ∙ inv.passes in
     let at : pass ≡ first_pass queue (length front) = pass-at queue queue.setup.seats front (reverse rest) pass (whole ∙ c.requires.new) in
     let number : length front ≡ (pass_of desk).number = sym (ap (λ (p : PassStanding Frame). p.number) (begun.pass ∙ at)) in
-    let Fresh : D → Type 0 = λ d. IsFresh g.W.Sits.pass_of g.W.Sits.has_none queue d.worker in
+    let Fresh : D → Type 0 = λ d. IsToBegin g.W.Sits.pass_of g.W.Sits.has_none queue d.worker in
     let Empty : D → Type 0 = λ d. (d.files.items ≡ []) × (vec_len d.files ≡ 0) × (c.args.files ≤ vec_capacity d.files) in
     let IsFree : _ → Type 0 = λ list. (list.items ≡ []) × (vec_len list ≡ 0) × (c.args.files ≤ vec_capacity list) in
     let free = subst (All IsFree) c.in-Some-pop.ensures.items inv.free in

@@ -1,7 +1,7 @@
 use Rattle.std.proofs.Common.{◌≡◌, ◌+◌, ◌≤◌, ◌++◌, [], map}
 use Rattle.std.specs.Prelude.{vec_len, vec_capacity, reverse}
 use Rattle.std.specs.List.{All}
-use Rattle.scq_desk.specs.Seats.{IsFresh}
+use Rattle.scq_desk.specs.Seats.{IsToBegin}
 use Rattle.scq_desk.proofs.making.make_desks.Given as goal
 
 -- the passes of the desks so far and those that are left, in order, are those of the queue
@@ -11,7 +11,7 @@ invariant-passes g l = record {
   lists : vec_len l.lists ≡ vec_len l.passes;
   count : vec_len l.desks + vec_len l.passes ≡ vec_len l.fn.passes;
   room : vec_len l.desks + vec_len l.passes ≤ vec_capacity l.desks;
-  fresh : All (λ d. IsFresh g.W.Sits.pass_of g.W.Sits.has_none l.queue d.worker) l.desks.items;
+  fresh : All (λ d. IsToBegin g.W.Sits.pass_of g.W.Sits.has_none l.queue d.worker) l.desks.items;
   free : All (λ list. (list.items ≡ []) × (vec_len list ≡ 0) × (l.files ≤ vec_capacity list)) l.lists.items;
   empty : All (λ d. (d.files.items ≡ []) × (vec_len d.files ≡ 0) × (l.files ≤ vec_capacity d.files)) l.desks.items;
 }

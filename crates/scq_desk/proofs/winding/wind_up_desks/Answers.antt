@@ -68,7 +68,7 @@ pub merge-requires : goal.merge-requires
 merge-requires g c =
     let given = c.args.queue.given in
     let back = c.close-buffers.result.buffers.items in
-    let same = c.close-buffers.ensures.buffers in
+    let same = c.close-buffers.ensures.back.buffers in
     all_from_same c.args.block given back c.requires.all same.0
     (λ k d less. same.1 k (slice_index_or given k d) (slice_index_or back k d) (slice_get-get_or given k d less)
     (slice_get-get_or back k d (omega (arith, less, same.0))))
@@ -115,15 +115,15 @@ returns-clause-lists g c =
 pub returns-clause-passes : goal.returns-clause-passes
 returns-clause-passes g c =
     let its = passes g (goal.at.returns-clause-passes g c).After-clear in
-    (c.close-buffers.ensures.passes ∙ its, ap (λ v. v.items) c.of-closing.ensures ∙ its)
+    (c.close-buffers.ensures.back.passes ∙ its, ap (λ v. v.items) c.of-closing.ensures ∙ its)
 
 pub returns-clause-counts : goal.returns-clause-counts
 returns-clause-counts g c =
-    c.close-buffers.ensures.counts ∙ ap (map (λ (p : PassStanding Frame). counts_of (lists_of p))) (sym c.close-buffers.ensures.passes)
+    c.close-buffers.ensures.back.counts ∙ ap (map (λ (p : PassStanding Frame). counts_of (lists_of p))) (sym c.close-buffers.ensures.back.passes)
 
 pub returns-clause-saw : goal.returns-clause-saw
 returns-clause-saw g c =
-    c.close-buffers.ensures.saw ∙ ap (λ v. map (λ (p : PassStanding Frame). was_told p.gate) v.items) (sym c.of-closing.ensures)
+    c.close-buffers.ensures.back.saw ∙ ap (λ v. map (λ (p : PassStanding Frame). was_told p.gate) v.items) (sym c.of-closing.ensures)
 
 pub returns-clause-closed : goal.returns-clause-closed
 returns-clause-closed g c =
@@ -139,13 +139,13 @@ returns-clause-closed g c =
     (subst (λ hs. Closed their hs back) (held g at)
     (subst (λ ps. Closed ps c.clear.new.left.held.items back) (passes g at) (record {
       run = close.run;
-      back = close.buffers;
-      takes = close.takes;
-      sent_once = close.sent_once;
-      taken_once = close.taken_once;
-      balance = close.balance;
-      passed = close.passed;
-      fulls = close.fulls;
-      limits = close.limits;
-      all_there = close.all_there;
+      back = close.back.buffers;
+      takes = close.sent.takes;
+      sent_once = close.sent.sent_once;
+      taken_once = close.sent.taken_once;
+      balance = close.sent.balance;
+      passed = close.sent.passed;
+      fulls = close.sent.fulls;
+      limits = close.spent.limits;
+      all_there = close.values.all_there;
     })))

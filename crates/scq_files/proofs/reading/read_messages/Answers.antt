@@ -9,7 +9,7 @@ use Rattle.scq_files.specs.Given.{given_in}
 use Rattle.scq_files.specs.Reading.{IsRead}
 use Rattle.scq_frames.specs.declared.fault.FrameFault.TheVariants.{NoMemory}
 use Rattle.scq_files.specs.declared.own_file.FileEnd.TheVariants.{Stopped}
-use Rattle.scq_files.proofs.ReadLemmas.{IsReading, Answers, reading-next, reading-whole, reading-fault, reading-left}
+use Rattle.scq_files.proofs.ReadLemmas.{FileIsBeingRead, Answers, reading-next, reading-whole, reading-fault, reading-left}
 use Rattle.scq_files.proofs.Wants.{wants-none, wants-more}
 use Rattle.scq_files.proofs.reading.read_messages.Goals as goal
 use Rattle.scq_files.proofs.reading.read_messages.Goals.{After-next, After-handle_one}
@@ -19,19 +19,19 @@ said : (g : _) (c : After-next g) → Answers g.S.Source c.messages.source c.nex
 said g c =
     let its = c.next.ensures in
     record {
-      file = its.limits.0;
-      payload = its.limits.1;
-      most = its.limits.2;
-      bounded = its.bounded;
-      end = its.end;
-      stays = λ h. (its.ended h).1;
-      size_same = its.size;
-      once = its.ends;
+      file = its.goes_on.file;
+      payload = its.goes_on.payload;
+      most = its.goes_on.most;
+      bounded = its.goes_on.bounded;
+      end = its.source.end;
+      stays = λ h. (its.source.stays h).1;
+      size_same = its.source.size;
+      once = its.source.once;
     }
 
 -- with the message that it gave
 reading : (g : _) (c : After-handle_one g) → Answers g.S.Source c.messages.source c.next.new.source c.messages.framer c.next.new.self
-    → IsReading c.args.topics.now c.args.longest g.S.Source c.args.file c.args.source.now c.next.new.source
+    → FileIsBeingRead c.args.topics.now c.args.longest g.S.Source c.args.file c.args.source.now c.next.new.source
     c.next.new.self (given_in c.give.new.given.value)
 reading g c answer =
     let m = c.in-Ok-Some.message in
@@ -43,20 +43,16 @@ reading g c answer =
     let ahead = visible_ahead (topic_of topics) c.messages.framer (left c.messages.source) in
     let after = visible_ahead (topic_of topics) c.next.new.self (left c.next.new.source) in
     let G : Option Message → Type 0 = λ given. ahead ≡ option_map (λ rest. option_to_list given ++ rest) after in
-    let X : Option Message → Type 0 = λ given. IfSome given (IsNext c.messages.framer c.next.new.self) in
-    let T : Option Message → Type 0 = λ given. IfSome given (λ x. x.topic ≤ length topics) in
+    let X : Option Message → Type 0 = λ given. IfSome given (IsNext (length topics) c.messages.framer c.next.new.self) in
     let F : Option Message → Type 0 = λ given. Found c.messages.framer c.next.new.self (left c.messages.source) (left c.next.new.source) (Ok given) in
-    let gives : ahead ≡ option_map (λ rest. (m ∷ []) ++ rest) after = subst G is its.gives in
-    let next : IsNext c.messages.framer c.next.new.self m = subst X is its.next in
-    let S : Option Message → Type 0 = λ given. IfSome given (λ x. length x.payload ≤ c.messages.framer.size) in
-    let fits : length m.payload ≤ c.messages.framer.size = subst S is its.fits in
-    let known : m.topic ≤ length topics = subst T is its.topic in
+    let gives : ahead ≡ option_map (λ rest. (m ∷ []) ++ rest) after = subst G is its.gives.gives in
+    let next : IsNext (length topics) c.messages.framer c.next.new.self m = subst X is its.next in
     let found : Found c.messages.framer c.next.new.self (left c.messages.source) (left c.next.new.source) (Ok (Some m)) = subst F is its.found in
     reading-next c.args.topics.now c.args.longest g.S.Source c.args.file start c.messages.source
     c.next.new.source
     c.messages.framer c.next.new.self
-    (given_in c.messages.given.value) (given_in c.give.new.given.value) m c.messages.invariant.reading answer gives next known fits found its.failed
-    (its.kept (λ e. absurd (cc))) c.give.ensures
+    (given_in c.messages.given.value) (given_in c.give.new.given.value) m c.messages.invariant.reading answer gives next found its.goes_on.failed
+    (its.source.faults.kept (λ e. absurd (cc))) c.give.ensures
 
 -- it is handled behind the others
 handled-next : (g : _) (c : After-handle_one g)
@@ -100,7 +96,7 @@ pub messages-preserved : goal.messages-preserved
 messages-preserved g c =
     let its = c.in_ok-handle_one-in-Ok-Some.ensures in
     record {
-      reading = subst (λ framer. IsReading c.args.topics.now c.args.longest g.S.Source c.args.file c.args.source.now c.next.new.source framer
+      reading = subst (λ framer. FileIsBeingRead c.args.topics.now c.args.longest g.S.Source c.args.file c.args.source.now c.next.new.source framer
           (given_in c.give.new.given.value)) (sym (c.reuse.ensures.same ∙ c.may_wait.ensures.same))
           (reading g (goal.at.messages-preserved g c).After-handle_one (said g (goal.at.messages-preserved g c).After-next));
       ready = g.met.H.Handler.stays_ready _ _ _ _ _ _ c.messages.invariant.ready its.handled;
@@ -117,14 +113,14 @@ returns-in-Ok-None-clause-read g c =
     let N : Option Message → Type 0 = λ given. IfNone given (ahead ≡ option_map (λ _. []) (left c.messages.source)) in
     let O : Option Message → Type 0 = λ given. IfNone given (IsTrue c.next.new.self.ended × (c.next.new.self.held ≡ [])) in
     let F : Option Message → Type 0 = λ given. Found c.messages.framer c.next.new.self (left c.messages.source) (left c.next.new.source) (Ok given) in
-    let none_ : ahead ≡ option_map (λ _. []) (left c.messages.source) = subst N is its.none in
-    let over : IsTrue c.next.new.self.ended × (c.next.new.self.held ≡ []) = subst O is its.over in
+    let none_ : ahead ≡ option_map (λ _. []) (left c.messages.source) = subst N is its.gives.none in
+    let over : IsTrue c.next.new.self.ended × (c.next.new.self.held ≡ []) = subst O is its.gives.over in
     let found : Found c.messages.framer c.next.new.self (left c.messages.source) (left c.next.new.source) (Ok None) = subst F is its.found in
     reading-whole c.args.topics.now c.args.longest g.S.Source c.args.file c.args.source.now c.messages.source
     c.next.new.source c.messages.framer
     c.next.new.self (given_in c.messages.given.value) c.messages.invariant.reading (said g (goal.at.returns-in-Ok-None-clause-read g c).After-next) none_
     found over.0
-    (its.kept (λ e. absurd (cc)))
+    (its.source.faults.kept (λ e. absurd (cc)))
 
 pub returns-in-Err-clause-read : goal.returns-in-Err-clause-read
 returns-in-Err-clause-read g c =
@@ -135,8 +131,8 @@ returns-in-Err-clause-read g c =
     c.next.new.source c.messages.framer
     c.next.new.self (given_in c.messages.given.value) fault c.messages.invariant.reading (said g (goal.at.returns-in-Err-clause-read g c).After-next)
     c.in-Err.ensures.found
-    (λ e. its.read_fault (is ∙ ap Err e)) (λ e. its.going (is ∙ ap Err e)) (λ other. its.kept (λ e. other (cc)))
-    (λ line len e. its.too_long line len (is ∙ ap Err e)) (λ n e. its.too_large n (is ∙ ap Err e))
+    (λ e. its.source.faults.rose (is ∙ ap Err e)) (λ e. its.source.going (is ∙ ap Err e)) (λ other. its.source.faults.kept (λ e. other (cc)))
+    c.in-Err.ensures.fault.too_long c.in-Err.ensures.fault.too_large
 
 -- memory was wanted at this message, if at all
 pub returns-in_err-handle_one-in-Ok-Some-clause-wanted : goal.returns-in_err-handle_one-in-Ok-Some-clause-wanted

@@ -1,7 +1,7 @@
 use Rattle.std.proofs.Common.{◌↔◌, IsTrue, slice_get, ◌≡◌, ℕ, Bool, true, false, not, is_some, List, Option, Some, None, subst, ap, ◌∙◌, refl}
 use Rattle.std.proofs.lemmas.Option.{slice_get_read}
 use Rattle.scq_hist.specs.Calls.{under_way}
-use Rattle.scq_hist.specs.Aspects.{Suits, IsLawfulAt}
+use Rattle.scq_hist.specs.Aspects.{SuitsCall, IsLawfulAt}
 use Rattle.scq_hist.specs.Lookups.{HasUnderWay}
 use Rattle.scq_hist.specs.declared.events.Call.{Call}
 use Rattle.scq_hist.specs.declared.events.Event.{Event}
@@ -20,12 +20,12 @@ start_lawful_at : (events : List Event) (i seat : ℕ) (call : Call) (b : Bool) 
 start_lawful_at events i seat call b at h = rw at (none_iff _ b h)
 
 end_lawful_at : (events : List Event) (i seat s : ℕ) (call : Call) (reply : Reply) (b : Bool) → slice_get events i ≡ Some (End seat reply)
-    → HasUnderWay events seat i s call → (IsTrue b ↔ Suits call reply)
+    → HasUnderWay events seat i s call → (IsTrue b ↔ SuitsCall call reply)
     → IsTrue b ↔ IsLawfulAt events i (slice_get events i)
 end_lawful_at events i seat s call reply b at w h = rw at (
   λ t. record { s = s; call = call; is_call = record { starts = w.starts; under_way_till = w.is; ends = at }; suits = h.0 t },
   λ a. let e = w.is in let e2 = a.is_call.under_way_till in let e3 = w.starts in let e4 = a.is_call.starts in
-      h.1 (subst (λ z. Suits z reply) (let same : a.call ≡ call = cc in same) a.suits),
+      h.1 (subst (λ z. SuitsCall z reply) (let same : a.call ≡ call = cc in same) a.suits),
 )
 
 nothing_lawful_at : (events : List Event) (i seat : ℕ) (reply : Reply) → slice_get events i ≡ Some (End seat reply)

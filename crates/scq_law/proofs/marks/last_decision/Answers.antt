@@ -9,8 +9,7 @@ use Rattle.scq_law.proofs.marks.last_decision.Goals as goal
 
 pub returns-then-after-eq0 : goal.returns-then-after-eq0
 returns-then-after-eq0 c =
-    λ rise.
-    let ends : Ends c.args.decisions.now c.args.place c.partition_point-after.result =
+    λ rise. let ends : Ends c.args.decisions.now c.args.place c.partition_point-after.result =
     c.partition_point-after.ensures.partitioned (λ (d : Decision). nat_le d.head c.args.place) (always_returns_same _ _ _ (λ a r f' k. search rules))
     (IsPartitionedBy-leb (λ (d : Decision). d.head) c.args.decisions.now c.args.place rise.heads) in
     mark_first c.args.decisions.now c.args.first c.args.place
@@ -18,8 +17,7 @@ returns-then-after-eq0 c =
 
 pub returns-else-after-eq0 : goal.returns-else-after-eq0
 returns-else-after-eq0 c =
-    λ rise.
-    let ends : Ends c.args.decisions.now c.args.place c.partition_point-after.result =
+    λ rise. let ends : Ends c.args.decisions.now c.args.place c.partition_point-after.result =
     c.partition_point-after.ensures.partitioned (λ (d : Decision). nat_le d.head c.args.place) (always_returns_same _ _ _ (λ a r f' k. search rules))
     (IsPartitionedBy-leb (λ (d : Decision). d.head) c.args.decisions.now c.args.place rise.heads) in
     subst (λ (n : ℕ). IsPutMark c.args.decisions.now c.args.first c.args.place n) (sym c.max.ensures)

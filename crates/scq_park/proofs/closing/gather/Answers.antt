@@ -3,7 +3,7 @@ use Rattle.std.proofs.lemmas.List.{reverse-append, reverse-reverse}
 use Rattle.std.proofs.lemmas.List.Elements.{All-cons, All-head, All-tail}
 use Rattle.atomic_table.specs.Seated.{TableId}
 use Rattle.scq_park.specs.Crews.{Post}
-use Rattle.scq_park.specs.Kept.{Tally, parkers_of, with_row, gathered, told, told_by}
+use Rattle.scq_park.specs.Kept.{ParkerDeeds, parkers_of, with_row, gathered, told, told_by_post}
 use Rattle.scq_park.proofs.Ends.{are_for, row_parkers, row_has_parts, told_more, told_stand, wide_post}
 use Rattle.scq_park.proofs.closing.gather.Goals as goal
 
@@ -14,7 +14,7 @@ loop-stand-init c =
       subst (λ (ps : List Post). All (λ (p : Post). p.crew ≡ parkers_of ws) ps) (sym whole) c.requires.crew,
       c.requires.parts,
       ap (λ (ps : List Post). gathered ws ps) whole,
-      ap (λ (os : List Tally). map told os ++ map told_by (reverse c.reverse.new.self.items)) c.requires.empty ∙ ap (λ (ps : List Post). map told_by ps) whole,
+      ap (λ (os : List ParkerDeeds). map told os ++ map told_by_post (reverse c.reverse.new.self.items)) c.requires.empty ∙ ap (λ (ps : List Post). map told_by_post ps) whole,
       search rules,
       λ all. subst (λ (ps : List Post). All (λ (p : Post). length p.wakes ≡ length p.crew) ps) whole all,
     )
@@ -46,11 +46,11 @@ loop-stand-preserved c =
     let wide = wide_post c.stand.inside.worker c.stand.inside.sleeper c.stand.inside.links.items stand c.stand.view_is in (
       subst (λ (ts : List TableId). All (λ (p : Post). p.crew ≡ ts) (reverse left)) (sym parkers)
           (All-tail (λ (p : Post). p.crew ≡ parkers_of ws) stand (reverse left) all),
-      subst (λ (xs : List Tally). All (λ (w : Tally). 0 < w.deeds.parts) xs) (sym row) (row_has_parts ws stand.wakes inv.1),
-      ap (λ (xs : List Tally). gathered xs (reverse left)) row ∙ ap (λ (ps : List Post). gathered ws ps) (sym turned) ∙ inv.2,
-      told_more c.push_reserved.new.self.items c.loop-stand.owns.items c.into_pass.result stand (reverse left) (map told_by c.args.stands.items)
+      subst (λ (xs : List ParkerDeeds). All (λ (w : ParkerDeeds). 0 < w.deeds.parts) xs) (sym row) (row_has_parts ws stand.wakes inv.1),
+      ap (λ (xs : List ParkerDeeds). gathered xs (reverse left)) row ∙ ap (λ (ps : List Post). gathered ws ps) (sym turned) ∙ inv.2,
+      told_more c.push_reserved.new.self.items c.loop-stand.owns.items c.into_pass.result stand (reverse left) (map told_by_post c.args.stands.items)
           c.push_reserved.ensures.items owned
-          (ap (λ (ps : List Post). map told c.loop-stand.owns.items ++ map told_by ps) (sym turned) ∙ inv.3),
+          (ap (λ (ps : List Post). map told c.loop-stand.owns.items ++ map told_by_post ps) (sym turned) ∙ inv.3),
       (let room = inv.4 in
           let less = c.in-Some.ensures.len in
           let more = c.push_reserved.ensures.len in

@@ -4,7 +4,7 @@ use Rattle.std.proofs.lemmas.List.{reverse-append}
 use Rattle.atomic_table.specs.Seated.{TableId}
 use Rattle.scq_park.specs.Rule.{deeds}
 use Rattle.scq_park.specs.Crews.{Post, first_post, first_posts}
-use Rattle.scq_park.specs.Kept.{Tally, parkers_of, post_of, IsStand}
+use Rattle.scq_park.specs.Kept.{ParkerDeeds, parkers_of, post_of, IsStand}
 use Rattle.scq_park.proofs.Rows.{links_from, next_link, new_stand, new_post, less_parkers, less_parts}
 use Rattle.scq_park.proofs.making.stands_of.Goals as goal
 
@@ -20,7 +20,7 @@ invariant_of-push_reserved c =
     let next = next_link n ws own (reverse left) (sym (ap reverse c.in-Some.ensures.items ∙ reverse-append left (own ∷ [])) ∙ inv.3) in
     let place : slice_get (parkers_of now) worker ≡ Some own.parker =
     ap (λ (ts : List TableId). slice_get ts worker) inv.0 ∙ ap (λ (k : ℕ). slice_get (parkers_of ws) k) c.len-worker.ensures ∙ next.place in
-    subst (λ (ls : List Tally). IsStand worker own ls) (sym c.in_ok-links.ensures.row) (new_stand worker own now place next.one)
+    subst (λ (ls : List ParkerDeeds). IsStand worker own ls) (sym c.in_ok-links.ensures.row) (new_stand worker own now place next.one)
 
 pub loop-sleeper-preserved : goal.loop-sleeper-preserved
 loop-sleeper-preserved c =
@@ -38,12 +38,12 @@ loop-sleeper-preserved c =
     let many : m ≡ suc n = let more = c.push_reserved.ensures.len in omega arith in
     let fewer : 8191 - m ≡ 8191 - n - 1 = omega (arith, many) in
     let one : post_of worker own links ≡ first_post ts n =
-    ap (λ (ls : List Tally). post_of worker own ls) c.in_ok-links.ensures.row
+    ap (λ (ls : List ParkerDeeds). post_of worker own ls) c.in_ok-links.ensures.row
     ∙ new_post worker own now next.one
     ∙ ap (λ (us : List TableId). first_post us worker) inv.0
     ∙ ap (λ (k : ℕ). first_post ts k) c.len-worker.ensures in (
       ap parkers_of c.in_ok-links.ensures.wakers ∙ less_parkers now ∙ inv.0,
-      subst (λ (xs : List Tally). All (λ (w : Tally). w.deeds ≡ deeds (8191 - m) 0 0) xs) (sym c.in_ok-links.ensures.wakers)
+      subst (λ (xs : List ParkerDeeds). All (λ (w : ParkerDeeds). w.deeds ≡ deeds (8191 - m) 0 0) xs) (sym c.in_ok-links.ensures.wakers)
           (less_parts (8191 - m) (8191 - n) now fewer inv.1),
       c.push_reserved.ensures.items
           ∙ ap (λ (ps : List Post). ps ++ post_of worker own links ∷ []) inv.2

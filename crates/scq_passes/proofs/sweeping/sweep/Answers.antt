@@ -2,7 +2,7 @@ use Rattle.std.proofs.Common.{rules, ◌≡◌, ◌∙◌, ap, sym, subst, arith
 use Rattle.std.proofs.lemmas.Bool.{cases_lt, cases_Bool}
 use Rattle.std.specs.Prelude.{IfErr, Result, Err}
 use Rattle.scq_queue.specs.Passes.{PassStanding}
-use Rattle.scq_passes.specs.Leaving.{EndsAtEmpty, FoundTopicEmpty}
+use Rattle.scq_passes.specs.Leaving.{EndsAtEmpty, MetTopicEmpty}
 use Rattle.scq_passes.proofs.InRun.{only-from, only-found}
 use Rattle.scq_passes.proofs.PassLemmas.{suits-taken, taken-nothing, taken-along, left-falls, left-falls-at, empty-more}
 use Rattle.scq_passes.proofs.Sweeps.{found-earlier, found-later}
@@ -49,7 +49,7 @@ swept-preserved g c =
           | inl before ↦ found-later t p q r (inv.emptied.found t before) more
           | inr from ↦
               let same : c.swept.topic ≡ t = omega (arith, low, from) in
-              subst (λ u. FoundTopicEmpty u p r) same (found-earlier c.swept.topic p q r inv.taken its.emptied.found)
+              subst (λ u. MetTopicEmpty u p r) same (found-earlier c.swept.topic p q r inv.taken its.emptied.found)
         ];
         vain = omega (arith, inv.emptied.vain, its.emptied.vain);
         last = λ t is. subst (λ u. EndsAtEmpty u r) (omega (arith, is)) its.emptied.last;

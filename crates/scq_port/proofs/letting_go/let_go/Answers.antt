@@ -3,8 +3,8 @@ use Rattle.std.specs.Prelude.{Option}
 use Rattle.scq_queue.specs.Passes.{PassStanding}
 use Rattle.scq_queue.proofs.HeldOnce.{put_refused}
 use Rattle.scq_port.specs.declared.port_buffer.PortBuffer.{PortBuffer}
-use Rattle.scq_port.specs.Calls.{HasEnded}
-use Rattle.scq_port.specs.Ports.{PortQueue, Value, bytes_of}
+use Rattle.scq_port.specs.Calls.{HasPassEnded}
+use Rattle.scq_port.specs.Ports.{PortQueue, Value, buffer_bytes}
 use Rattle.scq_port.specs.Kept.{LetsGo}
 use Rattle.scq_port.proofs.Going.{Goes, begins, skips, holds_last, gives, ends, goes_first, goes_past, goes_back, ends_refused, ends_all}
 use Rattle.scq_port.proofs.Records.{unspent}
@@ -35,17 +35,16 @@ returns-in-Err c =
     let ticket = c.in-Err.field-0-1.ticket in
     record {
       ended =
-          subst (λ (p : PassStanding PortBuffer). HasEnded (record { pass = first; slots = all; hold = c.args.hand.hold }) p) (sym c.of.ensures)
+          subst (λ (p : PassStanding PortBuffer). HasPassEnded (record { pass = first; slots = all; hold = c.args.hand.hold }) p) (sym c.of.ensures)
           (ends_refused all left h first c.loop-slot.pass c.give_back.new.pass ticket c.args.hand.hold
           (subst (λ (l : List (Option Value)). Goes all first l c.loop-slot.pass) last c.loop-slot.invariant.1)
           (λ none. (
-            (c.in-Err.ensures.spent none).0,
-            subst (λ (q : PortQueue). q.setup.limit ≤ ticket) (sym c.requires.kept.own) (c.in-Err.ensures.spent none).1,
+            (c.in-Err.ensures.spent.drawn none).0,
+            subst (λ (q : PortQueue). q.setup.limit ≤ ticket) (sym c.requires.kept.own) (c.in-Err.ensures.spent.drawn none).1,
           )) (λ t some. (c.in-Err.ensures.kept t some).1));
       left = sym c.of.ensures;
       own =
-          let alike = put_refused 0 ticket c.loop-slot.pass c.give_back.new.pass (λ none. (c.in-Err.ensures.spent none).0)
-          (λ t some. (c.in-Err.ensures.kept t some).1) in
+          let alike = put_refused c.loop-slot.pass c.give_back.new.pass c.in-Err.ensures.kept 0 ticket c.in-Err.ensures.spent in
           record { own = alike.queue ∙ c.loop-slot.invariant.0.own; number = alike.number ∙ c.loop-slot.invariant.2 };
     }
 
@@ -58,7 +57,7 @@ loop-slot-preserved-in_default-give_back c =
     let last = c.in-Some.ensures.items ∙ ap (λ (o : Option Value). left ++ o ∷ []) c.in-Some-slot.is in
     let given = c.in_default-give_back.ensures.given in
     let none = unspent c.loop-slot.pass.spent (λ t some. let no = (c.in_default-give_back.ensures.kept t some).0 in cc) in (
-      gives c.args.queue.now c.loop-slot.pass c.give_back.new.pass left h given.place (bytes_of h.buffer)
+      gives c.args.queue.now c.loop-slot.pass c.give_back.new.pass left h given.place (buffer_bytes h.buffer)
           (subst (λ (l : List (Option Value)). LetsGo c.args.queue.now c.loop-slot.pass l) last c.loop-slot.invariant.0) given.pass,
       goes_back all left h first c.loop-slot.pass c.give_back.new.pass
           (subst (λ (l : List (Option Value)). Goes all first l c.loop-slot.pass) last c.loop-slot.invariant.1) none given,
@@ -84,7 +83,7 @@ returns c =
     let none = ends c.args.queue.now c.loop-slot.pass c.loop-slot.slots.items c.loop-slot.invariant.0 empty in
     record {
       ended =
-          subst (λ (p : PassStanding PortBuffer). HasEnded (record { pass = c.args.pass; slots = c.args.hand.slots.items; hold = c.args.hand.hold }) p) (sym c.of-2.ensures)
+          subst (λ (p : PassStanding PortBuffer). HasPassEnded (record { pass = c.args.pass; slots = c.args.hand.slots.items; hold = c.args.hand.hold }) p) (sym c.of-2.ensures)
           (ends_all c.args.hand.slots.items c.loop-slot.slots.items c.args.pass c.loop-slot.pass c.args.hand.hold c.loop-slot.invariant.1 empty
           (λ unspent. none));
       left = sym c.of-2.ensures;

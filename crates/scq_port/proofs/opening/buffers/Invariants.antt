@@ -1,12 +1,12 @@
 use Rattle.std.proofs.Common.{◌≡◌, ◌≤◌, ◌-◌, map}
 use Rattle.std.specs.Prelude.{vec_len, vec_capacity}
 use Rattle.scq_port.specs.Numbers.{numbers_below}
-use Rattle.scq_port.specs.Ports.{bytes_of}
+use Rattle.scq_port.specs.Ports.{buffer_bytes}
 use Rattle.scq_port.proofs.opening.buffers.Given as goal
 
 abbrev pub invariant-loop-made : goal.invariant-loop-made
 invariant-loop-made l =
-    (map bytes_of l.made.items ≡ numbers_below (vec_len l.made)) × (vec_len l.made ≤ l.count) × (l.count ≤ vec_capacity l.made)
+    (map buffer_bytes l.made.items ≡ numbers_below (vec_len l.made)) × (vec_len l.made ≤ l.count) × (l.count ≤ vec_capacity l.made)
 
 abbrev pub decreases-loop-made : goal.decreases-loop-made
 decreases-loop-made l = l.count - vec_len l.made

@@ -3,7 +3,7 @@ use Rattle.scq_word.specs.Sizes.{n_of}
 use Rattle.scq_queue.specs.Passes.{PassStanding}
 use Rattle.scq_port.specs.declared.port_buffer.PortBuffer.{PortBuffer}
 use Rattle.scq_port.specs.Numbers.{numbers_below}
-use Rattle.scq_port.specs.Ports.{bytes_of}
+use Rattle.scq_port.specs.Ports.{buffer_bytes}
 use Rattle.scq_port.specs.Calls.{AreOpened, new_port}
 use Rattle.scq_port.proofs.Opened.{if_ok}
 use Rattle.scq_port.proofs.opening.open.Goals as goal
@@ -15,7 +15,7 @@ returns c =
       queue = c.in-Ok.queue;
       setup = made.queue.0;
       buffers =
-          ap (λ (l : List PortBuffer). map bytes_of l) made.queue.1 ∙ c.in_ok-buffers.ensures.numbers
+          ap (λ (l : List PortBuffer). map buffer_bytes l) made.queue.1 ∙ c.in_ok-buffers.ensures.numbers
           ∙ ap numbers_below (c.n.ensures ∙ ap n_of c.shape.ensures);
       ports = is ∙ ap (λ (l : List (PassStanding PortBuffer)). map (new_port c.args.hold) l) made.passes;
     }) c.ports_of.ensures

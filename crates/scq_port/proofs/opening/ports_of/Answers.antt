@@ -6,7 +6,7 @@ use Rattle.scq_queue.specs.Passes.{PassStanding}
 use Rattle.scq_port.specs.declared.port_buffer.PortBuffer.{PortBuffer}
 use Rattle.scq_port.specs.Ports.{PortStanding}
 use Rattle.scq_port.specs.Calls.{new_port}
-use Rattle.scq_port.specs.Kept.{IsFresh}
+use Rattle.scq_port.specs.Kept.{HoldsNothing}
 use Rattle.scq_port.proofs.Opened.{all_fresh, all_last, all_others, one_more, next_number, first_passes_length}
 use Rattle.scq_port.proofs.opening.ports_of.Goals as goal
 
@@ -17,7 +17,7 @@ loop-pass-init c =
       ap (λ (l : List PortStanding). l ++ map (new_port c.args.hold) (reverse c.reverse.new.self.items)) c.in_ok-ports.ensures.items
           ∙ ap (λ (l : List (PassStanding PortBuffer)). map (new_port c.args.hold) (reverse l)) turned
           ∙ ap (λ (l : List (PassStanding PortBuffer)). map (new_port c.args.hold) l) (reverse-reverse c.args.passes.items),
-      subst (λ (l : List (PassStanding PortBuffer)). All (IsFresh queue) l)
+      subst (λ (l : List (PassStanding PortBuffer)). All (HoldsNothing queue) l)
           (ap (λ (l : List (PassStanding PortBuffer)). reverse l) (sym c.requires.passes) ∙ sym turned) (all_fresh queue c.args.setup.seats),
       let none : length c.in_ok-ports.ports.items ≡ 0 = ap length c.in_ok-ports.ensures.items in
           omega (arith, none, c.reverse.ensures.len, c.args.passes.ok.0, ap length c.requires.passes, first_passes_length queue c.args.setup.seats),
@@ -25,7 +25,7 @@ loop-pass-init c =
 
 pub port_of-requires-clause-fresh : goal.port_of-requires-clause-fresh
 port_of-requires-clause-fresh c =
-    let Fresh = IsFresh (arc_value c.args.owner.now).queue in
+    let Fresh = HoldsNothing (arc_value c.args.owner.now).queue in
     all_last Fresh c.pop.new.self.items c.in-Some.pass
     (subst (λ (l : List (PassStanding PortBuffer)). All Fresh l) c.in-Some.ensures.items c.loop-pass.invariant.1)
 
@@ -37,7 +37,7 @@ port_of-requires-clause-number c =
 
 pub loop-pass-preserved : goal.loop-pass-preserved
 loop-pass-preserved c =
-    let Fresh = IsFresh (arc_value c.args.owner.now).queue in (
+    let Fresh = HoldsNothing (arc_value c.args.owner.now).queue in (
       one_more (new_port c.args.hold) c.loop-pass.ports.items c.push.new.self.items c.loop-pass.passes.items c.pop.new.self.items c.in-Some.pass
           c.in_ok-port_of.field-0 (map (new_port c.args.hold) c.args.passes.items) c.loop-pass.invariant.0 c.in-Some.ensures.items
           c.in_ok-push.ensures.items c.in_ok-port_of.ensures,

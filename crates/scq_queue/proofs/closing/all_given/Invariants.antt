@@ -1,7 +1,7 @@
 use Rattle.std.proofs.Common.{take}
 use Rattle.std.specs.Prelude.{All}
-use Rattle.scq_queue.specs.Kept.{IsGiven}
+use Rattle.scq_queue.specs.Kept.{HasGivenBuffer}
 use Rattle.scq_queue.proofs.closing.all_given.Given as goal
 
 abbrev pub invariant-loop-value : goal.invariant-loop-value
-invariant-loop-value g l = All (IsGiven g.B.Buffer.IsSameBuffer) (take l.value-index l.held)
+invariant-loop-value g l = All (HasGivenBuffer g.B.Buffer.IsSameBuffer) (take l.value-index l.held)

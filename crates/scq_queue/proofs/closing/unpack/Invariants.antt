@@ -3,12 +3,12 @@ use Rattle.std.specs.Prelude.{vec_len, vec_capacity, reverse}
 use Rattle.scq_queue.specs.Lists.{counts_of}
 use Rattle.scq_queue.specs.Passes.{PassStanding, lists_of, was_told}
 use Rattle.scq_queue.specs.Closing.{AllFullsStand}
-use Rattle.scq_queue.specs.Kept.{seat_of}
+use Rattle.scq_queue.specs.Kept.{seat_of_pass}
 use Rattle.scq_queue.proofs.closing.unpack.Given as goal
 
 abbrev pub invariant-loop-pass : goal.invariant-loop-pass
 invariant-loop-pass g l =
-    (l.seats.items ++ map seat_of (reverse l.passes.items) ≡ map seat_of l.fn.passes.items)
+    (l.seats.items ++ map seat_of_pass (reverse l.passes.items) ≡ map seat_of_pass l.fn.passes.items)
     × (l.counts.items ++ map (λ (p : PassStanding g.row.B.Denot). counts_of (lists_of p)) (reverse l.passes.items)
     ≡ map (λ (p : PassStanding g.row.B.Denot). counts_of (lists_of p)) l.fn.passes.items)
     × (vec_len l.seats + vec_len l.passes ≤ vec_capacity l.seats)

@@ -17,18 +17,18 @@ returns-in_err-replayed-clause-not_enabled c at e =
 
 pub returns-clause-fresh : goal.returns-clause-fresh
 returns-clause-fresh c =
-    c.in_ok-judge.ensures.is_fresh.1
-    (same_history IsFresh _ _ _ _ (c.deref.ensures.value ∙ c.in_ok-tokens.ensures) c.deref-2.ensures.value c.in_ok-replayed.ensures.fresh)
+    c.in_ok-judge.ensures.holds.is_fresh.1
+    (same_history IsFresh _ _ _ _ (c.deref.ensures.value ∙ c.in_ok-tokens.ensures) c.deref-2.ensures.value c.in_ok-replayed.ensures.laws.history.fresh)
 
 pub returns-clause-once : goal.returns-clause-once
-returns-clause-once c = c.in_ok-judge.ensures.is_once.1 (subst IsOnce (sym c.deref-2.ensures.value) c.in_ok-replayed.ensures.once)
+returns-clause-once c = c.in_ok-judge.ensures.holds.is_once.1 (subst IsOnce (sym c.deref-2.ensures.value) c.in_ok-replayed.ensures.laws.history.once)
 
 pub returns-clause-in_order : goal.returns-clause-in_order
 returns-clause-in_order c =
-    c.in_ok-judge.ensures.is_in_order.1
-    (same_history IsInOrder _ _ _ _ (c.deref.ensures.value ∙ c.in_ok-tokens.ensures) c.deref-2.ensures.value c.in_ok-replayed.ensures.in_order)
+    c.in_ok-judge.ensures.holds.is_in_order.1
+    (same_history IsInOrder _ _ _ _ (c.deref.ensures.value ∙ c.in_ok-tokens.ensures) c.deref-2.ensures.value c.in_ok-replayed.ensures.laws.history.in_order)
 
 pub returns-clause-empty_right : goal.returns-clause-empty_right
 returns-clause-empty_right c =
-    c.in_ok-judge.ensures.is_empty_right.1
-    (same_history IsEmptyRight _ _ _ _ (c.deref.ensures.value ∙ c.in_ok-tokens.ensures) c.deref-2.ensures.value c.in_ok-replayed.ensures.empty_right)
+    c.in_ok-judge.ensures.holds.is_empty_right.1
+    (same_history IsEmptyRight _ _ _ _ (c.deref.ensures.value ∙ c.in_ok-tokens.ensures) c.deref-2.ensures.value c.in_ok-replayed.ensures.laws.history.empty_right)

@@ -5,7 +5,7 @@ use Rattle.scq_core.specs.StateLists.{machine_of}
 use Rattle.scq_core.specs.Table.{step_of}
 use Rattle.scq_hist.proofs.HandedOn.{handed_on}
 use Rattle.scq_replay.specs.Printed.{step_line}
-use Rattle.scq_replay.specs.Steps.{IsRefused, bad_line, not_enabled}
+use Rattle.scq_replay.specs.Steps.{LineIsRefused, bad_line, not_enabled}
 use Rattle.scq_replay.specs.declared.replaying.ScheduleFault.TheVariants.{NoMemory}
 use Rattle.scq_replay.proofs.replaying.print_step.Goals as goal
 
@@ -13,11 +13,11 @@ pub returns-in_err-seat-clause-refused : goal.returns-in_err-seat-clause-refused
 returns-in_err-seat-clause-refused c =
     let setup = c.args.setup.now in
     let m = machine_of c.args.state.now in
-    handed_on c.from_residual.result c.in_err-seat.field-0.0 (λ fault. (fault ≡ NoMemory) ⊎ IsRefused setup c.args.number c.args.line.now m fault)
+    handed_on c.from_residual.result c.in_err-seat.field-0.0 (λ fault. (fault ≡ NoMemory) ⊎ LineIsRefused setup c.args.number c.args.line.now m fault)
     c.from_residual.ensures.1
     (elim c.in_err-seat.ensures.refused [
       | inl want ↦ inl want
-      | inr bad ↦ inr (subst (IsRefused setup c.args.number c.args.line.now m) (sym bad.0) (bad_line bad.1))
+      | inr bad ↦ inr (subst (LineIsRefused setup c.args.number c.args.line.now m) (sym bad.0) (bad_line bad.1))
     ])
 
 pub returns-in_err-make_step-clause-refused : goal.returns-in_err-make_step-clause-refused
@@ -26,12 +26,12 @@ returns-in_err-make_step-clause-refused c =
     let m = machine_of c.args.state.now in
     let turn : ℕ × Step = (c.in_ok-seat.seat, c.in_ok-seat.step) in
     handed_on c.from_residual-in_err-make_step.result c.in_err-make_step.field-0.0
-    (λ fault. (fault ≡ NoMemory) ⊎ IsRefused setup c.args.number c.args.line.now m fault) c.from_residual-in_err-make_step.ensures.1
+    (λ fault. (fault ≡ NoMemory) ⊎ LineIsRefused setup c.args.number c.args.line.now m fault) c.from_residual-in_err-make_step.ensures.1
     (elim c.in_err-make_step.ensures.refused [
       | inl want ↦ inl want
       | inr bad ↦
           inr
-          (subst (IsRefused setup c.args.number c.args.line.now m) (sym bad.0)
+          (subst (LineIsRefused setup c.args.number c.args.line.now m) (sym bad.0)
           (not_enabled turn c.in_ok-seat.ensures.says (subst (λ s. step_of s m turn.0 turn.1 ≡ None) c.requires.setup bad.1)))
     ])
 

@@ -1,6 +1,6 @@
 use Rattle.std.proofs.Common.{◌∙◌, ap, arith, ◌+◌, [], ◌∷◌, length-append}
 use Rattle.std.specs.Prelude.{string_bytes}
-use Rattle.scq_service.proofs.Coming.{IsGot, IsMissed, come-got, has-missed, next-name}
+use Rattle.scq_service.proofs.Coming.{SourceIsGot, IsMissed, come-got, has-missed, next-name}
 use Rattle.scq_service.proofs.reading.get_sources.Goals as goal
 
 pub files-preserved : goal.files-preserved
@@ -9,7 +9,7 @@ files-preserved g c =
     let was = c.files.invariant in
     let said = c.in-Ok.ensures in
     let next = next-name string_bytes c.args.names.now sources c.files.name-index c.name-item.result c.as_str.result.now was.count c.files-test.true c.as_str.ensures.value c.name-item.is in
-    let got : IsGot g.F.Files g.F.Src.Source c.as_str.result.now c.files.files c.source.new.self c.in-Ok.source =
+    let got : SourceIsGot g.F.Files g.F.Src.Source c.as_str.result.now c.files.files c.source.new.self c.in-Ok.source =
     record { given = said.given; fresh = said.fresh; content = said.content; kept = said.kept } in
     rw (c.push_reserved.ensures.items) (record {
       count = length-append sources (c.in-Ok.source ∷ []) ∙ ap (λ n. n + 1) was.count;

@@ -8,15 +8,15 @@ returns-in-Ok-Run-clause-seen g c = rw (c.in-Ok-Run.ensures.request, c.in-Ok-Run
 
 pub returns-in-Ok-SelfRun-clause-seen : goal.returns-in-Ok-SelfRun-clause-seen
 returns-in-Ok-SelfRun-clause-seen g c =
-    rw (c.in-Ok-SelfRun.ensures.request, c.in-Ok-SelfRun.field-0-is, c.quiet.ensures.outcome) c.run_self.ensures.seen
+    rw (c.in-Ok-SelfRun.ensures.request, c.in-Ok-SelfRun.field-0-is, c.quiet.ensures.outcome) c.run_self.ensures.tells.seen
 
 -- a run over one whole file has no workers
 pub returns-in-Ok-Text-clause-left : goal.returns-in-Ok-Text-clause-left
-returns-in-Ok-Text-clause-left g c = rw (c.quiet-in-Ok-Text.ensures.outcome, c.run_text.ensures.left) tt
+returns-in-Ok-Text-clause-left g c = rw (c.quiet-in-Ok-Text.ensures.outcome, c.run_text.ensures.workless.left) tt
 
 pub returns-in-Ok-Text-clause-seen : goal.returns-in-Ok-Text-clause-seen
 returns-in-Ok-Text-clause-seen g c =
-    rw (c.in-Ok-Text.ensures.request, c.in-Ok-Text.field-0-is, c.quiet-in-Ok-Text.ensures.outcome, c.run_text.ensures.left) refl
+    rw (c.in-Ok-Text.ensures.request, c.in-Ok-Text.field-0-is, c.quiet-in-Ok-Text.ensures.outcome, c.run_text.ensures.workless.left) refl
 
 pub returns-in-Err-Refused-clause-seen : goal.returns-in-Err-Refused-clause-seen
 returns-in-Err-Refused-clause-seen g c =
@@ -35,10 +35,10 @@ pub returns-in-Ok-Run-clause-leaves : goal.returns-in-Ok-Run-clause-leaves
 returns-in-Ok-Run-clause-leaves g c = none-seen _ c.run_files.ensures.leaves
 
 pub returns-in-Ok-SelfRun-clause-leaves : goal.returns-in-Ok-SelfRun-clause-leaves
-returns-in-Ok-SelfRun-clause-leaves g c = rw c.quiet.ensures.outcome c.run_self.ensures.leaves
+returns-in-Ok-SelfRun-clause-leaves g c = rw c.quiet.ensures.outcome c.run_self.ensures.tells.leaves
 
 pub returns-in-Ok-Text-clause-leaves : goal.returns-in-Ok-Text-clause-leaves
-returns-in-Ok-Text-clause-leaves g c = rw c.quiet-in-Ok-Text.ensures.outcome c.run_text.ensures.leaves
+returns-in-Ok-Text-clause-leaves g c = rw c.quiet-in-Ok-Text.ensures.outcome c.run_text.ensures.workless.leaves
 
 -- of the queue of stages nothing is seen beside what was finished
 pub returns-in-Ok-Stages-clause-left : goal.returns-in-Ok-Stages-clause-left

@@ -1,6 +1,5 @@
 use Rattle.std.proofs.Common.{◌∙◌}
-use Rattle.scq_service.proofs.Directs.{same-directs}
 use Rattle.scq_service.proofs.worker_report.direct_in.Goals as goal
 
 pub returns-clause-same : goal.returns-clause-same
-returns-clause-same c = c.wide.ensures.same ∙ c.direct.ensures ∙ same-directs c.args.list.now
+returns-clause-same c = c.wide.ensures.same ∙ c.direct.ensures

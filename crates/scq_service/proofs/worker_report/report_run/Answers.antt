@@ -3,7 +3,7 @@ use Rattle.std.specs.Prelude.{OnOk, OnErr}
 use Rattle.scq_work.specs.declared.worked.Worked.{Worked}
 use Rattle.scq_service.specs.declared.fault.Fault.{Fault}
 use Rattle.scq_outside.specs.Counts.{Rose}
-use Rattle.scq_service.specs.Reports.{report_lines, reported}
+use Rattle.scq_service.specs.Reports.{workers_report, reported}
 use Rattle.scq_service.specs.Writing.{written_with, WrotePart}
 use Rattle.scq_service.proofs.worker_report.report_run.Goals as goal
 
@@ -13,16 +13,16 @@ either (Err e) P Q whole rose = inl rose
 
 -- without a fault, where they are asked for, the workers' lines are reported
 lines : (asks : Bool) (fault : Option Fault) (worked : Option Worked) (w : Worked) → fault ≡ None → worked ≡ Some w → asks ≡ true
-    → reported asks fault worked ≡ report_lines w.counts.items w.answered.items
+    → reported asks fault worked ≡ workers_report w.counts.items w.answered.items
 lines asks fault worked w none some yes_ =
     ap (λ f. reported asks f worked) none ∙ ap (λ o. reported asks None o) some ∙ ap (λ b. reported b None (Some w)) yes_
 
 pub returns-then-asks-clause-reported : goal.returns-then-asks-clause-reported
 returns-then-asks-clause-reported g c =
     let is = lines c.args.asks c.args.fault.now c.args.worked.now c.in-Some-worked.worked c.in_default.is c.in-Some-worked.is c.if-asks.true in
-    let same : report_lines c.as_slice.result.now c.as_slice-lists.result.now
-    ≡ report_lines c.in-Some-worked.worked.counts.items c.in-Some-worked.worked.answered.items =
-    λ i. report_lines (c.as_slice.ensures.value i) (c.as_slice-lists.ensures.value i) in
+    let same : workers_report c.as_slice.result.now c.as_slice-lists.result.now
+    ≡ workers_report c.in-Some-worked.worked.counts.items c.in-Some-worked.worked.answered.items =
+    λ i. workers_report (c.as_slice.ensures.value i) (c.as_slice-lists.ensures.value i) in
     let text = same ∙ sym is in
     subst (λ (t : List ℕ). Rose (g.K.Sink.faults c.args.sink.now) (g.K.Sink.faults c.report_workers.new.sink)
     ⊎ (g.K.Sink.written c.report_workers.new.sink ≡ written_with (g.K.Sink.written c.args.sink.now) t)) text
@@ -31,8 +31,8 @@ returns-then-asks-clause-reported g c =
 pub returns-then-asks-clause-front : goal.returns-then-asks-clause-front
 returns-then-asks-clause-front g c =
     let is = lines c.args.asks c.args.fault.now c.args.worked.now c.in-Some-worked.worked c.in_default.is c.in-Some-worked.is c.if-asks.true in
-    let same : report_lines c.as_slice.result.now c.as_slice-lists.result.now
-    ≡ report_lines c.in-Some-worked.worked.counts.items c.in-Some-worked.worked.answered.items =
-    λ i. report_lines (c.as_slice.ensures.value i) (c.as_slice-lists.ensures.value i) in
+    let same : workers_report c.as_slice.result.now c.as_slice-lists.result.now
+    ≡ workers_report c.in-Some-worked.worked.counts.items c.in-Some-worked.worked.answered.items =
+    λ i. workers_report (c.as_slice.ensures.value i) (c.as_slice-lists.ensures.value i) in
     let text = same ∙ sym is in
     subst (λ (t : List ℕ). WrotePart (g.K.Sink.written c.args.sink.now) (g.K.Sink.written c.report_workers.new.sink) t) text c.report_workers.ensures.part

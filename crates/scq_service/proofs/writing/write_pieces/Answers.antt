@@ -4,20 +4,20 @@ use Rattle.std.specs.Global.{Global}
 use Rattle.std.proofs.lemmas.Grind.{flat_map-append}
 use Rattle.std.proofs.lemmas.List.{drop_more, take-append-drop, take_all}
 use Rattle.std.proofs.lemmas.List.Concat.{flat_map-cons}
-use Rattle.scq_collect.specs.Pieces.{bytes_of}
+use Rattle.scq_collect.specs.Pieces.{pieces_bytes}
 use Rattle.scq_service.specs.Writing.{WrotePart, written_with}
 use Rattle.scq_service.proofs.Writings.{part-first, part-second}
 use Rattle.scq_service.proofs.writing.write_pieces.Goals as goal
 
 -- the pieces are those up to one, it, and the rest
 cut-at : (pieces : List (Vec ℕ Global)) (i : ℕ) (piece : Vec ℕ Global) → i < length pieces → piece ≡ slice_index_or pieces i piece
-    → bytes_of pieces ≡ bytes_of (take i pieces) ++ (piece.items ++ bytes_of (drop (i + 1) pieces))
+    → pieces_bytes pieces ≡ pieces_bytes (take i pieces) ++ (piece.items ++ pieces_bytes (drop (i + 1) pieces))
 cut-at pieces i piece within is =
     let items : Vec ℕ Global → List ℕ = λ p. p.items in
-    sym (ap bytes_of (take-append-drop i pieces)) ∙ flat_map-append items (take i pieces) (drop i pieces)
-    ∙ ap (λ (rest : List (Vec ℕ Global)). bytes_of (take i pieces) ++ bytes_of rest) (drop_more pieces i piece within)
-    ∙ ap (λ (rest : List ℕ). bytes_of (take i pieces) ++ rest) (flat_map-cons items (slice_index_or pieces i piece) (drop (i + 1) pieces))
-    ∙ ap (λ (p : Vec ℕ Global). bytes_of (take i pieces) ++ (p.items ++ bytes_of (drop (i + 1) pieces))) (sym is)
+    sym (ap pieces_bytes (take-append-drop i pieces)) ∙ flat_map-append items (take i pieces) (drop i pieces)
+    ∙ ap (λ (rest : List (Vec ℕ Global)). pieces_bytes (take i pieces) ++ pieces_bytes rest) (drop_more pieces i piece within)
+    ∙ ap (λ (rest : List ℕ). pieces_bytes (take i pieces) ++ rest) (flat_map-cons items (slice_index_or pieces i piece) (drop (i + 1) pieces))
+    ∙ ap (λ (p : Vec ℕ Global). pieces_bytes (take i pieces) ++ (p.items ++ pieces_bytes (drop (i + 1) pieces))) (sym is)
 
 pub returns-in_err-write_all-clause-part : goal.returns-in_err-write_all-clause-part
 returns-in_err-write_all-clause-part g c =
@@ -29,17 +29,17 @@ returns-in_err-write_all-clause-part g c =
     let here : WrotePart (g.K.Sink.written c.loop-piece.sink) new piece.items =
     subst (WrotePart (g.K.Sink.written c.loop-piece.sink) new) c.as_slice.ensures.value c.write_all.ensures.part in
     subst (WrotePart old new) (sym (cut-at pieces i piece c.loop-piece-test.true c.piece-item.is))
-    (part-second old (g.K.Sink.written c.loop-piece.sink) new (bytes_of (take i pieces)) (piece.items ++ bytes_of (drop (i + 1) pieces))
-    c.loop-piece.invariant.written (part-first (g.K.Sink.written c.loop-piece.sink) new piece.items (bytes_of (drop (i + 1) pieces)) here))
+    (part-second old (g.K.Sink.written c.loop-piece.sink) new (pieces_bytes (take i pieces)) (piece.items ++ pieces_bytes (drop (i + 1) pieces))
+    c.loop-piece.invariant.written (part-first (g.K.Sink.written c.loop-piece.sink) new piece.items (pieces_bytes (drop (i + 1) pieces)) here))
 
 pub returns-clause-part : goal.returns-clause-part
 returns-clause-part g c =
     let pieces = c.args.pieces.now in
     let old = g.K.Sink.written c.args.sink.now in
-    let all = bytes_of pieces in
+    let all = pieces_bytes pieces in
     let whole = take_all c.loop-piece.piece-index pieces (omega (arith, c.loop-piece-test.false)) in
     record {
       count = length all;
-      written = c.loop-piece.invariant.written ∙ ap (λ (ps : List (Vec ℕ Global)). written_with old (bytes_of ps)) whole
+      written = c.loop-piece.invariant.written ∙ ap (λ (ps : List (Vec ℕ Global)). written_with old (pieces_bytes ps)) whole
           ∙ ap (written_with old) (sym (take_all (length all) all (omega arith)));
     }

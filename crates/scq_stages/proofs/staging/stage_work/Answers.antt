@@ -1,6 +1,7 @@
 -- The sources are those that were laid out.
 use Rattle.std.proofs.Common.{◌≡◌, ℕ, sym, ap, subst, List}
-use Rattle.std.specs.Prelude.{IfSome, IsSomeAnd}
+use Rattle.std.specs.Prelude.{IfSome, IsSomeAnd, Vec}
+use Rattle.std.specs.Global.{Global}
 use Rattle.std.specs.List.{All}
 use Rattle.scq_block.specs.Frames.{bytes_of}
 use Rattle.scq_block.specs.declared.frame.Frame.{Frame}
@@ -13,7 +14,8 @@ use Rattle.scq_stages.proofs.DeskWorks.{passes_at}
 use Rattle.scq_desk.proofs.Settled.{all-behind, some-and, some-of}
 use Rattle.scq_stages.specs.declared.worker.Worker.{Worker}
 use Rattle.scq_files.proofs.DeskLemmas.{still-dealt}
-use Rattle.scq_files.proofs.ReadLemmas.{stops-unread}
+use Rattle.scq_stages.specs.Ends.{EndsStages}
+use Rattle.scq_stages.proofs.Starved.{stages-starved}
 use Rattle.scq_stages.proofs.staging.stage_work.Goals as goal
 
 pub wind_up-requires-clause-dealt : goal.wind_up-requires-clause-dealt
@@ -22,26 +24,35 @@ wind_up-requires-clause-dealt g c κs within =
     c.run_all-desks.ensures.count c.run_all-desks.ensures.same c.lay_out-laid.ensures.dealt
 
 -- no source was read where memory was wanted for a queue
-pub returns-in_default-clause-stops : goal.returns-in_default-clause-stops
-returns-in_default-clause-stops g c =
-    let job = c.args.job.now in
-    stops-unread job.workers job.size g.S.Source c.args.sources.items
-    c.starved.result.sources.items (ap (λ v. v.items) c.starved.ensures.sources)
+pub returns-in_default-clause-end : goal.returns-in_default-clause-end
+returns-in_default-clause-end g c =
+    let said = c.starved.ensures in
+    stages-starved c.args.job.now g.S.Source c.args.sources.items c.starved.result (ap (λ v. v.items) said.sources) said.fault said.left.0
 
-pub returns-in-Err-clause-stops : goal.returns-in-Err-clause-stops
-returns-in-Err-clause-stops g c =
-    let job = c.args.job.now in
-    stops-unread job.workers job.size g.S.Source c.args.sources.items
-    c.starved-in-Err.result.sources.items (ap (λ v. v.items) c.starved-in-Err.ensures.sources)
+pub returns-in-Err-clause-end : goal.returns-in-Err-clause-end
+returns-in-Err-clause-end g c =
+    let said = c.starved-in-Err.ensures in
+    stages-starved c.args.job.now g.S.Source c.args.sources.items c.starved-in-Err.result (ap (λ v. v.items) said.sources) said.fault said.left.0
 
-pub returns-in-Ok-make_queue-clause-moved : goal.returns-in-Ok-make_queue-clause-moved
-returns-in-Ok-make_queue-clause-moved g c = rw (sym (ap (λ v. v.items) c.lay_out-laid.ensures.was)) c.wind_up.ensures.moved
-
-pub returns-in-Ok-make_queue-clause-whole : goal.returns-in-Ok-make_queue-clause-whole
-returns-in-Ok-make_queue-clause-whole g c = rw (sym (ap (λ v. v.items) c.lay_out-laid.ensures.was)) c.wind_up.ensures.whole
-
-pub returns-in-Ok-make_queue-clause-stops : goal.returns-in-Ok-make_queue-clause-stops
-returns-in-Ok-make_queue-clause-stops g c = rw (sym (ap (λ v. v.items) c.lay_out-laid.ensures.was)) c.wind_up.ensures.stops
+pub returns-in-Ok-make_queue-clause-end : goal.returns-in-Ok-make_queue-clause-end
+returns-in-Ok-make_queue-clause-end g c =
+    let S = g.row.S.Denot in
+    let its = c.wind_up.ensures in
+    let ends : EndsStages c.args.job.now g.S.Source c.lay_out-laid.result.0.was.value.items c.wind_up.result = record {
+      count = its.count;
+      moved = its.moved;
+      stops = its.stops;
+      whole = its.whole;
+      handled = its.handled;
+      told = its.told;
+      staged = its.staged;
+      left = its.left;
+      none = its.none;
+      same = its.same;
+      cause = its.cause;
+      memory_first = its.memory_first;
+    } in
+    subst (λ (v : Vec S Global). EndsStages c.args.job.now g.S.Source v.items c.wind_up.result) c.lay_out-laid.ensures.was ends
 
 -- the passes were there when the queue was closed
 pub returns-in-Ok-make_queue-clause-behind : goal.returns-in-Ok-make_queue-clause-behind

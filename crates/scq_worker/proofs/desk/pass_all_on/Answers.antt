@@ -1,14 +1,15 @@
 use Rattle.std.proofs.Common.{rules, ◌≡◌, ◌+◌, ◌∙◌, ap, sym, subst, arith, [], ◌++◌, List, length, take, drop, Err, Result}
 use Rattle.std.specs.Prelude.{IfErr}
+use Rattle.std.proofs.lemmas.List.{append-nil}
+use Rattle.scq_frames.specs.Parts.{Part}
 use Rattle.scq_queue.specs.Passes.{PassStanding}
 use Rattle.scq_files.specs.OwnFiles.{StopsAtAFault, all_given}
 use Rattle.scq_worker.specs.Passing.{parts_in}
-use Rattle.scq_worker.specs.Reading.{IsAt, IsOver, HasPassedAllOn}
+use Rattle.scq_worker.specs.Reading.{HasGathered, gathered-along, HasStoppedIn, still-along, stopped-along}
 use Rattle.scq_files.specs.declared.own_file.OwnFile.{OwnFile}
 use Rattle.scq_files.proofs.Lists.{written-back}
-use Rattle.scq_worker.proofs.Gathered.{open-none, gathered-none}
-use Rattle.scq_worker.proofs.Produced.{vain-first}
-use Rattle.scq_worker.proofs.RunLemmas.{suits-first, work-first}
+use Rattle.scq_worker.proofs.Gathered.{open-none}
+use Rattle.scq_worker.proofs.RunLemmas.{suits-first}
 use Rattle.scq_worker.proofs.desk.pass_all_on.Goals as goal
 use Rattle.scq_worker.proofs.desk.pass_all_on.Goals.{After-read_files}
 
@@ -21,22 +22,11 @@ read_files-requires-clause-ready g c κs within =
       ap (λ (p : PassStanding _). p.retired) its.fresh.pass,
       its.room,
       its.bell,
-      open-none job.most (length job.topics + 1) worker.open.items its.fresh.members.1,
+      open-none job.most (length job.topics + 1) worker.opens.items its.fresh.members.1,
     )
 
 pub read_files-requires-clause-takes : goal.read_files-requires-clause-takes
 read_files-requires-clause-takes g c κs within m topic short = (topic, short)
-
--- nothing was passed on before
-begun : (g : _) (c : After-read_files g) → IsAt c.args.queue.now c.args.job.now.topics c.args.job.now.size c.args.job.now.most [] c.args.desk.now.worker.worker
-begun g c =
-    let worker = c.args.desk.now.worker.worker in
-    let job = c.args.job.now in
-    let new = c.requires.fresh.members in (
-      work-first job.topics job.most c.args.queue.now worker.pass.number worker.pass worker.open.items worker.members worker.starved
-          c.requires.fresh.pass new.0 new.1,
-      vain-first c.args.queue.now (length job.topics + 1) _ worker.pass.number worker.pass c.requires.fresh.pass,
-    )
 
 -- the files on the desk are those that were read
 whole : (g : _) (c : After-read_files g)
@@ -58,15 +48,33 @@ returns-in_err-read_files-clause-stops g c =
 pub returns-in_err-read_files-clause-stopped : goal.returns-in_err-read_files-clause-stopped
 returns-in_err-read_files-clause-stopped g c =
     let at = (goal.at.returns-in_err-read_files-clause-stopped g c).After-read_files in
+    let q = c.args.queue.now in
     let job = c.args.job.now in
+    let start = c.args.desk.now.worker.worker in
     let now = c.read_files.new.handler in
     let held = c.in_err-read_files.field-0.0.held in
     let is : c.from_residual.result ≡ Err c.in_err-read_files.field-0.0 = search rules in
-    subst (λ (r : Result _ _). IfErr r (λ l. IsOver c.args.queue.now job.topics job.size job.most
-    (all_given (take c.args.desk.now.files.len (c.read_files.new.files ++ drop (length c.read_files.new.files) c.args.desk.now.files.items)))
-    now l.held)) (sym is)
-    (subst (λ (fs : List (OwnFile _)). IsOver c.args.queue.now job.topics job.size job.most (all_given fs) now held) (sym (whole g at))
-    (c.in_err-read_files.ensures.stopped.0.left [] (begun g at)))
+    subst (λ (r : Result _ _). IfErr r (λ l. HasStoppedIn q job (parts_in job.size
+    (all_given (take c.args.desk.now.files.len (c.read_files.new.files ++ drop (length c.read_files.new.files) c.args.desk.now.files.items))))
+    start now l.held)) (sym is)
+    (subst (λ (fs : List (OwnFile _)). HasStoppedIn q job (parts_in job.size (all_given fs)) start now held) (sym (whole g at))
+    c.in_err-read_files.ensures.stopped.0)
+
+pub returns-in_err-read_files-clause-still : goal.returns-in_err-read_files-clause-still
+returns-in_err-read_files-clause-still g c = c.in_err-read_files.ensures.stopped.1
+
+pub pass_all_open-requires-clause-suits : goal.pass_all_open-requires-clause-suits
+pass_all_open-requires-clause-suits g c κs within = c.in_ok-read_files.ensures.handled.0.goes.suits
+
+pub pass_all_open-requires-clause-stays : goal.pass_all_open-requires-clause-stays
+pass_all_open-requires-clause-stays g c κs within = c.in_ok-read_files.ensures.handled.0.goes.stays
+
+pub pass_all_open-requires-clause-bell : goal.pass_all_open-requires-clause-bell
+pass_all_open-requires-clause-bell g c κs within =
+    subst (λ k. g.W.Bell.fits c.args.bell.now k c.args.job.now.workers) (sym c.in_ok-read_files.ensures.handled.1.bell) c.requires.bell
+
+pub pass_all_open-requires-clause-opens : goal.pass_all_open-requires-clause-opens
+pass_all_open-requires-clause-opens g c κs within = c.in_ok-read_files.ensures.handled.0.opens
 
 pub returns-in_err-pass_all_open-clause-stops : goal.returns-in_err-pass_all_open-clause-stops
 returns-in_err-pass_all_open-clause-stops g c =
@@ -77,36 +85,50 @@ returns-in_err-pass_all_open-clause-stops g c =
 pub returns-in_err-pass_all_open-clause-stopped : goal.returns-in_err-pass_all_open-clause-stopped
 returns-in_err-pass_all_open-clause-stopped g c =
     let at = (goal.at.returns-in_err-pass_all_open-clause-stopped g c).After-read_files in
+    let q = c.args.queue.now in
     let job = c.args.job.now in
+    let start = c.args.desk.now.worker.worker in
     let now = c.pass_all_open.new.self in
     let held = c.in_err-pass_all_open.field-0.0.held in
-    let so = c.in_ok-read_files.ensures.handled.0.work [] (begun g at) in
+    let parts = parts_in job.size (all_given c.read_files.new.files) in
     let is : c.from_residual-in_err-pass_all_open.result ≡ Err c.in_err-pass_all_open.field-0.0 = search rules in
-    subst (λ (r : Result _ _). IfErr r (λ l. IsOver c.args.queue.now job.topics job.size job.most
-    (all_given (take c.args.desk.now.files.len (c.read_files.new.files ++ drop (length c.read_files.new.files) c.args.desk.now.files.items)))
-    now l.held)) (sym is)
-    (subst (λ (fs : List (OwnFile _)). IsOver c.args.queue.now job.topics job.size job.most (all_given fs) now held) (sym (whole g at))
-    (c.in_err-pass_all_open.ensures.left (parts_in job.size (all_given c.read_files.new.files)) so.0))
+    subst (λ (r : Result _ _). IfErr r (λ l. HasStoppedIn q job (parts_in job.size
+    (all_given (take c.args.desk.now.files.len (c.read_files.new.files ++ drop (length c.read_files.new.files) c.args.desk.now.files.items))))
+    start now l.held)) (sym is)
+    (subst (λ (fs : List (OwnFile _)). HasStoppedIn q job (parts_in job.size (all_given fs)) start now held) (sym (whole g at))
+    (subst (λ (l : List Part). HasStoppedIn q job l start now held) (append-nil parts)
+    (stopped-along q job parts [] start c.read_files.new.handler now (g.W.Bell.wakes c.args.stand.now) (g.W.Bell.wakes c.read_files.new.beside) held
+    c.in_ok-read_files.ensures.handled.0 c.in_err-pass_all_open.ensures.left)))
+
+pub returns-in_err-pass_all_open-clause-still : goal.returns-in_err-pass_all_open-clause-still
+returns-in_err-pass_all_open-clause-still g c =
+    let kept = g.W.Bell.kept in
+    still-along c.args.desk.now.worker.worker c.read_files.new.handler c.pass_all_open.new.self (kept c.args.stand.now) (kept c.read_files.new.beside)
+    (kept c.pass_all_open.new.stand) c.in_ok-read_files.ensures.handled.1 c.pass_all_open.ensures.still
 
 pub returns-clause-stops : goal.returns-clause-stops
 returns-clause-stops g c =
     subst (λ (fs : List (OwnFile _)). StopsAtAFault fs) (sym (whole g (goal.at.returns-clause-stops g c).After-read_files)) c.read_files.ensures.stops
 
--- nothing stays open
-pub returns-clause-work : goal.returns-clause-work
-returns-clause-work g c =
-    let at = (goal.at.returns-clause-work g c).After-read_files in
+-- all is passed on
+pub returns-clause-gathered : goal.returns-clause-gathered
+returns-clause-gathered g c =
+    let at = (goal.at.returns-clause-gathered g c).After-read_files in
+    let q = c.args.queue.now in
     let job = c.args.job.now in
+    let start = c.args.desk.now.worker.worker in
     let now = c.pass_all_open.new.self in
+    let was = g.W.Bell.wakes c.args.stand.now in
+    let is = g.W.Bell.wakes c.pass_all_open.new.stand in
     let parts = parts_in job.size (all_given c.read_files.new.files) in
-    let so = c.in_ok-read_files.ensures.handled.0.work [] (begun g at) in
-    let its = c.in_ok-pass_all_open.ensures.work parts so.0 in
-    subst (λ (fs : List (OwnFile _)). HasPassedAllOn job.topics job.size job.most (all_given fs) now) (sym (whole g at))
-    (record {
-      work = record {
-        batches = its.batches;
-        gathered = gathered-none job.most parts its.batches now.open.items its.gathered c.in_ok-pass_all_open.ensures.closed;
-        passed = its.passed;
-      };
-      vain = c.in_ok-pass_all_open.ensures.vain so.1;
-    })
+    let read = c.in_ok-read_files.ensures.handled in
+    subst (λ (fs : List (OwnFile _)). HasGathered q job (parts_in job.size (all_given fs)) start now was is) (sym (whole g at))
+    (subst (λ (l : List Part). HasGathered q job l start now was is) (append-nil parts)
+    (gathered-along q job parts [] start c.read_files.new.handler now was (g.W.Bell.wakes c.read_files.new.beside) is read.1.number read.0
+    c.in_ok-pass_all_open.ensures.gathered))
+
+pub returns-clause-still : goal.returns-clause-still
+returns-clause-still g c =
+    let kept = g.W.Bell.kept in
+    still-along c.args.desk.now.worker.worker c.read_files.new.handler c.pass_all_open.new.self (kept c.args.stand.now) (kept c.read_files.new.beside)
+    (kept c.pass_all_open.new.stand) c.in_ok-read_files.ensures.handled.1 c.pass_all_open.ensures.still

@@ -1,74 +1,106 @@
-use Rattle.std.proofs.Common.{◌∙◌, ap, sym, subst}
+use Rattle.std.proofs.Common.{◌∙◌, ap, sym, subst, []}
 use Rattle.scq_queue.specs.Passes.{PassStanding}
+use Rattle.scq_worker.specs.Reading.{IsWorking}
 use Rattle.scq_worker.specs.declared.worker.Worker.{Worker}
-use Rattle.scq_worker.proofs.Produced.{none-or, produced-awake, produced-stopped}
+use Rattle.scq_worker.proofs.Gathered.{gathered-none}
+use Rattle.scq_worker.proofs.Produced.{none-or, produced-awake, produced-stopped, vain-first}
+use Rattle.scq_worker.proofs.RunLemmas.{work-first}
 use Rattle.scq_worker.proofs.Rung.{rung-retired}
 use Rattle.scq_worker.proofs.desk.produce.Goals as goal
+use Rattle.scq_worker.proofs.desk.produce.Goals.{After-pass_all_on}
+
+-- nothing was passed on before
+begun : (g : _) (c : After-pass_all_on g) → IsWorking c.args.job.now.topics c.args.job.now.most [] c.args.desk.now.worker.worker
+begun g c =
+    let worker = c.args.desk.now.worker.worker in
+    let fresh = c.requires.fresh in
+    work-first c.args.job.now.topics c.args.job.now.most c.args.queue.now worker.pass.number worker.pass worker.opens.items worker.members
+    worker.starved fresh.pass fresh.members.0 fresh.members.1
+
+-- it still fits its bell
+fits-at : (g : _) (c : After-pass_all_on g) → g.W.Bell.fits c.args.bell.now (g.W.Bell.kept c.pass_all_on.new.stand) c.args.job.now.workers
+fits-at g c = subst (λ k. g.W.Bell.fits c.args.bell.now k c.args.job.now.workers) (sym c.pass_all_on.ensures.still.bell) c.requires.bell
 
 pub retire-requires-clause-pass : goal.retire-requires-clause-pass
-retire-requires-clause-pass g c κs within = c.in-Ok.ensures.suits.queue
+retire-requires-clause-pass g c κs within = c.in-Ok.ensures.gathered.goes.suits.queue
 
 pub retire-requires-clause-stays : goal.retire-requires-clause-stays
-retire-requires-clause-stays g c κs within = c.in-Ok.ensures.stays
+retire-requires-clause-stays g c κs within = c.in-Ok.ensures.gathered.goes.stays
 
 pub retire-requires-clause-bell : goal.retire-requires-clause-bell
-retire-requires-clause-bell g c κs within =
-    subst (λ k. g.W.Bell.fits c.args.bell.now k c.args.job.now.workers) (sym c.pass_all_on.ensures.bell) c.requires.bell
+retire-requires-clause-bell g c κs within = fits-at g (goal.at.retire-requires-clause-bell g c).After-pass_all_on
 
 pub retire-requires-in-Err-clause-pass : goal.retire-requires-in-Err-clause-pass
-retire-requires-in-Err-clause-pass g c κs within = c.in-Err.ensures.stopped.queue
+retire-requires-in-Err-clause-pass g c κs within =
+    (c.in-Err.ensures.stopped [] (begun g (goal.at.retire-requires-in-Err-clause-pass g c).After-pass_all_on)).queue
 
 pub retire-requires-in-Err-clause-stays : goal.retire-requires-in-Err-clause-stays
-retire-requires-in-Err-clause-stays g c κs within = c.in-Err.ensures.stopped.stays
+retire-requires-in-Err-clause-stays g c κs within =
+    (c.in-Err.ensures.stopped [] (begun g (goal.at.retire-requires-in-Err-clause-stays g c).After-pass_all_on)).stays
 
 pub retire-requires-in-Err-clause-bell : goal.retire-requires-in-Err-clause-bell
-retire-requires-in-Err-clause-bell g c κs within =
-    subst (λ k. g.W.Bell.fits c.args.bell.now k c.args.job.now.workers) (sym c.pass_all_on.ensures.bell) c.requires.bell
+retire-requires-in-Err-clause-bell g c κs within = fits-at g (goal.at.retire-requires-in-Err-clause-bell g c).After-pass_all_on
 
 pub returns-in-Ok-clause-produced : goal.returns-in-Ok-clause-produced
 returns-in-Ok-clause-produced g c =
+    let at = (goal.at.returns-in-Ok-clause-produced g c).After-pass_all_on in
+    let q = c.args.queue.now in
     let job = c.args.job.now in
-    let its = c.pass_all_on.ensures in
-    let ok = c.in-Ok.ensures in
+    let all = c.pass_all_on.ensures in
+    let its = c.in-Ok.ensures in
     let desk = c.pass_all_on.new.desk in
     let was = desk.worker.worker in
     let now = c.retire.new.self in
-    produced-awake c.args.queue.now job.topics job.size job.most job.longest g.S.Source desk.files.items was.pass now.pass was.members now.members
-    was.starved now.starved desk.worker.kept its.read its.stops ok.suits ok.work.work ok.work.vain c.retire.ensures.pass c.retire.ensures.same.0
-    c.retire.ensures.same.1 (its.kept ∙ c.requires.fresh.kept)
+    let start = c.args.desk.now.worker.worker in
+    let work = its.gathered.work [] (begun g at) in
+    produced-awake q job.topics job.size job.most job.longest g.S.Source desk.files.items was.pass now.pass was.members now.members
+    was.starved now.starved desk.worker.kept all.read all.stops its.gathered.goes.suits
+    (record {
+      batches = work.batches;
+      gathered = gathered-none job.most _ work.batches was.opens.items work.gathered its.closed;
+      passed = work.passed;
+    })
+    (its.gathered.goes.vain (vain-first q _ _ start.pass.number start.pass c.requires.fresh.pass)) c.retire.ensures.pass c.retire.ensures.same.0
+    c.retire.ensures.same.1 (all.kept ∙ c.requires.fresh.kept)
 
 pub returns-in-Ok-clause-number : goal.returns-in-Ok-clause-number
-returns-in-Ok-clause-number g c = ap (λ (p : PassStanding _). p.number) c.retire.ensures.pass ∙ c.pass_all_on.ensures.number
+returns-in-Ok-clause-number g c = ap (λ (p : PassStanding _). p.number) c.retire.ensures.pass ∙ c.pass_all_on.ensures.still.pass
 
 pub returns-in-Err-clause-produced : goal.returns-in-Err-clause-produced
 returns-in-Err-clause-produced g c =
+    let at = (goal.at.returns-in-Err-clause-produced g c).After-pass_all_on in
     let job = c.args.job.now in
     let its = c.pass_all_on.ensures in
     let desk = c.pass_all_on.new.desk in
     let was = desk.worker.worker in
     let now = c.keep.new.self in
     produced-stopped c.args.queue.now job.topics job.size job.most job.longest g.S.Source desk.files.items was.pass now.worker.pass
-    now.worker.members now.worker.starved now.kept c.in-Err.at_limit.held its.read its.stops c.in-Err.ensures.stopped
+    now.worker.members now.worker.starved now.kept c.in-Err.at_limit.held its.read its.stops (c.in-Err.ensures.stopped [] (begun g at))
     (ap (λ (w : Worker _). w.pass) c.keep.ensures.same ∙ c.retire-in-Err.ensures.pass) c.keep.ensures.kept
 
 pub returns-in-Err-clause-number : goal.returns-in-Err-clause-number
 returns-in-Err-clause-number g c =
     ap (λ (w : Worker _). w.pass.number) c.keep.ensures.same ∙ ap (λ (p : PassStanding _). p.number) c.retire-in-Err.ensures.pass
-    ∙ c.pass_all_on.ensures.number
+    ∙ c.pass_all_on.ensures.still.pass
+
+pub returns-in-Ok-clause-bell : goal.returns-in-Ok-clause-bell
+returns-in-Ok-clause-bell g c = c.retire.ensures.bell ∙ c.pass_all_on.ensures.still.bell
+
+pub returns-in-Err-clause-bell : goal.returns-in-Err-clause-bell
+returns-in-Err-clause-bell g c = c.retire-in-Err.ensures.bell ∙ c.pass_all_on.ensures.still.bell
 
 pub returns-in-Ok-clause-rung : goal.returns-in-Ok-clause-rung
 returns-in-Ok-clause-rung g c awake =
     let first = c.args.desk.now.worker.worker in
     let was = c.pass_all_on.new.desk.worker.worker in
-    let rung = c.in-Ok.ensures.rung in
     rung-retired first.number c.args.job.now.workers c.args.queue.now first.pass.number was.number first.pass was.pass c.retire.new.self.pass
     (g.W.Bell.wakes c.args.stand.now) (g.W.Bell.wakes c.pass_all_on.new.stand) (g.W.Bell.wakes c.retire.new.stand)
-    c.requires.fresh.pass rung.1 c.retire.ensures.pass rung.0 c.retire.ensures.rung
+    c.requires.fresh.pass c.in-Ok.ensures.gathered.goes.rung c.retire.ensures.pass c.pass_all_on.ensures.still.number c.retire.ensures.rung
 
 -- at a ticket past the limit nothing is said of it
 pub returns-in-Err-clause-rung : goal.returns-in-Err-clause-rung
 returns-in-Err-clause-rung g c awake =
-    let end = c.in-Err.ensures.stopped in
+    let end = c.in-Err.ensures.stopped [] (begun g (goal.at.returns-in-Err-clause-rung g c).After-pass_all_on) in
     let now = c.keep.new.self.worker in
     let retired = ap (λ (w : Worker _). w.pass) c.keep.ensures.same ∙ c.retire-in-Err.ensures.pass in
     absurd (none-or now.pass.spent end.spent.0 (ap (λ (p : PassStanding _). p.spent) retired ∙ end.spent.1) awake)

@@ -9,9 +9,24 @@ use Rattle.scq_law.specs.Kept.{left_in}
 use Rattle.scq_band.specs.Shown.{ShowsWords}
 use Rattle.scq_band.specs.Standing.{Identity, IsAsGiven}
 use Rattle.scq_band.specs.Closing.{all_calls, all_spent}
-use Rattle.scq_band.proofs.Closes.{ended}
+use Rattle.scq_band.proofs.Closes.{IsShownClosed, ended}
 use Rattle.scq_band.proofs.SpentLimits.{none_spent_within}
 use Rattle.scq_band.proofs.band.Band.close.Goals as goal
+use Rattle.scq_band.proofs.band.Band.close.Goals.{After-close_with-closed}
+
+-- what the closed table's words and slots say
+says : (g : _) (c : After-close_with-closed g) → IsShownClosed g.B.Buffer.contents g.B.Buffer.IsSameBuffer c.args.self.given c.args.self.setup c.args.seats.items
+    c.gather-all.result.me.0.known.seats (slots_items c.close_with-closed.result.words) (slots_items c.close_with-closed.result.slots)
+says g c =
+    let table = c.self.inside.table.shared in
+    let seats : length c.args.seats.items ≡ c.args.self.setup.seats = omega (arith, c.args.seats.ok, c.requires.all) in
+    ended g.B.Buffer.contents g.B.Buffer.IsSameBuffer table.table_id table.key c.args.self c.gather-all.result.id c.gather-all.result.me.0
+    c.args.seats.items (slots_items c.close_with-closed.result.words) (slots_items c.close_with-closed.result.slots) c.self.view_is
+    c.close_with-closed.ensures.values.2 c.gather-all.ensures.all c.gather-all.ensures.seen seats c.self.invariant.given
+
+-- the setup that the band keeps is its own
+own-setup : (g : _) (c : After-close_with-closed g) → c.self.inside.setup ≡ c.args.self.setup
+own-setup g c = c.self.invariant.same ∙ ap (λ (b : Identity g.row.B.Denot). b.setup) c.self.view_is
 
 pub gather-all-requires-clause-given : goal.gather-all-requires-clause-given
 gather-all-requires-clause-given g c κs within o has =
@@ -19,191 +34,51 @@ gather-all-requires-clause-given g c κs within o has =
 
 pub count_left-requires-clause-shows : goal.count_left-requires-clause-shows
 count_left-requires-clause-shows g c =
-    let table = c.self.inside.table.shared in
-    let words = slots_items c.close_with-closed.result.words in
-    let items = slots_items c.close_with-closed.result.slots in
-    let seats : length c.args.seats.items ≡ c.args.self.setup.seats = omega (arith, c.args.seats.ok, c.requires.all) in
-    let e = ended g.B.Buffer.contents g.B.Buffer.IsSameBuffer table.table_id table.key c.args.self c.gather-all.result.id c.gather-all.result.me.0
-    c.args.seats.items words items c.self.view_is c.close_with-closed.ensures.values.2 c.gather-all.ensures.all c.gather-all.ensures.seen seats
-    c.self.invariant.given in
-    let setup : c.self.inside.setup ≡ c.args.self.setup = c.self.invariant.same ∙ ap (λ (b : Identity g.row.B.Denot). b.setup) c.self.view_is in
-    subst (λ (k : Setup). (m : Cells) × ShowsWords k words m × HasIndices k m) (sym setup) e.words
+    let at = (goal.at.count_left-requires-clause-shows g c).After-close_with-closed in
+    subst (λ (k : Setup). (m : Cells) × ShowsWords k (slots_items c.close_with-closed.result.words) m × HasIndices k m) (sym (own-setup g at)) (says g at).words
 
 pub unload-requires-clause-laid : goal.unload-requires-clause-laid
 unload-requires-clause-laid g c i low =
-    let table = c.self.inside.table.shared in
-    let words = slots_items c.close_with-closed.result.words in
-    let items = slots_items c.close_with-closed.result.slots in
-    let seats : length c.args.seats.items ≡ c.args.self.setup.seats = omega (arith, c.args.seats.ok, c.requires.all) in
-    let e = ended g.B.Buffer.contents g.B.Buffer.IsSameBuffer table.table_id table.key c.args.self c.gather-all.result.id c.gather-all.result.me.0
-    c.args.seats.items words items c.self.view_is c.close_with-closed.ensures.values.2 c.gather-all.ensures.all c.gather-all.ensures.seen seats
-    c.self.invariant.given in
     let slots = c.self.invariant.slots in
-    let order : n_of c.args.self.setup.order ≡ n_of table.key.setup.order = ap (λ (b : Identity g.row.B.Denot). n_of b.setup.order) (sym c.self.view_is) in
-    e.laid i (omega (arith, low, c.close_with-closed.ensures.counts.1, slots, order))
+    let order : n_of c.args.self.setup.order ≡ n_of c.self.inside.table.shared.key.setup.order =
+    ap (λ (b : Identity g.row.B.Denot). n_of b.setup.order) (sym c.self.view_is) in
+    (says g (goal.at.unload-requires-clause-laid g c).After-close_with-closed).laid i (omega (arith, low, c.close_with-closed.ensures.counts.1, slots, order))
+
+pub returns-clause-run : goal.returns-clause-run
+returns-clause-run g c = ((says g (goal.at.returns-clause-run g c).After-close_with-closed).lefts c.unload.new.buffers.items c.unload.ensures.buffers).1
 
 pub returns-clause-buffers : goal.returns-clause-buffers
 returns-clause-buffers g c =
-    let table = c.self.inside.table.shared in
-    let words = slots_items c.close_with-closed.result.words in
-    let items = slots_items c.close_with-closed.result.slots in
-    let seats : length c.args.seats.items ≡ c.args.self.setup.seats = omega (arith, c.args.seats.ok, c.requires.all) in
-    let e = ended g.B.Buffer.contents g.B.Buffer.IsSameBuffer table.table_id table.key c.args.self c.gather-all.result.id c.gather-all.result.me.0
-    c.args.seats.items words items c.self.view_is c.close_with-closed.ensures.values.2 c.gather-all.ensures.all c.gather-all.ensures.seen seats
-    c.self.invariant.given in
-    e.same c.unload.new.buffers.items c.unload.ensures.buffers
+    let buffers = c.unload.new.buffers.items in
+    let are = c.unload.ensures.buffers in
+    let its = says g (goal.at.returns-clause-buffers g c).After-close_with-closed in
+    record {
+      same = its.same buffers are;
+      held = its.held buffers are (map g.T.Lifted.pair c.args.out.items) c.gather-all.ensures.home;
+      left = (its.lefts buffers are).0;
+    }
 
-pub returns-clause-held : goal.returns-clause-held
-returns-clause-held g c =
-    let table = c.self.inside.table.shared in
-    let words = slots_items c.close_with-closed.result.words in
-    let items = slots_items c.close_with-closed.result.slots in
-    let seats : length c.args.seats.items ≡ c.args.self.setup.seats = omega (arith, c.args.seats.ok, c.requires.all) in
-    let e = ended g.B.Buffer.contents g.B.Buffer.IsSameBuffer table.table_id table.key c.args.self c.gather-all.result.id c.gather-all.result.me.0
-    c.args.seats.items words items c.self.view_is c.close_with-closed.ensures.values.2 c.gather-all.ensures.all c.gather-all.ensures.seen seats
-    c.self.invariant.given in
-    e.held c.unload.new.buffers.items c.unload.ensures.buffers (map g.T.Lifted.pair c.args.out.items) c.gather-all.ensures.home
+pub returns-clause-records : goal.returns-clause-records
+returns-clause-records g c =
+    let its = says g (goal.at.returns-clause-records g c).After-close_with-closed in
+    record { gets = its.gets; put_once = its.put_once; once = its.once; passed = its.passed }
 
-pub returns-clause-run : goal.returns-clause-run
-returns-clause-run g c =
-    let table = c.self.inside.table.shared in
-    let words = slots_items c.close_with-closed.result.words in
-    let items = slots_items c.close_with-closed.result.slots in
-    let seats : length c.args.seats.items ≡ c.args.self.setup.seats = omega (arith, c.args.seats.ok, c.requires.all) in
-    let e = ended g.B.Buffer.contents g.B.Buffer.IsSameBuffer table.table_id table.key c.args.self c.gather-all.result.id c.gather-all.result.me.0
-    c.args.seats.items words items c.self.view_is c.close_with-closed.ensures.values.2 c.gather-all.ensures.all c.gather-all.ensures.seen seats
-    c.self.invariant.given in
-    (e.lefts c.unload.new.buffers.items c.unload.ensures.buffers).1
+pub returns-clause-indices : goal.returns-clause-indices
+returns-clause-indices g c =
+    let at = (goal.at.returns-clause-indices g c).After-close_with-closed in
+    let its = says g at in
+    let setup = own-setup g at in
+    let each = subst (λ (k : Setup). (m : Cells) → ShowsWords k (slots_items c.close_with-closed.result.words) m → (r : ℕ) → r < k.rings
+    → slice_index c.count_left.new.left.items r ≡ left_in k m r) setup
+    c.count_left.ensures.each in
+    let counts = its.counts c.count_left.new.left.items (c.count_left.ensures.rings ∙ ap (λ (k : Setup). k.rings) setup) each in
+    record { balance = counts.0; all_there = counts.1; hands = its.hands }
 
-pub returns-clause-gets : goal.returns-clause-gets
-returns-clause-gets g c =
-    let table = c.self.inside.table.shared in
-    let words = slots_items c.close_with-closed.result.words in
-    let items = slots_items c.close_with-closed.result.slots in
-    let seats : length c.args.seats.items ≡ c.args.self.setup.seats = omega (arith, c.args.seats.ok, c.requires.all) in
-    let e = ended g.B.Buffer.contents g.B.Buffer.IsSameBuffer table.table_id table.key c.args.self c.gather-all.result.id c.gather-all.result.me.0
-    c.args.seats.items words items c.self.view_is c.close_with-closed.ensures.values.2 c.gather-all.ensures.all c.gather-all.ensures.seen seats
-    c.self.invariant.given in
-    e.gets
-
-pub returns-clause-put_once : goal.returns-clause-put_once
-returns-clause-put_once g c =
-    let table = c.self.inside.table.shared in
-    let words = slots_items c.close_with-closed.result.words in
-    let items = slots_items c.close_with-closed.result.slots in
-    let seats : length c.args.seats.items ≡ c.args.self.setup.seats = omega (arith, c.args.seats.ok, c.requires.all) in
-    let e = ended g.B.Buffer.contents g.B.Buffer.IsSameBuffer table.table_id table.key c.args.self c.gather-all.result.id c.gather-all.result.me.0
-    c.args.seats.items words items c.self.view_is c.close_with-closed.ensures.values.2 c.gather-all.ensures.all c.gather-all.ensures.seen seats
-    c.self.invariant.given in
-    e.put_once
-
-pub returns-clause-once : goal.returns-clause-once
-returns-clause-once g c =
-    let table = c.self.inside.table.shared in
-    let words = slots_items c.close_with-closed.result.words in
-    let items = slots_items c.close_with-closed.result.slots in
-    let seats : length c.args.seats.items ≡ c.args.self.setup.seats = omega (arith, c.args.seats.ok, c.requires.all) in
-    let e = ended g.B.Buffer.contents g.B.Buffer.IsSameBuffer table.table_id table.key c.args.self c.gather-all.result.id c.gather-all.result.me.0
-    c.args.seats.items words items c.self.view_is c.close_with-closed.ensures.values.2 c.gather-all.ensures.all c.gather-all.ensures.seen seats
-    c.self.invariant.given in
-    e.once
-
-pub returns-clause-passed : goal.returns-clause-passed
-returns-clause-passed g c =
-    let table = c.self.inside.table.shared in
-    let words = slots_items c.close_with-closed.result.words in
-    let items = slots_items c.close_with-closed.result.slots in
-    let seats : length c.args.seats.items ≡ c.args.self.setup.seats = omega (arith, c.args.seats.ok, c.requires.all) in
-    let e = ended g.B.Buffer.contents g.B.Buffer.IsSameBuffer table.table_id table.key c.args.self c.gather-all.result.id c.gather-all.result.me.0
-    c.args.seats.items words items c.self.view_is c.close_with-closed.ensures.values.2 c.gather-all.ensures.all c.gather-all.ensures.seen seats
-    c.self.invariant.given in
-    e.passed
-
-pub returns-clause-hands : goal.returns-clause-hands
-returns-clause-hands g c =
-    let table = c.self.inside.table.shared in
-    let words = slots_items c.close_with-closed.result.words in
-    let items = slots_items c.close_with-closed.result.slots in
-    let seats : length c.args.seats.items ≡ c.args.self.setup.seats = omega (arith, c.args.seats.ok, c.requires.all) in
-    let e = ended g.B.Buffer.contents g.B.Buffer.IsSameBuffer table.table_id table.key c.args.self c.gather-all.result.id c.gather-all.result.me.0
-    c.args.seats.items words items c.self.view_is c.close_with-closed.ensures.values.2 c.gather-all.ensures.all c.gather-all.ensures.seen seats
-    c.self.invariant.given in
-    e.hands
+pub returns-clause-retired : goal.returns-clause-retired
+returns-clause-retired g c =
+    let its = says g (goal.at.returns-clause-retired g c).After-close_with-closed in record { gate = its.gate; retirees = its.retirees }
 
 pub returns-clause-spent : goal.returns-clause-spent
 returns-clause-spent g c =
-    let table = c.self.inside.table.shared in
-    let words = slots_items c.close_with-closed.result.words in
-    let items = slots_items c.close_with-closed.result.slots in
-    let seats : length c.args.seats.items ≡ c.args.self.setup.seats = omega (arith, c.args.seats.ok, c.requires.all) in
-    let e = ended g.B.Buffer.contents g.B.Buffer.IsSameBuffer table.table_id table.key c.args.self c.gather-all.result.id c.gather-all.result.me.0
-    c.args.seats.items words items c.self.view_is c.close_with-closed.ensures.values.2 c.gather-all.ensures.all c.gather-all.ensures.seen seats
-    c.self.invariant.given in
-    e.spent
-
-pub returns-clause-limits : goal.returns-clause-limits
-returns-clause-limits g c =
-    none_spent_within c.args.self.setup (all_calls c.args.seats.items) (all_spent c.args.seats.items) (returns-clause-spent g c)
-
-pub returns-clause-gate : goal.returns-clause-gate
-returns-clause-gate g c =
-    let table = c.self.inside.table.shared in
-    let words = slots_items c.close_with-closed.result.words in
-    let items = slots_items c.close_with-closed.result.slots in
-    let seats : length c.args.seats.items ≡ c.args.self.setup.seats = omega (arith, c.args.seats.ok, c.requires.all) in
-    let e = ended g.B.Buffer.contents g.B.Buffer.IsSameBuffer table.table_id table.key c.args.self c.gather-all.result.id c.gather-all.result.me.0
-    c.args.seats.items words items c.self.view_is c.close_with-closed.ensures.values.2 c.gather-all.ensures.all c.gather-all.ensures.seen seats
-    c.self.invariant.given in
-    e.gate
-
-pub returns-clause-retirees : goal.returns-clause-retirees
-returns-clause-retirees g c =
-    let table = c.self.inside.table.shared in
-    let words = slots_items c.close_with-closed.result.words in
-    let items = slots_items c.close_with-closed.result.slots in
-    let seats : length c.args.seats.items ≡ c.args.self.setup.seats = omega (arith, c.args.seats.ok, c.requires.all) in
-    let e = ended g.B.Buffer.contents g.B.Buffer.IsSameBuffer table.table_id table.key c.args.self c.gather-all.result.id c.gather-all.result.me.0
-    c.args.seats.items words items c.self.view_is c.close_with-closed.ensures.values.2 c.gather-all.ensures.all c.gather-all.ensures.seen seats
-    c.self.invariant.given in
-    e.retirees
-
-pub returns-clause-balance : goal.returns-clause-balance
-returns-clause-balance g c =
-    let table = c.self.inside.table.shared in
-    let words = slots_items c.close_with-closed.result.words in
-    let items = slots_items c.close_with-closed.result.slots in
-    let seats : length c.args.seats.items ≡ c.args.self.setup.seats = omega (arith, c.args.seats.ok, c.requires.all) in
-    let e = ended g.B.Buffer.contents g.B.Buffer.IsSameBuffer table.table_id table.key c.args.self c.gather-all.result.id c.gather-all.result.me.0
-    c.args.seats.items words items c.self.view_is c.close_with-closed.ensures.values.2 c.gather-all.ensures.all c.gather-all.ensures.seen seats
-    c.self.invariant.given in
-    let setup : c.self.inside.setup ≡ c.args.self.setup = c.self.invariant.same ∙ ap (λ (b : Identity g.row.B.Denot). b.setup) c.self.view_is in
-    let each = subst (λ (k : Setup). (m : Cells) → ShowsWords k words m → (r : ℕ) → r < k.rings
-    → slice_index c.count_left.new.left.items r ≡ left_in k m r) setup
-    c.count_left.ensures.each in
-    (e.counts c.count_left.new.left.items (c.count_left.ensures.rings ∙ ap (λ (k : Setup). k.rings) setup) each).0
-
-pub returns-clause-all_there : goal.returns-clause-all_there
-returns-clause-all_there g c =
-    let table = c.self.inside.table.shared in
-    let words = slots_items c.close_with-closed.result.words in
-    let items = slots_items c.close_with-closed.result.slots in
-    let seats : length c.args.seats.items ≡ c.args.self.setup.seats = omega (arith, c.args.seats.ok, c.requires.all) in
-    let e = ended g.B.Buffer.contents g.B.Buffer.IsSameBuffer table.table_id table.key c.args.self c.gather-all.result.id c.gather-all.result.me.0
-    c.args.seats.items words items c.self.view_is c.close_with-closed.ensures.values.2 c.gather-all.ensures.all c.gather-all.ensures.seen seats
-    c.self.invariant.given in
-    let setup : c.self.inside.setup ≡ c.args.self.setup = c.self.invariant.same ∙ ap (λ (b : Identity g.row.B.Denot). b.setup) c.self.view_is in
-    let each = subst (λ (k : Setup). (m : Cells) → ShowsWords k words m → (r : ℕ) → r < k.rings
-    → slice_index c.count_left.new.left.items r ≡ left_in k m r) setup
-    c.count_left.ensures.each in
-    (e.counts c.count_left.new.left.items (c.count_left.ensures.rings ∙ ap (λ (k : Setup). k.rings) setup) each).1
-
-pub returns-clause-left : goal.returns-clause-left
-returns-clause-left g c =
-    let table = c.self.inside.table.shared in
-    let words = slots_items c.close_with-closed.result.words in
-    let items = slots_items c.close_with-closed.result.slots in
-    let seats : length c.args.seats.items ≡ c.args.self.setup.seats = omega (arith, c.args.seats.ok, c.requires.all) in
-    let e = ended g.B.Buffer.contents g.B.Buffer.IsSameBuffer table.table_id table.key c.args.self c.gather-all.result.id c.gather-all.result.me.0
-    c.args.seats.items words items c.self.view_is c.close_with-closed.ensures.values.2 c.gather-all.ensures.all c.gather-all.ensures.seen seats
-    c.self.invariant.given in
-    (e.lefts c.unload.new.buffers.items c.unload.ensures.buffers).0
+    let bounds = (says g (goal.at.returns-clause-spent g c).After-close_with-closed).spent in
+    record { bounds = bounds; limits = none_spent_within c.args.self.setup (all_calls c.args.seats.items) (all_spent c.args.seats.items) bounds }

@@ -1,6 +1,6 @@
 use Rattle.std.proofs.Common.{List, length, take, refl, sym, ◌∙◌, ap, subst}
 use Rattle.scq_band.specs.declared.numbers.Numbers.{Numbers}
-use Rattle.scq_band.specs.Numbers.{joined}
+use Rattle.scq_band.specs.Numbers.{raised_by}
 use Rattle.scq_band.specs.Known.{both_of}
 use Rattle.scq_band.specs.RunSeen.{both_seen}
 use Rattle.scq_band.specs.Standing.{Standing, NoteStanding}
@@ -27,7 +27,7 @@ invariant_of-seat g c =
     let new = c.join_all.ensures.joined in
     kept_still g.B.Buffer.IsSameBuffer key (known_me c.learn.new.token.me) me.0 (both_of me.0 (note_with theirs)) me.1 c.seat.inside.hand.items _ _ mine
     c.join_all.new.numbers.items _ _ c.seat.invariant refl (record { seats = c.seat.invariant.alone.seats; out = c.seat.invariant.alone.out })
-    c.seat.invariant.idle refl (new ∙ ap (λ (ns : List Numbers). joined ns theirs) c.seat.invariant.numbers)
+    c.seat.invariant.idle refl (new ∙ ap (λ (ns : List Numbers). raised_by ns theirs) c.seat.invariant.numbers)
     (ap length new ∙ joined_length mine theirs)
     (subst AreSmall (sym new) (small_joined mine theirs c.seat.invariant.small c.note.invariant.small)) c.seat.invariant.spent
     (ap known_me (c.learn.ensures.learned note c.note.invariant.is))
@@ -40,9 +40,9 @@ returns g c =
     let theirs = take c.note.inside.rings c.note.inside.numbers in
     let note = note_sight_with (seen_in c.note.inside.badge.views) theirs in
     let raised : Standing g.row.B.Denot → Standing g.row.B.Denot =
-    λ s. record s { numbers = joined s.numbers theirs; seen = both_seen s.seen note.seen } in
+    λ s. record s { numbers = raised_by s.numbers theirs; seen = both_seen s.seen note.seen } in
     ap (standing_of c.learn.new.token.table_id key) (c.learn.ensures.learned note c.note.invariant.is)
     ∙ ap (λ t. standing_of t key (both_sight me.0 note, me.1)) c.learn.ensures.own.0
     ∙ ap raised c.seat.view_is
-    ∙ ap (λ (n : NoteStanding). record c.args.seat.now { numbers = joined c.args.seat.now.numbers n.numbers; seen = both_seen c.args.seat.now.seen n.seen })
+    ∙ ap (λ (n : NoteStanding). record c.args.seat.now { numbers = raised_by c.args.seat.now.numbers n.numbers; seen = both_seen c.args.seat.now.seen n.seen })
     c.note.view_is

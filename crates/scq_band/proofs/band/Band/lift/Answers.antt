@@ -1,106 +1,71 @@
 use Rattle.std.proofs.Common.{◌≡◌, ℕ, List, ◌∷◌, sym, ◌∙◌, ap, subst}
-use Rattle.std.specs.Prelude.{Some, None, Option}
+use Rattle.std.specs.Prelude.{Some, None, Option, vec_capacity}
 use Rattle.atomic_table.specs.Table.{Me, rest}
 use Rattle.scq_band.specs.declared.slot.Slot.{Slot}
-use Rattle.scq_band.specs.Sights.{Sight, known_in, known_me}
-use Rattle.scq_band.specs.Standing.{Identity, Standing, in_hand, IsAsGiven}
-use Rattle.scq_band.proofs.Exchanging.{held, brought, kept_lent, same_slot, lent_standing}
+use Rattle.scq_band.specs.Sights.{known_me}
+use Rattle.scq_band.specs.Standing.{Identity, Standing, with_buffer, IsAsGiven}
+use Rattle.scq_band.specs.Kept.{standing_of, IsKept}
+use Rattle.scq_band.proofs.Exchanging.{Brought, same_slot}
+use Rattle.scq_band.proofs.LaidFirst.{held_there, came_first, front_slot, lent_first}
 use Rattle.scq_band.proofs.band.Band.lift.Goals as goal
+use Rattle.scq_band.proofs.band.Band.lift.Goals.{After-bring_to_front, After-lift_first}
+
+-- the slot of the index stands first
+front : (g : _) (c : After-bring_to_front g) → Brought g.B.Buffer.IsSameBuffer (known_me c.seat.inside.token.me) c.seat.inside.key.value.given.value.items
+    c.bring_to_front.new.token.me.1 c.args.index (Some c.requires.laid.0)
+front g c =
+    let to = c.bring_to_front.ensures in
+    came_first g.B.Buffer.IsSameBuffer c.seat.inside.token.me c.bring_to_front.new.token.me.1 c.seat.invariant c.seat.view_is to.turned to.first
+    c.requires.laid.1
+
+-- and its buffer is the one that is lifted
+lifted : (g : _) (c : After-lift_first g) → (b : Brought g.B.Buffer.IsSameBuffer (known_me c.seat.inside.token.me)
+    c.seat.inside.key.value.given.value.items c.bring_to_front.new.token.me.1 c.args.index (Some c.requires.laid.0))
+    → b.slot.buffer ≡ Some c.lift_first.result
+lifted g c b =
+    ap (λ (s : Slot g.row.B.Denot). s.buffer) (same_slot c.args.index b.slot (record { buffer = Some c.lift_first.result }) b.others _
+    c.bring_to_front.new.token.me.1 b.is c.lift_first.ensures.buffer)
+
+-- what is kept, and seen, of the seat without it
+without : (g : _) (c : After-lift_first g) → IsKept g.B.Buffer.IsSameBuffer c.seat.inside.key.value (known_me c.lift_first.new.token.me)
+    c.bring_to_front.new.hand.items (vec_capacity c.bring_to_front.new.hand) c.seat.inside.numbers.items c.seat.inside.spent
+    × (standing_of c.lift_first.new.token.table_id c.seat.inside.key.value c.lift_first.new.token.me
+    ≡ record (c.args.seat.now) { hand = with_buffer c.args.index None c.args.seat.now.hand })
+without g c =
+    let to = c.bring_to_front.ensures in
+    lent_first g.B.Buffer.IsSameBuffer c.seat.inside.token.me c.bring_to_front.new.token.me c.lift_first.new.token.me (record { buffer = None })
+    c.seat.invariant c.seat.view_is to.own.0 c.lift_first.ensures.own.0 to.own.2 to.turned to.first to.order to.room c.requires.laid.1
+    (λ x is. absurd (cc)) c.lift_first.ensures.lifted
 
 pub bring_to_front-requires-clause-held : goal.bring_to_front-requires-clause-held
-bring_to_front-requires-clause-held g c κs within =
-    let Same = g.B.Buffer.IsSameBuffer in
-    let key = c.seat.inside.key.value in
-    let me = known_me c.seat.inside.token.me in
-    let is : in_hand _ c.args.index ≡ Some (Some c.requires.laid.0) =
-    ap (λ (s : Standing g.row.B.Denot). in_hand s.hand c.args.index) c.seat.view_is ∙ c.requires.laid.1 in
-    held Same key me c.seat.inside.hand.items _ _ _ c.args.index (Some c.requires.laid.0) c.seat.invariant is
+bring_to_front-requires-clause-held g c κs within = held_there g.B.Buffer.IsSameBuffer c.args.index c.seat.inside.token.me c.seat.invariant c.seat.view_is c.requires.laid.1
+
+pub lift_first-requires-clause-first : goal.lift_first-requires-clause-first
+lift_first-requires-clause-first g c κs within =
+    let s = front_slot g.B.Buffer.IsSameBuffer (front g (goal.at.lift_first-requires-clause-first g c).After-bring_to_front) in
+    (c.requires.laid.0, s.1 ∙ ap (λ (o : Option g.row.B.Denot). (c.args.index, record { buffer = o }) ∷ rest c.bring_to_front.new.token.me.1) s.2)
+
+pub invariant_of-seat : goal.invariant_of-seat
+invariant_of-seat g c = (without g (goal.at.invariant_of-seat g c).After-lift_first).0
+
+pub returns-clause-buffer : goal.returns-clause-buffer
+returns-clause-buffer g c =
+    let at = goal.at.returns-clause-buffer g c in
+    let b = front g at.After-bring_to_front in
+    c.requires.laid.1 ∙ ap (λ (o : Option g.row.B.Denot). Some o) (sym b.has ∙ lifted g at.After-lift_first b)
+
+pub returns-clause-given : goal.returns-clause-given
+returns-clause-given g c =
+    let at = goal.at.returns-clause-given g c in
+    let b = front g at.After-bring_to_front in
+    subst (λ (bs : List g.row.B.Denot). IsAsGiven g.B.Buffer.IsSameBuffer bs c.args.index c.lift_first.result)
+    (ap (λ (i : Identity g.row.B.Denot). i.given) (ap (λ (s : Standing g.row.B.Denot). s.band) c.seat.view_is ∙ c.requires.seat))
+    (b.given_so c.lift_first.result (lifted g at.After-lift_first b))
+
+pub returns-clause-lifted : goal.returns-clause-lifted
+returns-clause-lifted g c = (without g (goal.at.returns-clause-lifted g c).After-lift_first).1
 
 pub lift_first-requires-clause-own : goal.lift_first-requires-clause-own
 lift_first-requires-clause-own g c κs within =
     let ident = ap (λ (s : Standing g.row.B.Denot). s.band) c.seat.view_is ∙ c.requires.seat ∙ sym c.self.view_is in
     c.bring_to_front.ensures.own.0 ∙ ap (λ (i : Identity g.row.B.Denot). i.table) ident
-
-pub lift_first-requires-clause-first : goal.lift_first-requires-clause-first
-lift_first-requires-clause-first g c κs within =
-    let Same = g.B.Buffer.IsSameBuffer in
-    let key = c.seat.inside.key.value in
-    let me = known_me c.seat.inside.token.me in
-    let is : in_hand _ c.args.index ≡ Some (Some c.requires.laid.0) =
-    ap (λ (s : Standing g.row.B.Denot). in_hand s.hand c.args.index) c.seat.view_is ∙ c.requires.laid.1 in
-    let ms = c.bring_to_front.new.token.me.1 in
-    let turned = c.bring_to_front.ensures.turned in
-    let b = brought Same key me ms c.seat.inside.hand.items _ _ _ c.args.index (Some c.requires.laid.0) c.seat.invariant turned
-    c.bring_to_front.ensures.first is in
-    let front : ms ≡ (c.args.index, record { buffer = Some c.requires.laid.0 }) ∷ b.others = b.is
-    ∙ ap (λ (o : Option g.row.B.Denot). (c.args.index, record { buffer = o }) ∷ b.others) b.has in (
-      c.requires.laid.0,
-      front ∙ ap (λ (os : List (ℕ × Slot g.row.B.Denot)). (c.args.index, record { buffer = Some c.requires.laid.0 }) ∷ os) (sym (ap rest front)),
-    )
-
-pub invariant_of-seat : goal.invariant_of-seat
-invariant_of-seat g c =
-    let Same = g.B.Buffer.IsSameBuffer in
-    let key = c.seat.inside.key.value in
-    let me = known_me c.seat.inside.token.me in
-    let is : in_hand _ c.args.index ≡ Some (Some c.requires.laid.0) =
-    ap (λ (s : Standing g.row.B.Denot). in_hand s.hand c.args.index) c.seat.view_is ∙ c.requires.laid.1 in
-    let ms = c.bring_to_front.new.token.me.1 in
-    let turned = c.bring_to_front.ensures.turned in
-    let b = brought Same key me ms c.seat.inside.hand.items _ _ _ c.args.index (Some c.requires.laid.0) c.seat.invariant turned
-    c.bring_to_front.ensures.first is in
-    kept_lent Same key me (known_me c.lift_first.new.token.me) c.bring_to_front.new.token.me.0.known ms c.seat.inside.hand.items
-    c.bring_to_front.new.hand.items _ _ _ _
-    c.args.index (Some c.requires.laid.0)
-    (record { buffer = None }) c.seat.invariant (ap known_in c.bring_to_front.ensures.own.2) turned c.bring_to_front.ensures.order
-    c.bring_to_front.ensures.room b
-    (λ x is. absurd (cc)) (ap known_me c.lift_first.ensures.lifted)
-
-pub returns-clause-buffer : goal.returns-clause-buffer
-returns-clause-buffer g c =
-    let Same = g.B.Buffer.IsSameBuffer in
-    let key = c.seat.inside.key.value in
-    let me = known_me c.seat.inside.token.me in
-    let is : in_hand _ c.args.index ≡ Some (Some c.requires.laid.0) =
-    ap (λ (s : Standing g.row.B.Denot). in_hand s.hand c.args.index) c.seat.view_is ∙ c.requires.laid.1 in
-    let ms = c.bring_to_front.new.token.me.1 in
-    let turned = c.bring_to_front.ensures.turned in
-    let b = brought Same key me ms c.seat.inside.hand.items _ _ _ c.args.index (Some c.requires.laid.0) c.seat.invariant turned
-    c.bring_to_front.ensures.first is in
-    let slot = same_slot c.args.index b.slot (record { buffer = Some c.lift_first.result }) b.others _ ms b.is c.lift_first.ensures.buffer in
-    let same : Some c.requires.laid.0 ≡ Some c.lift_first.result = sym b.has ∙ ap (λ (s : Slot g.row.B.Denot). s.buffer) slot in
-    c.requires.laid.1 ∙ ap (λ (o : Option g.row.B.Denot). Some o) same
-
-pub returns-clause-given : goal.returns-clause-given
-returns-clause-given g c =
-    let Same = g.B.Buffer.IsSameBuffer in
-    let key = c.seat.inside.key.value in
-    let me = known_me c.seat.inside.token.me in
-    let is : in_hand _ c.args.index ≡ Some (Some c.requires.laid.0) =
-    ap (λ (s : Standing g.row.B.Denot). in_hand s.hand c.args.index) c.seat.view_is ∙ c.requires.laid.1 in
-    let ms = c.bring_to_front.new.token.me.1 in
-    let turned = c.bring_to_front.ensures.turned in
-    let b = brought Same key me ms c.seat.inside.hand.items _ _ _ c.args.index (Some c.requires.laid.0) c.seat.invariant turned
-    c.bring_to_front.ensures.first is in
-    let slot = same_slot c.args.index b.slot (record { buffer = Some c.lift_first.result }) b.others _ ms b.is c.lift_first.ensures.buffer in
-    let given : key.given.value.items ≡ c.args.self.now.given = ap (λ (i : Identity g.row.B.Denot). i.given)
-    (ap (λ (s : Standing g.row.B.Denot). s.band) c.seat.view_is ∙ c.requires.seat) in
-    subst (λ (bs : List g.row.B.Denot). IsAsGiven Same bs c.args.index c.lift_first.result) given
-    (b.given_so c.lift_first.result (ap (λ (s : Slot g.row.B.Denot). s.buffer) slot))
-
-pub returns-clause-lifted : goal.returns-clause-lifted
-returns-clause-lifted g c =
-    let Same = g.B.Buffer.IsSameBuffer in
-    let key = c.seat.inside.key.value in
-    let me = known_me c.seat.inside.token.me in
-    let is : in_hand _ c.args.index ≡ Some (Some c.requires.laid.0) =
-    ap (λ (s : Standing g.row.B.Denot). in_hand s.hand c.args.index) c.seat.view_is ∙ c.requires.laid.1 in
-    let ms = c.bring_to_front.new.token.me.1 in
-    let turned = c.bring_to_front.ensures.turned in
-    let b = brought Same key me ms c.seat.inside.hand.items _ _ _ c.args.index (Some c.requires.laid.0) c.seat.invariant turned
-    c.bring_to_front.ensures.first is in
-    lent_standing Same c.seat.inside.token.me.0.seen c.lift_first.new.token.me.0.seen c.seat.inside.token.table_id c.lift_first.new.token.table_id
-    key me (known_me c.lift_first.new.token.me) c.bring_to_front.new.token.me.0.known ms
-    key.given.value.items c.args.index (Some c.requires.laid.0) (record { buffer = None }) c.args.seat.now c.seat.view_is
-    (ap (λ (m : Me (Slot g.row.B.Denot) Sight). m.0.seen) c.lift_first.ensures.lifted ∙ ap (λ (v : Sight). v.seen) c.bring_to_front.ensures.own.2)
-    (c.lift_first.ensures.own.0 ∙ c.bring_to_front.ensures.own.0) (ap known_in c.bring_to_front.ensures.own.2) b (ap known_me c.lift_first.ensures.lifted)

@@ -1,33 +1,56 @@
-use Rattle.std.proofs.Common.{◌≡◌, ◌<◌, ◌≤◌, ◌^◌, ℕ, List, ◌∷◌, length, true, refl, sym, ◌∙◌, ap, subst, arith}
-use Rattle.std.specs.Prelude.{Some, None, slice_get, vec_capacity}
+use Rattle.std.proofs.Common.{◌≡◌, ◌<◌, ◌≤◌, ℕ, List, ◌∷◌, true, sym, ◌∙◌, ap, subst}
+use Rattle.std.specs.Prelude.{Some, None, vec_capacity}
 use Rattle.atomic_table.specs.Table.{Me, rest}
 use Rattle.scq_word.specs.declared.setup.Setup.{Setup}
-use Rattle.scq_word.specs.Sizes.{n_of}
-use Rattle.scq_core.specs.Table.{holds_index}
-use Rattle.scq_law.specs.Hands.{times}
 use Rattle.scq_band.specs.declared.numbers.Numbers.{Numbers}
 use Rattle.scq_band.specs.declared.slot.Slot.{Slot}
 use Rattle.scq_band.specs.Buffers.{opening_of}
-use Rattle.scq_band.specs.Numbers.{known_of, changed, finishes}
+use Rattle.scq_band.specs.Numbers.{known_of}
 use Rattle.scq_band.specs.Known.{Known}
-use Rattle.scq_band.specs.Sights.{Sight, known_in, known_me, Went}
-use Rattle.scq_band.specs.Steps.{my, front_index, front_bytes}
-use Rattle.scq_band.specs.Seats.{put_at, spent_at}
-use Rattle.scq_band.specs.Standing.{Identity, Standing, in_hand, with_buffer, IsAsGiven}
-use Rattle.scq_band.specs.Kept.{in_order, IsKept}
-use Rattle.scq_band.proofs.Slots.{holds_times, some_in_order}
-use Rattle.scq_band.proofs.Exchanging.{held, brought, kept_turned, kept_lent, same_slot, lent_standing}
-use Rattle.scq_band.proofs.Keeping.{kept_put, kept_still, put_standing, spent_standing, seen, call_seen, known_there}
-use Rattle.scq_band.proofs.Putting.{laid_there, put_laid, laid_brought, lifted_again}
+use Rattle.scq_band.specs.Sights.{Sight, Went, known_me}
+use Rattle.scq_band.specs.Steps.{my, front_index}
+use Rattle.scq_band.specs.Seats.{HasSpentPut}
+use Rattle.scq_band.specs.Standing.{Identity, Standing, with_buffer, IsAsGiven, having_seen, seat_after_spent_put}
+use Rattle.scq_band.specs.Kept.{standing_of, IsKept}
+use Rattle.scq_band.proofs.Exchanging.{same_slot}
+use Rattle.scq_band.proofs.Putting.{put_laid}
+use Rattle.scq_band.proofs.LaidFirst.{LaidFirst, ring_there, held_there, came_first, front_slot, laid_first, refused_laid, laid_held, laid_fronts, laid_some, laid_above, laid_kept, laid_put, laid_call}
 use Rattle.scq_band.proofs.band.Band.put.Goals as goal
+use Rattle.scq_band.proofs.band.Band.put.Goals.{After-lay_first, In-Err, After-lift_first-buffer}
+
+-- the slot of the index stands first, and the buffer is laid in it
+laid : (g : _) (c : After-lay_first g) → LaidFirst g.B.Buffer.IsSameBuffer c.seat.inside.key.value c.lay_first.new.token.table_id c.lay_first.new.token.me
+    c.bring_to_front.new.hand.items (vec_capacity c.bring_to_front.new.hand) c.seat.inside.numbers.items c.seat.inside.spent c.args.index c.args.buffer
+    (record (c.args.seat.now) { hand = with_buffer c.args.index (Some c.args.buffer) c.args.seat.now.hand })
+laid g c =
+    let to = c.bring_to_front.ensures in
+    let given = subst (λ (b : Identity g.row.B.Denot). IsAsGiven g.B.Buffer.IsSameBuffer b.given c.args.index c.args.buffer) (sym c.requires.seat)
+    c.requires.given in
+    laid_first g.B.Buffer.IsSameBuffer c.seat.inside.token.me c.bring_to_front.new.token.me c.lay_first.new.token.me c.seat.invariant c.seat.view_is to.own.0
+    c.lay_first.ensures.own.0 to.own.2 to.turned to.first to.order to.room c.requires.lifted given c.lay_first.ensures.laid
+
+-- where the put is refused, the slots are as they were when the buffer was laid
+still : (g : _) (c : In-Err g) → c.enqueue.new.token.me.1
+    ≡ (c.args.index, record { buffer = Some c.args.buffer }) ∷ rest c.bring_to_front.new.token.me.1
+still g c = c.in-Err.ensures.spent.slots ∙ ap (λ (m : Me (Slot g.row.B.Denot) Sight). m.1) c.lay_first.ensures.laid
+
+-- what is kept, and seen, of the seat then
+refused : (g : _) (c : After-lift_first-buffer g) → IsKept g.B.Buffer.IsSameBuffer c.seat.inside.key.value (known_me c.lift_first-buffer.new.token.me)
+    c.bring_to_front.new.hand.items (vec_capacity c.bring_to_front.new.hand) c.seat.inside.numbers.items (Some c.in-Err.ticket)
+    × (standing_of c.lift_first-buffer.new.token.table_id c.seat.inside.key.value c.lift_first-buffer.new.token.me
+    ≡ having_seen c.lift_first-buffer.new.token.me.0.seen (seat_after_spent_put c.args.ring c.in-Err.ticket c.args.seat.now))
+refused g c =
+    let to = c.bring_to_front.ensures in
+    let own = c.lift_first-buffer.ensures.own.0 ∙ c.in-Err.ensures.own.0 ∙ c.lay_first.ensures.own.0 ∙ to.own.0 in
+    refused_laid g.B.Buffer.IsSameBuffer c.seat.inside.token.me c.bring_to_front.new.token.me c.lay_first.new.token.me c.enqueue.new.token.me
+    c.lift_first-buffer.new.token.me c.self.inside.table.shared.key.setup c.args.ring c.in-Err.ticket c.seat.invariant c.seat.view_is own to.own.2
+    to.turned to.first to.order to.room c.requires.lifted c.lay_first.ensures.laid
+    (subst (λ n. HasSpentPut c.self.inside.table.shared.key.setup n c.in-Err.ticket (known_me c.lay_first.new.token.me) (known_me c.enqueue.new.token.me)) c.ring.ensures.number
+    c.in-Err.ensures.spent)
+    c.lift_first-buffer.ensures.lifted
 
 pub bring_to_front-requires-clause-held : goal.bring_to_front-requires-clause-held
-bring_to_front-requires-clause-held g c κs within =
-    let Same = g.B.Buffer.IsSameBuffer in
-    let key = c.seat.inside.key.value in
-    let me = known_me c.seat.inside.token.me in
-    let is : in_hand _ c.args.index ≡ Some None = ap (λ (s : Standing g.row.B.Denot). in_hand s.hand c.args.index) c.seat.view_is ∙ c.requires.lifted in
-    held Same key me c.seat.inside.hand.items _ _ _ c.args.index None c.seat.invariant is
+bring_to_front-requires-clause-held g c κs within = held_there g.B.Buffer.IsSameBuffer c.args.index c.seat.inside.token.me c.seat.invariant c.seat.view_is c.requires.lifted
 
 pub lay_first-requires-clause-own : goal.lay_first-requires-clause-own
 lay_first-requires-clause-own g c κs within =
@@ -36,325 +59,99 @@ lay_first-requires-clause-own g c κs within =
 
 pub lay_first-requires-clause-first : goal.lay_first-requires-clause-first
 lay_first-requires-clause-first g c κs within =
-    let Same = g.B.Buffer.IsSameBuffer in
-    let key = c.seat.inside.key.value in
-    let me = known_me c.seat.inside.token.me in
-    let is : in_hand _ c.args.index ≡ Some None = ap (λ (s : Standing g.row.B.Denot). in_hand s.hand c.args.index) c.seat.view_is ∙ c.requires.lifted in
-    let v = c.bring_to_front.new.token.me.0.known in
-    let ms = c.bring_to_front.new.token.me.1 in
-    let turned = c.bring_to_front.ensures.turned in
-    let b = brought Same key me ms c.seat.inside.hand.items _ _ _ c.args.index None c.seat.invariant turned c.bring_to_front.ensures.first is in
-    (b.slot, b.is ∙ ap (λ (os : List (ℕ × Slot g.row.B.Denot)). (c.args.index, b.slot) ∷ os) (sym (ap rest b.is)), b.has)
+    let to = c.bring_to_front.ensures in
+    front_slot g.B.Buffer.IsSameBuffer (came_first g.B.Buffer.IsSameBuffer c.seat.inside.token.me c.bring_to_front.new.token.me.1 c.seat.invariant
+    c.seat.view_is to.turned to.first c.requires.lifted)
 
 pub enqueue-requires-clause-held : goal.enqueue-requires-clause-held
 enqueue-requires-clause-held g c κs within =
-    let Same = g.B.Buffer.IsSameBuffer in
-    let key = c.seat.inside.key.value in
-    let me = known_me c.seat.inside.token.me in
-    let is : in_hand _ c.args.index ≡ Some None = ap (λ (s : Standing g.row.B.Denot). in_hand s.hand c.args.index) c.seat.view_is ∙ c.requires.lifted in
     let ident = ap (λ (s : Standing g.row.B.Denot). s.band) c.seat.view_is ∙ c.requires.seat ∙ sym c.self.view_is in
-    let there = held Same key me c.seat.inside.hand.items _ _ _ c.args.index None c.seat.invariant is in
-    let hand = (my me.0).part.hand in
-    let in_it : 0 < times c.args.index hand = let same = c.seat.invariant.same c.args.index in omega (arith, same, there) in
-    let lay_view = ap (λ (m : Me (Slot g.row.B.Denot) Sight). m.0) c.lay_first.ensures.laid ∙ c.bring_to_front.ensures.own.2 in (
-      ap (λ (u : Sight). holds_index (my u.known).part.hand c.args.index) lay_view ∙ holds_times c.args.index hand in_it,
-      subst (λ (s : Setup). c.args.index < n_of s.order) (ap (λ (i : Identity g.row.B.Denot). i.setup) ident) (c.seat.invariant.low c.args.index there),
-    )
+    laid_held g.B.Buffer.contents g.B.Buffer.IsSameBuffer (laid g (goal.at.enqueue-requires-clause-held g c).After-lay_first) _
+    (ap (λ (i : Identity g.row.B.Denot). i.setup) ident)
 
 pub enqueue-requires-clause-first : goal.enqueue-requires-clause-first
-enqueue-requires-clause-first g c κs within =
-    ap (λ (m : Me (Slot g.row.B.Denot) Sight). front_index m.1) c.lay_first.ensures.laid
+enqueue-requires-clause-first g c κs within = ap (λ (m : Me (Slot g.row.B.Denot) Sight). front_index m.1) c.lay_first.ensures.laid
 
 pub enqueue-requires-clause-front : goal.enqueue-requires-clause-front
 enqueue-requires-clause-front g c κs within =
-    let Same = g.B.Buffer.IsSameBuffer in
-    let key = c.seat.inside.key.value in
-    let me = known_me c.seat.inside.token.me in
-    let is : in_hand _ c.args.index ≡ Some None = ap (λ (s : Standing g.row.B.Denot). in_hand s.hand c.args.index) c.seat.view_is ∙ c.requires.lifted in
-    let v = c.bring_to_front.new.token.me.0.known in
-    let ms = c.bring_to_front.new.token.me.1 in
-    let turned = c.bring_to_front.ensures.turned in
-    let b = brought Same key me ms c.seat.inside.hand.items _ _ _ c.args.index None c.seat.invariant turned c.bring_to_front.ensures.first is in
     let ident = ap (λ (s : Standing g.row.B.Denot). s.band) c.seat.view_is ∙ c.requires.seat ∙ sym c.self.view_is in
-    let with_it : Slot g.row.B.Denot = record { buffer = Some c.args.buffer } in
-    let given : key.given.value.items ≡ c.args.self.now.given = ap (λ (i : Identity g.row.B.Denot). i.given)
-    (ap (λ (s : Standing g.row.B.Denot). s.band) c.seat.view_is ∙ c.requires.seat) in
-    let as_given = subst (λ (bs : List g.row.B.Denot). IsAsGiven Same bs c.args.index c.args.buffer) (sym given) c.requires.given in
-    let me2 = known_me c.lay_first.new.token.me in
-    let laid : me2 ≡ (v, (c.args.index, with_it) ∷ rest ms) = ap known_me c.lay_first.ensures.laid in
-    let front = ap (λ (m : Me (Slot g.row.B.Denot) Known). m.1) laid in
-    let view = ap (λ (m : Me (Slot g.row.B.Denot) Known). m.0) laid in
-    let b2 = laid_brought Same key.given.value.items me2 (rest ms) c.args.index c.args.buffer front as_given in
-    seen g.B.Buffer.contents Same me2 me2.1 key.given.value.items _ c.args.index c.args.buffer b2 (ap (λ (i : Identity g.row.B.Denot). i.given) ident)
+    laid_fronts g.B.Buffer.contents g.B.Buffer.IsSameBuffer (laid g (goal.at.enqueue-requires-clause-front g c).After-lay_first) _
+    (ap (λ (i : Identity g.row.B.Denot). i.given) ident)
 
 pub lift_first-buffer-requires-clause-first : goal.lift_first-buffer-requires-clause-first
 lift_first-buffer-requires-clause-first g c κs within =
-    let Same = g.B.Buffer.IsSameBuffer in
-    let key = c.seat.inside.key.value in
-    let me = known_me c.seat.inside.token.me in
-    let is : in_hand _ c.args.index ≡ Some None = ap (λ (s : Standing g.row.B.Denot). in_hand s.hand c.args.index) c.seat.view_is ∙ c.requires.lifted in
-    let v = c.bring_to_front.new.token.me.0.known in
-    let ms = c.bring_to_front.new.token.me.1 in
-    let turned = c.bring_to_front.ensures.turned in
-    let b = brought Same key me ms c.seat.inside.hand.items _ _ _ c.args.index None c.seat.invariant turned c.bring_to_front.ensures.first is in
-    let with_it : Slot g.row.B.Denot = record { buffer = Some c.args.buffer } in
-    let given : key.given.value.items ≡ c.args.self.now.given = ap (λ (i : Identity g.row.B.Denot). i.given)
-    (ap (λ (s : Standing g.row.B.Denot). s.band) c.seat.view_is ∙ c.requires.seat) in
-    let as_given = subst (λ (bs : List g.row.B.Denot). IsAsGiven Same bs c.args.index c.args.buffer) (sym given) c.requires.given in
-    let me2 = known_me c.lay_first.new.token.me in
-    let laid : me2 ≡ (v, (c.args.index, with_it) ∷ rest ms) = ap known_me c.lay_first.ensures.laid in
-    let front = ap (λ (m : Me (Slot g.row.B.Denot) Known). m.1) laid in
-    let view = ap (λ (m : Me (Slot g.row.B.Denot) Known). m.0) laid in
-    let b2 = laid_brought Same key.given.value.items me2 (rest ms) c.args.index c.args.buffer front as_given in
-    let still = c.in-Err.ensures.kept.0 ∙ front in
-    (c.args.buffer, still ∙ ap (λ (os : List (ℕ × Slot g.row.B.Denot)). (c.args.index, with_it) ∷ os) (sym (ap rest still)))
+    let is = still g (goal.at.lift_first-buffer-requires-clause-first g c).In-Err in
+    (c.args.buffer, is ∙ ap (λ (os : List (ℕ × Slot g.row.B.Denot)). (c.args.index, record { buffer = Some c.args.buffer }) ∷ os) (sym (ap rest is)))
 
 pub let_go-requires-clause-low : goal.let_go-requires-clause-low
 let_go-requires-clause-low g c =
-    let rings = c.seat.invariant.rings in
-    let setup = ap (λ (i : Identity g.row.B.Denot). i.setup.rings) (ap (λ (s : Standing g.row.B.Denot). s.band) c.seat.view_is ∙ c.requires.seat) in
-    let ring = c.requires.ring in
-    omega (arith, rings, setup, ring)
+    ring_there c.seat.inside.key.value c.seat.inside.token.me c.seat.inside.numbers.items c.args.ring c.seat.view_is c.requires.seat c.seat.invariant.rings
+    c.requires.ring
 
 pub let_go-requires-clause-some : goal.let_go-requires-clause-some
 let_go-requires-clause-some g c =
-    let Same = g.B.Buffer.IsSameBuffer in
-    let key = c.seat.inside.key.value in
-    let me = known_me c.seat.inside.token.me in
-    let is : in_hand _ c.args.index ≡ Some None = ap (λ (s : Standing g.row.B.Denot). in_hand s.hand c.args.index) c.seat.view_is ∙ c.requires.lifted in
-    let ms = c.bring_to_front.new.token.me.1 in
-    let b = brought Same key me ms c.seat.inside.hand.items _ _ _ c.args.index None c.seat.invariant c.bring_to_front.ensures.turned
-    c.bring_to_front.ensures.first is in
-    some_in_order ms c.args.index b.slot b.others b.is c.bring_to_front.new.hand.items c.bring_to_front.ensures.order
+    laid_some g.B.Buffer.contents g.B.Buffer.IsSameBuffer (laid g (goal.at.let_go-requires-clause-some g c).After-lay_first)
 
 pub let_go-requires-clause-order : goal.let_go-requires-clause-order
 let_go-requires-clause-order g c = (c.seat.invariant.small c.args.ring).1
 
 pub let_go-requires-clause-above : goal.let_go-requires-clause-above
 let_go-requires-clause-above g c =
-    let r = c.args.ring in
-    let me = known_me c.seat.inside.token.me in
-    let low : r < length me.0.numbers =
-    let rings = ap length (sym c.seat.invariant.numbers) ∙ c.seat.invariant.rings in
-    let same = ap (λ (i : Identity g.row.B.Denot). i.setup.rings) (ap (λ (s : Standing g.row.B.Denot). s.band) c.seat.view_is ∙ c.requires.seat) in
-    let ring = c.requires.ring in
-    omega (arith, rings, same, ring) in
-    let lay_view = ap (λ (m : Me (Slot g.row.B.Denot) Sight). m.0) c.lay_first.ensures.laid ∙ c.bring_to_front.ensures.own.2 in
-    let there = ap (λ (u : Sight). slice_get u.known.numbers c.ring.result.now.number) lay_view
-    ∙ ap (λ n. slice_get me.0.numbers n) c.ring.ensures.number ∙ known_there me.0.numbers r low in
-    subst (λ (ns : List Numbers). (known_of ns r).seen < c.in-Ok.place) (sym c.seat.invariant.numbers)
-    (c.in-Ok.ensures.above.1 (known_of me.0.numbers r) there)
+    laid_above g.B.Buffer.contents g.B.Buffer.IsSameBuffer (laid g (goal.at.let_go-requires-clause-above g c).After-lay_first) c.enqueue.new.token.me
+    c.in-Ok.ensures.put c.ring.ensures.number (ring_there c.seat.inside.key.value c.seat.inside.token.me c.seat.inside.numbers.items c.args.ring c.seat.view_is c.requires.seat c.seat.invariant.rings
+    c.requires.ring)
 
 pub invariant_of-seat : goal.invariant_of-seat
 invariant_of-seat g c =
-    let Same = g.B.Buffer.IsSameBuffer in
-    let key = c.seat.inside.key.value in
-    let me = known_me c.seat.inside.token.me in
-    let is : in_hand _ c.args.index ≡ Some None = ap (λ (s : Standing g.row.B.Denot). in_hand s.hand c.args.index) c.seat.view_is ∙ c.requires.lifted in
-    let v = c.bring_to_front.new.token.me.0.known in
-    let ms = c.bring_to_front.new.token.me.1 in
-    let turned = c.bring_to_front.ensures.turned in
-    let b = brought Same key me ms c.seat.inside.hand.items _ _ _ c.args.index None c.seat.invariant turned c.bring_to_front.ensures.first is in
-    let ident = ap (λ (s : Standing g.row.B.Denot). s.band) c.seat.view_is ∙ c.requires.seat ∙ sym c.self.view_is in
-    let with_it : Slot g.row.B.Denot = record { buffer = Some c.args.buffer } in
-    let given : key.given.value.items ≡ c.args.self.now.given = ap (λ (i : Identity g.row.B.Denot). i.given)
-    (ap (λ (s : Standing g.row.B.Denot). s.band) c.seat.view_is ∙ c.requires.seat) in
-    let as_given = subst (λ (bs : List g.row.B.Denot). IsAsGiven Same bs c.args.index c.args.buffer) (sym given) c.requires.given in
-    let me2 = known_me c.lay_first.new.token.me in
-    let laid : me2 ≡ (v, (c.args.index, with_it) ∷ rest ms) = ap known_me c.lay_first.ensures.laid in
-    let front = ap (λ (m : Me (Slot g.row.B.Denot) Known). m.1) laid in
-    let view = ap (λ (m : Me (Slot g.row.B.Denot) Known). m.0) laid in
-    let b2 = laid_brought Same key.given.value.items me2 (rest ms) c.args.index c.args.buffer front as_given in
-    let kept = subst (λ (m : Me (Slot g.row.B.Denot) Known). IsKept Same key m c.bring_to_front.new.hand.items (vec_capacity c.bring_to_front.new.hand)
-    c.seat.inside.numbers.items c.seat.inside.spent) laid
-    (kept_lent Same key me me2 v ms c.seat.inside.hand.items c.bring_to_front.new.hand.items _ _ _ _ c.args.index None with_it c.seat.invariant
-    (ap known_in c.bring_to_front.ensures.own.2) turned c.bring_to_front.ensures.order c.bring_to_front.ensures.room b
-    (λ x its. let it : c.args.buffer ≡ x = cc in subst (λ (y : g.row.B.Denot). IsAsGiven Same key.given.value.items c.args.index y) it as_given) laid) in
-    let r = c.args.ring in
-    let numbers = c.seat.inside.numbers.items in
-    let place = c.in-Ok.place in
-    let bytes = front_bytes g.B.Buffer.contents me2.1 in
-    let new = c.let_go.ensures.numbers
-    ∙ ap (changed (finishes place) r) (c.seat.invariant.numbers ∙ ap (λ (u : Known). u.numbers) (sym (ap known_in c.bring_to_front.ensures.own.2))) in
-    let small : place < 2 ^ 60 =
-    let below = c.in-Ok.ensures.above.0 in
-    let limit = c.self.inside.table.shared.key.setup.limit_in_range in
-    omega (arith, below, limit) in
-    let others = rest ms in
-    let order : c.let_go.new.hand.items ≡ in_order others =
-    c.let_go.ensures.hand (in_order others) c.args.index (c.bring_to_front.ensures.order
-    ∙ ap in_order (b.is ∙ ap (λ (os : List (ℕ × Slot g.row.B.Denot)). (c.args.index, b.slot) ∷ os) (sym (ap rest b.is)))) in
-    let now = ap (λ (u : Known). (u, c.enqueue.new.token.me.1))
-    (c.in-Ok.ensures.placed ∙ ap (λ n. put_at n c.args.index place bytes me2.0) c.ring.ensures.number ∙ ap (put_at r c.args.index place bytes) view)
-    ∙ ap (λ (l : List (ℕ × Slot g.row.B.Denot)). (put_at r c.args.index place bytes v, l)) (c.in-Ok.ensures.given ∙ ap rest front) in
-    kept_put Same key (known_me c.enqueue.new.token.me) v c.args.index with_it others c.bring_to_front.new.hand.items c.let_go.new.hand.items _ _ numbers _ _ r
-    place bytes kept order c.let_go.ensures.room new small now
+    laid_kept g.B.Buffer.contents g.B.Buffer.IsSameBuffer (laid g (goal.at.invariant_of-seat g c).After-lay_first) c.enqueue.new.token.me
+    c.in-Ok.ensures.put c.ring.ensures.number c.let_go.ensures.hand c.let_go.ensures.room c.let_go.ensures.numbers
 
 pub invariant_of-seat-in-Err : goal.invariant_of-seat-in-Err
-invariant_of-seat-in-Err g c =
-    let Same = g.B.Buffer.IsSameBuffer in
-    let key = c.seat.inside.key.value in
-    let me = known_me c.seat.inside.token.me in
-    let is : in_hand _ c.args.index ≡ Some None = ap (λ (s : Standing g.row.B.Denot). in_hand s.hand c.args.index) c.seat.view_is ∙ c.requires.lifted in
-    let v = c.bring_to_front.new.token.me.0.known in
-    let ms = c.bring_to_front.new.token.me.1 in
-    let turned = c.bring_to_front.ensures.turned in
-    let b = brought Same key me ms c.seat.inside.hand.items _ _ _ c.args.index None c.seat.invariant turned c.bring_to_front.ensures.first is in
-    let with_it : Slot g.row.B.Denot = record { buffer = Some c.args.buffer } in
-    let given : key.given.value.items ≡ c.args.self.now.given = ap (λ (i : Identity g.row.B.Denot). i.given)
-    (ap (λ (s : Standing g.row.B.Denot). s.band) c.seat.view_is ∙ c.requires.seat) in
-    let as_given = subst (λ (bs : List g.row.B.Denot). IsAsGiven Same bs c.args.index c.args.buffer) (sym given) c.requires.given in
-    let me2 = known_me c.lay_first.new.token.me in
-    let laid : me2 ≡ (v, (c.args.index, with_it) ∷ rest ms) = ap known_me c.lay_first.ensures.laid in
-    let front = ap (λ (m : Me (Slot g.row.B.Denot) Known). m.1) laid in
-    let view = ap (λ (m : Me (Slot g.row.B.Denot) Known). m.0) laid in
-    let b2 = laid_brought Same key.given.value.items me2 (rest ms) c.args.index c.args.buffer front as_given in
-    let turned_so = kept_turned Same key me v ms c.seat.inside.hand.items c.bring_to_front.new.hand.items _ (vec_capacity c.bring_to_front.new.hand) _ _
-    c.seat.invariant (ap known_in c.bring_to_front.ensures.own.2) turned c.bring_to_front.ensures.order c.bring_to_front.ensures.room in
-    let u = spent_at c.ring.result.now.number c.in-Err.ticket true v in
-    let still = c.in-Err.ensures.kept.0 ∙ front in
-    let again = ap (λ (os : List (ℕ × Slot g.row.B.Denot)). (c.args.index, record { buffer = None }) ∷ os) (ap rest still)
-    ∙ lifted_again Same me key.given.value.items ms c.args.index b in
-    let now = ap known_me c.lift_first-buffer.ensures.lifted
-    ∙ ap (λ (k : Known). (k, (c.args.index, record { buffer = None }) ∷ rest c.enqueue.new.token.me.1))
-    (c.in-Err.ensures.spent ∙ ap (spent_at c.ring.result.now.number c.in-Err.ticket true) view)
-    ∙ ap (λ (l : List (ℕ × Slot g.row.B.Denot)). (u, l)) again in
-    kept_still Same key (known_me c.lift_first-buffer.new.token.me) v u ms c.bring_to_front.new.hand.items _ _ _ _ _ _ turned_so refl
-    (record { seats = refl; out = turned_so.alone.out }) refl refl turned_so.numbers refl turned_so.small refl now
+invariant_of-seat-in-Err g c = (refused g (goal.at.invariant_of-seat-in-Err g c).After-lift_first-buffer).0
 
 pub returns-in-Ok-clause-put : goal.returns-in-Ok-clause-put
 returns-in-Ok-clause-put g c =
-    let Same = g.B.Buffer.IsSameBuffer in
-    let key = c.seat.inside.key.value in
-    let me = known_me c.seat.inside.token.me in
-    let is : in_hand _ c.args.index ≡ Some None = ap (λ (s : Standing g.row.B.Denot). in_hand s.hand c.args.index) c.seat.view_is ∙ c.requires.lifted in
-    let v = c.bring_to_front.new.token.me.0.known in
-    let ms = c.bring_to_front.new.token.me.1 in
-    let turned = c.bring_to_front.ensures.turned in
-    let b = brought Same key me ms c.seat.inside.hand.items _ _ _ c.args.index None c.seat.invariant turned c.bring_to_front.ensures.first is in
-    let with_it : Slot g.row.B.Denot = record { buffer = Some c.args.buffer } in
-    let given : key.given.value.items ≡ c.args.self.now.given = ap (λ (i : Identity g.row.B.Denot). i.given)
-    (ap (λ (s : Standing g.row.B.Denot). s.band) c.seat.view_is ∙ c.requires.seat) in
-    let as_given = subst (λ (bs : List g.row.B.Denot). IsAsGiven Same bs c.args.index c.args.buffer) (sym given) c.requires.given in
-    let me2 = known_me c.lay_first.new.token.me in
-    let laid : me2 ≡ (v, (c.args.index, with_it) ∷ rest ms) = ap known_me c.lay_first.ensures.laid in
-    let front = ap (λ (m : Me (Slot g.row.B.Denot) Known). m.1) laid in
-    let view = ap (λ (m : Me (Slot g.row.B.Denot) Known). m.0) laid in
-    let b2 = laid_brought Same key.given.value.items me2 (rest ms) c.args.index c.args.buffer front as_given in
-    let stands = lent_standing Same c.seat.inside.token.me.0.seen c.lay_first.new.token.me.0.seen c.seat.inside.token.table_id
-    c.lay_first.new.token.table_id key me me2 v ms key.given.value.items c.args.index None with_it c.args.seat.now c.seat.view_is
-    (ap (λ (m : Me (Slot g.row.B.Denot) Sight). m.0.seen) c.lay_first.ensures.laid ∙ ap (λ (w : Sight). w.seen) c.bring_to_front.ensures.own.2)
-    (c.lay_first.ensures.own.0 ∙ c.bring_to_front.ensures.own.0) (ap known_in c.bring_to_front.ensures.own.2) b laid in
-    let there = laid_there c.args.seat.now.hand c.args.index None (Some c.args.buffer) c.requires.lifted in
-    put_standing g.B.Buffer.contents Same c.lay_first.new.token.me.0.seen c.enqueue.new.token.me.0.seen c.lay_first.new.token.table_id
-    c.enqueue.new.token.table_id key me2 (known_me c.enqueue.new.token.me) me2.0 me2.1 key.given.value.items c.args.index c.args.buffer
-    (record (c.args.seat.now) { hand = with_buffer c.args.index (Some c.args.buffer) c.args.seat.now.hand }) c.args.ring c.in-Ok.place stands
-    c.in-Ok.ensures.own.0 refl there b2
-    (c.in-Ok.ensures.placed ∙ ap (λ n. put_at n c.args.index c.in-Ok.place (front_bytes g.B.Buffer.contents me2.1) me2.0) c.ring.ensures.number)
-    c.in-Ok.ensures.given
+    laid_put g.B.Buffer.contents g.B.Buffer.IsSameBuffer (laid g (goal.at.returns-in-Ok-clause-put g c).After-lay_first) c.enqueue.new.token.me
+    c.in-Ok.ensures.put c.ring.ensures.number c.in-Ok.ensures.own.0
     ∙ put_laid g.B.Buffer.contents c.enqueue.new.token.me.0.seen c.args.seat.now c.args.ring c.args.index c.in-Ok.place c.args.buffer c.requires.lifted
 
 pub returns-in-Ok-clause-place : goal.returns-in-Ok-clause-place
 returns-in-Ok-clause-place g c =
-    let r = c.args.ring in
-    let me = known_me c.seat.inside.token.me in
-    let setup = ap (λ (i : Identity g.row.B.Denot). i.setup) c.self.view_is in
-    let low : r < length me.0.numbers =
-    let rings = ap length (sym c.seat.invariant.numbers) ∙ c.seat.invariant.rings in
-    let same = ap (λ (i : Identity g.row.B.Denot). i.setup.rings) (ap (λ (s : Standing g.row.B.Denot). s.band) c.seat.view_is ∙ c.requires.seat) in
-    let ring = c.requires.ring in
-    omega (arith, rings, same, ring) in
-    let lay_view = ap (λ (m : Me (Slot g.row.B.Denot) Sight). m.0) c.lay_first.ensures.laid ∙ c.bring_to_front.ensures.own.2 in
-    let there = ap (λ (u : Sight). slice_get u.known.numbers c.ring.result.now.number) lay_view
-    ∙ ap (λ n. slice_get me.0.numbers n) c.ring.ensures.number ∙ known_there me.0.numbers r low in (
-      subst (λ (s : Setup). c.in-Ok.place < s.limit) setup c.in-Ok.ensures.above.0,
-      subst (λ (ns : List Numbers). (known_of ns r).seen < c.in-Ok.place) (ap (λ (s : Standing g.row.B.Denot). s.numbers) c.seat.view_is)
-          (c.in-Ok.ensures.above.1 (known_of me.0.numbers r) there),
+    let numbers = c.seat.invariant.numbers ∙ ap (λ (s : Standing g.row.B.Denot). s.numbers) c.seat.view_is in (
+      subst (λ (s : Setup). c.in-Ok.place < s.limit) (ap (λ (i : Identity g.row.B.Denot). i.setup) c.self.view_is) c.in-Ok.ensures.put.low,
+      subst (λ (ns : List Numbers). (known_of ns c.args.ring).seen < c.in-Ok.place) numbers
+          (laid_above g.B.Buffer.contents g.B.Buffer.IsSameBuffer (laid g (goal.at.returns-in-Ok-clause-place g c).After-lay_first) c.enqueue.new.token.me
+          c.in-Ok.ensures.put c.ring.ensures.number (ring_there c.seat.inside.key.value c.seat.inside.token.me c.seat.inside.numbers.items c.args.ring c.seat.view_is c.requires.seat c.seat.invariant.rings
+          c.requires.ring)),
     )
 
 pub returns-in-Err-clause-back : goal.returns-in-Err-clause-back
 returns-in-Err-clause-back g c =
-    let Same = g.B.Buffer.IsSameBuffer in
-    let key = c.seat.inside.key.value in
-    let me = known_me c.seat.inside.token.me in
-    let is : in_hand _ c.args.index ≡ Some None = ap (λ (s : Standing g.row.B.Denot). in_hand s.hand c.args.index) c.seat.view_is ∙ c.requires.lifted in
-    let v = c.bring_to_front.new.token.me.0.known in
-    let ms = c.bring_to_front.new.token.me.1 in
-    let turned = c.bring_to_front.ensures.turned in
-    let b = brought Same key me ms c.seat.inside.hand.items _ _ _ c.args.index None c.seat.invariant turned c.bring_to_front.ensures.first is in
-    let with_it : Slot g.row.B.Denot = record { buffer = Some c.args.buffer } in
-    let given : key.given.value.items ≡ c.args.self.now.given = ap (λ (i : Identity g.row.B.Denot). i.given)
-    (ap (λ (s : Standing g.row.B.Denot). s.band) c.seat.view_is ∙ c.requires.seat) in
-    let as_given = subst (λ (bs : List g.row.B.Denot). IsAsGiven Same bs c.args.index c.args.buffer) (sym given) c.requires.given in
-    let me2 = known_me c.lay_first.new.token.me in
-    let laid : me2 ≡ (v, (c.args.index, with_it) ∷ rest ms) = ap known_me c.lay_first.ensures.laid in
-    let front = ap (λ (m : Me (Slot g.row.B.Denot) Known). m.1) laid in
-    let view = ap (λ (m : Me (Slot g.row.B.Denot) Known). m.0) laid in
-    let b2 = laid_brought Same key.given.value.items me2 (rest ms) c.args.index c.args.buffer front as_given in
-    let slots = c.enqueue.new.token.me.1 in
-    let still = c.in-Err.ensures.kept.0 ∙ front in
-    let slot = same_slot c.args.index (record { buffer = Some c.lift_first-buffer.result }) with_it _ (rest ms) slots c.lift_first-buffer.ensures.buffer still in
+    let slot = same_slot c.args.index (record { buffer = Some c.lift_first-buffer.result }) (record { buffer = Some c.args.buffer }) _ _
+    c.enqueue.new.token.me.1 c.lift_first-buffer.ensures.buffer (still g (goal.at.returns-in-Err-clause-back g c).In-Err) in
     let both : Some c.lift_first-buffer.result ≡ Some c.args.buffer = ap (λ (s : Slot g.row.B.Denot). s.buffer) slot in
     cc
 
 pub returns-in-Err-clause-spent : goal.returns-in-Err-clause-spent
-returns-in-Err-clause-spent g c fresh =
-    let Same = g.B.Buffer.IsSameBuffer in
-    let key = c.seat.inside.key.value in
-    let me = known_me c.seat.inside.token.me in
-    let is : in_hand _ c.args.index ≡ Some None = ap (λ (s : Standing g.row.B.Denot). in_hand s.hand c.args.index) c.seat.view_is ∙ c.requires.lifted in
-    let v = c.bring_to_front.new.token.me.0.known in
-    let ms = c.bring_to_front.new.token.me.1 in
-    let turned = c.bring_to_front.ensures.turned in
-    let b = brought Same key me ms c.seat.inside.hand.items _ _ _ c.args.index None c.seat.invariant turned c.bring_to_front.ensures.first is in
-    let with_it : Slot g.row.B.Denot = record { buffer = Some c.args.buffer } in
-    let given : key.given.value.items ≡ c.args.self.now.given = ap (λ (i : Identity g.row.B.Denot). i.given)
-    (ap (λ (s : Standing g.row.B.Denot). s.band) c.seat.view_is ∙ c.requires.seat) in
-    let as_given = subst (λ (bs : List g.row.B.Denot). IsAsGiven Same bs c.args.index c.args.buffer) (sym given) c.requires.given in
-    let me2 = known_me c.lay_first.new.token.me in
-    let laid : me2 ≡ (v, (c.args.index, with_it) ∷ rest ms) = ap known_me c.lay_first.ensures.laid in
-    let front = ap (λ (m : Me (Slot g.row.B.Denot) Known). m.1) laid in
-    let view = ap (λ (m : Me (Slot g.row.B.Denot) Known). m.0) laid in
-    let b2 = laid_brought Same key.given.value.items me2 (rest ms) c.args.index c.args.buffer front as_given in
-    let setup = ap (λ (i : Identity g.row.B.Denot). i.setup) c.self.view_is in
-    let still = c.in-Err.ensures.kept.0 ∙ front in
-    let again = ap (λ (os : List (ℕ × Slot g.row.B.Denot)). (c.args.index, record { buffer = None }) ∷ os) (ap rest still)
-    ∙ lifted_again Same me key.given.value.items ms c.args.index b in
-    let now = ap known_me c.lift_first-buffer.ensures.lifted in (
-      spent_standing c.seat.inside.token.me.0.seen c.lift_first-buffer.new.token.me.0.seen c.seat.inside.token.table_id c.lift_first-buffer.new.token.table_id
-          key me (known_me c.lift_first-buffer.new.token.me) v ms c.args.seat.now c.args.ring c.in-Err.ticket c.seat.view_is
-          (c.lift_first-buffer.ensures.own.0 ∙ c.in-Err.ensures.own.0 ∙ c.lay_first.ensures.own.0 ∙ c.bring_to_front.ensures.own.0)
-          (ap known_in c.bring_to_front.ensures.own.2) b.same
-          (ap (λ (m : Me (Slot g.row.B.Denot) Known). m.0) now ∙ c.in-Err.ensures.spent
-          ∙ ap (λ n. spent_at n c.in-Err.ticket true me2.0) c.ring.ensures.number ∙ ap (spent_at c.args.ring c.in-Err.ticket true) view)
-          (ap (λ (m : Me (Slot g.row.B.Denot) Known). m.1) now ∙ again),
-      subst (λ (s : Setup). s.limit ≤ c.in-Err.ticket) setup c.in-Err.ensures.kept.1,
-    )
+returns-in-Err-clause-spent g c fresh = (
+  (refused g (goal.at.returns-in-Err-clause-spent g c).After-lift_first-buffer).1,
+  subst (λ (s : Setup). s.limit ≤ c.in-Err.ticket) (ap (λ (i : Identity g.row.B.Denot). i.setup) c.self.view_is) c.in-Err.ensures.spent.past,
+)
 
 pub returns-in-Ok-clause-run : goal.returns-in-Ok-clause-run
 returns-in-Ok-clause-run g c fresh =
-    let contents = g.B.Buffer.contents in
-    let shared = c.self.inside.table.shared in
-    let me = c.seat.inside.token.me in
-    let later = c.enqueue.new.token.me in
-    let lay_view = ap (λ (m : Me (Slot g.row.B.Denot) Sight). m.0) c.lay_first.ensures.laid ∙ c.bring_to_front.ensures.own.2 in
-    let went = subst (λ (v : Sight). Went shared.key.setup (opening_of contents shared.key.given.value.items) v later.0) lay_view c.in-Ok.ensures.went in
-    call_seen contents c.seat.inside.token.table_id c.enqueue.new.token.table_id shared.table_id c.seat.inside.key.value shared.key c.args.self.now
-    c.args.seat.now me later c.seat.view_is c.requires.seat c.self.view_is went c.seat.invariant.idle
-    (ap (λ (u : Known). (my u).part.phase) c.in-Ok.ensures.placed)
-    (ap (λ (u : Known). (my u).number) c.in-Ok.ensures.placed ∙ ap (λ (v : Sight). (my v.known).number) lay_view)
+    let view = c.in-Ok.ensures.put.view in
+    laid_call g.B.Buffer.contents g.B.Buffer.IsSameBuffer (laid g (goal.at.returns-in-Ok-clause-run g c).After-lay_first)
+    c.enqueue.new.token.table_id c.self.inside.table.shared.key c.enqueue.new.token.me c.requires.seat c.self.view_is c.in-Ok.ensures.went (ap (λ (u : Known). (my u).part.phase) view)
+    (ap (λ (u : Known). (my u).number) view)
 
 pub returns-in-Err-clause-run : goal.returns-in-Err-clause-run
 returns-in-Err-clause-run g c fresh =
-    let contents = g.B.Buffer.contents in
-    let shared = c.self.inside.table.shared in
-    let me = c.seat.inside.token.me in
-    let later = c.lift_first-buffer.new.token.me in
-    let lay_view = ap (λ (m : Me (Slot g.row.B.Denot) Sight). m.0) c.lay_first.ensures.laid ∙ c.bring_to_front.ensures.own.2 in
+    let k = c.self.inside.table.shared.key in
     let same = ap (λ (m : Me (Slot g.row.B.Denot) Sight). m.0) c.lift_first-buffer.ensures.lifted in
-    let went = subst (λ (v : Sight). Went shared.key.setup (opening_of contents shared.key.given.value.items) me.0 v) (sym same)
-    (subst (λ (v : Sight). Went shared.key.setup (opening_of contents shared.key.given.value.items) v c.enqueue.new.token.me.0) lay_view c.in-Err.ensures.went) in
-    call_seen contents c.seat.inside.token.table_id c.lift_first-buffer.new.token.table_id shared.table_id c.seat.inside.key.value shared.key c.args.self.now
-    c.args.seat.now me later c.seat.view_is c.requires.seat c.self.view_is went c.seat.invariant.idle
-    (ap (λ (v : Sight). (my v.known).part.phase) same ∙ ap (λ (u : Known). (my u).part.phase) c.in-Err.ensures.spent)
-    (ap (λ (v : Sight). (my v.known).number) same ∙ ap (λ (u : Known). (my u).number) c.in-Err.ensures.spent ∙ ap (λ (v : Sight). (my v.known).number) lay_view)
+    let view = ap (λ (v : Sight). v.known) same ∙ c.in-Err.ensures.spent.view in
+    laid_call g.B.Buffer.contents g.B.Buffer.IsSameBuffer (laid g (goal.at.returns-in-Err-clause-run g c).After-lay_first)
+    c.lift_first-buffer.new.token.table_id k c.lift_first-buffer.new.token.me
+    c.requires.seat c.self.view_is
+    (subst (λ (v : Sight). Went k.setup (opening_of g.B.Buffer.contents k.given.value.items) c.lay_first.new.token.me.0 v) (sym same)
+    c.in-Err.ensures.went) (ap (λ (u : Known). (my u).part.phase) view) (ap (λ (u : Known). (my u).number) view)

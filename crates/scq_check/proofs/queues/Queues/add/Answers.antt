@@ -14,7 +14,7 @@ returns-clause-small c =
 
 pub returns-clause-at : goal.returns-clause-at
 returns-clause-at c = λ opening are.
-    queues_more opening c.args.events.now c.queue_of-queue.result c.args.e c.args.self.now _ c.after-after.result c.requires.lawful
+    queues_more opening c.args.events.now c.queue_of-queue.result c.args.e c.args.self.now _ c.after-after.result c.requires.event.lawful
     c.queue_of-queue.ensures refl
     (λ q. by_number _ q _ _ _ (c.in_ok-insert.ensures.updates.0 q))
     (subst (λ (q : Queue). IsQueueAt opening c.args.events.now c.queue_of-queue.result c.args.e q

@@ -5,7 +5,7 @@ use Rattle.std.proofs.lemmas.List.Elements.{filter-append}
 use Rattle.scq_collect.specs.Ways.{is_direct}
 use Rattle.scq_collect.specs.declared.answered.Answered.{Answered}
 use Rattle.std.proofs.lemmas.List.{length-append, map-append}
-use Rattle.scq_collect.specs.GivenAnswers.{answered}
+use Rattle.scq_collect.specs.GivenAnswers.{given_answer}
 use Rattle.scq_collect.specs.Joined.{without_way}
 use Rattle.scq_collect.proofs.BlockLemmas.{one-more}
 use Rattle.scq_collect.proofs.answers.Answers.push.Goals as goal
@@ -20,7 +20,7 @@ one-direct items a = ap length (filter-append is_direct items (a ∷ [])) ∙ le
 pub invariant_of-self-2 : goal.invariant_of-self-2
 invariant_of-self-2 c =
     let items = c.self.inside.log.items in
-    let given = answered c.args.given in
+    let given = given_answer c.args.given in
     let held = c.in_ok-before.ensures.held (map without_way items) c.self.invariant.0 in
     let long = length-append items (given ∷ []) in
     let many = c.self.invariant.1 in

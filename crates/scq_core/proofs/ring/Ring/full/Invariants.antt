@@ -1,5 +1,5 @@
-use Rattle.scq_core.specs.Fresh.{IsFilled}
+use Rattle.scq_core.specs.Fresh.{SlotsAreFilled}
 use Rattle.scq_core.proofs.ring.Ring.full.Given as goal
 
 abbrev pub invariant-loop-index : goal.invariant-loop-index
-invariant-loop-index l = IsFilled l.setup l.opening.items l.index l.slots.items
+invariant-loop-index l = SlotsAreFilled l.setup l.opening.items l.index l.slots.items

@@ -1,10 +1,12 @@
 -- Each read adds to the count of the line's payload, until the line ends or a read fails.
 use Rattle.std.proofs.Common.{◌≡◌, ℕ, ◌+◌, ◌^◌, ◌≤◌, Err, [], length, refl, sym, ◌∙◌, ap, subst, arith}
-use Rattle.scq_frames.specs.declared.fault.FrameFault.TheVariants.{TooLong}
+use Rattle.std.proofs.lemmas.Bool.{true≢false}
+use Rattle.scq_frames.specs.declared.fault.FrameFault.TheVariants.{ReadFault, TooLong}
+use Rattle.scq_frames.proofs.EndLemmas.{reads-on}
 use Rattle.scq_frames.specs.Coming.{Found}
 use Rattle.scq_frames.specs.Framing.{Framing}
 use Rattle.scq_frames.proofs.TrimLemmas.{holding}
-use Rattle.scq_frames.proofs.CountLemmas.{Counts, Counts-start, Counts-fault, Counts-ended, Counts-over, Counts-more, Found-dropped}
+use Rattle.scq_frames.proofs.CountLemmas.{CountsLongLine, Counts-start, Counts-fault, Counts-ended, Counts-over, Counts-more, Found-dropped}
 use Rattle.scq_frames.proofs.framer.Framer.count_long.Goals as goal
 
 pub reads-init : goal.reads-init
@@ -24,8 +26,13 @@ returns-in-Err-clause-found g c =
     c.reads.len c.reads.invariant.0 read.same read.fetched read.few
     c.in-Err.fault (λ e. read.unread (ap Err e)) (λ n e. read.too_large n (ap Err e)) (λ at len e. read.long at len (ap Err e))
 
-pub returns-in-Err-clause-kept : goal.returns-in-Err-clause-kept
-returns-in-Err-clause-kept g c = λ other. c.in-Err.ensures.kept (λ e. other cc) ∙ c.reads.invariant.0.kept
+pub returns-in-Err-clause-source : goal.returns-in-Err-clause-source
+returns-in-Err-clause-source g c =
+    let s = c.reads.invariant.0 in
+    reads-on g.S.Source (Err c.in-Err.fault ≡ Err ReadFault) (c.in-Err.fault ≡ ReadFault) c.args.self.now c.reads.self c.read.new.self c.args.source.now
+    c.reads.source c.read.new.source s.began s.going
+    (record { rose = λ _ ended. absurd (true≢false (sym ended ∙ s.going)); going = λ _. c.reads.invariant.1; over = λ _. c.reads.invariant.1 })
+    s.size s.kept c.in-Err.ensures.source (λ e. ap Err e) (λ e. cc)
 
 pub returns-in-Some-clause-found : goal.returns-in-Some-clause-found
 returns-in-Some-clause-found g c =
@@ -70,9 +77,9 @@ reads-preserved g c =
     let going = sym (ap (λ (f : Framing). f.ended) empty) ∙ sym c.has_ended.ensures ∙ c.if-has_ended.false in
     let count : c.give_up_held-len.result ≡ length c.read.new.self.held =
     c.give_up_held-len.ensures.count ∙ ap (λ (f : Framing). length f.held) c.line_len.ensures.same in (
-      subst (λ (n : ℕ). Counts left faults first c.give_up_held-len.new.self c.args.source.now c.read.new.source (c.reads.len + n)) (sym count)
+      subst (λ (n : ℕ). CountsLongLine left faults first c.give_up_held-len.new.self c.args.source.now c.read.new.source (c.reads.len + n)) (sym count)
           (Counts-more left faults first c.reads.self c.read.new.self c.args.source.now c.reads.source c.read.new.source c.reads.len c.reads.invariant.0
           read.same read.fetched read.few
-          c.give_up_held-len.new.self empty c.in-None.ensures.none going read.within (read.kept (λ e. cc)) read.size),
-      read.ends.going going ∙ c.reads.invariant.1,
+          c.give_up_held-len.new.self empty c.in-None.ensures.none going read.within (read.source.faults.kept (λ e. cc)) read.source.size),
+      read.source.once.going going ∙ c.reads.invariant.1,
     )

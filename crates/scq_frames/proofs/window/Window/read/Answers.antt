@@ -10,33 +10,33 @@ invariant_of-self-in_err-got g c =
     let w = c.self.inside in
     let from = c.in_ok-from.from in
     let same = part_again w.room.items c.make_room.new.room.items c.read_at.new.room.items w.start w.end from c.in_ok-from.ensures.held
-    c.read_at.ensures.before in
+    c.read_at.ensures.before.before in
     record {
       start = omega arith;
       searched = omega arith;
-      end = omega (arith, c.read_at.new.room.ok.0, c.read_at.ensures.len, c.in_ok-from.ensures.enough);
+      end = omega (arith, c.read_at.new.room.ok.0, c.read_at.ensures.before.len, c.in_ok-from.ensures.enough);
       clear = clear_again w.room.items c.read_at.new.room.items w.start w.searched w.end from same c.self.invariant.start c.self.invariant.searched
           c.self.invariant.clear;
     }
 
-pub returns-in_err-got-clause-held : goal.returns-in_err-got-clause-held
-returns-in_err-got-clause-held g c =
+pub returns-in_err-got-clause-unmoved : goal.returns-in_err-got-clause-unmoved
+returns-in_err-got-clause-unmoved g c =
     let w = c.self.inside in
     let from = c.in_ok-from.from in
     let same = part_again w.room.items c.make_room.new.room.items c.read_at.new.room.items w.start w.end from c.in_ok-from.ensures.held
-    c.read_at.ensures.before in
-    on_err c.from_residual-in_err-got.result (same ∙ c.self.view_is)
+    c.read_at.ensures.before.before in
+    on_err c.from_residual-in_err-got.result (same ∙ c.self.view_is, c.in_err-got.ensures.unmoved)
 
 pub invariant_of-self-2 : goal.invariant_of-self-2
 invariant_of-self-2 g c =
     let w = c.self.inside in
     let from = c.in_ok-from.from in
     let same = part_again w.room.items c.make_room.new.room.items c.read_at.new.room.items w.start w.end from c.in_ok-from.ensures.held
-    c.read_at.ensures.before in
+    c.read_at.ensures.before.before in
     record {
       start = omega arith;
       searched = omega arith;
-      end = omega (arith, c.read_at.new.room.ok.0, c.read_at.ensures.len, c.in_ok-from.ensures.enough, c.in_ok-got.ensures.most);
+      end = omega (arith, c.read_at.new.room.ok.0, c.read_at.ensures.before.len, c.in_ok-from.ensures.enough, c.in_ok-got.ensures.came.few);
       clear = clear_again w.room.items c.read_at.new.room.items w.start w.searched w.end from same c.self.invariant.start c.self.invariant.searched
           c.self.invariant.clear;
     }
@@ -48,15 +48,16 @@ returns-clause-reads g c =
     let at : ℕ = from + (w.end - w.start) in
     let room = c.read_at.new.room.items in
     let got = c.in_ok-got.got in
-    let same = part_again w.room.items c.make_room.new.room.items room w.start w.end from c.in_ok-from.ensures.held c.read_at.ensures.before in
+    let same = part_again w.room.items c.make_room.new.room.items room w.start w.end from c.in_ok-from.ensures.held c.read_at.ensures.before.before in
     record {
+      few = c.in_ok-got.ensures.came.few;
       bytes = slice_range room at (at + got);
       held = part-append room from at (at + got) (omega arith) (omega arith) ∙ ap (λ l. l ++ slice_range room at (at + got)) (same ∙ c.self.view_is);
       count = omega (
         arith,
         length-part room at (at + got)
-            (omega (arith, c.read_at.new.room.ok.0, c.read_at.ensures.len, c.in_ok-from.ensures.enough, c.in_ok-got.ensures.most)),
+            (omega (arith, c.read_at.new.room.ok.0, c.read_at.ensures.before.len, c.in_ok-from.ensures.enough, c.in_ok-got.ensures.came.few)),
       );
-      moved = c.in_ok-got.ensures.moved;
-      end = c.in_ok-got.ensures.end;
+      moved = c.in_ok-got.ensures.came.moved;
+      end = c.in_ok-got.ensures.came.end;
     }

@@ -1,7 +1,7 @@
 use Rattle.std.proofs.Common.{◌≡◌, ◌+◌, ◌≤◌, ◌++◌, ℕ, List, length}
 use Rattle.scq_lines.specs.Lines.{lines_of}
 use Rattle.scq_judge.specs.Files.{IsFile}
-use Rattle.scq_judge.specs.Recording.{after_lines, AreAllOf}
+use Rattle.scq_judge.specs.Recording.{after_lines, AllAreOfFiles}
 use Rattle.scq_judge.proofs.reading.Reading.take_lines.Given as goal
 
 abbrev pub invariant-lines : goal.invariant-lines
@@ -9,7 +9,7 @@ invariant-lines l = record {
   few : l.lines + length l.rest ≤ l.fn.before + length l.fn.bytes;
   taken : (more : List ℕ) → after_lines l.fn.self.file l.fn.self.lone l.fn.before l.fn.recorded (lines_of (l.fn.bytes ++ more))
       ≡ after_lines l.fn.self.file l.fn.self.lone l.lines l.recorded (lines_of (l.rest ++ more));
-  files : (count : ℕ) → IsFile count l.fn.self.file → AreAllOf count l.fn.recorded → AreAllOf count l.recorded;
+  files : (count : ℕ) → IsFile count l.fn.self.file → AllAreOfFiles count l.fn.recorded → AllAreOfFiles count l.recorded;
 }
 
 abbrev pub decreases-lines : goal.decreases-lines

@@ -1,7 +1,7 @@
 use Rattle.std.proofs.Common.{List, sym, ◌∙◌, ap, subst}
 use Rattle.atomic_table.specs.Seated.{TableId}
 use Rattle.scq_park.specs.Crews.{AreAll, no_wakes, woken, ended}
-use Rattle.scq_park.specs.Kept.{Tally, EachEnds, ends}
+use Rattle.scq_park.specs.Kept.{ParkerDeeds, EachEnds, rests_between}
 use Rattle.scq_park.proofs.Ends.{all_end, all_told}
 use Rattle.scq_park.proofs.crew.Crew.close.Goals as goal
 
@@ -11,7 +11,7 @@ all_ended-requires-clause-ends c =
     let os = c.gather.new.owns.items in
     let ps = c.args.stands.items in
     let are = subst (λ (ts : List TableId). AreAll ts ps) (sym c.self.view_is) c.requires.stands in
-    subst (λ (xs : List Tally). EachEnds xs os) (sym c.gather.ensures.wakers)
+    subst (λ (xs : List ParkerDeeds). EachEnds xs os) (sym c.gather.ensures.wakers)
     (all_end ws os ps c.self.invariant.few c.self.invariant.rest are c.gather.ensures.wide c.gather.ensures.owns)
 
 pub returns-clause-counts : goal.returns-clause-counts
@@ -20,6 +20,6 @@ returns-clause-counts c =
     let os = c.gather.new.owns.items in
     let ps = c.args.stands.items in
     let are = subst (λ (ts : List TableId). AreAll ts ps) (sym c.self.view_is) c.requires.stands in
-    c.all_ended.ensures.counts ∙ ap (λ (xs : List Tally). ends xs os) c.gather.ensures.wakers
+    c.all_ended.ensures.counts ∙ ap (λ (xs : List ParkerDeeds). rests_between xs os) c.gather.ensures.wakers
     ∙ all_told ws os ps c.self.invariant.few c.self.invariant.rest are c.gather.ensures.wide c.gather.ensures.owns
     ∙ ap (λ (ts : List TableId). ended ps (woken (no_wakes ts) ps)) c.self.view_is

@@ -2,7 +2,7 @@ use Rattle.std.proofs.Common.{◌≡◌, ◌<◌, List, length, sym, ◌∙◌, 
 use Rattle.std.specs.Prelude.{slice_set}
 use Rattle.atomic_table.specs.Seated.{TableId}
 use Rattle.scq_park.specs.Crews.{Post, with_wake}
-use Rattle.scq_park.specs.Kept.{Tally, parkers_of, post_of, IsStand}
+use Rattle.scq_park.specs.Kept.{ParkerDeeds, parkers_of, post_of, IsStand}
 use Rattle.scq_park.proofs.Rows.{read_at, parkers_length, same_parker, stand_woke, post_woke}
 use Rattle.scq_park.proofs.crew.Crew.wake.Goals as goal
 
@@ -26,7 +26,7 @@ invariant_of-stand c =
     let own : parkers_of links ≡ c.args.self.now = ap (λ (p : Post). p.crew) c.stand.view_is ∙ c.requires.stand in
     let low : c.args.worker < length links =
     omega (arith, parkers_length links, ap (λ (ts : List TableId). length ts) own, c.requires.worker) in
-    subst (λ (y : Tally). IsStand c.stand.inside.worker c.stand.inside.sleeper (slice_set links c.args.worker y)) (sym c.wake.ensures)
+    subst (λ (y : ParkerDeeds). IsStand c.stand.inside.worker c.stand.inside.sleeper (slice_set links c.args.worker y)) (sym c.wake.ensures)
     (stand_woke c.stand.inside.worker c.stand.inside.sleeper links c.args.worker c.index_mut.result.now c.stand.invariant
     (read_at links c.args.worker c.index_mut.result.now low c.index_mut.ensures.value))
 
@@ -36,7 +36,7 @@ returns c =
     let own : parkers_of links ≡ c.args.self.now = ap (λ (p : Post). p.crew) c.stand.view_is ∙ c.requires.stand in
     let low : c.args.worker < length links =
     omega (arith, parkers_length links, ap (λ (ts : List TableId). length ts) own, c.requires.worker) in
-    ap (λ (y : Tally). post_of c.stand.inside.worker c.stand.inside.sleeper (slice_set links c.args.worker y)) c.wake.ensures
+    ap (λ (y : ParkerDeeds). post_of c.stand.inside.worker c.stand.inside.sleeper (slice_set links c.args.worker y)) c.wake.ensures
     ∙ post_woke c.stand.inside.worker c.stand.inside.sleeper links c.args.worker c.index_mut.result.now
     (read_at links c.args.worker c.index_mut.result.now low c.index_mut.ensures.value)
     ∙ ap (λ (p : Post). with_wake c.args.worker p) c.stand.view_is

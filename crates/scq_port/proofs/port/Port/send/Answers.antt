@@ -1,7 +1,7 @@
 use Rattle.std.proofs.Common.{rules, ◌≡◌, ◌+◌, ◌<◌, subst}
 use Rattle.std.specs.Prelude.{false}
 use Rattle.scq_port.specs.Ports.{PortStanding}
-use Rattle.scq_port.specs.Calls.{HasRetired}
+use Rattle.scq_port.specs.Calls.{PortHasRetired}
 use Rattle.scq_port.specs.Kept.{seen_as}
 use Rattle.scq_port.proofs.Records.{retired_of}
 use Rattle.scq_port.proofs.port.Port.send.Goals as goal
@@ -14,7 +14,7 @@ there c = search rules
 
 pub returns-then-not-self-clause-retired : goal.returns-then-not-self-clause-retired
 returns-then-not-self-clause-retired c is = (
-  subst (λ (p : PortStanding). HasRetired p p) c.self.view_is
+  subst (λ (p : PortStanding). PortHasRetired p p) c.self.view_is
       (retired_of (seen_as c.self.inside.pass c.self.inside.hand) c.self.inside.awake c.self.invariant.awake_is (asleep c)),
   there c,
 )

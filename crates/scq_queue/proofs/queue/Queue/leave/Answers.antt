@@ -1,5 +1,5 @@
-use Rattle.std.proofs.Common.{◌≡◌, ℕ, List, [], ◌∷◌, ◌++◌, sym, ◌∙◌, ap, subst}
-use Rattle.std.specs.Prelude.{Option, Some, None, slice_get}
+use Rattle.std.proofs.Common.{List, [], ◌∷◌, ◌++◌, sym, ◌∙◌, ap, subst}
+use Rattle.std.specs.Prelude.{Option}
 use Rattle.scq_queue.specs.Passes.{PassStanding, HeldStanding, IsHeldBy}
 use Rattle.scq_queue.specs.Kept.{heads_of}
 use Rattle.scq_queue.proofs.Leaving.{AreOut, out_first, out_before, last_out, out_laid}

@@ -1,88 +1,50 @@
-use Rattle.std.proofs.Common.{ℕ, suc, ◌+◌, ◌≤◌, true, [], ◌∷◌, ◌++◌, refl, ◌∙◌, ap, subst, add-one}
-use Rattle.scq_core.specs.declared.ended.Ended.TheVariants.{Done, Spent}
-use Rattle.scq_band.specs.Buffers.{opening_of}
-use Rattle.scq_band.specs.RunSeen.{IsCallInRun}
+use Rattle.std.proofs.Common.{ℕ, ◌+◌, true, refl, subst, add-one}
+use Rattle.scq_core.specs.declared.ended.Ended.TheVariants.{Spent}
 use Rattle.scq_band.specs.Standing.{Identity}
-use Rattle.scq_queue.specs.Lists.{with_send}
-use Rattle.scq_queue.specs.Passes.{PassStanding, lists_of, caller_of, having_seen, after_put, after_spent_put}
+use Rattle.scq_queue.specs.Passes.{PassStanding, after_spent_put}
+use Rattle.scq_queue.specs.Calls.{WasPutOn, PutWasSpent}
 use Rattle.scq_queue.specs.Kept.{pass_over, heads_of}
-use Rattle.scq_queue.proofs.PassSteps.{spent_adds, one_send, keeps_sent, refused_spent}
+use Rattle.scq_queue.proofs.PassSteps.{keeps_sent, keeps_spent, on_topic_seen, in_run_seen}
 use Rattle.scq_queue.proofs.queue.Queue.send.Goals as goal
 
 pub invariant_of-pass : goal.invariant_of-pass
 invariant_of-pass g c =
     let heads = heads_of c.pass.inside.fulls.value in
     let w = g.B.Buffer.contents c.args.held.buffer in
-    keeps_sent c.pass.inside.seat c.put.new.seat heads c.pass.inside.counts c.count.new.number c.args.topic c.in-Ok.place w c.pass.invariant
-    c.in-Ok.ensures.lifted
-    (ap (λ (p : PassStanding g.row.B.Denot). p.calls) (c.in-Ok.ensures.put heads)
-    ∙ ap (λ (r : ℕ). c.pass.inside.seat.calls ++ Done r c.in-Ok.place w ∷ []) (add-one c.args.topic)) c.count.ensures
+    let was = pass_over c.pass.inside.seat heads in
+    let later = pass_over c.put.new.seat heads in
+    let put = subst (λ (r : ℕ). WasPutOn c.self.inside.band r c.in-Ok.place c.args.held.index w was later) (add-one c.args.topic)
+    (c.in-Ok.ensures.put heads) in
+    keeps_sent c.pass.inside.seat c.put.new.seat heads c.pass.inside.counts c.pass.invariant c.in-Ok.ensures.stays c.self.inside.band c.args.topic
+    c.in-Ok.place c.args.held.index w c.count.new.number put c.count.ensures
 
 pub returns-in-Ok-clause-sent : goal.returns-in-Ok-clause-sent
 returns-in-Ok-clause-sent g c =
     let heads = heads_of c.pass.inside.fulls.value in
-    let w = g.B.Buffer.contents c.args.held.buffer in
-    c.in-Ok.ensures.put heads
-    ∙ ap (λ (r : ℕ). having_seen c.put.new.seat.seen (after_put r c.args.held.index c.in-Ok.place w (pass_over c.pass.inside.seat heads)))
-    (add-one c.args.topic)
-    ∙ ap (λ (p : PassStanding g.row.B.Denot). having_seen c.put.new.seat.seen (after_put (suc c.args.topic) c.args.held.index c.in-Ok.place w p)) c.pass.view_is
+    let later = pass_over c.put.new.seat heads in
+    on_topic_seen (λ (q : Identity g.row.B.Denot) (r : ℕ) (p : PassStanding g.row.B.Denot).
+    WasPutOn q r c.in-Ok.place c.args.held.index (g.B.Buffer.contents c.args.held.buffer) p later) c.args.topic c.self.view_is c.pass.view_is
+    (c.in-Ok.ensures.put heads)
 
-pub returns-in-Ok-clause-lists : goal.returns-in-Ok-clause-lists
-returns-in-Ok-clause-lists g c =
-    let heads = heads_of c.pass.inside.fulls.value in
-    let w = g.B.Buffer.contents c.args.held.buffer in
-    one_send (pass_over c.pass.inside.seat heads) (pass_over c.put.new.seat heads) c.args.topic c.in-Ok.place w
-    (ap (λ (p : PassStanding g.row.B.Denot). p.calls) (c.in-Ok.ensures.put heads)
-    ∙ ap (λ (r : ℕ). c.pass.inside.seat.calls ++ Done r c.in-Ok.place w ∷ []) (add-one c.args.topic)) refl
-    ∙ ap (λ (p : PassStanding g.row.B.Denot). with_send c.args.topic c.in-Ok.place w (lists_of p)) c.pass.view_is
+pub returns-in-Ok-clause-run : goal.returns-in-Ok-clause-run
+returns-in-Ok-clause-run g c =
+    in_run_seen g.B.Buffer.contents c.pass.inside.seat c.put.new.seat (heads_of c.pass.inside.fulls.value) c.self.view_is c.pass.view_is c.in-Ok.ensures.run
 
 pub invariant_of-pass-in-Err : goal.invariant_of-pass-in-Err
 invariant_of-pass-in-Err g c =
     let heads = heads_of c.pass.inside.fulls.value in
     let ticket = c.in-Err.refused.1.ticket in
-    (refused_spent c.pass.inside.seat c.put.new.seat heads c.pass.inside.counts (Spent (c.args.topic + 1) ticket true)
-    (spent_adds (c.args.topic + 1) ticket true)
-    c.pass.invariant c.in-Err.ensures.lifted (λ none. ap (λ (p : PassStanding g.row.B.Denot). p.calls) ((c.in-Err.ensures.spent none).0 heads))
-    (λ kept some. (c.in-Err.ensures.kept kept some).1)).0
-
-pub returns-in-Err-clause-spent_lists : goal.returns-in-Err-clause-spent_lists
-returns-in-Err-clause-spent_lists g c =
-    let heads = heads_of c.pass.inside.fulls.value in
-    let ticket = c.in-Err.refused.1.ticket in
-    (refused_spent c.pass.inside.seat c.put.new.seat heads c.pass.inside.counts (Spent (c.args.topic + 1) ticket true)
-    (spent_adds (c.args.topic + 1) ticket true)
-    c.pass.invariant c.in-Err.ensures.lifted (λ none. ap (λ (p : PassStanding g.row.B.Denot). p.calls) ((c.in-Err.ensures.spent none).0 heads))
-    (λ kept some. (c.in-Err.ensures.kept kept some).1)).1
-    ∙ ap (λ (p : PassStanding g.row.B.Denot). lists_of p) c.pass.view_is
+    let ring = c.args.topic + 1 in
+    keeps_spent c.pass.inside.seat c.put.new.seat heads c.pass.inside.counts c.pass.invariant c.in-Err.ensures.stays c.self.inside.band ticket
+    (after_spent_put ring ticket (pass_over c.pass.inside.seat heads)) (Spent ring ticket true) refl refl (c.in-Err.ensures.spent heads) c.in-Err.ensures.kept
 
 pub returns-in-Err-clause-spent : goal.returns-in-Err-clause-spent
-returns-in-Err-clause-spent g c none =
-    let heads = heads_of c.pass.inside.fulls.value in
-    let ticket = c.in-Err.refused.1.ticket in
-    let drew = c.in-Err.ensures.spent (ap (λ (p : PassStanding g.row.B.Denot). p.spent) c.pass.view_is ∙ none) in (
-      drew.0 heads ∙ ap (λ (r : ℕ). having_seen c.put.new.seat.seen (after_spent_put r ticket (pass_over c.pass.inside.seat heads))) (add-one c.args.topic)
-          ∙ ap (λ (p : PassStanding g.row.B.Denot). having_seen c.put.new.seat.seen (after_spent_put (suc c.args.topic) ticket p)) c.pass.view_is,
-      subst (λ (q : Identity g.row.B.Denot). q.setup.limit ≤ ticket) c.self.view_is drew.1,
-    )
-
-pub returns-in-Ok-clause-run : goal.returns-in-Ok-clause-run
-returns-in-Ok-clause-run g c fresh =
-    let contents = g.B.Buffer.contents in
+returns-in-Err-clause-spent g c =
     let heads = heads_of c.pass.inside.fulls.value in
     let later = pass_over c.put.new.seat heads in
-    let none = ap (λ (p : PassStanding g.row.B.Denot). p.spent) c.pass.view_is ∙ fresh in
-    subst (λ (q : Identity g.row.B.Denot). IsCallInRun q.setup (opening_of contents q.given) (caller_of c.args.pass.now) (caller_of later)) c.self.view_is
-    (subst (λ (p : PassStanding g.row.B.Denot). IsCallInRun c.self.inside.band.setup (opening_of contents c.self.inside.band.given) (caller_of p)
-    (caller_of later)) c.pass.view_is
-    (c.in-Ok.ensures.run none))
+    on_topic_seen (λ (q : Identity g.row.B.Denot) (r : ℕ) (p : PassStanding g.row.B.Denot). PutWasSpent q r c.in-Err.refused.1.ticket p later) c.args.topic
+    c.self.view_is c.pass.view_is (c.in-Err.ensures.spent heads)
 
 pub returns-in-Err-clause-run : goal.returns-in-Err-clause-run
-returns-in-Err-clause-run g c fresh =
-    let contents = g.B.Buffer.contents in
-    let heads = heads_of c.pass.inside.fulls.value in
-    let later = pass_over c.put.new.seat heads in
-    let none = ap (λ (p : PassStanding g.row.B.Denot). p.spent) c.pass.view_is ∙ fresh in
-    subst (λ (q : Identity g.row.B.Denot). IsCallInRun q.setup (opening_of contents q.given) (caller_of c.args.pass.now) (caller_of later)) c.self.view_is
-    (subst (λ (p : PassStanding g.row.B.Denot). IsCallInRun c.self.inside.band.setup (opening_of contents c.self.inside.band.given) (caller_of p)
-    (caller_of later)) c.pass.view_is
-    (c.in-Err.ensures.run none))
+returns-in-Err-clause-run g c =
+    in_run_seen g.B.Buffer.contents c.pass.inside.seat c.put.new.seat (heads_of c.pass.inside.fulls.value) c.self.view_is c.pass.view_is c.in-Err.ensures.run

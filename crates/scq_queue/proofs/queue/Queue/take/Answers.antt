@@ -1,34 +1,25 @@
-use Rattle.std.proofs.Common.{◌≡◌, ℕ, suc, ◌+◌, ◌≤◌, false, List, [], ◌∷◌, ◌++◌, refl, ◌∙◌, ap, subst, add-one}
+use Rattle.std.proofs.Common.{◌≡◌, ℕ, suc, ◌+◌, false, refl, ap, subst, add-one}
 use Rattle.std.specs.Prelude.{Err}
-use Rattle.scq_core.specs.declared.ended.Ended.TheVariants.{Got, Nothing, Spent}
+use Rattle.scq_core.specs.declared.ended.Ended.TheVariants.{Nothing, Spent}
 use Rattle.scq_band.specs.declared.calls.DeqRefusal.{DeqRefusal}
 use Rattle.scq_band.specs.declared.calls.DeqRefusal.TheVariants.{Empty, Spent as DrewSpent}
-use Rattle.scq_band.specs.Buffers.{opening_of}
-use Rattle.scq_band.specs.RunSeen.{Caller, IsCallInRun, WasEmptyInRun}
 use Rattle.scq_band.specs.Standing.{Identity}
-use Rattle.scq_band.specs.Standing as band
-use Rattle.scq_queue.specs.Lists.{with_take}
-use Rattle.scq_queue.specs.Passes.{PassStanding, HasGot, FoundNothing, lists_of, caller_of, having_seen, after_spent_get}
+use Rattle.scq_queue.specs.Passes.{PassStanding, after_spent_get}
+use Rattle.scq_queue.specs.Calls.{CameOff, FoundRingEmpty, GetWasSpent}
 use Rattle.scq_queue.specs.Kept.{pass_over, heads_of}
-use Rattle.scq_queue.proofs.PassSteps.{empty_adds, spent_adds, same_lists, one_take, keeps_same, keeps_taken, refused_spent}
+use Rattle.scq_queue.proofs.PassSteps.{keeps_same, keeps_taken, keeps_spent, on_topic_seen, in_run_seen}
 use Rattle.scq_queue.proofs.queue.Queue.take.Goals as goal
 
 pub invariant_of-pass : goal.invariant_of-pass
 invariant_of-pass g c =
     let is_empty : c.in-Err-Empty.field-0 ≡ Empty c.in-Err-Empty.head = cc in
     let heads = heads_of c.pass.inside.fulls.value in
-    let found = c.in-Err-Empty.ensures.empty c.in-Err-Empty.head (ap (λ (r : DeqRefusal). Err r) is_empty) heads in
-    keeps_same c.pass.inside.seat c.get.new.seat heads c.pass.inside.counts _ (empty_adds c.args.topic) c.pass.invariant c.in-Err-Empty.ensures.lifted
-    (ap (λ (p : PassStanding g.row.B.Denot). p.calls) found.pass ∙ ap (λ (r : ℕ). c.pass.inside.seat.calls ++ Nothing r ∷ []) (add-one c.args.topic))
-
-pub returns-in-Err-Empty-clause-refused_lists : goal.returns-in-Err-Empty-clause-refused_lists
-returns-in-Err-Empty-clause-refused_lists g c =
-    let is_empty : c.in-Err-Empty.field-0 ≡ Empty c.in-Err-Empty.head = cc in
-    let heads = heads_of c.pass.inside.fulls.value in
-    let found = c.in-Err-Empty.ensures.empty c.in-Err-Empty.head (ap (λ (r : DeqRefusal). Err r) is_empty) heads in
-    same_lists (pass_over c.pass.inside.seat heads) (pass_over c.get.new.seat heads) _ (empty_adds c.args.topic)
-    (ap (λ (p : PassStanding g.row.B.Denot). p.calls) found.pass ∙ ap (λ (r : ℕ). c.pass.inside.seat.calls ++ Nothing r ∷ []) (add-one c.args.topic)) refl
-    ∙ ap (λ (p : PassStanding g.row.B.Denot). lists_of p) c.pass.view_is
+    let was = pass_over c.pass.inside.seat heads in
+    let later = pass_over c.get.new.seat heads in
+    let found = subst (λ (r : ℕ). FoundRingEmpty g.B.Buffer.contents c.self.inside.band r c.in-Err-Empty.head was later) (add-one c.args.topic)
+    (c.in-Err-Empty.ensures.empty c.in-Err-Empty.head (ap (λ (r : DeqRefusal). Err r) is_empty) heads) in
+    keeps_same c.pass.inside.seat c.get.new.seat heads c.pass.inside.counts c.pass.invariant c.in-Err-Empty.ensures.stays (Nothing (suc c.args.topic)) refl
+    (ap (λ (p : PassStanding g.row.B.Denot). p.calls) found.found.pass) found.lists
 
 pub returns-in-Err-Empty-clause-empty : goal.returns-in-Err-Empty-clause-empty
 returns-in-Err-Empty-clause-empty g c head is =
@@ -36,117 +27,61 @@ returns-in-Err-Empty-clause-empty g c head is =
     let heads = heads_of c.pass.inside.fulls.value in
     let later = pass_over c.get.new.seat heads in
     let same : c.in-Err-Empty.head ≡ head = cc in
-    let found = c.in-Err-Empty.ensures.empty c.in-Err-Empty.head (ap (λ (r : DeqRefusal). Err r) is_empty) heads in
-    subst (λ (n : ℕ). FoundNothing (suc c.args.topic) n c.args.pass.now later) same
-    (subst (λ (p : PassStanding g.row.B.Denot). FoundNothing (suc c.args.topic) c.in-Err-Empty.head p later) c.pass.view_is
-    (subst (λ (r : ℕ). FoundNothing r c.in-Err-Empty.head (pass_over c.pass.inside.seat heads) later) (add-one c.args.topic) found))
+    subst (λ (n : ℕ). FoundRingEmpty g.B.Buffer.contents c.args.self.now (suc c.args.topic) n c.args.pass.now later) same
+    (on_topic_seen (λ (q : Identity g.row.B.Denot) (r : ℕ) (p : PassStanding g.row.B.Denot).
+    FoundRingEmpty g.B.Buffer.contents q r c.in-Err-Empty.head p later) c.args.topic c.self.view_is c.pass.view_is
+    (c.in-Err-Empty.ensures.empty c.in-Err-Empty.head (ap (λ (r : DeqRefusal). Err r) is_empty) heads))
 
-pub returns-in-Err-Empty-clause-empty_in_run : goal.returns-in-Err-Empty-clause-empty_in_run
-returns-in-Err-Empty-clause-empty_in_run g c head is =
-    let is_empty : c.in-Err-Empty.field-0 ≡ Empty c.in-Err-Empty.head = cc in
-    let opening = λ (given : List g.row.B.Denot). opening_of g.B.Buffer.contents given in
-    let of = c.self.inside.band in
-    let before : Caller = band.caller_of c.pass.inside.seat in
-    let later : Caller = band.caller_of c.get.new.seat in
-    let ring = suc c.args.topic in
-    let same : c.in-Err-Empty.head ≡ head = cc in
-    let was = c.in-Err-Empty.ensures.empty_in_run c.in-Err-Empty.head (ap (λ (r : DeqRefusal). Err r) is_empty) in
-    subst (λ (q : Identity g.row.B.Denot). WasEmptyInRun q.setup (opening q.given) ring head (caller_of c.args.pass.now) later) c.self.view_is
-    (subst (λ (p : PassStanding g.row.B.Denot). WasEmptyInRun of.setup (opening of.given) ring head (caller_of p) later) c.pass.view_is
-    (subst (λ (n : ℕ). WasEmptyInRun of.setup (opening of.given) ring n before later) same
-    (subst (λ (r : ℕ). WasEmptyInRun of.setup (opening of.given) r c.in-Err-Empty.head before later) (add-one c.args.topic) was)))
+pub returns-in-Err-Empty-clause-run : goal.returns-in-Err-Empty-clause-run
+returns-in-Err-Empty-clause-run g c =
+    in_run_seen g.B.Buffer.contents c.pass.inside.seat c.get.new.seat (heads_of c.pass.inside.fulls.value) c.self.view_is c.pass.view_is
+    c.in-Err-Empty.ensures.run
 
 pub invariant_of-pass-in-Err-Spent : goal.invariant_of-pass-in-Err-Spent
 invariant_of-pass-in-Err-Spent g c =
     let is_spent : c.in-Err-Spent.field-0 ≡ DrewSpent c.in-Err-Spent.ticket = cc in
     let heads = heads_of c.pass.inside.fulls.value in
     let ticket = c.in-Err-Spent.ticket in
-    (refused_spent c.pass.inside.seat c.get.new.seat heads c.pass.inside.counts (Spent (c.args.topic + 1) ticket false)
-    (spent_adds (c.args.topic + 1) ticket false) c.pass.invariant c.in-Err-Spent.ensures.lifted
-    (λ none. ap (λ (p : PassStanding g.row.B.Denot). p.calls) ((c.in-Err-Spent.ensures.spent ticket (ap (λ (r : DeqRefusal). Err r) is_spent) none).0 heads))
-    (λ kept some. (c.in-Err-Spent.ensures.kept kept some).1)).0
-
-pub returns-in-Err-Spent-clause-refused_lists : goal.returns-in-Err-Spent-clause-refused_lists
-returns-in-Err-Spent-clause-refused_lists g c =
-    let is_spent : c.in-Err-Spent.field-0 ≡ DrewSpent c.in-Err-Spent.ticket = cc in
-    let heads = heads_of c.pass.inside.fulls.value in
-    let ticket = c.in-Err-Spent.ticket in
-    (refused_spent c.pass.inside.seat c.get.new.seat heads c.pass.inside.counts (Spent (c.args.topic + 1) ticket false)
-    (spent_adds (c.args.topic + 1) ticket false) c.pass.invariant c.in-Err-Spent.ensures.lifted
-    (λ none. ap (λ (p : PassStanding g.row.B.Denot). p.calls) ((c.in-Err-Spent.ensures.spent ticket (ap (λ (r : DeqRefusal). Err r) is_spent) none).0 heads))
-    (λ kept some. (c.in-Err-Spent.ensures.kept kept some).1)).1
-    ∙ ap (λ (p : PassStanding g.row.B.Denot). lists_of p) c.pass.view_is
+    let ring = c.args.topic + 1 in
+    keeps_spent c.pass.inside.seat c.get.new.seat heads c.pass.inside.counts c.pass.invariant c.in-Err-Spent.ensures.stays c.self.inside.band ticket
+    (after_spent_get ring ticket (pass_over c.pass.inside.seat heads)) (Spent ring ticket false) refl refl
+    (c.in-Err-Spent.ensures.spent ticket (ap (λ (r : DeqRefusal). Err r) is_spent) heads) c.in-Err-Spent.ensures.kept
 
 pub returns-in-Err-Spent-clause-spent : goal.returns-in-Err-Spent-clause-spent
-returns-in-Err-Spent-clause-spent g c ticket is none =
+returns-in-Err-Spent-clause-spent g c ticket is =
     let is_spent : c.in-Err-Spent.field-0 ≡ DrewSpent c.in-Err-Spent.ticket = cc in
     let heads = heads_of c.pass.inside.fulls.value in
-    let drawn = c.in-Err-Spent.ticket in
     let later = pass_over c.get.new.seat heads in
-    let same : drawn ≡ ticket = cc in
-    let drew = c.in-Err-Spent.ensures.spent drawn (ap (λ (r : DeqRefusal). Err r) is_spent)
-    (ap (λ (p : PassStanding g.row.B.Denot). p.spent) c.pass.view_is ∙ none) in (
-      drew.0 heads ∙ ap (λ (r : ℕ). having_seen later.seen (after_spent_get r drawn (pass_over c.pass.inside.seat heads))) (add-one c.args.topic)
-          ∙ ap (λ (p : PassStanding g.row.B.Denot). having_seen later.seen (after_spent_get (suc c.args.topic) drawn p)) c.pass.view_is
-          ∙ ap (λ (n : ℕ). having_seen later.seen (after_spent_get (suc c.args.topic) n c.args.pass.now)) same,
-      subst (λ (n : ℕ). c.args.self.now.setup.limit ≤ n) same (subst (λ (q : Identity g.row.B.Denot). q.setup.limit ≤ drawn) c.self.view_is drew.1),
-    )
+    let same : c.in-Err-Spent.ticket ≡ ticket = cc in
+    subst (λ (n : ℕ). GetWasSpent c.args.self.now (suc c.args.topic) n c.args.pass.now later) same
+    (on_topic_seen (λ (q : Identity g.row.B.Denot) (r : ℕ) (p : PassStanding g.row.B.Denot). GetWasSpent q r c.in-Err-Spent.ticket p later)
+    c.args.topic c.self.view_is c.pass.view_is
+    (c.in-Err-Spent.ensures.spent c.in-Err-Spent.ticket (ap (λ (r : DeqRefusal). Err r) is_spent) heads))
+
+pub returns-in-Err-Spent-clause-run : goal.returns-in-Err-Spent-clause-run
+returns-in-Err-Spent-clause-run g c =
+    in_run_seen g.B.Buffer.contents c.pass.inside.seat c.get.new.seat (heads_of c.pass.inside.fulls.value) c.self.view_is c.pass.view_is
+    c.in-Err-Spent.ensures.run
 
 pub invariant_of-pass-2 : goal.invariant_of-pass-2
 invariant_of-pass-2 g c =
     let heads = heads_of c.pass.inside.fulls.value in
-    let w = g.B.Buffer.contents c.in-Ok.got.1.buffer in
-    keeps_taken c.pass.inside.seat c.get.new.seat heads c.pass.inside.counts c.count.new.number c.args.topic c.in-Ok.got.0 w c.pass.invariant
-    c.in-Ok.ensures.lifted
-    (ap (λ (p : PassStanding g.row.B.Denot). p.calls) (c.in-Ok.ensures.got heads).pass
-    ∙ ap (λ (r : ℕ). c.pass.inside.seat.calls ++ Got r c.in-Ok.got.0 w ∷ []) (add-one c.args.topic)) c.count.ensures
+    let was = pass_over c.pass.inside.seat heads in
+    let later = pass_over c.get.new.seat heads in
+    let band = c.self.inside.band in
+    let came = subst (λ (r : ℕ). CameOff g.B.Buffer.contents g.B.Buffer.IsSameBuffer band r c.in-Ok.got.0 was later c.in-Ok.got.1) (add-one c.args.topic)
+    (c.in-Ok.ensures.got heads) in
+    keeps_taken c.pass.inside.seat c.get.new.seat heads c.pass.inside.counts c.pass.invariant c.in-Ok.ensures.stays g.B.Buffer.contents
+    g.B.Buffer.IsSameBuffer band c.args.topic c.in-Ok.got.0 c.in-Ok.got.1 c.count.new.number came c.count.ensures
 
 pub returns-clause-took : goal.returns-clause-took
 returns-clause-took g c =
     let heads = heads_of c.pass.inside.fulls.value in
     let later = pass_over c.get.new.seat heads in
-    subst (λ (p : PassStanding g.row.B.Denot). HasGot g.B.Buffer.contents (suc c.args.topic) c.in-Ok.got.0 p later c.in-Ok.got.1) c.pass.view_is
-    (subst (λ (r : ℕ). HasGot g.B.Buffer.contents r c.in-Ok.got.0 (pass_over c.pass.inside.seat heads) later c.in-Ok.got.1) (add-one c.args.topic)
-    (c.in-Ok.ensures.got heads))
-
-pub returns-clause-lists : goal.returns-clause-lists
-returns-clause-lists g c =
-    let heads = heads_of c.pass.inside.fulls.value in
-    let w = g.B.Buffer.contents c.in-Ok.got.1.buffer in
-    one_take (pass_over c.pass.inside.seat heads) (pass_over c.get.new.seat heads) c.args.topic c.in-Ok.got.0 w
-    (ap (λ (p : PassStanding g.row.B.Denot). p.calls) (c.in-Ok.ensures.got heads).pass
-    ∙ ap (λ (r : ℕ). c.pass.inside.seat.calls ++ Got r c.in-Ok.got.0 w ∷ []) (add-one c.args.topic)) refl
-    ∙ ap (λ (p : PassStanding g.row.B.Denot). with_take c.args.topic c.in-Ok.got.0 w (lists_of p)) c.pass.view_is
-
-pub returns-in-Err-Empty-clause-run : goal.returns-in-Err-Empty-clause-run
-returns-in-Err-Empty-clause-run g c fresh =
-    let contents = g.B.Buffer.contents in
-    let heads = heads_of c.pass.inside.fulls.value in
-    let later = pass_over c.get.new.seat heads in
-    let none = ap (λ (p : PassStanding g.row.B.Denot). p.spent) c.pass.view_is ∙ fresh in
-    subst (λ (q : Identity g.row.B.Denot). IsCallInRun q.setup (opening_of contents q.given) (caller_of c.args.pass.now) (caller_of later)) c.self.view_is
-    (subst (λ (p : PassStanding g.row.B.Denot). IsCallInRun c.self.inside.band.setup (opening_of contents c.self.inside.band.given) (caller_of p)
-    (caller_of later)) c.pass.view_is
-    (c.in-Err-Empty.ensures.run none))
-
-pub returns-in-Err-Spent-clause-run : goal.returns-in-Err-Spent-clause-run
-returns-in-Err-Spent-clause-run g c fresh =
-    let contents = g.B.Buffer.contents in
-    let heads = heads_of c.pass.inside.fulls.value in
-    let later = pass_over c.get.new.seat heads in
-    let none = ap (λ (p : PassStanding g.row.B.Denot). p.spent) c.pass.view_is ∙ fresh in
-    subst (λ (q : Identity g.row.B.Denot). IsCallInRun q.setup (opening_of contents q.given) (caller_of c.args.pass.now) (caller_of later)) c.self.view_is
-    (subst (λ (p : PassStanding g.row.B.Denot). IsCallInRun c.self.inside.band.setup (opening_of contents c.self.inside.band.given) (caller_of p)
-    (caller_of later)) c.pass.view_is
-    (c.in-Err-Spent.ensures.run none))
+    on_topic_seen (λ (q : Identity g.row.B.Denot) (r : ℕ) (p : PassStanding g.row.B.Denot).
+    CameOff g.B.Buffer.contents g.B.Buffer.IsSameBuffer q r c.in-Ok.got.0 p later c.in-Ok.got.1) c.args.topic c.self.view_is c.pass.view_is
+    (c.in-Ok.ensures.got heads)
 
 pub returns-clause-run : goal.returns-clause-run
-returns-clause-run g c fresh =
-    let contents = g.B.Buffer.contents in
-    let heads = heads_of c.pass.inside.fulls.value in
-    let later = pass_over c.get.new.seat heads in
-    let none = ap (λ (p : PassStanding g.row.B.Denot). p.spent) c.pass.view_is ∙ fresh in
-    subst (λ (q : Identity g.row.B.Denot). IsCallInRun q.setup (opening_of contents q.given) (caller_of c.args.pass.now) (caller_of later)) c.self.view_is
-    (subst (λ (p : PassStanding g.row.B.Denot). IsCallInRun c.self.inside.band.setup (opening_of contents c.self.inside.band.given) (caller_of p)
-    (caller_of later)) c.pass.view_is
-    (c.in-Ok.ensures.run none))
+returns-clause-run g c =
+    in_run_seen g.B.Buffer.contents c.pass.inside.seat c.get.new.seat (heads_of c.pass.inside.fulls.value) c.self.view_is c.pass.view_is c.in-Ok.ensures.run

@@ -2,7 +2,7 @@ use Rattle.std.proofs.Common.{◌≡◌, arith, subst, Ok}
 use Rattle.std.specs.Prelude.{string_bytes}
 use Rattle.std.proofs.lemmas.List.{length-map}
 use Rattle.scq_judge.specs.Recording.{recording_of}
-use Rattle.scq_service.proofs.Coming.{IsGot, IsMissed, next-name}
+use Rattle.scq_service.proofs.Coming.{SourceIsGot, IsMissed, next-name}
 use Rattle.scq_service.proofs.Judging.{all-ends, all-got, all-read, all-there, missed-ends, missed-got, one-more, stopped-ends, stopped-got}
 use Rattle.scq_service.proofs.commands.judge.report_on.Goals as goal
 
@@ -11,7 +11,7 @@ files-preserved g c =
     let so = c.files.invariant in
     let next = next-name string_bytes c.args.names.now c.files.got.items c.files.name-index c.name-item.result c.as_str.result.now so.count c.files-test.true c.as_str.ensures.value c.name-item.is in
     let said = c.in-Ok.ensures in
-    let got : IsGot g.F.Files g.F.Src.Source c.as_str.result.now c.files.files c.source.new.self c.in-Ok.source =
+    let got : SourceIsGot g.F.Files g.F.Src.Source c.as_str.result.now c.files.files c.source.new.self c.in-Ok.source =
     record { given = said.given; fresh = said.fresh; content = said.content; kept = said.kept } in
     rw (c.with-got.ensures, c.and-sources.ensures) (one-more so c.read-read.new.source next got c.in-Ok-read.ensures.lone (c.in-Ok-read.ensures.read c.files.got.items c.files.sources.items so.read))
 
@@ -36,7 +36,7 @@ returns-in-Err-read-clause-got g c =
     let so = c.files.invariant in
     let next = next-name string_bytes c.args.names.now c.files.got.items c.files.name-index c.name-item.result c.as_str.result.now so.count c.files-test.true c.as_str.ensures.value c.name-item.is in
     let said = c.in-Ok.ensures in
-    let got : IsGot g.F.Files g.F.Src.Source c.as_str.result.now c.files.files c.source.new.self c.in-Ok.source =
+    let got : SourceIsGot g.F.Files g.F.Src.Source c.as_str.result.now c.files.files c.source.new.self c.in-Ok.source =
     record { given = said.given; fresh = said.fresh; content = said.content; kept = said.kept } in
     stopped-got so c.read-read.new.source next got (c.in-Err-read.ensures.stopped c.files.got.items c.files.sources.items so.read) _ _ c.with-got.ensures c.and-sources.ensures
 
@@ -45,7 +45,7 @@ returns-in-Err-read-clause-refused g c = λ w unwritten.
     let so = c.files.invariant in
     let next = next-name string_bytes c.args.names.now c.files.got.items c.files.name-index c.name-item.result c.as_str.result.now so.count c.files-test.true c.as_str.ensures.value c.name-item.is in
     let said = c.in-Ok.ensures in
-    let got : IsGot g.F.Files g.F.Src.Source c.as_str.result.now c.files.files c.source.new.self c.in-Ok.source =
+    let got : SourceIsGot g.F.Files g.F.Src.Source c.as_str.result.now c.files.files c.source.new.self c.in-Ok.source =
     record { given = said.given; fresh = said.fresh; content = said.content; kept = said.kept } in
     stopped-ends so c.read-read.new.source c.args.room w next got (c.in-Err-read.ensures.stopped c.files.got.items c.files.sources.items so.read) unwritten _ _ _ c.with-got.ensures
     c.and-sources.ensures c.from.ensures

@@ -45,26 +45,26 @@ returns-then-all-clause-tells g c =
     let src = g.F.Src.Source in
     let W : Result Staged EndFault → Type 0 =
     λ r. OnOk r ((k : ℕ) (d : _) → k < length olds → IsWhole size src (slice_index_or olds k d) (slice_index_or news k d)) in
-    let whole = subst W c.in-Ok.is did.whole in
+    let whole = subst W c.in-Ok.is did.end.whole in
     let G : Result Staged EndFault → Type 0 =
     λ r. IfOk r (λ s. (given : List (List Message)) × AreGiven [] job.size src.left 1 olds given × HasStaged job.workers given s) in
-    let gave = subst G c.in-Ok.is did.staged in
+    let gave = subst G c.in-Ok.is did.end.staged in
     let M : Result Staged EndFault → Type 0 =
     λ r. IfOk r (λ s. IsSomeAnd c.args.end.passes (λ passes. passes.value.items ≡ s.passes.value.items)) in
     record {
-      got = got-so size src names table opens olds news did.count did.come c.args.all did.all did.moved _ _ _ after.got (ap (λ v. v.items) after.sources ∙ end.sources);
+      got = got-so size src names table opens olds news did.end.count did.come c.args.all did.all did.end.moved _ _ _ after.got (ap (λ v. v.items) after.sources ∙ end.sources);
       status = search rules;
       unworked = search rules;
       staged = search rules;
       handled = search rules;
       told = search rules;
       work = rw (after.staged ∙ end.staged, come, ap (λ v. v.items) after.sources ∙ end.sources)
-          (gave.0, record { count = did.count; whole = whole; gave = gave.1 }, gave.2);
+          (gave.0, record { count = did.end.count; whole = whole; gave = gave.1 }, gave.2);
       -- the queue was closed, over the passes that came with what was finished
       stranded = rw (after.staged ∙ end.staged)
           (nothing-stranded job.order job.workers c.args.end.left c.args.end.passes c.args.end.frames (λ l. l.items) (λ p. p.value.items) (λ f. f.value.items) _
-          (λ none. let err : c.args.end.result ≡ Err NoMemory = did.none none in absurd (cc (c.in-Ok.is, err)))
-          (subst M c.in-Ok.is did.same) did.left);
+          (λ none. let err : c.args.end.result ≡ Err NoMemory = did.end.none none in absurd (cc (c.in-Ok.is, err)))
+          (subst M c.in-Ok.is did.end.same) did.end.left);
       left = search rules;
       leaves = search rules;
     }
@@ -85,11 +85,11 @@ returns-then-all-clause-ends g c =
     let src = g.F.Src.Source in
     let W : Result Staged EndFault → Type 0 =
     λ r. OnOk r ((k : ℕ) (d : _) → k < length olds → IsWhole size src (slice_index_or olds k d) (slice_index_or news k d)) in
-    let whole = subst W c.in-Ok.is did.whole in
+    let whole = subst W c.in-Ok.is did.end.whole in
     let A : Bool → Type 0 = λ all. HaveAllCome names (record { table = table; opens = opens; sources = olds; read = 0 }) all in
     let all = subst A c.if-all.true did.all in
     rw (after.read ∙ end.read, come, ap (λ v. v.items) after.sources ∙ end.sources, after.fault ∙ end.fault)
-    (ends-all size src names table opens olds news did.count did.come whole all.0)
+    (ends-all size src names table opens olds news did.end.count did.come whole all.0)
 
 pub returns-in-Ok-clause-tells : goal.returns-in-Ok-clause-tells
 returns-in-Ok-clause-tells g c =
@@ -106,7 +106,7 @@ returns-in-Ok-clause-tells g c =
     let news = c.args.end.sources.items in
     let src = g.F.Src.Source in
     record {
-      got = got-so size src names table opens olds news did.count did.come c.args.all did.all did.moved _ _ _ after.got (ap (λ v. v.items) after.sources ∙ end.sources);
+      got = got-so size src names table opens olds news did.end.count did.come c.args.all did.all did.end.moved _ _ _ after.got (ap (λ v. v.items) after.sources ∙ end.sources);
       status = search rules;
       unworked = search rules;
       staged = search rules;
@@ -134,11 +134,11 @@ returns-in-Ok-clause-ends g c =
     let src = g.F.Src.Source in
     let W : Result Staged EndFault → Type 0 =
     λ r. OnOk r ((k : ℕ) (d : _) → k < length olds → IsWhole size src (slice_index_or olds k d) (slice_index_or news k d)) in
-    let whole = subst W c.in-Ok.is did.whole in
+    let whole = subst W c.in-Ok.is did.end.whole in
     let A : Bool → Type 0 = λ all. HaveAllCome names (record { table = table; opens = opens; sources = olds; read = 0 }) all in
     let next = subst A c.if-all.false did.all in
     rw (after.read ∙ end.read, come, ap (λ v. v.items) after.sources ∙ end.sources, after.fault ∙ end.fault ∙ ap (λ n. Some (OpenFault (n + 1))) did.number)
-    (ends-stopped size src names table opens olds news did.count did.come whole next.0 next.1)
+    (ends-stopped size src names table opens olds news did.end.count did.come whole next.0 next.1)
 
 pub returns-clause-tells : goal.returns-clause-tells
 returns-clause-tells g c =
@@ -155,7 +155,7 @@ returns-clause-tells g c =
     let news = c.args.end.sources.items in
     let src = g.F.Src.Source in
     record {
-      got = got-so size src names table opens olds news did.count did.come c.args.all did.all did.moved _ _ _ after.got (ap (λ v. v.items) after.sources ∙ end.sources);
+      got = got-so size src names table opens olds news did.end.count did.come c.args.all did.all did.end.moved _ _ _ after.got (ap (λ v. v.items) after.sources ∙ end.sources);
       status = search rules;
       unworked = search rules;
       staged = search rules;
@@ -183,5 +183,5 @@ returns-clause-ends g c =
     let src = g.F.Src.Source in
     let W : Result Staged EndFault → Type 0 = λ r. IfErr r (λ fault. HasCause size src olds news fault) in
     rw (after.read ∙ end.read, come, ap (λ v. v.items) after.sources ∙ end.sources, after.fault ∙ end.fault)
-    (ends-met size src names table opens olds news did.count did.come c.in-Err.fault (subst W c.in-Err.is did.cause)
-    (missed-of size src names table opens olds news did.count did.come c.args.all did.all))
+    (ends-met size src names table opens olds news did.end.count did.come c.in-Err.fault (subst W c.in-Err.is did.end.cause)
+    (missed-of size src names table opens olds news did.end.count did.come c.args.all did.all))

@@ -22,7 +22,7 @@ use Rattle.scq_stages.proofs.reading.WorkerFrameHandlerCallsUnit.handle.Goals.{A
 -- each buffer that the queue was given has room for a message, and so has the same buffer once it is lent
 pub send_in-requires-clause-room : goal.send_in-requires-clause-room
 send_in-requires-clause-room c =
-    let given = c.in-Ok.ensures.given in
+    let given = c.in-Ok.ensures.lent.given in
     let room = one-of-all (λ (b : Frame). c.args.with.now.job.now.size + 24 ≤ length b.bytes.items) c.args.with.now.queue.now.given c.in-Ok.held.index
     given.first c.requires.ready.2 given.was in
     omega (arith, room, given.same.size)
@@ -37,7 +37,7 @@ returns-in_err-send_in-in-Ok-clause-stopped c =
     let said = c.in_err-send_in-in-Ok.ensures in
     let kept = c.in_err-send_in-in-Ok.field-0.0.held in
     let left : (n : ℕ) → HasLeftSo HasFewStageCalls n (n + 1) was.pass now.pass kept = λ n.
-    left-sent bytes_of n said.spent.0 was.pass c.lend.new.pass now.pass c.in-Ok.held kept c.in-Ok.ensures.lent said.spent.1 said.kept
+    left-sent bytes_of n said.spent.0 was.pass c.lend.new.pass now.pass c.in-Ok.held kept c.in-Ok.ensures.lent.lent said.spent.1 said.kept
     said.back in
     let is : c.from_residual.result ≡ Err c.in_err-send_in-in-Ok.field-0.0 = search rules in
     subst (λ (r : Result _ _). IfErr r (λ l. HasStoppedAt queue (m ∷ []) was now l.held)) (sym is)
@@ -56,7 +56,7 @@ returns-in_ok-send_in-in-Ok-clause-handled c =
     let said = c.in_ok-send_in-in-Ok.ensures.sent in
     let within : suc first < length was.pass.numbers = let n = c.requires.ready.0.numbers in omega arith in
     let sent : HasSentSo first (SendsToFirst m) was.pass now.pass =
-    lent-and-sent bytes_of first (SendsToFirst m) said.0 said.1 was.pass c.lend.new.pass now.pass c.in-Ok.held within c.in-Ok.ensures.lent
+    lent-and-sent bytes_of first (SendsToFirst m) said.0 said.1 was.pass c.lend.new.pass now.pass c.in-Ok.held within c.in-Ok.ensures.lent.lent
     said.2 said.3 in
     let same = c.in_ok-send_in-in-Ok.ensures.same in
     record {
@@ -74,7 +74,7 @@ pub returns-in-Err-Spent-clause-stopped : goal.returns-in-Err-Spent-clause-stopp
 returns-in-Err-Spent-clause-stopped c =
     let was = c.args.self.now in
     let q = c.lend.new.pass in
-    let spent = (c.in-Err-Spent.ensures.spent c.in-Err-Spent.field-0-0 (cc) c.requires.ready.0.spent).0 in
+    let spent = ((c.in-Err-Spent.ensures.spent c.in-Err-Spent.field-0-0 (cc)).drawn c.requires.ready.0.spent).0 in
     let left : (n : ℕ) → HasLeftSo HasFewStageCalls n (n + 1) was.pass q None = λ n.
     left-so-at-get HasFewStageCalls n (n + 1) 0 c.in-Err-Spent.field-0-0 was.pass q spent
     (λ few. few_calls-more 1 n (n + 1) q (omega arith) (few_calls-at_get n 0 c.in-Err-Spent.field-0-0 was.pass q spent few)) in
@@ -88,7 +88,7 @@ returns-in-Err-Spent-clause-stopped c =
 full-at : (c : After-finish_directly) → HasFoundFull c.in-Err-Full.head c.args.self.now.pass c.lend.new.pass
 full-at c =
     let some_ : 0 < length c.args.self.now.pass.numbers = let n = c.requires.ready.0.numbers in omega arith in
-    found-full c.in-Err-Full.head c.args.self.now.pass c.lend.new.pass some_ (c.in-Err-Full.ensures.full c.in-Err-Full.head (cc))
+    found-full c.in-Err-Full.head c.args.self.now.pass c.lend.new.pass some_ (c.in-Err-Full.ensures.full c.in-Err-Full.head (cc)).found
 
 pub help-requires-clause-suits : goal.help-requires-clause-suits
 help-requires-clause-suits c κs =

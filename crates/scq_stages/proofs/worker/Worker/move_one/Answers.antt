@@ -20,11 +20,11 @@ moved : (g : _) (c : In_ok-move_on-in-Ok g)
 moved g c =
     let low : suc second < length c.args.self.now.pass.numbers = let n = c.requires.suits.numbers in omega arith in
     moved-took g.B.Buffer.contents c.in-Ok.field-0-0 c.args.self.now.pass c.take.new.pass c.move_on.new.self.pass c.in-Ok.held
-    c.args.self.now.members.items c.move_on.new.self.members.items low c.in-Ok.ensures.took c.move_on.ensures.same.0
+    c.args.self.now.members.items c.move_on.new.self.members.items low c.in-Ok.ensures.took.got c.move_on.ensures.same.0
     (c.in_ok-move_on-in-Ok.ensures.moved, c.in_ok-move_on-in-Ok.ensures.passed_over)
 
 found : (g : _) (c : In-Err-Empty g) → since c.args.self.now.pass c.take.new.pass ≡ Nothing (suc first) ∷ []
-found g c = since-found first c.in-Err-Empty.field-0-0 c.args.self.now.pass c.take.new.pass (c.in-Err-Empty.ensures.empty c.in-Err-Empty.field-0-0 (cc))
+found g c = since-found first c.in-Err-Empty.field-0-0 c.args.self.now.pass c.take.new.pass (c.in-Err-Empty.ensures.empty c.in-Err-Empty.field-0-0 (cc)).found
 
 pub returns-in_err-move_on-in-Ok-clause-left : goal.returns-in_err-move_on-in-Ok-clause-left
 returns-in_err-move_on-in-Ok-clause-left g c =
@@ -32,7 +32,7 @@ returns-in_err-move_on-in-Ok-clause-left g c =
     let r = c.move_on.new.self.pass in
     let is : c.from_residual.result ≡ Err c.in_err-move_on-in-Ok.field-0.0 = search rules in
     subst (λ (x : Result _ _). IfErr x (λ l. (messages : ℕ) → HasLeftSo HasFewStageCalls messages messages p r l.held)) (sym is)
-    (λ messages. left-back g.B.Buffer.contents messages first c.in-Ok.field-0-0 p c.take.new.pass r c.in-Ok.held _ c.in-Ok.ensures.took
+    (λ messages. left-back g.B.Buffer.contents messages first c.in-Ok.field-0-0 p c.take.new.pass r c.in-Ok.held _ c.in-Ok.ensures.took.got
     c.in_err-move_on-in-Ok.ensures.back)
 
 pub returns-in_ok-move_on-in-Ok-clause-taken : goal.returns-in_ok-move_on-in-Ok-clause-taken
@@ -50,7 +50,7 @@ returns-in_ok-move_on-in-Ok-clause-helped g c = (moved g c).helped
 pub returns-in-Err-Empty-clause-taken : goal.returns-in-Err-Empty-clause-taken
 returns-in-Err-Empty-clause-taken g c =
     let low : suc first < length c.args.self.now.pass.numbers = let n = c.requires.suits.numbers in omega arith in
-    found-none first c.in-Err-Empty.field-0-0 c.args.self.now.pass c.take.new.pass low (c.in-Err-Empty.ensures.empty c.in-Err-Empty.field-0-0 (cc))
+    found-none first c.in-Err-Empty.field-0-0 c.args.self.now.pass c.take.new.pass low (c.in-Err-Empty.ensures.empty c.in-Err-Empty.field-0-0 (cc)).found
 
 pub returns-in-Err-Empty-clause-one : goal.returns-in-Err-Empty-clause-one
 returns-in-Err-Empty-clause-one g c = ap (filter_map take_topic) (found g c)
@@ -67,19 +67,19 @@ returns-in-Err-Empty-clause-helped g c =
 pub returns-in-Err-Empty-clause-last : goal.returns-in-Err-Empty-clause-last
 returns-in-Err-Empty-clause-last g c is =
     let low : suc first < length c.args.self.now.pass.numbers = let n = c.requires.suits.numbers in omega arith in
-    let empty = c.in-Err-Empty.ensures.empty c.in-Err-Empty.field-0-0 (cc) in
+    let empty = (c.in-Err-Empty.ensures.empty c.in-Err-Empty.field-0-0 (cc)).found in
     (ap (λ (x : PassStanding _). x.calls) empty.pass, found-past first c.in-Err-Empty.field-0-0 c.args.self.now.pass c.take.new.pass low empty)
 
 pub returns-in-Err-Spent-clause-left : goal.returns-in-Err-Spent-clause-left
 returns-in-Err-Spent-clause-left g c messages =
     left-take messages first c.in-Err-Spent.field-0-0 c.args.self.now.pass c.take.new.pass
-    (c.in-Err-Spent.ensures.spent c.in-Err-Spent.field-0-0 (cc) c.requires.suits.spent).0
+    ((c.in-Err-Spent.ensures.spent c.in-Err-Spent.field-0-0 (cc)).drawn c.requires.suits.spent).0
 
 pub returns-in_ok-move_on-in-Ok-clause-gates : goal.returns-in_ok-move_on-in-Ok-clause-gates
 returns-in_ok-move_on-in-Ok-clause-gates g c =
-    c.in_ok-move_on-in-Ok.ensures.gates ∙ ap (λ (x : PassStanding _). x.gates) c.in-Ok.ensures.took.pass
+    c.in_ok-move_on-in-Ok.ensures.gates ∙ ap (λ (x : PassStanding _). x.gates) c.in-Ok.ensures.took.got.pass
 
 pub returns-in-Err-Empty-clause-gates : goal.returns-in-Err-Empty-clause-gates
 returns-in-Err-Empty-clause-gates g c =
-    let empty = c.in-Err-Empty.ensures.empty c.in-Err-Empty.field-0-0 (cc) in
+    let empty = (c.in-Err-Empty.ensures.empty c.in-Err-Empty.field-0-0 (cc)).found in
     ap (λ (x : PassStanding _). x.gates) empty.pass

@@ -18,7 +18,7 @@ returns-in-Ok-clause-sent g c =
     let begins : bytes ≡ message_bytes p ++ drop (24 + length p.payload) c.bytes_mut.result.now = c.encode.ensures in
     let long : length bytes ≡ length (g.B.Buffer.contents c.args.held.buffer) = c.encode.auto.into ∙ ap length c.bytes_mut.ensures.bytes in
     let is : g.B.Buffer.contents (g.B.BufferMut.written c.args.held.buffer bytes) ≡ bytes = laws.written_bytes c.args.held.buffer bytes long in
-    let sent = c.in-Ok.ensures.sent in
+    let sent = c.in-Ok.ensures.sent.pass in
     let whole : p ≡ whole_of m = whole-part size m valid.some_size c.requires.short in (
       c.in-Ok.field-0,
       bytes,

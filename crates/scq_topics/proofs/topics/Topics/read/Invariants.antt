@@ -1,7 +1,7 @@
 use Rattle.std.proofs.Common.{[], length}
 use Rattle.scq_topics.specs.Topics.{entries_of, first_fault}
-use Rattle.scq_topics.proofs.EntriesRead.{IsRead}
+use Rattle.scq_topics.proofs.EntriesRead.{EntriesAreRead}
 use Rattle.scq_topics.proofs.topics.Topics.read.Given as goal
 
 abbrev pub invariant-loop-entry : goal.invariant-loop-entry
-invariant-loop-entry l = IsRead (entries_of l.text) (first_fault [] (entries_of l.text)) (length l.yielded) l.topics
+invariant-loop-entry l = EntriesAreRead (entries_of l.text) (first_fault [] (entries_of l.text)) (length l.yielded) l.topics

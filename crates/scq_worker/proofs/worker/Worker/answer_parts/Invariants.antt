@@ -13,7 +13,7 @@ invariant-parts g l = record {
   starved : l.self.starved ≡ false → l.fn.self.starved ≡ false;
   pass : l.self.pass ≡ l.fn.self.pass;
   number : l.self.number ≡ l.fn.self.number;
-  opens : l.self.open ≡ l.fn.self.open;
+  opens : l.self.opens ≡ l.fn.self.opens;
 }
 
 abbrev pub decreases-parts : goal.decreases-parts

@@ -1,11 +1,8 @@
-use Rattle.std.proofs.Common.{rules, ◌≡◌, ◌∙◌, ◌+◌, ◌<◌, sym, subst, arith, refl, ℕ, List, length, ⊎_elim, Err, Result}
+use Rattle.std.proofs.Common.{rules, ◌≡◌, ◌+◌, ◌<◌, sym, subst, arith, ℕ, [], ⊎_elim, Err, Result}
 use Rattle.std.specs.Prelude.{IfErr}
 use Rattle.std.proofs.lemmas.Bool.{cases_eq}
-use Rattle.scq_frames.specs.Parts.{Part}
-use Rattle.scq_worker.specs.Bells.{rings-along}
 use Rattle.scq_worker.specs.Opening.{open_on}
-use Rattle.scq_worker.specs.Reading.{IsWorking}
-use Rattle.scq_worker.specs.Working.{HasStopped}
+use Rattle.scq_worker.specs.Reading.{HasStoppedIn, gathered-along, gathered-nothing, still-along, still-same, stopped-along}
 use Rattle.scq_worker.proofs.Gathered.{closed-at, closed-still}
 use Rattle.scq_worker.proofs.worker.Worker.pass_all_open.Goals as goal
 
@@ -15,53 +12,49 @@ below-of a b low apart = omega (arith, low, apart)
 
 pub topics-init : goal.topics-init
 topics-init g c = record {
-  suits = c.requires.suits;
-  stays = c.requires.stays;
-  opens = c.requires.opens;
+  gathered = gathered-nothing c.args.queue.now c.args.job.now c.args.self.now (g.W.Bell.wakes c.args.stand.now) c.requires.suits c.requires.stays
+      c.requires.opens;
   closed = λ t low. absurd (omega arith);
-  work = λ parts was. was;
-  vain = λ was. was;
-  bell = refl;
-  rung = λ first was. was;
-  starved = λ fed. fed;
-  number = refl;
-  pass = refl;
+  still = still-same c.args.self.now (g.W.Bell.kept c.args.stand.now);
 }
 
 pub topics-preserved : goal.topics-preserved
 topics-preserved g c =
     let inv = c.topics.invariant in
     let its = c.in_ok-pass_open.ensures in
+    let start = c.args.self.now in
     let old = c.topics.self in
     let now = c.pass_open.new.self in
     let topic = c.topics.topic in
+    let wakes = g.W.Bell.wakes in
+    let kept = g.W.Bell.kept in
     record {
-      suits = its.suits;
-      stays = its.stays;
-      opens = its.opens;
+      gathered = gathered-along c.args.queue.now c.args.job.now [] [] start old now (wakes c.args.stand.now) (wakes c.topics.stand)
+          (wakes c.pass_open.new.stand) inv.still.number inv.gathered its.gathered;
       closed = λ t low.
-          ⊎_elim (λ (own : t ≡ topic). closed-at topic t (open_on t old.open.items) (open_on t now.open.items) (its.closed t) own)
+          ⊎_elim (λ (own : t ≡ topic). closed-at topic t (open_on t old.opens.items) (open_on t now.opens.items) (its.closed t) own)
           (λ (apart : t ≡ topic → ⊥).
-          closed-still topic t (open_on t old.open.items) (open_on t now.open.items) (its.closed t) (inv.closed t (below-of t topic low apart)))
+          closed-still topic t (open_on t old.opens.items) (open_on t now.opens.items) (its.closed t) (inv.closed t (below-of t topic low apart)))
           (cases_eq t topic);
-      work = λ parts was. its.work parts (inv.work parts was);
-      vain = λ was. its.vain (inv.vain was);
-      bell = c.pass_open.ensures.bell ∙ inv.bell;
-      rung = rings-along c.args.job.now.workers c.args.self.now.number old.number c.args.self.now.pass old.pass now.pass
-          (g.W.Bell.wakes c.args.stand.now) (g.W.Bell.wakes c.topics.stand) (g.W.Bell.wakes c.pass_open.new.stand) inv.number inv.rung its.rung;
-      starved = λ fed. inv.starved (c.pass_open.ensures.starved fed);
-      number = c.pass_open.ensures.number.0 ∙ inv.number;
-      pass = c.pass_open.ensures.number.1 ∙ inv.pass;
+      still = still-along start old now (kept c.args.stand.now) (kept c.topics.stand) (kept c.pass_open.new.stand) inv.still c.pass_open.ensures.still;
     }
 
 pub pass_open-requires-clause-bell : goal.pass_open-requires-clause-bell
 pass_open-requires-clause-bell g c κs within =
-    subst (λ k. g.W.Bell.fits c.args.bell.now k c.args.job.now.workers) (sym c.topics.invariant.bell) c.requires.bell
+    subst (λ k. g.W.Bell.fits c.args.bell.now k c.args.job.now.workers) (sym c.topics.invariant.still.bell) c.requires.bell
 
 -- one met Spent
 pub returns-in_err-pass_open-clause-left : goal.returns-in_err-pass_open-clause-left
 returns-in_err-pass_open-clause-left g c =
+    let start = c.args.self.now in
+    let now = c.pass_open.new.self in
     let is : c.from_residual.result ≡ Err c.in_err-pass_open.field-0.0 = search rules in
-    subst (λ (r : Result _ _). IfErr r (λ l. (parts : List Part) → IsWorking c.args.job.now.topics c.args.job.now.most parts c.args.self.now
-    → HasStopped c.args.queue.now (length parts) c.pass_open.new.self.pass l.held)) (sym is)
-    (λ parts was. c.in_err-pass_open.ensures.left parts (c.topics.invariant.work parts was))
+    subst (λ (r : Result _ _). IfErr r (λ l. HasStoppedIn c.args.queue.now c.args.job.now [] start now l.held)) (sym is)
+    (stopped-along c.args.queue.now c.args.job.now [] [] start c.topics.self now (g.W.Bell.wakes c.args.stand.now) (g.W.Bell.wakes c.topics.stand)
+    c.in_err-pass_open.field-0.0.held c.topics.invariant.gathered c.in_err-pass_open.ensures.left)
+
+pub returns-in_err-pass_open-clause-still : goal.returns-in_err-pass_open-clause-still
+returns-in_err-pass_open-clause-still g c =
+    let kept = g.W.Bell.kept in
+    still-along c.args.self.now c.topics.self c.pass_open.new.self (kept c.args.stand.now) (kept c.topics.stand) (kept c.pass_open.new.stand)
+    c.topics.invariant.still c.pass_open.ensures.still

@@ -2,7 +2,6 @@ use Rattle.std.proofs.Common.{rules, ◌≡◌, ◌≤◌, ◌<◌, ◌+◌, ◌
 use Rattle.std.specs.Prelude.{IfErr, count_by}
 use Rattle.scq_collect.specs.declared.answered.Answered.{Answered}
 use Rattle.scq_passes.specs.Records.{is_take}
-use Rattle.scq_frames.specs.Parts.{Part}
 use Rattle.scq_queue.specs.Passes.{PassStanding}
 use Rattle.scq_passes.specs.Waiting.{TookInVain}
 use Rattle.scq_passes.specs.Calls.{Suits, HasTaken, HasFoundFull, HasLeft}
@@ -10,14 +9,15 @@ use Rattle.scq_worker.specs.Loads.{parts_of_load, IsLoad}
 use Rattle.scq_worker.specs.Opening.{takes_behind}
 use Rattle.scq_worker.specs.Passing.{Sends}
 use Rattle.scq_worker.specs.Bells.{RingsOn}
-use Rattle.scq_worker.specs.Working.{HasSent, HasAnswered, HasPassed, HasStopped}
+use Rattle.scq_worker.specs.Reading.{HasStoppedBehind}
+use Rattle.scq_worker.specs.Working.{HasSent, HasAnswered}
 use Rattle.scq_worker.specs.declared.worker.load.Load.{Load}
 use Rattle.scq_worker.specs.declared.worker.load.Load.TheVariants.{Alone, Together}
 use Rattle.scq_passes.proofs.PassLemmas.{found-full, lent-and-sent, suits-taken}
 use Rattle.scq_passes.proofs.Kept.{taken-sends}
 use Rattle.scq_passes.proofs.LeftLemmas.{left-at-get, left-full, left-more}
 use Rattle.scq_passes.proofs.ManyLists.{one-of-all}
-use Rattle.scq_worker.proofs.PassedOn.{left-sent, left-behind, suits-full, passed-sent, passed-helped, passed-stopped}
+use Rattle.scq_worker.proofs.PassedOn.{left-sent, left-behind, suits-full, suits-sent, passed-sent, passed-helped, passed-stopped}
 use Rattle.scq_passes.proofs.Vain.{vain-helped, vain-behind}
 use Rattle.scq_worker.proofs.Rung.{rung-sent, rung-helped}
 use Rattle.scq_worker.proofs.worker.Worker.pass_load.Goals as goal
@@ -32,7 +32,7 @@ some-in size longest most topic (Together batch) its = its.1
 pub send_in-requires-clause-room : goal.send_in-requires-clause-room
 send_in-requires-clause-room g c κs within =
     let laws = g.met.B.Buffer g.world.𝓛 g.world.𝓜 g.world.𝓡 ((λ s x. x), (λ x. x), (λ x. x), (λ x. x)) in
-    let given = c.in-Ok.ensures.given in
+    let given = c.in-Ok.ensures.lent.given in
     let room = one-of-all (λ b. c.args.job.now.size + 24 ≤ length (g.B.Buffer.contents b)) c.args.queue.now.given c.in-Ok.held.index given.first
     c.requires.room given.was in
     let same = laws.same_length given.first c.in-Ok.held.buffer given.same in
@@ -44,14 +44,12 @@ returns-in_err-send_in-in-Ok-clause-left g c =
     let p = c.args.self.now.pass in
     let said = c.in_err-send_in-in-Ok.ensures in
     let is : c.from_residual.result ≡ Err c.in_err-send_in-in-Ok.field-0.0 = search rules in
-    subst (λ (r : Result _ _). IfErr r (λ l. (batches : List (List Part))
-    → HasPassed c.args.job.now.topics batches p c.args.self.now.members c.args.self.now.starved
-    → HasStopped c.args.queue.now (length batches + 1) c.send_in.new.self.pass l.held)) (sym is)
+    subst (λ (r : Result _ _). IfErr r (λ l. HasStoppedBehind c.args.queue.now c.args.job.now c.args.self.now c.send_in.new.self l.held)) (sym is)
     (λ batches was.
     let kept = c.in_err-send_in-in-Ok.field-0.0.held in
     let left : HasLeft (length batches) (length batches + 1) p c.send_in.new.self.pass kept =
     left-sent g.B.Buffer.contents (length batches) c.args.topic said.spent.0 p c.lend.new.pass c.send_in.new.self.pass c.in-Ok.held kept
-    c.in-Ok.ensures.lent said.spent.1 said.kept said.back in
+    c.in-Ok.ensures.lent.lent said.spent.1 said.kept said.back in
     passed-stopped c.args.queue.now c.args.job.now.topics batches p c.send_in.new.self.pass c.args.self.now.members c.args.self.now.starved kept was
     c.requires.suits.queue c.requires.stays left)
 
@@ -63,7 +61,7 @@ sent-at g c =
     let said = c.in_ok-send_in-in-Ok.ensures.sent in
     let within : suc c.args.topic < length p.numbers = let n = c.requires.suits.numbers in let low = c.requires.topic in omega arith in
     lent-and-sent g.B.Buffer.contents c.args.topic (Sends (parts_of_load c.args.job.now.size c.args.load)) said.0 said.1 p c.lend.new.pass
-    c.send_in.new.self.pass c.in-Ok.held within c.in-Ok.ensures.lent said.2 said.3
+    c.send_in.new.self.pass c.in-Ok.held within c.in-Ok.ensures.lent.lent said.2 said.3
 
 -- the take behind the send met Spent
 pub returns-in_err-take_behind-in-Ok-clause-left : goal.returns-in_err-take_behind-in-Ok-clause-left
@@ -74,21 +72,34 @@ returns-in_err-take_behind-in-Ok-clause-left g c =
     let kept = c.in_err-take_behind-in-Ok.field-0.0.held in
     let sent = sent-at g (goal.at.returns-in_err-take_behind-in-Ok-clause-left g c).After-take_behind in
     let is : c.from_residual-in_err-take_behind-in-Ok.result ≡ Err c.in_err-take_behind-in-Ok.field-0.0 = search rules in
-    subst (λ (x : Result _ _). IfErr x (λ l. (batches : List (List Part))
-    → HasPassed c.args.job.now.topics batches p c.args.self.now.members c.args.self.now.starved
-    → HasStopped c.args.queue.now (length batches + 1) r l.held)) (sym is)
+    subst (λ (x : Result _ _). IfErr x (λ l. HasStoppedBehind c.args.queue.now c.args.job.now c.args.self.now c.take_behind.new.self l.held)) (sym is)
     (λ batches was.
     passed-stopped c.args.queue.now c.args.job.now.topics batches p r c.args.self.now.members c.args.self.now.starved kept was
     c.requires.suits.queue c.requires.stays
     (left-behind (length batches) c.args.topic b p c.send_in.new.self.pass r kept sent (c.in_err-take_behind-in-Ok.ensures.left (length batches + 1))))
 
-pub returns-in_err-take_behind-in-Ok-clause-number : goal.returns-in_err-take_behind-in-Ok-clause-number
-returns-in_err-take_behind-in-Ok-clause-number g c =
-    let left = c.in_err-take_behind-in-Ok.ensures.left 0 in
-    let sent = sent-at g (goal.at.returns-in_err-take_behind-in-Ok-clause-number g c).After-take_behind in (
-      c.take_behind.ensures.number ∙ c.in_ok-send_in-in-Ok.ensures.same.2,
-      left.own.1 ∙ ap (λ (x : PassStanding _). x.number) sent.pass,
-    )
+pub returns-in_err-take_behind-in-Ok-clause-still : goal.returns-in_err-take_behind-in-Ok-clause-still
+returns-in_err-take_behind-in-Ok-clause-still g c =
+    let sent = sent-at g (goal.at.returns-in_err-take_behind-in-Ok-clause-still g c).After-take_behind in
+    let same = c.in_ok-send_in-in-Ok.ensures.same in
+    let own = c.take_behind.ensures.kept in
+    record {
+      starved = λ fed. sym same.1 ∙ own.starved fed;
+      number = own.number ∙ same.2;
+      pass = (c.in_err-take_behind-in-Ok.ensures.left 0).own.1 ∙ ap (λ (x : PassStanding _). x.number) sent.pass;
+      bell = c.after_send.ensures.kept;
+    }
+
+-- the send met Spent
+pub returns-in_err-send_in-in-Ok-clause-still : goal.returns-in_err-send_in-in-Ok-clause-still
+returns-in_err-send_in-in-Ok-clause-still g c =
+    let same = c.send_in.ensures.same in
+    record {
+      starved = λ fed. sym same.1 ∙ fed;
+      number = same.2;
+      pass = ap (λ (x : PassStanding _). x.number) c.in_err-send_in-in-Ok.ensures.spent.1 ∙ c.lend.ensures.own.1;
+      bell = refl;
+    }
 
 -- it was sent, and taken behind it
 pub returns-in_ok-take_behind-in-Ok-clause-passed : goal.returns-in_ok-take_behind-in-Ok-clause-passed
@@ -99,52 +110,66 @@ returns-in_ok-take_behind-in-Ok-clause-passed g c batches was =
     let now = c.take_behind.new.self in
     let within : suc c.args.topic < length p.numbers = let n = c.requires.suits.numbers in let low = c.requires.topic in omega arith in
     let same = c.in_ok-send_in-in-Ok.ensures.same in
-    let its = c.in_ok-take_behind-in-Ok.ensures in
+    let its = c.in_ok-take_behind-in-Ok.ensures.took in
     passed-sent topics batches c.args.topic (parts_of_load c.args.job.now.size c.args.load) p q.pass now.pass c.args.self.now.members now.members
     c.args.self.now.starved now.starved was within (sent-at g (goal.at.returns-in_ok-take_behind-in-Ok-clause-passed g c).After-take_behind)
     its.taken its.gates
-    (λ fed. sym same.1 ∙ c.take_behind.ensures.starved fed)
+    (λ fed. sym same.1 ∙ c.take_behind.ensures.kept.starved fed)
     (λ fed. subst (λ (l : List Answered). HasAnswered topics q.pass now.pass l now.members) same.0 (its.answered fed))
 
-pub returns-in_ok-take_behind-in-Ok-clause-vain : goal.returns-in_ok-take_behind-in-Ok-clause-vain
-returns-in_ok-take_behind-in-Ok-clause-vain g c was =
-    let p = c.args.self.now.pass in
-    let q = c.send_in.new.self.pass in
-    let r = c.take_behind.new.self.pass in
-    let its = c.in_ok-take_behind-in-Ok.ensures in
-    vain-behind (length c.args.job.now.topics + 1) (takes_behind c.args.job.now.most) c.args.topic
-    (Sends (parts_of_load c.args.job.now.size c.args.load)) p q r
-    (sent-at g (goal.at.returns-in_ok-take_behind-in-Ok-clause-vain g c).After-take_behind) its.vain
-    (ap (λ (x : PassStanding _). x.fulls) its.taken.pass) (taken-sends q r its.taken) was
-
 -- the next worker was woken where it was sent
-pub returns-in_ok-take_behind-in-Ok-clause-rung : goal.returns-in_ok-take_behind-in-Ok-clause-rung
-returns-in_ok-take_behind-in-Ok-clause-rung g c =
+pub returns-in_ok-take_behind-in-Ok-clause-goes : goal.returns-in_ok-take_behind-in-Ok-clause-goes
+returns-in_ok-take_behind-in-Ok-clause-goes g c =
+    let job = c.args.job.now in
+    let topics = length job.topics in
+    let b = parts_of_load job.size c.args.load in
     let p = c.args.self.now.pass in
     let q = c.send_in.new.self in
     let r = c.take_behind.new.self.pass in
-    let workers = c.args.job.now.workers in
-    subst (λ n. RingsOn n workers p r (g.W.Bell.wakes c.args.stand.now) (g.W.Bell.wakes c.after_send.new.stand))
-    c.in_ok-send_in-in-Ok.ensures.same.2
-    (rung-sent q.number workers c.args.topic (parts_of_load c.args.job.now.size c.args.load) p q.pass r (g.W.Bell.wakes c.args.stand.now)
-    (g.W.Bell.wakes c.after_send.new.stand) (sent-at g (goal.at.returns-in_ok-take_behind-in-Ok-clause-rung g c).After-take_behind)
-    c.in_ok-take_behind-in-Ok.ensures.taken c.after_send.ensures.rung)
+    let was = g.W.Bell.wakes c.args.stand.now in
+    let is = g.W.Bell.wakes c.after_send.new.stand in
+    let sent = sent-at g (goal.at.returns-in_ok-take_behind-in-Ok-clause-goes g c).After-take_behind in
+    let its = c.in_ok-take_behind-in-Ok.ensures.took in
+    record {
+      suits = suits-taken c.args.queue.now topics q.pass r (suits-sent c.args.queue.now topics c.args.topic b p q.pass c.requires.suits sent) its.taken;
+      stays = ap (λ (x : PassStanding _). x.retired) its.taken.pass ∙ ap (λ (x : PassStanding _). x.retired) sent.pass ∙ c.requires.stays;
+      vain = vain-behind (topics + 1) (takes_behind job.most) c.args.topic (Sends b) p q.pass r sent its.vain
+          (ap (λ (x : PassStanding _). x.fulls) its.taken.pass) (taken-sends q.pass r its.taken);
+      rung = subst (λ n. RingsOn n job.workers p r was is) c.in_ok-send_in-in-Ok.ensures.same.2
+          (rung-sent q.number job.workers c.args.topic b p q.pass r was is sent its.taken c.after_send.ensures.rung);
+    }
+
+pub returns-in_ok-take_behind-in-Ok-clause-still : goal.returns-in_ok-take_behind-in-Ok-clause-still
+returns-in_ok-take_behind-in-Ok-clause-still g c =
+    let sent = sent-at g (goal.at.returns-in_ok-take_behind-in-Ok-clause-still g c).After-take_behind in
+    let same = c.in_ok-send_in-in-Ok.ensures.same in
+    let own = c.take_behind.ensures.kept in
+    record {
+      starved = λ fed. sym same.1 ∙ own.starved fed;
+      number = own.number ∙ same.2;
+      pass = ap (λ (x : PassStanding _). x.number) c.in_ok-take_behind-in-Ok.ensures.took.taken.pass
+          ∙ ap (λ (x : PassStanding _). x.number) sent.pass;
+      bell = c.after_send.ensures.kept;
+    }
 
 -- the lend met Spent
 pub returns-in-Err-Spent-clause-left : goal.returns-in-Err-Spent-clause-left
 returns-in-Err-Spent-clause-left g c batches was =
     let p = c.args.self.now.pass in
-    let spent = (c.in-Err-Spent.ensures.spent c.in-Err-Spent.field-0-0 (cc) c.requires.suits.spent).0 in
+    let spent = ((c.in-Err-Spent.ensures.spent c.in-Err-Spent.field-0-0 (cc)).drawn c.requires.suits.spent).0 in
     passed-stopped c.args.queue.now c.args.job.now.topics batches p c.lend.new.pass c.args.self.now.members
     c.args.self.now.starved None was
     c.requires.suits.queue c.requires.stays
     (left-more (length batches) p c.lend.new.pass None (left-at-get (length batches) 0 c.in-Err-Spent.field-0-0 p c.lend.new.pass spent))
 
+pub returns-in-Err-Spent-clause-still : goal.returns-in-Err-Spent-clause-still
+returns-in-Err-Spent-clause-still g c = record { starved = λ fed. fed; number = refl; pass = c.lend.ensures.own.1; bell = refl }
+
 -- no buffer was free: the pass suits still
 full-at : (g : _) (c : After-answer_directly g) → HasFoundFull c.in-Err-Full.head c.args.self.now.pass c.lend.new.pass
 full-at g c =
     let some_ : 0 < length c.args.self.now.pass.numbers = let n = c.requires.suits.numbers in omega arith in
-    found-full c.in-Err-Full.head c.args.self.now.pass c.lend.new.pass some_ (c.in-Err-Full.ensures.full c.in-Err-Full.head (cc))
+    found-full c.in-Err-Full.head c.args.self.now.pass c.lend.new.pass some_ (c.in-Err-Full.ensures.full c.in-Err-Full.head (cc)).found
 
 pub help-requires-after_bounds : goal.help-requires-after_bounds
 help-requires-after_bounds g c κs within =
@@ -160,9 +185,7 @@ returns-in_err-help-in-Err-Full-clause-left g c =
     let full = full-at g (goal.at.returns-in_err-help-in-Err-Full-clause-left g c).After-answer_directly in
     let kept = c.in_err-help-in-Err-Full.field-0.0.held in
     let is : c.from_residual-in_err-help-in-Err-Full.result ≡ Err c.in_err-help-in-Err-Full.field-0.0 = search rules in
-    subst (λ (x : Result _ _). IfErr x (λ l. (batches : List (List Part))
-    → HasPassed c.args.job.now.topics batches p c.args.self.now.members c.args.self.now.starved
-    → HasStopped c.args.queue.now (length batches + 1) r l.held)) (sym is)
+    subst (λ (x : Result _ _). IfErr x (λ l. HasStoppedBehind c.args.queue.now c.args.job.now c.args.self.now c.help.new.self l.held)) (sym is)
     (λ batches was.
     let left : HasLeft (length batches + 1) (length batches + 1) c.lend.new.pass r kept =
     subst (λ (q : PassStanding _). HasLeft (length batches + 1) (length batches + 1) q r kept) c.answer_directly.ensures.same.0
@@ -173,26 +196,21 @@ returns-in_err-help-in-Err-Full-clause-left g c =
 
 -- it helped
 helped : (g : _) (c : goal.In_ok-help-in-Err-Full g) → HasTaken c.lend.new.pass c.help.new.self.pass
-helped g c = subst (λ (q : PassStanding _). HasTaken q c.help.new.self.pass) c.answer_directly.ensures.same.0 c.in_ok-help-in-Err-Full.ensures.taken
+helped g c = subst (λ (q : PassStanding _). HasTaken q c.help.new.self.pass) c.answer_directly.ensures.same.0 c.in_ok-help-in-Err-Full.ensures.took.taken
 
-pub returns-in_err-help-in-Err-Full-clause-number : goal.returns-in_err-help-in-Err-Full-clause-number
-returns-in_err-help-in-Err-Full-clause-number g c =
-    let left = c.in_err-help-in-Err-Full.ensures.left 0 in (
-      c.help.ensures.number ∙ c.answer_directly.ensures.same.1,
-      left.own.1 ∙ ap (λ (x : PassStanding _). x.number) c.answer_directly.ensures.same.0 ∙ c.lend.ensures.own.1,
-    )
+pub returns-in_err-help-in-Err-Full-clause-still : goal.returns-in_err-help-in-Err-Full-clause-still
+returns-in_err-help-in-Err-Full-clause-still g c =
+    let its = c.answer_directly.ensures in
+    let own = c.help.ensures.kept in
+    record {
+      starved = λ fed. its.starved (own.starved fed);
+      number = own.number ∙ its.same.1;
+      pass = (c.in_err-help-in-Err-Full.ensures.left 0).own.1 ∙ ap (λ (x : PassStanding _). x.number) its.same.0 ∙ c.lend.ensures.own.1;
+      bell = refl;
+    }
 
-pub returns-in_ok-help-in-Err-Full-clause-suits : goal.returns-in_ok-help-in-Err-Full-clause-suits
-returns-in_ok-help-in-Err-Full-clause-suits g c =
-    let full = full-at g (goal.at.returns-in_ok-help-in-Err-Full-clause-suits g c).After-answer_directly in
-    let topics = length c.args.job.now.topics in
-    suits-taken c.args.queue.now topics c.lend.new.pass c.help.new.self.pass
-    (suits-full c.args.queue.now topics c.in-Err-Full.head c.args.self.now.pass c.lend.new.pass c.requires.suits full) (helped g c)
-
-pub returns-in_ok-help-in-Err-Full-clause-stays : goal.returns-in_ok-help-in-Err-Full-clause-stays
-returns-in_ok-help-in-Err-Full-clause-stays g c =
-    let full = full-at g (goal.at.returns-in_ok-help-in-Err-Full-clause-stays g c).After-answer_directly in
-    ap (λ (x : PassStanding _). x.retired) (helped g c).pass ∙ ap (λ (x : PassStanding _). x.retired) full.pass ∙ c.requires.stays
+pub returns-in_err-help-in-Err-Full-clause-opens : goal.returns-in_err-help-in-Err-Full-clause-opens
+returns-in_err-help-in-Err-Full-clause-opens g c = c.help.ensures.kept.opens ∙ c.answer_directly.ensures.same.2
 
 pub returns-in_ok-help-in-Err-Full-clause-passed : goal.returns-in_ok-help-in-Err-Full-clause-passed
 returns-in_ok-help-in-Err-Full-clause-passed g c batches was =
@@ -208,23 +226,43 @@ returns-in_ok-help-in-Err-Full-clause-passed g c batches was =
     mid.members now.members
     c.args.self.now.starved now.starved was (some-in job.size job.longest job.most c.args.topic c.args.load c.requires.load) full (helped g c)
     (λ t low. said.each t low ∙ ap (λ (x : PassStanding _). count_by (is_take t) x.calls + 1) same)
-    (said.gates ∙ ap (λ (x : PassStanding _). x.gates) same)
-    (λ fed. c.answer_directly.ensures.starved (c.help.ensures.starved fed))
-    (λ fed. c.answer_directly.ensures.listed (c.help.ensures.starved fed))
-    (λ fed. subst (λ (x : PassStanding _). HasAnswered topics x now.pass mid.members now.members) same (said.answered fed))
+    (said.took.gates ∙ ap (λ (x : PassStanding _). x.gates) same)
+    (λ fed. c.answer_directly.ensures.starved (c.help.ensures.kept.starved fed))
+    (λ fed. c.answer_directly.ensures.listed (c.help.ensures.kept.starved fed))
+    (λ fed. subst (λ (x : PassStanding _). HasAnswered topics x now.pass mid.members now.members) same (said.took.answered fed))
 
 -- what it took in vain is paid for by its Fulls
-pub returns-in_ok-help-in-Err-Full-clause-vain : goal.returns-in_ok-help-in-Err-Full-clause-vain
-returns-in_ok-help-in-Err-Full-clause-vain g c was =
-    let all = length c.args.job.now.topics + 1 in
-    let full = full-at g (goal.at.returns-in_ok-help-in-Err-Full-clause-vain g c).After-answer_directly in
-    let took : TookInVain all c.lend.new.pass c.help.new.self.pass =
-    subst (λ (q : PassStanding _). TookInVain all q c.help.new.self.pass) c.answer_directly.ensures.same.0 c.in_ok-help-in-Err-Full.ensures.vain in
-    vain-helped all (takes_behind c.args.job.now.most) c.in-Err-Full.head c.args.self.now.pass c.lend.new.pass c.help.new.self.pass full took
-    (ap (λ (x : PassStanding _). x.fulls) (helped g c).pass) (taken-sends c.lend.new.pass c.help.new.self.pass (helped g c)) was
+pub returns-in_ok-help-in-Err-Full-clause-goes : goal.returns-in_ok-help-in-Err-Full-clause-goes
+returns-in_ok-help-in-Err-Full-clause-goes g c =
+    let job = c.args.job.now in
+    let topics = length job.topics in
+    let head = c.in-Err-Full.head in
+    let p = c.args.self.now.pass in
+    let q = c.lend.new.pass in
+    let r = c.help.new.self.pass in
+    let was = g.W.Bell.wakes c.args.stand.now in
+    let full = full-at g (goal.at.returns-in_ok-help-in-Err-Full-clause-goes g c).After-answer_directly in
+    let taken = helped g c in
+    let took : TookInVain (topics + 1) q r =
+    subst (λ (x : PassStanding _). TookInVain (topics + 1) x r) c.answer_directly.ensures.same.0 c.in_ok-help-in-Err-Full.ensures.took.vain in
+    record {
+      suits = suits-taken c.args.queue.now topics q r (suits-full c.args.queue.now topics head p q c.requires.suits full) taken;
+      stays = ap (λ (x : PassStanding _). x.retired) taken.pass ∙ ap (λ (x : PassStanding _). x.retired) full.pass ∙ c.requires.stays;
+      vain = vain-helped (topics + 1) (takes_behind job.most) head p q r full took (ap (λ (x : PassStanding _). x.fulls) taken.pass)
+          (taken-sends q r taken);
+      rung = rung-helped c.args.self.now.number job.workers head p q r was was full taken refl;
+    }
 
-pub returns-in_ok-help-in-Err-Full-clause-rung : goal.returns-in_ok-help-in-Err-Full-clause-rung
-returns-in_ok-help-in-Err-Full-clause-rung g c =
-    let full = full-at g (goal.at.returns-in_ok-help-in-Err-Full-clause-rung g c).After-answer_directly in
-    rung-helped c.args.self.now.number c.args.job.now.workers c.in-Err-Full.head c.args.self.now.pass c.lend.new.pass c.help.new.self.pass
-    (g.W.Bell.wakes c.args.stand.now) (g.W.Bell.wakes c.args.stand.now) full (helped g c) refl
+pub returns-in_ok-help-in-Err-Full-clause-still : goal.returns-in_ok-help-in-Err-Full-clause-still
+returns-in_ok-help-in-Err-Full-clause-still g c =
+    let its = c.answer_directly.ensures in
+    let own = c.help.ensures.kept in
+    record {
+      starved = λ fed. its.starved (own.starved fed);
+      number = own.number ∙ its.same.1;
+      pass = ap (λ (x : PassStanding _). x.number) (helped g c).pass ∙ c.lend.ensures.own.1;
+      bell = refl;
+    }
+
+pub returns-in_ok-help-in-Err-Full-clause-opens : goal.returns-in_ok-help-in-Err-Full-clause-opens
+returns-in_ok-help-in-Err-Full-clause-opens g c = c.help.ensures.kept.opens ∙ c.answer_directly.ensures.same.2

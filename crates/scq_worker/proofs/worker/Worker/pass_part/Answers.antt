@@ -1,88 +1,163 @@
-use Rattle.std.proofs.Common.{rules, ◌≡◌, ◌+◌, ◌∙◌, refl, ap, sym, subst, arith, List, [], ◌++◌, ◌∷◌, length, Err, Result}
+use Rattle.std.proofs.Common.{rules, ◌≡◌, ◌≤◌, ◌∙◌, false, refl, sym, subst, arith, List, [], ◌∷◌, Err, Result}
 use Rattle.std.specs.Prelude.{IfErr}
-use Rattle.std.proofs.lemmas.List.{length-append}
 use Rattle.scq_frames.specs.Parts.{Part, part_of}
-use Rattle.scq_worker.specs.Opening.{AreGathered, open_on}
-use Rattle.scq_worker.specs.Reading.{IsWorking}
-use Rattle.scq_worker.specs.Working.{HasStopped}
-use Rattle.scq_worker.proofs.Gathered.{gathered-added, gathered-alone, few-batches, closed-at}
-use Rattle.scq_worker.proofs.PassedOn.{stopped-more, passed-as, working-as}
+use Rattle.scq_worker.specs.Opening.{open_on}
+use Rattle.scq_worker.specs.Reading.{HasGathered, HasStoppedIn, IsSameWorker, gathered-along, still-along, stopped-along}
+use Rattle.scq_worker.proofs.Gathered.{closed-at}
+use Rattle.scq_worker.proofs.Going.{gathered-one, gathered-still, gone-alone, still-as, stopped-alone, stopped-within}
 use Rattle.scq_worker.proofs.worker.Worker.pass_part.Goals as goal
+use Rattle.scq_worker.proofs.worker.Worker.pass_part.Goals.{After-pass_open, After-gather-2}
 
--- what was open met Spent
+-- it fits behind those that are open
+pub returns-then-gather-clause-gathered : goal.returns-then-gather-clause-gathered
+returns-then-gather-clause-gathered g c =
+    let job = c.args.job.now in
+    let its = c.gather.ensures in
+    gathered-one c.args.queue.now job (part_of job.size c.args.message.now c.args.part) c.args.self.now c.gather.new.self
+    (g.W.Bell.wakes c.args.stand.now) c.requires.suits c.requires.stays its.opens (its.many c.if-gather.true) (its.added c.if-gather.true)
+    its.same.0 its.same.1 its.same.2
+
+pub returns-then-gather-clause-still : goal.returns-then-gather-clause-still
+returns-then-gather-clause-still g c =
+    let same = c.gather.ensures.same in
+    still-as c.args.self.now c.gather.new.self (g.W.Bell.kept c.args.stand.now) same.2 same.3 same.0
+
+-- what was open is passed on
+still-open : (g : _) (c : After-pass_open g)
+    → IsSameWorker c.args.self.now c.pass_open.new.self (g.W.Bell.kept c.args.stand.now) (g.W.Bell.kept c.pass_open.new.stand)
+still-open g c =
+    let same = c.gather.ensures.same in
+    let was = g.W.Bell.kept c.args.stand.now in
+    still-along c.args.self.now c.gather.new.self c.pass_open.new.self was was (g.W.Bell.kept c.pass_open.new.stand)
+    (still-as c.args.self.now c.gather.new.self was same.2 same.3 same.0) c.pass_open.ensures.still
+
+still-later : (g : _) (c : After-gather-2 g)
+    → IsSameWorker c.args.self.now c.gather-2.new.self (g.W.Bell.kept c.args.stand.now) (g.W.Bell.kept c.pass_open.new.stand)
+still-later g c =
+    let same = c.gather.ensures.same in
+    let then_ = c.gather-2.ensures.same in
+    let was = g.W.Bell.kept c.args.stand.now in
+    let is = g.W.Bell.kept c.pass_open.new.stand in
+    let first = c.gather.new.self in
+    let old = c.pass_open.new.self in
+    still-along c.args.self.now old c.gather-2.new.self was is is
+    (still-along c.args.self.now first old was was is (still-as c.args.self.now first was same.2 same.3 same.0) c.pass_open.ensures.still)
+    (still-as old c.gather-2.new.self is then_.2 then_.3 then_.0)
+
+gathered-first : (g : _) (c : After-pass_open g)
+    → HasGathered c.args.queue.now c.args.job.now [] c.args.self.now c.gather.new.self (g.W.Bell.wakes c.args.stand.now)
+    (g.W.Bell.wakes c.args.stand.now)
+gathered-first g c =
+    let its = c.gather.ensures in
+    gathered-still c.args.queue.now c.args.job.now c.args.self.now c.gather.new.self (g.W.Bell.wakes c.args.stand.now) c.requires.suits
+    c.requires.stays its.opens (its.none c.if-gather.false) its.same.0 its.same.1 its.same.2
+
+gathered-open : (g : _) (c : After-gather-2 g)
+    → HasGathered c.args.queue.now c.args.job.now [] c.args.self.now c.pass_open.new.self (g.W.Bell.wakes c.args.stand.now)
+    (g.W.Bell.wakes c.pass_open.new.stand)
+gathered-open g c =
+    let its = c.gather.ensures in
+    let first = c.gather.new.self in
+    let was = g.W.Bell.wakes c.args.stand.now in
+    gathered-along c.args.queue.now c.args.job.now [] [] c.args.self.now first c.pass_open.new.self was was (g.W.Bell.wakes c.pass_open.new.stand)
+    its.same.3
+    (gathered-still c.args.queue.now c.args.job.now c.args.self.now first was c.requires.suits c.requires.stays its.opens (its.none c.if-gather.false)
+    its.same.0 its.same.1 its.same.2) c.in_ok-pass_open.ensures.gathered
+
+-- and met Spent
 pub returns-in_err-pass_open-clause-left : goal.returns-in_err-pass_open-clause-left
 returns-in_err-pass_open-clause-left g c =
+    let at = (goal.at.returns-in_err-pass_open-clause-left g c).After-pass_open in
+    let q = c.args.queue.now in
     let job = c.args.job.now in
-    let p = part_of job.size c.args.message.now c.args.part in
-    let same = c.gather.ensures.same in
+    let one : List Part = part_of job.size c.args.message.now c.args.part ∷ [] in
+    let start = c.args.self.now in
+    let now = c.pass_open.new.self in
+    let held = c.in_err-pass_open.field-0.0.held in
+    let was = g.W.Bell.wakes c.args.stand.now in
     let is : c.from_residual.result ≡ Err c.in_err-pass_open.field-0.0 = search rules in
-    subst (λ (r : Result _ _). IfErr r (λ l. (parts : List Part) → IsWorking job.topics job.most parts c.args.self.now
-    → HasStopped c.args.queue.now (length (parts ++ p ∷ [])) c.pass_open.new.self.pass l.held)) (sym is)
-    (λ parts was.
-    stopped-more c.args.queue.now (length parts) (length (parts ++ p ∷ [])) c.pass_open.new.self.pass c.in_err-pass_open.field-0.0.held
-    (omega (arith, length-append parts (p ∷ [])))
-    (c.in_err-pass_open.ensures.left parts
-    (working-as job.topics job.most parts c.args.self.now c.gather.new.self (c.gather.ensures.none c.if-gather.false) same.0 same.1 same.2 was)))
+    subst (λ (r : Result _ _). IfErr r (λ l. HasStoppedIn q job one start now l.held)) (sym is)
+    (stopped-within q job [] one start now held (omega arith)
+    (stopped-along q job [] [] start c.gather.new.self now was was held (gathered-first g at) c.in_err-pass_open.ensures.left))
 
--- what was open is passed on, and the part is added
-pub returns-then-gather-2-clause-work : goal.returns-then-gather-2-clause-work
-returns-then-gather-2-clause-work g c parts was =
+pub returns-in_err-pass_open-clause-still : goal.returns-in_err-pass_open-clause-still
+returns-in_err-pass_open-clause-still g c = still-open g (goal.at.returns-in_err-pass_open-clause-still g c).After-pass_open
+
+-- the part is added then
+pub returns-then-gather-2-clause-gathered : goal.returns-then-gather-2-clause-gathered
+returns-then-gather-2-clause-gathered g c =
+    let at = (goal.at.returns-then-gather-2-clause-gathered g c).After-gather-2 in
+    let q = c.args.queue.now in
     let job = c.args.job.now in
     let p = part_of job.size c.args.message.now c.args.part in
-    let same = c.gather.ensures.same in
-    let then_ = c.gather-2.ensures.same in
     let old = c.pass_open.new.self in
     let now = c.gather-2.new.self in
-    let mid = c.in_ok-pass_open.ensures.work parts
-    (working-as job.topics job.most parts c.args.self.now c.gather.new.self (c.gather.ensures.none c.if-gather.false) same.0 same.1 same.2 was) in
-    record {
-      batches = mid.batches;
-      gathered = gathered-added job.most parts mid.batches old.open.items mid.gathered p now.open.items
-          (c.gather-2.ensures.many c.if-gather-2.true) (c.gather-2.ensures.added c.if-gather-2.true);
-      passed = passed-as job.topics mid.batches old.pass now.pass old.members now.members old.starved now.starved then_.0 then_.1 then_.2 mid.passed;
-    }
+    let then_ = c.gather-2.ensures in
+    let first = gathered-open g at in
+    let is = g.W.Bell.wakes c.pass_open.new.stand in
+    gathered-along q job [] (p ∷ []) c.args.self.now old now (g.W.Bell.wakes c.args.stand.now) is is (c.pass_open.ensures.still.number ∙ c.gather.ensures.same.3) first
+    (gathered-one q job p old now is first.goes.suits first.goes.stays then_.opens (then_.many c.if-gather-2.true) (then_.added c.if-gather-2.true)
+    then_.same.0 then_.same.1 then_.same.2)
 
--- it goes alone, and met Spent
+pub returns-then-gather-2-clause-still : goal.returns-then-gather-2-clause-still
+returns-then-gather-2-clause-still g c = still-later g (goal.at.returns-then-gather-2-clause-still g c).After-gather-2
+
+-- it goes alone, with nothing more than that passed on before
+gathered-later : (g : _) (c : After-gather-2 g) → c.gather-2.result ≡ false
+    → HasGathered c.args.queue.now c.args.job.now [] c.args.self.now c.gather-2.new.self (g.W.Bell.wakes c.args.stand.now)
+    (g.W.Bell.wakes c.pass_open.new.stand)
+gathered-later g c not_added =
+    let q = c.args.queue.now in
+    let job = c.args.job.now in
+    let old = c.pass_open.new.self in
+    let now = c.gather-2.new.self in
+    let then_ = c.gather-2.ensures in
+    let first = gathered-open g c in
+    let is = g.W.Bell.wakes c.pass_open.new.stand in
+    gathered-along q job [] [] c.args.self.now old now (g.W.Bell.wakes c.args.stand.now) is is (c.pass_open.ensures.still.number ∙ c.gather.ensures.same.3) first
+    (gathered-still q job old now is first.goes.suits first.goes.stays then_.opens (then_.none not_added) then_.same.0 then_.same.1 then_.same.2)
+
+-- it met Spent
 pub returns-in_err-pass_load-clause-left : goal.returns-in_err-pass_load-clause-left
 returns-in_err-pass_load-clause-left g c =
+    let at = (goal.at.returns-in_err-pass_load-clause-left g c).After-gather-2 in
+    let q = c.args.queue.now in
     let job = c.args.job.now in
     let p = part_of job.size c.args.message.now c.args.part in
-    let same = c.gather.ensures.same in
-    let then_ = c.gather-2.ensures.same in
-    let old = c.pass_open.new.self in
-    let now = c.gather-2.new.self in
+    let start = c.args.self.now in
+    let now = c.pass_load.new.self in
+    let held = c.in_err-pass_load.field-0.0.held in
     let is : c.from_residual-in_err-pass_load.result ≡ Err c.in_err-pass_load.field-0.0 = search rules in
-    subst (λ (r : Result _ _). IfErr r (λ l. (parts : List Part) → IsWorking job.topics job.most parts c.args.self.now
-    → HasStopped c.args.queue.now (length (parts ++ p ∷ [])) c.pass_load.new.self.pass l.held)) (sym is)
-    (λ parts was.
-    let mid = c.in_ok-pass_open.ensures.work parts
-    (working-as job.topics job.most parts c.args.self.now c.gather.new.self (c.gather.ensures.none c.if-gather.false) same.0 same.1 same.2 was) in
-    let last = working-as job.topics job.most parts old now (c.gather-2.ensures.none c.if-gather-2.false) then_.0 then_.1 then_.2 mid in
-    stopped-more c.args.queue.now (length last.batches + 1) (length (parts ++ p ∷ [])) c.pass_load.new.self.pass
-    c.in_err-pass_load.field-0.0.held
-    (omega (arith, length-append parts (p ∷ []), few-batches job.most parts last.batches now.open.items last.gathered))
-    (c.in_err-pass_load.ensures.left last.batches last.passed))
+    subst (λ (r : Result _ _). IfErr r (λ l. HasStoppedIn q job (p ∷ []) start now l.held)) (sym is)
+    (stopped-alone q job p start c.gather-2.new.self now (g.W.Bell.wakes c.args.stand.now) (g.W.Bell.wakes c.pass_open.new.stand) held
+    (gathered-later g at c.if-gather-2.false) c.in_err-pass_load.ensures.left)
+
+pub returns-in_err-pass_load-clause-still : goal.returns-in_err-pass_load-clause-still
+returns-in_err-pass_load-clause-still g c =
+    let at = (goal.at.returns-in_err-pass_load-clause-still g c).After-gather-2 in
+    let kept = g.W.Bell.kept in
+    still-along c.args.self.now c.gather-2.new.self c.pass_load.new.self (kept c.args.stand.now) (kept c.pass_open.new.stand)
+    (kept c.pass_load.new.stand) (still-later g at) c.pass_load.ensures.still
 
 -- it went alone
-pub returns-clause-work : goal.returns-clause-work
-returns-clause-work g c parts was =
-    let job = c.args.job.now in
+pub returns-clause-gathered : goal.returns-clause-gathered
+returns-clause-gathered g c =
+    let at = (goal.at.returns-clause-gathered g c).After-gather-2 in
     let m = c.args.message.now in
-    let p = part_of job.size m c.args.part in
-    let same = c.gather.ensures.same in
-    let then_ = c.gather-2.ensures.same in
+    let p = part_of c.args.job.now.size m c.args.part in
     let first = c.gather.new.self in
     let old = c.pass_open.new.self in
     let now = c.gather-2.new.self in
-    let mid = c.in_ok-pass_open.ensures.work parts
-    (working-as job.topics job.most parts c.args.self.now first (c.gather.ensures.none c.if-gather.false) same.0 same.1 same.2 was) in
-    let last = working-as job.topics job.most parts old now (c.gather-2.ensures.none c.if-gather-2.false) then_.0 then_.1 then_.2 mid in
-    let none : open_on m.topic now.open.items ≡ [] =
+    let none : open_on m.topic now.opens.items ≡ [] =
     c.gather-2.ensures.none c.if-gather-2.false m.topic
-    ∙ closed-at m.topic m.topic (open_on m.topic first.open.items) (open_on m.topic old.open.items) (c.in_ok-pass_open.ensures.closed m.topic) refl in
-    record {
-      batches = last.batches ++ (p ∷ []) ∷ [];
-      gathered = subst (λ (l : List (List Part)). AreGathered job.most (parts ++ p ∷ []) (last.batches ++ (p ∷ []) ∷ []) l)
-          (sym (ap (λ v. v.items) c.pass_load.ensures.opens)) (gathered-alone job.most parts last.batches now.open.items last.gathered p none);
-      passed = c.in_ok-pass_load.ensures.passed last.batches last.passed;
-    }
+    ∙ closed-at m.topic m.topic (open_on m.topic first.opens.items) (open_on m.topic old.opens.items) (c.in_ok-pass_open.ensures.closed m.topic) refl in
+    gone-alone c.args.queue.now c.args.job.now p c.args.self.now now c.pass_load.new.self (g.W.Bell.wakes c.args.stand.now)
+    (g.W.Bell.wakes c.pass_open.new.stand) (g.W.Bell.wakes c.pass_load.new.stand) (still-later g at).number
+    (gathered-later g at c.if-gather-2.false) none c.in_ok-pass_load.ensures.goes c.in_ok-pass_load.ensures.passed c.pass_load.ensures.opens
+
+pub returns-clause-still : goal.returns-clause-still
+returns-clause-still g c =
+    let at = (goal.at.returns-clause-still g c).After-gather-2 in
+    let kept = g.W.Bell.kept in
+    still-along c.args.self.now c.gather-2.new.self c.pass_load.new.self (kept c.args.stand.now) (kept c.pass_open.new.stand)
+    (kept c.pass_load.new.stand) (still-later g at) c.pass_load.ensures.still

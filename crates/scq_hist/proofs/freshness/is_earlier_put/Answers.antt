@@ -1,12 +1,12 @@
 use Rattle.std.proofs.Common.{arith, ◌≡◌, ℕ, ◌<◌, ◌↔◌, length, List, false, IsTrue, Bool}
-use Rattle.std.proofs.lemmas.Option.{slice_get_within, MatchOption-at_none}
+use Rattle.std.proofs.lemmas.Option.{slice_get_within, MatchOption-at_none, MatchOption-at_some}
 use Rattle.scq_hist.specs.Calls.{IsPut}
 use Rattle.scq_hist.specs.Lookups.{NoPutBefore}
 use Rattle.scq_hist.specs.declared.events.Call.TheVariants.{Put}
 use Rattle.scq_hist.specs.declared.events.Event.{Event}
 use Rattle.scq_hist.specs.declared.events.Event.TheVariants.{Start}
 use Rattle.scq_hist.proofs.Puts.{same_put}
-use Rattle.scq_hist.proofs.freshness.is_put.Goals as goal
+use Rattle.scq_hist.proofs.freshness.is_earlier_put.Goals as goal
 
 abbrev PutFrom : List Event → ℕ → ℕ → ℕ → List ℕ → ℕ → Type 0
 PutFrom events seat number r d e = (s : ℕ) × (s < e) × IsPut events seat number r d s
@@ -33,13 +33,17 @@ missing events seat number r e d n = (
 )
 
 pub returns-in-Some : goal.returns-in-Some
-returns-in-Some c = found _ _ _ _ _ _ _ _ _ _ c.in-Some.ensures c.if-start-e.true c.if-of-queue.true c.same_bytes.ensures
+returns-in-Some c = λ events seat number put.
+    found events seat number _ _ _ _ _ _ _ (MatchOption-at_some _ _ _ c.in-Some.is put) c.if-start-e.true c.if-of-queue.true c.same_bytes.ensures
 
 pub returns-in_default : goal.returns-in_default
-returns-in_default c = other _ _ _ _ _ _ _ _ _ c.in-Some.ensures (λ _ same. c.if-of-queue.false same)
+returns-in_default c = λ events seat number put.
+    other events seat number _ _ _ _ _ _ (MatchOption-at_some _ _ _ c.in-Some.is put) (λ _ same. c.if-of-queue.false same)
 
 pub returns-in_default-2 : goal.returns-in_default-2
-returns-in_default-2 c = other _ _ _ _ _ _ _ _ _ c.in-Some.ensures (λ lt _. let ge = c.if-start-e.false in absurd (omega arith))
+returns-in_default-2 c = λ events seat number put.
+    other events seat number _ _ _ _ _ _ (MatchOption-at_some _ _ _ c.in-Some.is put)
+    (λ lt _. let ge = c.if-start-e.false in absurd (omega arith))
 
 pub returns-in_default-3 : goal.returns-in_default-3
-returns-in_default-3 c = missing _ _ _ _ _ _ (MatchOption-at_none _ _ c.in_default.is c.put_named.ensures)
+returns-in_default-3 c = λ events seat number put. missing events seat number _ _ _ (MatchOption-at_none _ _ c.in_default.is put)

@@ -1,6 +1,0 @@
-use Rattle.std.proofs.Common.{◌≡◌, ◌≤◌}
-use Rattle.scq_hist.specs.Calls.{puts_before}
-use Rattle.scq_judge.proofs.telling.puts_before.Given as goal
-
-abbrev pub invariant-loop-event : goal.invariant-loop-event
-invariant-loop-event l = record { count : l.puts ≡ puts_before l.events l.seat l.event-index; few : l.puts ≤ l.event-index }
