@@ -3,8 +3,8 @@
  * A queue has 2^order buffers of the same size and up to 17 topics, each a first-in-first-out queue
  * of its own over these buffers. A thread makes its calls with a port of its own: it is lent a
  * buffer, writes it where it lies and sends it on a topic; or it takes one from a topic, reads it
- * and gives it back. No call takes a lock or waits for another thread's; lends, takes, sends and
- * give-backs are lock-free, with a bound (docs/QUEUE.md). Only scq_open and scq_open_over take
+ * and gives it back. No lend, take, send or give-back takes a lock or waits for another thread's;
+ * they are lock-free, with a bound (docs/QUEUE.md). Only scq_open and scq_open_over take
  * memory. What the library does is proved: docs/QUEUE.md says what that means, and docs/PROMISES.md
  * has the promise of each call. What stands whole in this file is tested.
  *
@@ -23,7 +23,7 @@
  *    place is set to SCQ_NONE or not used again. scq_close makes it SCQ_NONE; one that isn't closed
  *    keeps its queue, and what it holds, until the process ends.
  * 2. Every pointer that is handed in is non-null, aligned, and points to memory of its type that
- *    may be written; what two pointers of one call point to lies apart. `n` ports begin at `ports`,
+ *    may be written where it isn't const; what two pointers of one call point to lies apart. `n` ports begin at `ports`,
  *    `n` counts at `counts`, and `n` slots at `out` or `held` of a call of several; also where n is
  *    0, none is null.
  * 3. One call at a time is made with a port, by whichever thread has it, also where a signal
@@ -39,11 +39,10 @@
  *    or scq_close.
  * 6. After fork the child makes no call with the parent's ports, and doesn't touch their buffers.
  *
- * Everything else is tested by the calls, and answered. Of each call there stands below what is
- * tested and what is answered; where several answers would be right, one of them comes; but a take
- * with no room, and a send that is refused for the port's sake, come only where the topic is there.
- * Where it isn't SCQ_OK no buffer has changed hands, and nothing is written through the pointers
- * but what is said there.
+ * Everything else the calls test and answer, as stands at each. Where several answers would be
+ * right one of them comes; but SCQ_NO_ROOM of a take, and SCQ_RETIRED and SCQ_NOT_HELD of a send,
+ * only where the topic is there. With any answer but SCQ_OK no buffer has changed hands, and nothing
+ * is written through the pointers but what is said there.
  */
 #ifndef SCQ_H
 #define SCQ_H

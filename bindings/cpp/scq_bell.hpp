@@ -59,15 +59,22 @@ template <class Guard> class Rung : private Guard {
     using Guard::data;
     using Guard::end;
     using Guard::index;
+    using Guard::messages;
     using Guard::number;
+    using Guard::pack;
+    using Guard::pack_begin;
+    using Guard::pack_room;
     using Guard::size;
+#ifdef __cpp_lib_span
+    using Guard::bytes;
+#endif
     std::uint64_t place() const noexcept { return Guard::place(); }
 
     // Whether there is none as nothing comes any more.
     bool ended() const noexcept { return ended_; }
 
     // Sends the buffer as the guard's `send`, and wakes one that waits for the topic.
-    Sent send(std::uint32_t topic) noexcept {
+    SCQ_BELL_NODISCARD Sent send(std::uint32_t topic) noexcept {
         const Sent sent = Guard::send(topic);
         if (sent) scq_bell_ring(bell_, topic);
         return sent;
@@ -108,37 +115,42 @@ class Bell {
 
     // Is lent a buffer, and waits until there is one: there is none where the answer is Spent,
     // NoRoom or Closed, or where SCQ_FREE has ended.
-    Rung<Lent> lend(Port &port) noexcept { return lend_until(port, SCQ_FOREVER); }
+    SCQ_BELL_NODISCARD Rung<Lent> lend(Port &port) noexcept {
+        return lend_until(port, SCQ_FOREVER);
+    }
 
     // Waits that long at most; where it is over the answer is Full.
     template <class Rep, class Period>
-    Rung<Lent> lend_for(Port &port, const std::chrono::duration<Rep, Period> &most) noexcept {
+    SCQ_BELL_NODISCARD Rung<Lent>
+    lend_for(Port &port, const std::chrono::duration<Rep, Period> &most) noexcept {
         return lend_until(port, nanoseconds(most));
     }
 
     // Takes a buffer off a topic, and waits until there is one: there is none where the answer is
     // Spent, NoTopic, NoRoom or Closed, or where the topic has ended.
-    Rung<Taken> take(Port &port, std::uint32_t topic) noexcept {
+    SCQ_BELL_NODISCARD Rung<Taken> take(Port &port, std::uint32_t topic) noexcept {
         return take_until(port, topic, SCQ_FOREVER);
     }
 
     // Waits that long at most; where it is over the answer is Empty.
     template <class Rep, class Period>
-    Rung<Taken> take_for(Port &port, std::uint32_t topic,
-                         const std::chrono::duration<Rep, Period> &most) noexcept {
+    SCQ_BELL_NODISCARD Rung<Taken>
+    take_for(Port &port, std::uint32_t topic,
+             const std::chrono::duration<Rep, Period> &most) noexcept {
         return take_until(port, topic, nanoseconds(most));
     }
 
     // The same of the first of several topics that has something, the lowest where several have.
     // Writes which it is.
-    Rung<Taken> take_any(Port &port, std::uint32_t lines, std::uint32_t &topic) noexcept {
+    SCQ_BELL_NODISCARD Rung<Taken> take_any(Port &port, std::uint32_t lines,
+                                            std::uint32_t &topic) noexcept {
         return take_any_until(port, lines, SCQ_FOREVER, topic);
     }
 
     template <class Rep, class Period>
-    Rung<Taken> take_any_for(Port &port, std::uint32_t lines,
-                             const std::chrono::duration<Rep, Period> &most,
-                             std::uint32_t &topic) noexcept {
+    SCQ_BELL_NODISCARD Rung<Taken> take_any_for(Port &port, std::uint32_t lines,
+                                                const std::chrono::duration<Rep, Period> &most,
+                                                std::uint32_t &topic) noexcept {
         return take_any_until(port, lines, nanoseconds(most), topic);
     }
 

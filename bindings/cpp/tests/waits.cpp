@@ -40,6 +40,9 @@ static void answers() {
     CHECK(one && other && one.index() != other.index() && one.data() != other.data());
     CHECK(bell.lend_for(ports[1], milliseconds(1)).answer() == scq::Answer::Full);
     CHECK(bell.lend(ports[0]).answer() == scq::Answer::NoRoom);
+    other.pack_begin();
+    CHECK(other.pack("packed", 6));
+    for (const scq::Message &message : other.messages()) CHECK(message.size() == 6);
     std::memcpy(one.data(), "one", 4);
     CHECK(one.send(3).answer == scq::Answer::NoTopic && one);
     CHECK(one.send(2) && !one);

@@ -2,7 +2,7 @@
 //! Rust.
 //!
 //! Use it where `crossbeam::queue::ArrayQueue` nearly fits, but messages should be written and read
-//! where they lie, and an answer "empty" or "full" has to be relied on. A queue has 2 to 4,096
+//! where they lie, and a thread that stops should hold up nobody. A queue has 2 to 4,096
 //! buffers, up to 17 topics, and a [`Port`] for each thread. A thread is [lent](Port::lend) a
 //! buffer, writes it in place and [sends](Lent::send) it on a topic; or it [takes](Port::take) one
 //! from a topic and reads it. A [`Lent`] or [`Taken`] that is dropped is given back. A [`Batch`] has
