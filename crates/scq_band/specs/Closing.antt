@@ -268,13 +268,13 @@ pub record SpentAgree (c : Setup) (records : List (List Ended)) (kept : List (Op
   pub bounds : EachSpentIsPastTheBound c records kept
   pub limits : NoneIsSpentWithinTheLimit c records kept
 
--- one run behind all calls. Its calls have all ended, each seat is one of these callers, and each
--- caller's record is the run's; all that any of them had seen are prefixes of it. Its history has
--- the four aspects, and shows each seat's calls as its record has them. Some call ends among so
+-- one run behind all calls. Its calls have all ended, each seat is just one of these callers, and
+-- each caller's record is the run's; all that any of them had seen are prefixes of it. Its history
+-- has the four aspects, and shows each seat's calls as its record has them. Some call ends among so
 -- many steps of it that follow one another; calls are delayed by what others finish on their ring,
--- and by nothing else; and a call that runs alone ends soon. The calls of each ring stand in one
--- order, in which every reply is a plain queue's, and which keeps each call behind those that ended
--- before it began
+-- and by nothing else; and a call that runs alone ends soon. The calls of each ring, but those that
+-- ended with Spent, stand in one order, in which every reply is a plain queue's, and which keeps
+-- each call behind those that ended before it began
 pub record IsOneRun (c : Setup) (opening : List (List ℕ)) (callers : List Caller) : Type 0 where
   pub steps : List (ℕ × Step)
   pub finished : IsFinishedRun (run_of c opening steps)

@@ -47,9 +47,9 @@ pub record Caller : Type 0 where
   pub calls : List Ended
   pub seen : Seen
 
--- a call in the run. All that the caller had seen lies in the run `before` it. The call's first
--- step is the next after `before`, its last step is the last of `after`, and `after` is what the
--- caller has seen from then on
+-- one or more calls of a seat, in the run. All that the caller had seen lies in the run `before`
+-- them. Their first step is the next after `before`, their last step is the last of `after`, and
+-- `after` is what the caller has seen from then on, with the retirements that it had seen
 pub record IsCallInRun (c : Setup) (opening : List (List ℕ)) (old new : Caller) : Type 0 where
   pub before : List (ℕ × Step)
   pub after : List (ℕ × Step)
@@ -62,14 +62,15 @@ pub record IsCallInRun (c : Setup) (opening : List (List ℕ)) (old new : Caller
   -- the record is that of the run, at both ends
   pub was : IsRecordAfter c opening before old.seat old.calls
   pub now : IsRecordAfter c opening after old.seat new.calls
-  -- and, by how it ended: it made few steps for each call that ended on its ring meanwhile
+  -- and, where it was one call, by how that ended: its steps are at most its own bound and what the
+  -- ends of others on its ring meanwhile cost
   pub delayed : (ended : Ended) → new.calls ≡ old.calls ++ ended ∷ []
       → WholeCallIsDelayedByEnds c before after was.recorded.state now.recorded.state old.seat ended
 
 -- a get of ring r that found nothing, in the run: after the call's last step Head of the ring was
--- at or past this number, and at some moment inside the call each finished put of the ring was
--- claimed: a get that had begun got it, or gets of the ring that are still under way at the end of
--- `after` are at least as many as those that none has got
+-- at or past this number; and at some moment inside the call each put of the ring that had ended
+-- was got by a get begun by then, or by none, and those got by none are at most as many as the
+-- other gets of the ring begun by then that are still under way at the end of `after`
 pub record WasEmptyInRun (c : Setup) (opening : List (List ℕ)) (r head : ℕ)
     (old new : Caller) : Type 0 where
   pub call : IsCallInRun c opening old new
@@ -85,10 +86,10 @@ pub record HasSeenCalls (c : Setup) (opening : List (List ℕ)) (seen : Seen)
   pub is_run : IsRun c opening steps recorded
   pub made : calls ≤ length (recorded.state.part seat).calls
 
--- a reading of the gate in the run, by a seat that had retired itself where `own` is how many calls
--- it had made then. The reader has now seen the run `after`, of which all that it had seen are
--- prefixes, and seats that had retired, those among them that it had seen retired before. The
--- number read is 0 exactly where these are all seats
+-- a reading of the gate in the run. `own` is how many calls the reader had made when it retired, if
+-- it has. The reader has now seen the run `after`, of which all that it had seen are prefixes, and
+-- seats that had retired, those among them that it had seen retired before, each with as many calls
+-- as a run that it has seen shows. The number read is 0 exactly where these are all seats
 pub record IsReadingInRun (c : Setup) (opening : List (List ℕ)) (own : Option ℕ) (old new : Caller)
     (found : ℕ) : Type 0 where
   pub after : List (ℕ × Step)

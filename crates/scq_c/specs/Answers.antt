@@ -144,8 +144,8 @@ pub record AllHaveEnded (x : PortStanding) (its : PassStanding PortBuffer)
   pub counts : AreWritten (map (λ (p : PassStanding PortBuffer). counts_of (lists_of p)) passes)
       before after
 
--- of a port's end: it retired, what it held was given back, and where 1 is written out the queue
--- closed with it; else no count is written
+-- of a port's end: it retired, and what it held was given back, up to the first that a spent ticket
+-- refused; where 1 is written out the queue closed with it, else no count is written
 pub record OfEnd (x : PortStanding) (e : End) (before after : List Tally) : Type 0 where
   pub its : PassStanding PortBuffer
   pub ended : HasPassEnded (retired_port x) its

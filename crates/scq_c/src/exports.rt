@@ -370,9 +370,9 @@ fn end_of(port: Port, out: &mut End, counts: &mut [Tally])
     };
 }
 
-/// Closes a port: what it holds is given back, as `Port::close` says, and the last port of a queue
-/// frees it, which is told, with the counts of all ports in the order of their numbers, as many as
-/// fit.
+/// Closes a port: what it holds is given back, as `Port::close` says. Where 1 is told the queue
+/// closed with this port, and the counts of all ports are written, in the order of their numbers,
+/// as many as fit. No clause says that the last port is told so, or that anything is freed.
 #[unsafe(no_mangle)]
 pub extern "C" fn scq_end(
     alloc: Global,

@@ -89,9 +89,10 @@ pub fn find_breaches(
     })
 }
 
-/// Judges a lawful history. `opening` has the contents of the tokens that stand in queue 0 before
-/// it. It makes tables of the history, and goes over its events a few times: time grows little
-/// faster than the history's length.
+/// Judges a lawful history (`first_unlawful` tests whether it is). `opening` has the contents of
+/// the tokens that stand in queue 0 before it. Gots of refused puts only `find_breaches` tells. It
+/// makes tables of the history, and goes over its events a few times: time grows little faster than
+/// the history's length.
 pub fn judge(alloc: Global, opening: &[Bytes], events: &[Event]) -> Result<Verdict, NoMemory>
     requires { IsLawful events.now }
     ensures verdict { IfOk result (IsVerdictOf opening.now events.now) }

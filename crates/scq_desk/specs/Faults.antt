@@ -26,7 +26,7 @@ MemoryIsFirst size src olds news (TooLong file line len) = AllEndFed size src ol
 MemoryIsFirst size src olds news (TooLarge file bytes) = AllEndFed size src olds news
 MemoryIsFirst size src olds news NoMemory = Unit {0}
 
--- the cause of each fault
+-- the cause of each fault but want of memory, of which nothing is said
 abbrev pub HasCause : {S : Type 0} → ℕ → SourceOf S → List S → List S → EndFault → Type 0
 HasCause size src olds news (Read file) = ReadingStopsAt size src olds news file frame.ReadFault
 HasCause size src olds news (TooLong file line len) =

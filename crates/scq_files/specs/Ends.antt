@@ -65,9 +65,8 @@ AllEndFed {S} size src olds news =
     (k : ℕ) (d : S) → k < length olds
     → EndsFed size src (slice_index_or olds k d) (slice_index_or news k d)
 
--- each worker read its files in turn, and none behind one at which it stopped. How the reading of
--- each file ended stands in the order of the files. File k, from 0, is that of worker k mod their
--- number
+-- no worker read a file of its own behind one at which it stopped. How the reading of each file
+-- ended stands in the order of the files. File k, from 0, is that of worker k mod their number
 pub record StopsAtFaults {S : Type 0} (workers size : ℕ) (src : SourceOf S) (olds news : List S)
     : Type 0 where
   pub end_of : List FileEnd

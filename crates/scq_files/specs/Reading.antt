@@ -18,14 +18,16 @@ use Rattle.scq_frames.specs.Judged.{Judged}
 use Rattle.scq_files.specs.declared.own_file.FileEnd.{FileEnd}
 use Rattle.scq_files.specs.declared.own_file.FileEnd.TheVariants.{Unread, Whole, Stopped}
 
--- it was read to its end, which it answered just once, and nothing is wrong with it
+-- it was read to its end, which it answered just once, and nothing is wrong with it where its bytes
+-- are visible
 pub record IsWhole {S : Type 0} (size : ℕ) (src : SourceOf S) (old new : S) : Type 0 where
   pub judged : Judged size (src.left old) (src.left new) None
   pub ended : NothingLeft (src.left new)
   pub once : Rose (src.ends old) (src.ends new)
   pub kept : src.faults new ≡ src.faults old
 
--- the reading stopped at this fault
+-- the reading stopped at this fault: of reading, where the source counted one more, and else none.
+-- A payload that is too long is longer than `size`, a file that is too large gave 2^30 + 1 bytes
 pub record IsStopped {S : Type 0} (size : ℕ) (src : SourceOf S) (old new : S) (fault : FrameFault)
     : Type 0 where
   pub judged : Judged size (src.left old) (src.left new) (Some fault)

@@ -24,7 +24,8 @@ Judges size bytes rest (Some (TooLarge count)) =
     × (file_trouble size false (bytes ++ rest) ≡ Some ManyBytes)
 Judges size bytes rest (Some NoMemory) = Unit {0}
 
--- a source that had this left and has that now gave bytes that the fault, or none, is said of
+-- a source that had this left and has that now gave bytes; where these are visible the fault, or
+-- none, is said of them
 pub record Judged (size : ℕ) (before after : Option (List ℕ))
     (fault : Option FrameFault) : Type 0 where
   pub bytes : List ℕ

@@ -71,7 +71,7 @@ abbrev pub IsOnce : List Event → Type 0
 IsOnce events = (e : ℕ) → IsOnceAt events e
 
 -- the put is claimed at moment m: it is got by a call that started before, or it isn't got in the
--- list at all
+-- list at all (then `matched` finds it a get)
 abbrev pub IsClaimed : List Event → ℕ → PutName → Type 0
 IsClaimed events m name = IsGotBefore events m name ⊎ (¬ IsGot events name)
 
@@ -93,8 +93,8 @@ IsInOrderAt opening events e = (s seat number queue start : ℕ) (content : List
     → IsGetOf events (Of seat number) s e → IsPut events seat number queue content start
     → AllClaimed events queue e (Precedes opening events queue start)
 
--- in order: no put is got before one that precedes it, unless a get that is under way at the end
--- may have that one. Nothing precedes an opening token
+-- in order: no get ends before the get of a put that precedes its own has started, unless a get
+-- that is under way at the end may have that put. Nothing precedes an opening token
 abbrev pub IsInOrder : List (List ℕ) → List Event → Type 0
 IsInOrder opening events = (e : ℕ) → IsInOrderAt opening events e
 
@@ -114,7 +114,7 @@ IsEmptyRightAt opening events e =
 abbrev pub IsEmptyRight : List (List ℕ) → List Event → Type 0
 IsEmptyRight opening events = (e : ℕ) → IsEmptyRightAt opening events e
 
--- the history has the four aspects
+-- the history is lawful and has the four aspects
 pub record HasAspects (opening : List (List ℕ)) (events : List Event) : Type 0 where
   pub lawful : IsLawful events
   pub fresh : IsFresh opening events

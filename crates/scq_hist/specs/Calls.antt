@@ -1,5 +1,5 @@
--- What the events of a list say of the calls of its seats. Places are counted from 0. Moment m is
--- the point after the first m events. A call is known by its seat and the position of its Start
+-- What the events of a list say of the calls of its seats. Positions are counted from 0. Moment m
+-- is the point after the first m events. A call is known by its seat and the position of its Start
 use Rattle.std.specs.Prelude.{◌≡◌, ℕ, zero, suc, ◌+◌, ◌<◌, ◌==◌, if◌then◌else◌, List, Option, Some}
 use Rattle.std.specs.Prelude.{None, length, slice_get}
 use Rattle.scq_hist.specs.declared.events.Call.{Call}

@@ -90,6 +90,9 @@ AnswersPlainly run queue (Call seat number ∷ order) =
     (plain_after queue (name_of_put ((last_state run).part seat).calls seat call)
     (call_of_ended ended)) order
 
+-- the calls of a ring, but those that ended with Spent, and its opening puts stand in this list,
+-- each once, in an order that keeps each behind those that ended before it began, and in which
+-- every reply is a plain queue's
 pub record IsOneOrder (run : Run) (r : ℕ) (order : List Ordered) : Type 0 where
   -- each put and get of the ring that did not end with Spent stands in the list, and each opening
   -- put, and nothing else

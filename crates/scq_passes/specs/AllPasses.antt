@@ -56,7 +56,7 @@ module _ {B : Type 0} where
       pub alone : All (λ p. HoldsNothingAtEachFull p.calls) passes
       pub fulls : AllFullsStand passes
       pub each : All Each passes
-      -- no call met a ticket past the limit
+      -- no call met a ticket at or past the limit
       pub unspent : NoneSpent passes
       pub no_spent : All (λ p. MeetsNoSpent p.calls) passes
       -- the takes are the sends, and no place of a topic stands twice

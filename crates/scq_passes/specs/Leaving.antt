@@ -53,9 +53,9 @@ module _ {B : Type 0} where
     pub last : (topic : ℕ) → suc topic ≡ topics → EndsAtEmpty topic new
 
   -- sweeps in a row, each begun where the one before ended, of which the last `idle` took nothing,
-  -- and the one before these, if there is one, something. Where a sweep took nothing the number of
-  -- such in a row `Goes` on. The reading of each may have found that not all had retired: a pass
-  -- keeps what the last of its readings found, and of those before no more
+  -- and the one before these, if there is one, something. Where a sweep took nothing, `Goes` holds
+  -- of the number of such in a row. Each of their readings found that not all had retired: of a
+  -- given pass this is a possible past, as it keeps what its last reading found, and no more
   pub data AreSweeps (contents : B → List ℕ) (queue : Identity B) (By : Puts) (topics : ℕ)
       (Goes : ℕ → Type 0) : ℕ → PassStanding B → PassStanding B → Type 0 where
     no_sweep : (p : PassStanding B) → AreSweeps contents queue By topics Goes 0 p p

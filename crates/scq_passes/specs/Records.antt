@@ -1,5 +1,5 @@
 -- The calls in the record of a pass, and how its Full replies stand among them. Topic t is ring t +
--- 1, and ring 0 has the buffers that nobody holds.
+-- 1, and ring 0 has the free buffers.
 use Rattle.std.specs.Prelude.{◌≡◌, ℕ, zero, suc, ◌<◌, ◌≤◌, Bool, true, false, ◌==◌, List, [], ◌∷◌}
 use Rattle.std.specs.Prelude.{◌++◌, count_by, filter}
 use Rattle.std.specs.List.{list_any, before_first, Contains}
@@ -92,6 +92,6 @@ AreReturns By = (topic : ℕ) (bytes : List ℕ) (ring : ℕ) (later : List ℕ)
 abbrev pub on : ℕ → List Placed → List Placed
 on topic list = filter (λ (m : Placed). m.topic == topic) list
 
--- no call met a ticket past the limit
+-- no call met a ticket at or past the limit
 abbrev pub MeetsNoSpent : List Ended → Type 0
 MeetsNoSpent calls = (ring ticket : ℕ) (put : Bool) → Contains calls (Spent ring ticket put) → ⊥

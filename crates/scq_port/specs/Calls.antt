@@ -204,8 +204,8 @@ GaveBack (h ∷ hs) old new =
     (between : PassStanding PortBuffer) × WasGivenBack (buffer_bytes h.buffer) h.index old between
     × GaveBack hs between new
 
--- what a port's end made of its pass. The values that it held were given back, from that of the
--- last index on: all of them, where the pass keeps no spent ticket, and then it holds nothing; else
+-- what a port's end made of its pass. The values that it held were given back, from the highest
+-- index down: all of them, where the pass keeps no spent ticket, and then it holds nothing; else
 -- those before the first that was refused
 pub record HasPassEnded (old : PortStanding) (new : PassStanding PortBuffer) : Type 0 where
   pub given : List Value

@@ -1,5 +1,5 @@
--- What the last port of a queue that closes is told: what the queue's close says, but of held
--- values and of what each pass saw: of the passes of all ports as each of them closed.
+-- What is told with the last port of a queue, of the passes of all ports as each was when its port
+-- closed: all that the queue's `close` says but `back`, of which `numbers` stands for the buffers.
 use Rattle.std.specs.Prelude.{◌≡◌, ℕ, List}
 use Rattle.scq_word.specs.Sizes.{n_of}
 use Rattle.scq_band.specs.Buffers.{opening_of}
@@ -12,10 +12,11 @@ use Rattle.scq_port.specs.Numbers.{numbers_below}
 use Rattle.scq_port.specs.Ports.{PortQueue, Value, buffer_bytes}
 use Rattle.scq_port.specs.Ends.{AreAllPasses}
 
--- all passes of the queue are these, in the order of their numbers, with the values that couldn't
--- be given back, as a ticket was spent; the port that closed last had this pass. One run stands
--- behind all their calls: it has the four aspects, and each ring's calls stand in one order in
--- which every reply is a plain queue's
+-- all passes of the queue are these, in the order of their numbers, with the values that they still
+-- hold; the port that closed last had this pass. One run stands behind all their calls: it has the
+-- four aspects, and each ring's calls, but those that ended with Spent, stand in one order in which
+-- every reply is a plain queue's. What was sent was taken or is left, no value is lost, and what is
+-- said of spent tickets and of who retired is so too
 pub record HasClosedPorts (queue : PortQueue) (last : PassStanding PortBuffer)
     (passes : List (PassStanding PortBuffer)) (left : List ℕ) (bytes : List (List ℕ))
     : Type 0 where

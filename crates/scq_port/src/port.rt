@@ -54,7 +54,7 @@ impl Model for Port {
 }
 
 impl Port {
-    /// Lends a buffer that nobody holds: answers its index.
+    /// Lends a free buffer: answers its index.
     ///
     /// NoRoom where the port holds as many values as it may. Full and Spent as with `scq_queue`.
     #[inline(always)]

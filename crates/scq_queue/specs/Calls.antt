@@ -14,7 +14,7 @@ use Rattle.scq_queue.specs.Passes.{after_spent_get}
 module _ {B : Type 0} where
   -- a value came off a ring at a place, which is below the limit, and not below the head that the
   -- pass knew. It is one of the queue's: its index is below n, and its buffer is the same as the
-  -- one given for its index
+  -- one given for its index. On a topic the pass's takes have it as one more
   pub record CameOff (contents : B → List ℕ) (IsSame : B → B → Type 0) (queue : Identity B)
       (ring place : ℕ) (old new : PassStanding B) (h : HeldStanding B) : Type 0 where
     pub got : HasGot contents ring place old new h
@@ -34,7 +34,7 @@ module _ {B : Type 0} where
     pub lists : lists_of new ≡ lists_of old
 
   -- a value of an index was put on a ring at a place, which is below the limit, and above the
-  -- places that the pass knew
+  -- places that the pass knew. On a topic the pass's sends have it as one more
   pub record WasPutOn (queue : Identity B) (ring place index : ℕ) (bytes : List ℕ)
       (old new : PassStanding B) : Type 0 where
     pub pass : new ≡ having_seen new.seen (after_put ring index place bytes old)
@@ -42,9 +42,10 @@ module _ {B : Type 0} where
     pub known : (known_of old.numbers ring).seen < place
     pub lists : lists_of new ≡ with_put ring place bytes (lists_of old)
 
-  -- a ring was found empty. In the run of all passes its Head was at or past the number answered
-  -- after the call's last step, and at a moment inside the call each put there that had ended was
-  -- got, or claimed by a get under way. The pass's lists are as they were
+  -- a ring was found empty. In the run of all passes, after the call's last step its Head was at or
+  -- past the number answered; and at a moment inside the call each put there that had ended was got
+  -- by a get begun by then, or had another such get, still under way, to itself. The pass's lists
+  -- are as they were
   pub record FoundRingEmpty (contents : B → List ℕ) (queue : Identity B) (ring head : ℕ)
       (old new : PassStanding B) : Type 0 where
     pub found : FoundNothing ring head old new
@@ -57,14 +58,15 @@ module _ {B : Type 0} where
   FoundTopicEmpty contents queue topic head old new =
       FoundRingEmpty contents queue (suc topic) head old new
 
-  -- a pass that found no buffer free has one Full reply more, with this head
+  -- the free ring was found empty as `FoundRingEmpty` says, by a pass that has one Full reply more,
+  -- with this head; its other lists are as they were
   abbrev pub FoundNoneFree : (B → List ℕ) → Identity B → ℕ → PassStanding B → PassStanding B
       → Type 0
   FoundNoneFree contents queue head old new =
       FoundRingEmpty contents queue 0 head (record old { fulls = old.fulls ++ head ∷ [] }) new
 
   -- a call was refused for a spent ticket. A pass that kept none drew it now, at or past the limit,
-  -- and is this after it. Its lists are as they were
+  -- and is `after`, but for what it has seen. Its lists are as they were
   pub record WasSpent (queue : Identity B) (ticket : ℕ) (after old new : PassStanding B)
       : Type 0 where
     pub drawn : old.spent ≡ None

@@ -117,7 +117,7 @@ module _ {B : Type 0} where
       → slice_get passes b ≡ Some other
       → Contains one.seen.retirees (other.number, calls) → other.retired ≡ Some calls
 
-  -- these are the values that the passes of the queue hold, and no others
+  -- these values are of the queue, with just the indices that its passes hold
   pub record AreTheHeld (queue : Identity B) (passes : List (PassStanding B))
       (held : List (HeldStanding B)) : Type 0 where
     pub queue_of : (k : ℕ) (h : HeldStanding B) → slice_get held k ≡ Some h → h.queue ≡ queue

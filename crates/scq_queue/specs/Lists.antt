@@ -1,5 +1,5 @@
 -- The sends, the takes and the Full replies of a pass, in the order of its record. Topic t is ring
--- t + 1, and ring 0 has the indices that nobody holds.
+-- t + 1, and ring 0 has the indices of the free buffers.
 use Rattle.std.specs.Prelude.{ℕ, zero, suc, ◌-◌, ◌^◌, ◌==◌, min, List, [], ◌∷◌, ◌++◌, length}
 use Rattle.std.specs.Prelude.{Option, Some, None, count_by}
 use Rattle.std.specs.List.{filter_map}

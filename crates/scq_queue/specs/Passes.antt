@@ -92,7 +92,8 @@ module _ {B : Type 0} where
     pub pass : h.pass ≡ p.number
     pub holds : Contains p.held h.index
 
-  -- a pass that has seen this
+  -- a pass that has seen this of the run. So `new ≡ having_seen new.seen p` says that `new` is `p`
+  -- but for what it has seen
   abbrev pub having_seen : Seen → PassStanding B → PassStanding B
   having_seen seen p = record p { seen = seen }
 

@@ -13,8 +13,8 @@ use crate::values::{get, put};
 use scq_band::{DeqRefusal, Spent};
 use scq_word::Buffer;
 
-/// Why no buffer was lent: there was none that nobody held, the free ring's Head being at or past
-/// this number; or the pass keeps a ticket at or past the limit.
+/// Why no buffer was lent: none was free, the free ring's Head being at or past this number; or the
+/// pass keeps a ticket at or past the limit.
 #[derive(Clone, Copy, Debug, PartialEq, Eq)]
 pub enum LendRefusal {
     Full { head: u64 },
@@ -33,14 +33,16 @@ pub enum TakeRefusal {
 // `run`): all that the pass had seen of the run lies before the call's first step, and the call's
 // last step is the last that the pass has seen from then on.
 impl<B: Buffer> Queue<B> {
-    /// Lends the pass a buffer that nobody holds, with whatever bytes stand in it.
+    /// Lends the pass a free buffer, which no pass holds and no topic has, with whatever bytes
+    /// stand in it.
     ///
     /// Full where there was none: the free ring's Head is past each place at which the pass knew a
-    /// buffer to be given back. In the run of all passes Head was at or past the number answered
-    /// after the call's last step, and at a moment inside the call each buffer that was given back
-    /// had been lent, or was claimed by a call under way (the field `in_run`). Spent where
-    /// the ticket that was drawn is at or past the limit; the pass keeps it, and answers it from
-    /// then on, with no step made.
+    /// buffer to be given back. In the run of all passes, after the call's last step Head was at or
+    /// past the number answered; and at a moment inside the call each buffer that was free at first
+    /// or had been given back was lent by a call begun by then, or had another such call, still
+    /// under way, to itself (the field `in_run`). Spent where the ticket that was drawn is at or
+    /// past the limit; the pass keeps it, and from then on it is answered and the pass stays as it
+    /// is.
     #[inline(always)]
     pub fn lend(&self, pass: &mut Pass<B>) -> Result<Held<B>, LendRefusal>
         requires pass { pass.old.queue ≡ self.now }
@@ -108,9 +110,10 @@ impl<B: Buffer> Queue<B> {
     /// sent there is told of all passes together by `close`.
     ///
     /// Empty where there was none: the topic's Head is past each place of a send that the pass knew
-    /// to be finished. In the run of all passes Head was at or past the number answered after the
-    /// call's last step, and at a moment inside the call each send that had ended was taken, or
-    /// claimed by a take under way (the field `in_run`). Spent as with `lend`.
+    /// to be finished. In the run of all passes, after the call's last step Head was at or past the
+    /// number answered; and at a moment inside the call each send that had ended was taken by a
+    /// call begun by then, or had another such call, still under way, to itself (the field
+    /// `in_run`). Spent as with `lend`.
     #[inline(always)]
     pub fn take(&self, pass: &mut Pass<B>, topic: u32) -> Result<(u64, Held<B>), TakeRefusal>
         requires pass { pass.old.queue ≡ self.now }

@@ -76,8 +76,8 @@ impl<B: Buffer> Queue<B> {
     ///
     /// The clauses read what the passes did together, in the order in which they are given. One run
     /// stands behind all their calls: what each pass had seen are prefixes of it, its history has
-    /// the four aspects, and the calls of each ring stand in one order in which every reply is a
-    /// plain queue's.
+    /// the four aspects, and the calls of each ring, but those that ended with Spent, stand in one
+    /// order in which every reply is a plain queue's.
     pub fn close(self, passes: Vec<Pass<B>>, held: Vec<Held<B>>) -> Closed<B>
         requires passes { All (λ p. p.queue ≡ self) passes.items }
         requires all { vec_len passes ≡ self.setup.seats }

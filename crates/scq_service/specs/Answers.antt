@@ -58,7 +58,8 @@ WorkedAt None worked = IsSome worked
 WorkedAt (Some WriteFault) worked = IsSome worked
 WorkedAt (Some fault) worked = worked ≡ None
 
--- the workers answered by so many: the contents, where each source told its own when it was got
+-- where each source told its content when it was got, so many workers answered the messages of
+-- these contents
 abbrev pub IsWorkOf : {S : Type 0} → List (List ℕ × Kind) → ℕ → ℕ → ℕ → (S → Option (List ℕ))
     → List S → Option Worked → Type 0
 IsWorkOf topics size most workers left got worked =
@@ -97,8 +98,9 @@ AreOfParts topics size left got worked =
 abbrev pub most_of : RunAsked → ℕ
 most_of a = most_together a.size a.batch
 
--- what workers answered in a run that is asked for this; another run has no workers. Parts of a
--- generated file have at most 2^16 bytes, and none go together.
+-- what workers answered in a run that is asked for this; any other command has no `worked` (of
+-- `stages` see `StagedAs`). Parts of a generated file have at most 2^16 bytes, and none go
+-- together.
 abbrev pub WorkedAs : {S : Type 0} → SourceOf S → Result Asked WordsFault → List S → Inputs S
     → Option Fault → Option Worked → Type 0
 WorkedAs src (Ok (asks.run a)) got r end worked =
@@ -111,8 +113,8 @@ WorkedAs src (Ok (asks.generated a)) got r end worked =
     (messages_in self_topics 1 (generated a.seed a.lines ∷ [])) w)
 WorkedAs src asked got r end worked = worked ≡ None
 
--- the workers of stages finished by so many: the contents, where each source told its own when it
--- was got
+-- where each source told its content when it was got, so many workers of stages finished the
+-- messages of these contents
 abbrev pub IsStagedOf : {S : Type 0} → ℕ → (S → Option (List ℕ)) → List S → Option Staged → Type 0
 IsStagedOf workers left got staged =
     IfSome staged (λ s.
@@ -224,15 +226,15 @@ LeavesNothing (Ok (asks.generated a)) passes frames left =
     NothingIsStranded 6 (length self_topics + 1) a.workers passes frames left
 LeavesNothing asked passes frames left = ⊥
 
--- it is seen of each run that has workers, unless the run ended for want of memory, and of no other
--- run
+-- of `run` and `self` it is seen unless want of memory ended the run, where it may be; of no other
+-- command (of `stages` see `StrandsNothing`)
 abbrev pub IsSeenAt : Result Asked WordsFault → Option Fault → Bool → Type 0
 IsSeenAt (Ok (asks.run a)) end seen = seen ≡ false → end ≡ Some NoMemory
 IsSeenAt (Ok (asks.generated a)) end seen = seen ≡ false → end ≡ Some NoMemory
 IsSeenAt asked end seen = seen ≡ false
 
 -- how the workers of a run waited, by these passes: as many as were asked for, with a ring for each
--- topic. Another run has none
+-- topic. Of another command none do
 abbrev pub WaitedAs : Result Asked WordsFault → List (PassStanding Frame) → List Bool → List Rested
     → Type 0
 WaitedAs (Ok (asks.run a)) passes saw rested =

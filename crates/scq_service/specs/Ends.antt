@@ -40,8 +40,8 @@ pub record Change (A : Type 0) : Type 0 where
   pub old : A
   pub new : A
 
--- what became of the inputs of a run: the table of files, the count of faults of files, the sources
--- that were got, and how many bytes were read of a file that is too large
+-- what became of the inputs of a run: the table of files, how often a source was not got (`opens`),
+-- the sources that were got, and how many bytes were read of a file that is too large
 pub record Inputs (S : Type 0) : Type 0 where
   pub table : Change (Option Table)
   pub opens : Change ℕ
@@ -85,9 +85,9 @@ abbrev pub IfTold : {S : Type 0} → (S → Option (List ℕ)) → List S → (L
     → Type 0
 IfTold left got P = IfSome (all_left left got) P
 
--- sources were got, with no fault counted. Where the table is visible each told its name's content,
--- in order, and each has left what follows the bytes that it gave. Where all were got, the count of
--- files was kept
+-- sources were got, with no fault counted. Where the table is visible their names left it, and each
+-- told its name's content, in order; where a content was told, the source has left what follows the
+-- bytes that it gave. Where all were got, `opens` was kept
 pub record HasGotSources {S : Type 0} (src : SourceOf S) (names : List (List ℕ)) (got : List S)
     (r : Inputs S) : Type 0 where
   pub within : length r.sources ≤ length names
@@ -128,7 +128,7 @@ pub record IsAllRead {S : Type 0} (size : ℕ) (src : SourceOf S) (names : List 
   pub sound : IsFirstFileFault size src got r None
   pub read : r.read ≡ 0
 
--- the next source was not got: its name is missing, and the count of files rose
+-- the next source was not got: its name is missing, and `opens` rose
 pub record HasMissed {S : Type 0} (names : List (List ℕ)) (r : Inputs S) : Type 0 where
   pub rose : Rose r.opens.old r.opens.new
   pub missing : IfSome r.table.old (λ files. IsMissing files names (length r.sources + 1))

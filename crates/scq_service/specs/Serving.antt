@@ -21,12 +21,13 @@ pub record IsOutcomeOf {S : Type 0} (src : SourceOf S) (asked : Result Asked Wor
   pub status : o.status ≡ status_of o.fault
   -- the end is one of the cases of `EndsAs`, each with what was got, read and written, and why
   pub end : EndsAs src asked o.got.items r w o.fault
-  -- what workers answered is there exactly where the text of it was whole. It answers such messages
-  -- as `WorkersAnswered` says, which are those of the contents where these are visible
+  -- what workers answered is there exactly where the text of it was whole. Of `run` it answers such
+  -- messages as `WorkersAnswered` says, which are those of the contents where these are visible; of
+  -- `self` those of the generated file
   pub worked : WorkedAs src asked o.got.items r o.fault o.worked
-  -- whatever the end is, where workers were at work nothing is stranded: their queue was closed
+  -- whatever the end is, where this is there nothing is stranded: the workers' queue was closed
   -- with each buffer free, what was sent was taken, each pass has retired, and no call met a ticket
-  -- past the limit
+  -- at or past the limit
   pub left : IfSome o.left (λ left. IsSomeAnd o.passes (λ passes. IsSomeAnd o.frames (λ frames.
       LeavesNothing asked passes.value.items frames.value.items left.items)))
   pub seen : IsSeenAt asked o.fault (is_some o.left)
@@ -47,8 +48,8 @@ abbrev pub IsDoneButForMemory : Option Fault → Type 0
 IsDoneButForMemory end = (end ≡ None) ⊎ (end ≡ Some NoMemory)
 
 -- where nothing stood in the way of a run over files, with stages or without, and where no write of
--- a run of `self` failed, it is done; a run over one whole file ends with what its text tells, or
--- for want of memory
+-- a run of `self` failed, it ends with its output or for want of memory; a calm run over one whole
+-- file ends so, or with a fault that its text has; of `judge` nothing is said
 pub record EndsCalmly {S : Type 0} (src : SourceOf S) (asked : Result Asked WordsFault)
     (r : Inputs S) (w : Wrote) (o : Outcome S) : Type 0 where
   pub files : (a : RunAsked) → asked ≡ Ok (asks.run a)

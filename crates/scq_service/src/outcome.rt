@@ -39,7 +39,7 @@ pub struct Outcome<S> {
     /// Where idle workers wait: of each worker, whether it saw that all had retired, and how often
     /// it rested and was woken. None only at status 2 and 5. Where they leave early it is None.
     pub waited: Option<Waited>,
-    /// Likewise, as they were when they were got.
+    /// For contracts alone, the sources as they were when they were got.
     pub got: Sources<S>,
 }
 

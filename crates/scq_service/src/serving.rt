@@ -20,10 +20,11 @@ use std::thread::Threads;
 
 /// Runs what the words ask for: gets the sources of the files that they name, up to the first that
 /// isn't got, answers their messages, or takes them through stages, or answers those of a generated
-/// file, by as many workers as they ask for, and writes the output, or the summary, once it is
-/// whole. At a fault it writes one line to `err`, in no memory; a failing `err` changes nothing.
-/// Workers call the gate, which has no meaning. They share a queue of buffers. Where it is asked
-/// for, what each worker sent, took and answered directly is reported to `err` too.
+/// file, by as many workers as they ask for; or judges recordings, or checks or replays one text;
+/// and writes the output, or the summary, once it is whole. At a fault it writes one line to `err`,
+/// taking no memory; a failing `err` changes nothing. Workers share a queue of buffers. Those of
+/// `run` and `self` call the gate, on which no clause depends. What each worker sent, took and
+/// answered directly is reported to `err` too, of `run` at status 0, where it is asked for.
 pub fn serve<R: Threads + Sync, F: Files, K: Sink, G: Gate + Sync>(
     rt: &R,
     alloc: Global,
@@ -38,19 +39,20 @@ pub fn serve<R: Threads + Sync, F: Files, K: Sink, G: Gate + Sync>(
         (wrote_of K.Sink out.old out.new) result }
 
     // What the workers of stages finished is there exactly where the text of it was whole, and is
-    // what becomes of the messages. Nothing is stranded in their queue.
+    // what becomes of the messages. Where it is there, nothing is stranded in their queue.
     ensures staged { StagedAs F.Src.Source (asked (map string_bytes words.now)) result.got.items
         (inputs_of F.Files files.old files.new result.sources.items result.read)
         result.fault result.staged }
 
-    // Its workers leave early.
+    // No worker of it waits, so nothing is told of waiting.
     ensures leaves { result.waited ≡ None }
 
-    // `clap` refuses no words that it is said to take.
+    // NotUnderstood is answered only to words that `clap` isn't said to take.
     ensures taken { result.fault ≡ Some (Fault.Words WordsFault.NotUnderstood)
         → is_accepted (map string_bytes words.now) ≡ false }
 
-    // Where nothing stood in the way of what was asked, it ends as `EndsCalmly` says.
+    // Where nothing stood in the way of what was asked, it ends as `EndsCalmly` says, which says
+    // nothing of `judge`.
     ensures complete { EndsCalmly F.Src.Source (asked (map string_bytes words.now))
         (inputs_of F.Files files.old files.new result.sources.items result.read)
         (wrote_of K.Sink out.old out.new) result }

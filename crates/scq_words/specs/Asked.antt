@@ -95,6 +95,8 @@ pub record TextAsked : Type 0 where
   pub command : TextCommand
   pub file : List ℕ
 
+-- what is asked: `generated` of `self`, `judged` of `judge`, `whole` of `check` and `replay`,
+-- `staged` of `stages`
 pub data Asked : Type 0 where
   run : RunAsked → Asked
   generated : SelfAsked → Asked

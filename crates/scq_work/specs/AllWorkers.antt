@@ -50,20 +50,22 @@ module _ {B : Type 0} where
     pub takes : OfEachWorkersAnswers (λ w p list.
         AnswersItsTakes topics most (takes_of p.calls) list) passes lists
     -- the parts of the messages of a worker's files go on in batches, on each topic in order of
-    -- file, line and part. Each batch is its next send or its next Full, also in its record, and
-    -- there are no others; its Direct members are the answers to the parts of those that met a Full
+    -- file, line and part. Each batch is the pass's next send or next Full, as they stand in its
+    -- record, and there are no others; its Direct members are the answers to the parts of those
+    -- that met a Full
     pub listed : OfEachWorkersAnswers (λ w p list.
         HasListedAll topics most (parts_in size (own_of workers w 1 given)) p list) passes lists
 
-  -- a pass has helped: after each Full, before the next lend, comes one take of each topic. And it
+  -- a pass has helped: after each Full, before the next lend, comes a take of each topic. And it
   -- has retired; up to there it took just once from each topic after each Full
   pub record HasHelped (topics : ℕ) (p : PassStanding B) : Type 0 where
     pub helps : HelpsAfterEachFull topics p.calls
     pub retired : HasRetired (HelpsOnceAfterEachFull topics) p
 
--- the queue of a job with so many topics is closed, and nothing is stranded in it, whatever its
--- workers met: they have retired and swept, and all buffers are free: those that came back are the
--- frames of its block that it was given
+-- the queue of a job with so many topics, that of all undeclared ones among them, is closed, and
+-- nothing is stranded in it, whatever its workers met: they have retired (of sweeps tells `behind`
+-- of `work`), no ticket was spent, no pass made more than 2^36 sends, takes or Fulls, and all
+-- buffers are free: those that came back are the frames of its block that it was given
 pub record NothingIsStranded (order topics workers : ℕ) (passes : List (PassStanding Frame))
     (frames : List Frame) (left : List ℕ) : Type 0 where
   pub setup : Setup

@@ -33,7 +33,8 @@ pub record EndsWork {S : Type 0} (j : Job) (src : SourceOf S) (sources : List S)
       IsPermutation (map without_way (members_of w.answered.items))
       (part_answers j.topics j.size (messages_to j.topics 1 contents))))
   -- the lists answer for the messages that the files gave, and the passes for what was sent and
-  -- taken: of contents that are visible, and of every source
+  -- taken: `worked` says it of every source, and `told` and `answers` follow from it where the
+  -- contents are visible
   pub told : IfOk end.result (λ w.
       IfSome (all_left src.left sources) (λ contents.
       HasWorked j.topics j.size j.most j.workers (messages_in j.topics 1 contents) w))
@@ -46,6 +47,7 @@ pub record EndsWork {S : Type 0} (j : Job) (src : SourceOf S) (sources : List S)
       NothingIsStranded j.order (length j.topics
       + 1) j.workers p.value.items f.value.items l.items)))
   pub none : end.left ≡ None → IsErrOf end.result NoMemory
+  -- these passes are those of the answers
   pub same : IfOk end.result (λ w. IsSomeAnd end.passes (λ p. p.value.items ≡ w.passes.value.items))
   -- a fault is that of its file, and those in front of it were read to their ends. Where there is
   -- one of a file, each source is as one whose reading didn't stop for want of memory

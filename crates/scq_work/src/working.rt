@@ -35,7 +35,8 @@ pub(crate) fn setup_of(job: &Job) -> Setup
 
 /// Answers the messages of all sources by the job's workers, each of which reads its own files:
 /// file f, from 1, is that of worker (f - 1) mod the number of workers. They share a queue of
-/// buffers. The sources come back in their order in every case.
+/// buffers, and call the gate, on which no clause depends. There are at most 64 sources. They come
+/// back in their order in every case.
 pub fn work<R: Threads + Sync, S: Source, G: Gate + Sync>(
     rt: &R,
     alloc: Global,

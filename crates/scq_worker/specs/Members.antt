@@ -88,8 +88,8 @@ pub record AnswersItsTakes (topics : List (List ℕ × Kind)) (most : ℕ) (take
   pub got : All (GotParts topics most) takes
   pub answers : AnswersSoFar topics takes (filter is_taken members)
 
--- members answer the parts of one value directly, where no buffer was free: one or more, with this
--- head of the ring of free buffers
+-- members answer parts directly, where no buffer was free: one or more, with this head of the ring
+-- of free buffers
 pub record AnswersFull (head : ℕ) (group : List Answered) : Type 0 where
   pub some : group ≡ [] → ⊥
   pub each : All (λ a. a.way ≡ Direct head) group

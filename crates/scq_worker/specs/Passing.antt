@@ -25,8 +25,8 @@ parts_among batches = flat_map (λ batch. batch) batches
 abbrev pub parts_on : ℕ → List Part → List Part
 parts_on topic parts = filter (λ (p : Part). p.topic == topic) parts
 
--- parts went on in these batches: on each topic the parts of the batches are these, in order; and
--- where none goes with another, each is a batch, in order
+-- parts went on in these batches, each as `IsBatch` says: on each topic the parts of the batches
+-- are these, in order; and where none goes with another, each is a batch, in order
 pub record AreBatchesOf (most : ℕ) (parts : List Part) (batches : List (List Part)) : Type 0 where
   pub each : All (IsBatch most) batches
   pub same : (topic : ℕ) → parts_on topic parts ≡ parts_on topic (parts_among batches)
