@@ -4,16 +4,16 @@
  * of its own over these buffers. A thread makes its calls with a port of its own: it is lent a
  * buffer, writes it where it lies and sends it on a topic; or it takes one from a topic, reads it
  * and gives it back. No lend, take, send or give-back takes a lock or waits for another thread's;
- * they are lock-free, with a bound (docs/QUEUE.md). Only scq_open and scq_open_over take
- * memory. What the library does is proved: docs/QUEUE.md says what that means, and docs/PROMISES.md
- * has the promise of each call. What stands whole in this file is tested.
+ * they are lock-free, with a bound (docs/QUEUE.md of the sources). Only scq_open and scq_open_over
+ * take memory. What the library does is proved: docs/PROMISES.md of the sources has the promise of
+ * each call. What stands whole in this file is tested.
  *
- * The library passes numbers of buffers from port to port. The bytes are the caller's: it is given
- * no pointer that it follows to them, and reads and writes none of them. Where the bytes of a
- * number lie is worked out by the functions that stand whole in this file.
+ * The library passes numbers of buffers from port to port. The bytes are the caller's: the library
+ * follows no pointer to them, and reads and writes none. Where the bytes of a number lie is worked
+ * out by the functions that stand whole in this file.
  *
- * Compile with this file, C99 or C++, and link with libscq, the archive or the shared object, and
- * nothing else.
+ * Compile with this file, C99 or C++, by gcc or clang, and link with libscq alone, the archive or
+ * the shared object.
  *
  * What the caller has to uphold. Nothing of it is tested; where it is broken anything may happen,
  * as where C's own rules are.
@@ -23,9 +23,9 @@
  *    place is set to SCQ_NONE or not used again. scq_close makes it SCQ_NONE; one that isn't closed
  *    keeps its queue, and what it holds, until the process ends.
  * 2. Every pointer that is handed in is non-null, aligned, and points to memory of its type that
- *    may be written where it isn't const; what two pointers of one call point to lies apart. `n` ports begin at `ports`,
- *    `n` counts at `counts`, and `n` slots at `out` or `held` of a call of several; also where n is
- *    0, none is null.
+ *    may be written where it isn't const; what two pointers of one call point to lies apart. `n`
+ *    ports begin at `ports`, `n` counts at `counts`, and `n` slots at `out` or `held` of a call of
+ *    several; also where n is 0, none is null.
  * 3. One call at a time is made with a port, by whichever thread has it, also where a signal
  *    handler makes one, which neither opens nor closes any. Calls with different ports may meet in
  *    any way. A call that has begun is let end: no thread is cancelled asynchronously in it, and no
@@ -41,8 +41,8 @@
  *
  * Everything else the calls test and answer, as stands at each. Where several answers would be
  * right one of them comes; but SCQ_NO_ROOM of a take, and SCQ_RETIRED and SCQ_NOT_HELD of a send,
- * only where the topic is there. With any answer but SCQ_OK no buffer has changed hands, and nothing
- * is written through the pointers but what is said there.
+ * only where the topic is there. Of one buffer: with any answer but SCQ_OK none has changed hands.
+ * Nothing is written through the pointers but what is said there.
  */
 #ifndef SCQ_H
 #define SCQ_H
@@ -110,8 +110,7 @@ static inline scq_port scq_none() {
 #endif
 
 /* A buffer that a port holds. Once it was sent or given back, its index names whatever buffer of
- * that number the port holds then, if any; and in the hands of another queue's port, that
- * queue's. */
+ * that number the calling port, of this queue or another, holds then, if any. */
 typedef struct scq_held {
     unsigned char *at; /* its bytes; a buffer lies at this address as long as the queue lives */
     size_t len;        /* how many they are: the queue's `size` */
@@ -318,9 +317,9 @@ SCQ_ANSWERED uint32_t scq_retired(scq_port *port);
 uint32_t scq_capacity(scq_port *port, uint32_t *out);
 SCQ_ANSWERED uint32_t scq_count(scq_port *port, uint32_t topic, uint32_t *out);
 
-/* A buffer is named to the tools by an address of its own, base + index: there is a byte at it, and
- * an index that is no buffer's makes no wild one. What a port holds that is closed is named by the
- * base, and what a port did that has retired. */
+/* A buffer is named to the tools by an address of its own, base + index, at which nobody reads; an
+ * index that is no buffer's gives one at most 4,095 past the base. What a port holds that is closed
+ * is named by the base, and what a port did that has retired. */
 
 static inline void scq_tell_got(const scq_port *port, uint32_t answer, uint32_t index) {
     if (answer != SCQ_OK) return;
@@ -574,7 +573,7 @@ uint32_t scq_retire(scq_port *port);
 
 /* Whether all ports of the queue have retired, this one among them. Then a topic that is found
  * empty afterwards has ended: ask first, and then take. Once a port is answered that all have, it
- * always is. That this is right is proved; that it comes once all have is tested.
+ * always is. That a yes is right is proved; that it comes once all have is tested.
  *
  * Tested: that the port is open.
  * Answers: SCQ_RETIRED where all have; SCQ_OK where some hadn't, as far as the call read;
@@ -588,9 +587,9 @@ SCQ_ANSWERED uint32_t scq_retired(scq_port *port);
 uint32_t scq_capacity(scq_port *port, uint32_t *out);
 
 /* Writes to `out` about how many buffers stand on a topic. It is a hint, for a gauge or to share
- * out work: others send and take meanwhile, and the number is read in two loads. Above how many
- * buffers the queue has it never is. It may be too high, as places that were drawn and not used
- * count too; and too low, so that only scq_take tells whether a topic is empty.
+ * out work: others send and take meanwhile, and the number is read in two loads. It is never above
+ * the number of buffers. It may be too high, as places that were drawn and not used count too; and
+ * too low, so that only scq_take tells whether a topic is empty.
  *
  * Tested: that the port is open, and the topic.
  * Answers: SCQ_OK; SCQ_CLOSED; SCQ_NO_TOPIC. */

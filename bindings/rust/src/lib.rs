@@ -38,26 +38,27 @@
 //!
 //! The queue, its ports and the library's calls are written in Rattle, which is Rust with
 //! contracts, and each function is proved to meet its contract, however the threads meet;
-//! `docs/QUEUE.md` and `docs/PROMISES.md` of the repository have the clauses. This crate is a thin
-//! layer of plain Rust over those calls, tested and not proved. The library passes the numbers of
+//! `docs/PROMISES.md` of the repository has the clauses. This crate is a thin layer of plain Rust
+//! over those calls, tested and not proved. The library passes the numbers of
 //! buffers from port to port and follows no pointer to their bytes, which are this crate's: it
 //! finds those of a number.
 //!
 //! - Where [`Port::end`] says that a port was the last, this is proved of all calls that were made
 //!   with all ports, but those refused by a test or by a ticket that a port keeps: a take gave a
-//!   buffer that was sent on this topic, at the place of that send; none was taken twice; no buffer
-//!   overtook one whose send had ended before its own send began; and each topic's calls, but those
+//!   buffer that was sent on this topic, at the place of that send; no send was taken twice; none
+//!   overtook one that had ended before it began; and each topic's calls, but those
 //!   refused as tickets ran out, stand in one order in which every answer is a plain queue's. That
 //!   the last port is told so is tested, and that a taken buffer has the bytes that were sent, as
 //!   only who holds it writes it.
 //! - [`TakeError::Empty`] and [`LendError::Full`] come only where they are right at a moment inside
 //!   the call, of a run with all that the port has seen.
 //! - No lend, take, send, give-back, push or pop takes a lock or memory, or waits for another
-//!   thread's; [`Ring::handle`] takes a lock, and a [`Bell`]'s wait a lock and memory. A queue's
-//!   buffers are one block of zeros, of which no byte is touched before it is used.
+//!   thread's; [`Ring::handle`], a handle's end and a [`Bell`] that waits or wakes take a lock, and
+//!   a wait memory. A queue's buffers are one block of zeros, of which no byte is touched before it
+//!   is used.
 //! - The calls are lock-free, with a bound: for n buffers, k ports and b = 6 (2n - 1 + max(n, k) +
 //!   n + k), among any k b + 1 atomic steps on topics and free buffers one ends a call, whichever
-//!   threads make them (of the run of all calls: where `end` says last). A call makes at most b
+//!   threads make them (proved where `end` says last). A call makes at most b
 //!   steps, and for what others finish meanwhile on its topic (of a lend or give-back: on the free
 //!   buffers) b more for each send or give-back, 6 for each take or lend; a thread that stopped
 //!   delays none.

@@ -55,7 +55,7 @@ impl Queue {
     /// Makes a queue with so many ports, from 1 to 4096, whatever the number of buffers. The
     /// buffers begin as zeros.
     ///
-    /// After this, no call of a port takes memory.
+    /// After this only [`Port::into_shared`] takes memory.
     ///
     /// # Errors
     ///
