@@ -11,3 +11,4 @@ pub mod Overtaken
 pub mod Longer
 pub mod Firsts
 pub mod HandedOn
+pub mod EndedLemmas

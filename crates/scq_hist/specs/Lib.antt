@@ -4,3 +4,4 @@ pub mod Aspects
 pub mod Lookups
 pub mod Tallies
 pub mod First
+pub mod Ended

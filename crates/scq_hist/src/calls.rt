@@ -5,7 +5,8 @@ ghost use Rattle.scq_hist.specs.Calls.{under_way, puts_before, IsPut};
 ghost use Rattle.scq_hist.specs.Lookups.{HasUnderWay, NoPutBefore, EndsDone, NoDoneAt};
 ghost use Rattle.scq_hist.specs.Lookups.{StartsCall, StartsNoCall};
 
-use crate::events::{Call, Event, PutName, Reply};
+use crate::ended::ended_put;
+use crate::events::{Call, Event, PutName};
 use scq_word::Bytes;
 
 /// The call that starts at this position.
@@ -95,20 +96,16 @@ pub(crate) fn done_put(events: &[Event], queue: u32, e: usize) -> Option<PutName
     requires { e < length events.now }
     ensures { MatchOption result (NoDoneAt events.now queue e) (EndsDone events.now queue e) }
 {
-    match &events[e] {
-        Event::End {
-            seat,
-            reply: Reply::Done,
-        } => match call_under_way(events, *seat, e) {
-            Some((start, Call::Put { queue: of, .. })) if *of == queue => {
-                let number = puts_before(events, *seat, start) + 1;
-                Some(PutName::Of {
-                    seat: *seat,
-                    number,
-                })
-            }
-            _ => None,
-        },
-        _ => None,
+    let put = ended_put(events, e)?;
+    if put.refused {
+        return None;
     }
+    if put.queue != queue {
+        return None;
+    }
+    let number = puts_before(events, put.seat, put.start) + 1;
+    Some(PutName::Of {
+        seat: put.seat,
+        number,
+    })
 }

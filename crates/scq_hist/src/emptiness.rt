@@ -1,14 +1,14 @@
 //! Empty is right: at a moment inside its call each finished put was claimed.
 
-ghost use Rattle.std.specs.Prelude.{◌≡◌, ◌+◌, ◌<◌, ◌≤◌, ◌^◌, ◌↔◌, ℕ, List, IsTrue, MatchOption};
+ghost use Rattle.std.specs.Prelude.{◌≡◌, ◌+◌, ◌<◌, ◌≤◌, ◌^◌, ◌↔◌, ℕ, List, IsTrue};
 ghost use Rattle.std.specs.Prelude.{length, IfSome};
 ghost use Rattle.scq_hist.specs.Calls.{IsFinishedAt};
 ghost use Rattle.scq_hist.specs.Aspects.{IsLawful, IsRightWithin, IsEmptyRightAt, IsEmptyRight};
 ghost use Rattle.scq_hist.specs.First.{IsFirstFailing};
-ghost use Rattle.scq_hist.specs.Tallies.{IsTally, IsEmptyAt, NoEmptyAt};
+ghost use Rattle.scq_hist.specs.Tallies.{IsTally};
 
-use crate::calls::call_under_way;
-use crate::events::{Call, Event, Reply};
+use crate::ended::empty_at;
+use crate::events::Event;
 use crate::gets::{pending_after, pending_gets};
 use crate::tallies::{Tally, are_claimed, finished_tally, opening_tally, tally_after};
 use scq_word::Bytes;
@@ -33,24 +33,6 @@ fn is_right_within(tokens: Tally, events: &[Event], queue: u32, start: usize, en
         }
     }
     false
-}
-
-/// The get that ends with Nothing at this position: the position of its Start, and its queue.
-fn empty_at(events: &[Event], e: usize) -> Option<(usize, u32)>
-    requires { e < length events.now }
-    ensures { MatchOption result (NoEmptyAt events.now e) (λ get.
-        IsEmptyAt events.now e get.1 get.0) }
-{
-    match &events[e] {
-        Event::End {
-            seat,
-            reply: Reply::Nothing,
-        } => match call_under_way(events, *seat, e) {
-            Some((start, Call::Get { queue })) => Some((start, *queue)),
-            _ => None,
-        },
-        _ => None,
-    }
 }
 
 /// Whether an Empty that ends at this position, if one does, is right.

@@ -6,6 +6,7 @@
 
 mod calls;
 mod emptiness;
+mod ended;
 mod events;
 mod freshness;
 mod gets;
@@ -16,6 +17,7 @@ mod tallies;
 
 pub use calls::{call_started, puts_before, under_way};
 pub use emptiness::{empty_right, first_wrong_empty};
+pub use ended::{EndedPut, nothing_end, put_end};
 pub use events::{Call, Event, PutName, Reply};
 pub use freshness::{first_unfresh, fresh, is_earlier_put, is_token};
 pub use gets::got_name;
