@@ -13,3 +13,4 @@ mod RefusedLemmas
 mod WaitingLemmas
 mod CounterpartLemmas
 mod FullLemmas
+mod EndedLemmas

@@ -12,3 +12,4 @@ pub mod Refused
 pub mod Waiting
 pub mod Counterparts
 pub mod Full
+pub mod Found

@@ -16,7 +16,7 @@ use crate::by_name::ByName;
 use crate::failures::Failures;
 use crate::refused::{is_among, refusals};
 use crate::tables::Tables;
-use scq_hist::{Call, Event, Reply};
+use scq_hist::{Call, Event};
 use scq_word::{Bytes, NoMemory};
 use std::alloc::Global;
 use std::collections::BTreeMap;
@@ -81,16 +81,11 @@ fn refusal_at(tables: &Tables, events: &[Event], e: usize) -> Option<(usize, u32
     ensures { MatchOption result (NoRefusalAt events.now e) (λ put.
         IsRefusalAt events.now e put.1 put.0) }
 {
-    match &events[e] {
-        Event::End {
-            reply: Reply::Spent,
-            ..
-        } => match tables.call_of(events, e) {
-            (start, Call::Put { queue, .. }) => Some((start, *queue)),
-            _ => None,
-        },
-        _ => None,
+    let put = tables.ended_put(events, e)?;
+    if !put.refused {
+        return None;
     }
+    Some((put.start, put.queue))
 }
 
 // How many places of the queue the opening tokens have.

@@ -11,7 +11,7 @@ ghost use Rattle.scq_check.specs.Tables.{AreOfLawful, HasEvent};
 use crate::failures::Failures;
 use crate::queues::{Queue, Queues, Tally};
 use crate::tables::Tables;
-use scq_hist::{Call, Event, PutName, Reply};
+use scq_hist::{Call, Event, PutName, nothing_end};
 use scq_word::{Bytes, NoMemory};
 use std::alloc::Global;
 
@@ -108,15 +108,11 @@ pub(crate) fn empty_at(tables: &Tables, events: &[Event], e: usize) -> Option<(u
     ensures { MatchOption result (NoEmptyAt events.now e) (λ get.
         IsEmptyAt events.now e get.1 get.0) }
 {
-    match &events[e] {
-        Event::End {
-            reply: Reply::Nothing,
-            ..
-        } => match tables.call_of(events, e) {
-            (start, Call::Get { queue }) => Some((start, *queue)),
-            _ => None,
-        },
-        _ => None,
+    nothing_end(&events[e])?;
+    let call = tables.call_of(events, e);
+    match call.1 {
+        Call::Get { queue } => Some((call.0, *queue)),
+        Call::Put { .. } => None,
     }
 }
 

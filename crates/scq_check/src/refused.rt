@@ -13,7 +13,7 @@ ghost use Rattle.scq_check.specs.Tables.{AreOfLawful, HasEvent};
 use crate::by_name::ByName;
 use crate::failures::Failures;
 use crate::tables::Tables;
-use scq_hist::{Call, Event, PutName, Reply};
+use scq_hist::{Event, PutName, Reply};
 use scq_word::NoMemory;
 use std::alloc::Global;
 
@@ -23,16 +23,11 @@ fn spent_at(tables: &Tables, events: &[Event], e: usize) -> Option<(u32, u64)>
     ensures { MatchOption result (NoneSpentAt events.now e) (λ put.
         IsSpentAt events.now put.0 put.1 e) }
 {
-    match &events[e] {
-        Event::End {
-            seat,
-            reply: Reply::Spent,
-        } => match tables.call_of(events, e) {
-            (start, Call::Put { .. }) => Some((*seat, tables.number(events, start))),
-            _ => None,
-        },
-        _ => None,
+    let put = tables.ended_put(events, e)?;
+    if !put.refused {
+        return None;
     }
+    Some((put.seat, tables.number(events, put.start)))
 }
 
 // Where each put that ended with Spent did.

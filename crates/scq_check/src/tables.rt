@@ -4,13 +4,14 @@ ghost use Rattle.std.specs.Prelude.{◌≡◌, ◌<◌, ◌↔◌, ℕ, suc, IsT
 ghost use Rattle.std.specs.Prelude.{MatchOption};
 ghost use Rattle.scq_hist.specs.Calls.{IsPut, IsGot, IsGetOf, IsPending};
 ghost use Rattle.scq_hist.specs.Lookups.{IsFirstNamed, EndsNoGet, NoPutBefore, EndsDone, NoDoneAt};
+ghost use Rattle.scq_hist.specs.Ended.{EndsPut, NoPutEnds};
 ghost use Rattle.scq_check.specs.Puts.{put_number};
 ghost use Rattle.scq_check.specs.Tables.{AreOfLawful, HasEvent, IsCallOf, IsQueueOf, IsTables};
 
 use crate::calls::Calls;
 use crate::gots::Gots;
 use crate::puts::Puts;
-use scq_hist::{Call, Event, PutName, Reply, call_started, got_name};
+use scq_hist::{Call, EndedPut, Event, PutName, call_started, got_name, put_end};
 use scq_word::{Bytes, NoMemory};
 use std::alloc::Global;
 
@@ -84,27 +85,41 @@ impl Tables {
         self.puts.number(events, e)
     }
 
+    /// The put that ends at this position.
+    pub(crate) fn ended_put(&self, events: &[Event], e: usize) -> Option<EndedPut>
+        requires { HasEvent events.now self.now e }
+        ensures { MatchOption result (NoPutEnds events.now e) (EndsPut events.now e) }
+    {
+        let end = put_end(&events[e])?;
+        let call = self.call_of(events, e);
+        match call.1 {
+            Call::Put { queue, .. } => Some(EndedPut {
+                seat: end.0,
+                start: call.0,
+                queue: *queue,
+                refused: end.1,
+            }),
+            Call::Get { .. } => None,
+        }
+    }
+
     /// The put of this queue that ends with Done at this position.
     pub(crate) fn done_put(&self, events: &[Event], queue: u32, e: usize) -> Option<PutName>
         requires { HasEvent events.now self.now e }
         ensures { MatchOption result (NoDoneAt events.now queue e) (EndsDone events.now queue e) }
     {
-        match &events[e] {
-            Event::End {
-                seat,
-                reply: Reply::Done,
-            } => match self.call_of(events, e) {
-                (start, Call::Put { queue: of, .. }) if *of == queue => {
-                    let number = self.number(events, start);
-                    Some(PutName::Of {
-                        seat: *seat,
-                        number,
-                    })
-                }
-                _ => None,
-            },
-            _ => None,
+        let put = self.ended_put(events, e)?;
+        if put.refused {
+            return None;
         }
+        if put.queue != queue {
+            return None;
+        }
+        let number = self.number(events, put.start);
+        Some(PutName::Of {
+            seat: put.seat,
+            number,
+        })
     }
 
     /// Whether a get of this queue starts here that is under way at the end of the list.

@@ -4,6 +4,8 @@ ghost use Rattle.std.specs.Prelude.{◌≡◌, ◌+◌, ◌++◌, ◌<◌, ◌^�
 ghost use Rattle.std.specs.Prelude.{OnOk, is_some};
 ghost use Rattle.std.specs.Option.{option_map};
 ghost use Rattle.scq_hist.specs.Aspects.{IsLawful};
+ghost use Rattle.scq_check.specs.Found.{AreFound};
+ghost use Rattle.scq_check.specs.Tables.{AreOfLawful};
 ghost use Rattle.scq_check.specs.Verdicts.{AreBreaches, AreWithin, IsVerdictOf, TellsWhatHolds};
 ghost use Rattle.scq_check.specs.Verdicts.{aspect_line, verdict_lines};
 
@@ -53,6 +55,33 @@ pub struct Breaches {
     pub counterparts: Counterparts,
 }
 
+/// The events that break each of the four aspects.
+#[derive(Clone, Copy)]
+pub(crate) struct Found {
+    pub(crate) fresh: Failures,
+    pub(crate) once: Failures,
+    pub(crate) in_order: Failures,
+    pub(crate) empty_right: Failures,
+}
+
+// The events that break each of the four aspects, by the tables of the history.
+fn find(
+    alloc: Global,
+    tables: &Tables,
+    opening: &[Bytes],
+    events: &[Event],
+) -> Result<Found, NoMemory>
+    requires { AreOfLawful events.now tables.now }
+    ensures { IfOk result (AreFound opening.now events.now) }
+{
+    Ok(Found {
+        fresh: unfresh(tables, opening, events),
+        once: repeated(tables, events),
+        in_order: out_of_order(alloc, tables, opening, events)?,
+        empty_right: wrong_empties(alloc, tables, opening, events)?,
+    })
+}
+
 /// Of a lawful history the events that break each aspect. `opening` has the contents of the tokens
 /// that stand in queue 0 before it. Time grows little faster than the history's length.
 pub fn find_breaches(
@@ -65,25 +94,36 @@ pub fn find_breaches(
     ensures within { IfOk result (λ breaches. AreWithin (length events.now) breaches) }
 {
     let tables = Tables::new(alloc, events)?;
-    let fresh = unfresh(&tables, opening, events);
-    let once = repeated(&tables, events);
-    let in_order = out_of_order(alloc, &tables, opening, events)?;
-    let empty_right = wrong_empties(alloc, &tables, opening, events)?;
-    let accepted = refused_gots(alloc, &tables, events)?;
-    let refused = refused_first(alloc, &tables, events, &accepted)?;
+    breaches_by(alloc, &tables, opening, events)
+}
+
+// The same, by the tables of the history.
+fn breaches_by(
+    alloc: Global,
+    tables: &Tables,
+    opening: &[Bytes],
+    events: &[Event],
+) -> Result<Breaches, NoMemory>
+    requires { AreOfLawful events.now tables.now }
+    ensures breaches { IfOk result (AreBreaches opening.now events.now) }
+    ensures within { IfOk result (λ breaches. AreWithin (length events.now) breaches) }
+{
+    let found = find(alloc, tables, opening, events)?;
+    let accepted = refused_gots(alloc, tables, events)?;
+    let refused = refused_first(alloc, tables, events, &accepted)?;
     let counterparts = Counterparts {
-        fresh: origin_of_first(&tables, opening, events, &fresh),
-        once: named_first(&tables, events, &once),
-        in_order: overtaken(&tables, opening, events, &in_order),
-        overtaker: origin_of_first(&tables, opening, events, &in_order),
-        empty_right: waiting_beside(&tables, opening, events, &empty_right),
+        fresh: origin_of_first(tables, opening, events, &found.fresh),
+        once: named_first(tables, events, &found.once),
+        in_order: overtaken(tables, opening, events, &found.in_order),
+        overtaker: origin_of_first(tables, opening, events, &found.in_order),
+        empty_right: waiting_beside(tables, opening, events, &found.empty_right),
         accepted: refused,
     };
     Ok(Breaches {
-        fresh,
-        once,
-        in_order,
-        empty_right,
+        fresh: found.fresh,
+        once: found.once,
+        in_order: found.in_order,
+        empty_right: found.empty_right,
         accepted,
         counterparts,
     })
@@ -99,13 +139,12 @@ pub fn judge(alloc: Global, opening: &[Bytes], events: &[Event]) -> Result<Verdi
     ensures holds { IfOk result (TellsWhatHolds opening.now events.now) }
 {
     let tables = Tables::new(alloc, events)?;
-    let in_order = out_of_order(alloc, &tables, opening, events)?;
-    let empty_right = wrong_empties(alloc, &tables, opening, events)?;
+    let found = find(alloc, &tables, opening, events)?;
     Ok(Verdict {
-        fresh: number_of(unfresh(&tables, opening, events).first),
-        once: number_of(repeated(&tables, events).first),
-        in_order: number_of(in_order.first),
-        empty_right: number_of(empty_right.first),
+        fresh: number_of(found.fresh.first),
+        once: number_of(found.once.first),
+        in_order: number_of(found.in_order.first),
+        empty_right: number_of(found.empty_right.first),
     })
 }
 

@@ -204,13 +204,13 @@ pub(crate) fn find_waiting(
     let puts = waiting_puts(Sought::Every, tables, events, queue, m, e);
     let late_tokens = waiting_tokens(Sought::GotLater, tables, opening, events, queue, e);
     let late_puts = waiting_puts(Sought::GotLater, tables, events, queue, m, e);
-    let (token, put) = told_of(late_tokens.first, late_puts.first, tokens.first, puts.first);
-    let got = got_of_told(tables, events, queue, token, put);
+    let told = told_of(late_tokens.first, late_puts.first, tokens.first, puts.first);
+    let got = got_of_told(tables, events, queue, told.0, told.1);
     Waiting {
         tokens,
         puts,
-        token,
-        put,
+        token: told.0,
+        put: told.1,
         got,
     }
 }

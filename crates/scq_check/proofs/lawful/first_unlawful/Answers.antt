@@ -1,4 +1,4 @@
-use Rattle.std.proofs.Common.{ℕ, ◌≤◌, List, length, slice_get, sym, subst}
+use Rattle.std.proofs.Common.{ℕ, ◌≤◌, List, length, slice_get, sym, subst, arith}
 use Rattle.std.proofs.lemmas.Option.{slice_get_past}
 use Rattle.scq_hist.specs.Aspects.{IsLawfulAt}
 use Rattle.scq_hist.specs.declared.events.Event.{Event}
@@ -10,3 +10,6 @@ lawful_past events e past = subst (λ event. IsLawfulAt events e event) (sym (sl
 
 pub returns-clause-first : goal.returns-clause-first
 returns-clause-first c = everywhere _ _ _ c.loop-e-test.false c.loop-e.invariant.before (lawful_past c.args.events.now)
+
+pub loop-e-init : goal.loop-e-init
+loop-e-init c = record { calls = c.in_ok-calls.ensures; before = λ e lt. absurd (omega arith) }

@@ -1,20 +1,25 @@
+use Rattle.scq_check.specs.Found.{AreFound}
 use Rattle.scq_check.proofs.CounterpartLemmas.{fresh_without, in_order_without, names_some}
-use Rattle.scq_check.proofs.verdicts.find_breaches.Goals as goal
+use Rattle.scq_check.proofs.verdicts.breaches_by.Goals as goal
 
 pub origin_of_first-requires-clause-named : goal.origin_of_first-requires-clause-named
-origin_of_first-requires-clause-named c = names_some _ _ _ (fresh_without c.args.opening.now c.args.events.now) c.unfresh-fresh.ensures.failures.first
+origin_of_first-requires-clause-named c =
+    let found : AreFound c.args.opening.now c.args.events.now c.in_ok-found.found = c.in_ok-found.ensures in
+    names_some _ _ _ (fresh_without c.args.opening.now c.args.events.now) found.fresh.failures.first
 
 pub origin_of_first-requires-2-clause-named : goal.origin_of_first-requires-2-clause-named
 origin_of_first-requires-2-clause-named c =
-    names_some _ _ _ (in_order_without c.args.opening.now c.args.events.now) c.in_ok-in_order.ensures.failures.first
+    let found : AreFound c.args.opening.now c.args.events.now c.in_ok-found.found = c.in_ok-found.ensures in
+    names_some _ _ _ (in_order_without c.args.opening.now c.args.events.now) found.in_order.failures.first
 
 pub returns-clause-breaches : goal.returns-clause-breaches
 returns-clause-breaches c =
+    let found : AreFound c.args.opening.now c.args.events.now c.in_ok-found.found = c.in_ok-found.ensures in
     record {
-      fresh = c.unfresh-fresh.ensures.failures;
-      once = c.repeated-once.ensures.failures;
-      in_order = c.in_ok-in_order.ensures.failures;
-      empty_right = c.in_ok-empty_right.ensures.failures;
+      fresh = found.fresh.failures;
+      once = found.once.failures;
+      in_order = found.in_order.failures;
+      empty_right = found.empty_right.failures;
       accepted = c.in_ok-accepted.ensures.failures;
       against = record {
         fresh = c.origin_of_first.ensures.first;
@@ -28,11 +33,12 @@ returns-clause-breaches c =
 
 pub returns-clause-within : goal.returns-clause-within
 returns-clause-within c =
+    let found : AreFound c.args.opening.now c.args.events.now c.in_ok-found.found = c.in_ok-found.ensures in
     record {
-      fresh = c.unfresh-fresh.ensures.within;
-      once = c.repeated-once.ensures.within;
-      in_order = c.in_ok-in_order.ensures.within;
-      empty_right = c.in_ok-empty_right.ensures.within;
+      fresh = found.fresh.within;
+      once = found.once.within;
+      in_order = found.in_order.within;
+      empty_right = found.empty_right.within;
       accepted = c.in_ok-accepted.ensures.within;
       origin = c.origin_of_first.ensures.within;
       named = c.named_first.ensures.within;
