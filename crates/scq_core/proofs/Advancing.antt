@@ -1,8 +1,11 @@
 -- The pieces of a turn, put together: what was read, written and laid beside, and what became of the seat.
-use Rattle.std.proofs.Common.{◌≡◌, ℕ, ◌<◌, refl, sym, ◌∙◌, ap, arith, Option, Some, List, length}
+use Rattle.std.proofs.Common.{◌≡◌, ℕ, ◌<◌, ◌↔◌, inr, refl, sym, ◌∙◌, ap, subst, arith, Option, Some, None, Result, Ok, Err, List, length}
 use Rattle.std.specs.Prelude.{is_some, unwrap_or, slice_index_or, slice_set, true}
+use Rattle.std.specs.Result.{IsErrAnd}
 use Rattle.std.proofs.lemmas.List.{get_or_default}
 use Rattle.scq_word.specs.declared.setup.Setup.{Setup}
+use Rattle.scq_core.specs.declared.advance.ApplyFault.{ApplyFault}
+use Rattle.scq_core.specs.declared.advance.ApplyFault.TheVariants.{NotEnabled, NoMemory}
 use Rattle.scq_core.specs.declared.phase.Phase.{Phase}
 use Rattle.scq_core.specs.declared.step.Step.{Step}
 use Rattle.scq_core.specs.declared.slot.Cell.{Cell}
@@ -11,8 +14,8 @@ use Rattle.scq_core.specs.Machine.{SeatPart}
 use Rattle.scq_core.specs.Table.{writes, stores, after, turn_of, ring_of, cell_of}
 use Rattle.scq_core.specs.Rings.{RingLists, IsCell, word_in, content_in, ring_with}
 use Rattle.scq_core.specs.StateLists.{ring_in, no_slot, no_ring, HasRings}
-use Rattle.scq_core.specs.Turn.{copied, started}
-use Rattle.scq_core.specs.Advance.{found_by, beside_by, Advances}
+use Rattle.scq_core.specs.Turn.{copied, started, ends_call}
+use Rattle.scq_core.specs.Advance.{found_by, beside_by, WantsMemory, Advances}
 use Rattle.scq_core.proofs.TurnCells.{is_cell}
 use Rattle.scq_core.proofs.Turns.{enabled_turn}
 
@@ -58,3 +61,24 @@ advanced c step rings seat seat_then turn i ring lent ring_then p found word bes
       words = rw (left, same, word_is, cell, read, near, at) refl;
       part = rw (← read, ← near) (part beside (sym copy_is));
     }
+
+-- a step that is enabled isn't answered with NotEnabled
+pub wanted : (result : Result (Unit {0}) ApplyFault) → IsErrAnd result (λ fault. fault ≡ NoMemory) → ¬ (result ≡ Err NotEnabled)
+wanted (Ok u) h = λ e. absurd cc
+wanted (Err fault) h = λ e. absurd cc
+
+pub enabled_fault : (turn : Option Phase) (result : Result (Unit {0}) ApplyFault) → is_some turn ≡ true → ¬ (result ≡ Err NotEnabled)
+    → (result ≡ Err NotEnabled) ↔ (turn ≡ None)
+enabled_fault (Some turn) result enabled other = (λ e. absurd (other e), λ none. absurd cc)
+enabled_fault None result enabled other = absurd cc
+
+-- the call that couldn't be recorded ends
+pub wants_end : (c : Setup) (step : Step) (rings : List RingLists) (seat : SeatPart) (turn : Phase) (i : ℕ) (ring : RingLists) (p : Cell) (found : ℕ)
+    → HasRings c rings → ring_of turn < c.rings → turn_of c seat step ≡ Some turn → i ≡ ring_of turn → ring ≡ slice_index_or rings i ring
+    → p ≡ cell_of c turn → ((past : Slot) → found ≡ word_in past ring p) → ends_call c turn found ≡ true → WantsMemory c seat step rings
+wants_end c step rings seat turn i ring p found has low enabled at is cell found_is ends =
+    let within : i < length rings = omega (arith, has.0) in
+    let one : ring ≡ ring_in c rings (ring_of turn) = ring_read c rings i ring within is ∙ ap (ring_in c rings) at in
+    let read : found ≡ found_by c rings turn = rw (← one, ← cell) (found_is (no_slot c)) in
+    let here : ends_call c turn (found_by c rings turn) ≡ true = rw (← read) ends in
+    inr (λ other other_is. let same : turn ≡ other = cc in subst (λ t. ends_call c t (found_by c rings t) ≡ true) same here)

@@ -4,6 +4,7 @@ use Rattle.std.specs.Prelude.{List, [], ◌∷◌, ◌++◌, Option, Some, None,
 use Rattle.scq_word.specs.declared.setup.Setup.{Setup}
 use Rattle.scq_word.specs.Sizes.{n_of}
 use Rattle.scq_word.specs.Entries.{IsIndexOrMark}
+use Rattle.scq_core.specs.declared.ended.Ended.{Ended}
 use Rattle.scq_core.specs.declared.ended.Ended.TheVariants.{Got}
 use Rattle.scq_core.specs.declared.phase.Phase.{Phase}
 use Rattle.scq_core.specs.declared.phase.Phase.TheVariants.{Idle, AtE1, AtE2, AtE3, AtE4, AtE5}
@@ -77,6 +78,11 @@ has_ended (Spends r t is_put) = true
 has_ended (Places r i w t laid) = false
 has_ended (Takes r h i w) = true
 
+-- a seat's part of these fields
+abbrev pub part_of : Phase → List ℕ → Option ℕ → List Ended → SeatPart
+part_of phase hand spent calls =
+    record { phase = phase; hand = hand; spent = spent; calls = calls }
+
 -- a seat's part afterwards
 abbrev pub part_after : Next → SeatPart → SeatPart
 part_after (Goes phase) p = goes_on phase p
@@ -94,6 +100,15 @@ laid_by next = None
 -- a turn of a dequeue
 abbrev pub IsOfGet : Phase → Type 0
 IsOfGet turn = IsSome (get_ring (stance_of turn))
+
+-- a turn of a dequeue that has given its ticket up
+abbrev pub IsLeaving : Phase → Type 0
+IsLeaving (AtD6 r h) = Unit {0}
+IsLeaving (AtD7 r h from to) = Unit {0}
+IsLeaving (AtD8 r h from) = Unit {0}
+IsLeaving (AtD9 r h from to) = Unit {0}
+IsLeaving (AtD10 r h leaving) = Unit {0}
+IsLeaving turn = ⊥
 
 -- what a turn's arithmetic stands on, where it found the word x: counters have room, tickets are
 -- below the limit, an entry has an index of the ring or none, and Threshold is not yet at the

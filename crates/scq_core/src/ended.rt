@@ -2,6 +2,7 @@
 
 ghost use Rattle.std.specs.Prelude.{◌≡◌, IfOk};
 
+use crate::copies::Copies;
 use scq_word::{Bytes, NoMemory};
 use std::alloc::Global;
 
@@ -29,6 +30,12 @@ pub enum Ended {
         ticket: u64,
         put: bool,
     },
+}
+
+impl Copies for Ended {
+    fn copied(&self, alloc: Global) -> Result<Ended, NoMemory> {
+        self.copy(alloc)
+    }
 }
 
 impl Ended {

@@ -5,6 +5,7 @@
 #![tactic(auto)]
 
 mod advance;
+mod copies;
 mod ended;
 pub mod laws;
 mod next;

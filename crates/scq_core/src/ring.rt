@@ -10,6 +10,7 @@ ghost use Rattle.scq_core.specs.Fresh.{empty_ring, IsFullRing};
 ghost use Rattle.scq_core.specs.Rings.{IsCell, word_in, content_in, ring_with};
 ghost use Rattle.scq_core.specs.declared.slot.Slot.{Slot};
 
+use crate::copies::{Copies, copied_list};
 use crate::slot::{Cell, Slot};
 use crate::table::{ZERO_LEVEL, reset_level};
 use scq_word::{Bytes, Entry, NoMemory, Setup, pack, slot_of};
@@ -70,23 +71,6 @@ impl Ring {
         })
     }
 
-    /// An equal ring.
-    pub fn copy(&self, alloc: Global) -> Result<Ring, NoMemory>
-        ensures { IfOk result (λ copy. copy ≡ self.now) }
-    {
-        let mut slots = Vec::new(alloc);
-        slots.reserve_exact(self.slots.len())?;
-        for slot in &self.slots {
-            slots.push(slot.copy(alloc)?)?;
-        }
-        Ok(Ring {
-            tail: self.tail,
-            head: self.head,
-            threshold: self.threshold,
-            slots,
-        })
-    }
-
     /// The word of a cell.
     pub fn read(&self, cell: Cell) -> u64
         requires { IsCell self.now cell }
@@ -130,6 +114,17 @@ impl Ring {
                 }
             }
         }
+    }
+}
+
+impl Copies for Ring {
+    fn copied(&self, alloc: Global) -> Result<Ring, NoMemory> {
+        Ok(Ring {
+            tail: self.tail,
+            head: self.head,
+            threshold: self.threshold,
+            slots: copied_list(alloc, &self.slots)?,
+        })
     }
 }
 

@@ -5,8 +5,12 @@ ghost use Rattle.std.specs.Prelude.{◌-◌, length, slice_get, ◌≡◌, ℕ, 
 ghost use Rattle.std.specs.Prelude.{vec_capacity, is_some, unwrap_or, IfOk, OnOk, OnErr};
 ghost use Rattle.scq_core.specs.Table.{turn_of, after, stores, hand_without, holds_index};
 ghost use Rattle.scq_core.specs.Start.{idle_part};
-ghost use Rattle.scq_core.specs.Turn.{copied, ends_call, IsReady};
+ghost use Rattle.scq_core.specs.Turn.{copied, ends_call, has_ended, part_of, part_after, laid_by};
+ghost use Rattle.scq_core.specs.Turn.{IsReady};
+ghost use Rattle.scq_core.specs.declared.phase.Phase.{Phase as ThePhase};
+ghost use Rattle.scq_core.specs.declared.phase.Phase.TheVariants.{Idle};
 
+use crate::copies::{Copies, copied_list};
 use crate::ended::Ended;
 use crate::next::{Next, next_of};
 use crate::phase::Phase;
@@ -47,23 +51,6 @@ impl Seat {
             spent: None,
             calls: Vec::new(alloc),
         }
-    }
-
-    /// An equal part.
-    pub fn copy(&self, alloc: Global) -> Result<Seat, NoMemory>
-        ensures { IfOk result (λ copy. copy ≡ self.now) }
-    {
-        let mut calls = Vec::new(alloc);
-        calls.reserve_exact(self.calls.len())?;
-        for ended in &self.calls {
-            calls.push(ended.copy(alloc)?)?;
-        }
-        Ok(Seat {
-            phase: self.phase.copy(alloc)?,
-            hand: self.hand.as_slice().to_vec(alloc)?,
-            spent: self.spent,
-            calls,
-        })
     }
 
     /// What the seat is in the middle of.
@@ -166,50 +153,88 @@ impl Seat {
         make_room(&mut self.hand, &mut self.calls, ending)?;
         let resting = mem::replace(&mut self.phase, Phase::Idle);
         let turn = started.unwrap_or(resting);
-        match next_of(setup, turn, found, copy) {
-            Next::Goes(phase) => {
-                self.phase = phase;
-                Ok(None)
-            }
-            Next::Ends(ended) => {
-                self.calls.push_reserved(ended);
-                Ok(None)
-            }
-            Next::Spends { ring, ticket, put } => {
-                self.spent = Some(ticket);
-                self.calls.push_reserved(Ended::Spent { ring, ticket, put });
-                Ok(None)
-            }
-            Next::Places {
+        let next = next_of(setup, turn, found, copy);
+        Ok(settle(
+            &mut self.phase,
+            &mut self.hand,
+            &mut self.spent,
+            &mut self.calls,
+            next,
+        ))
+    }
+}
+
+impl Copies for Seat {
+    fn copied(&self, alloc: Global) -> Result<Seat, NoMemory> {
+        Ok(Seat {
+            phase: self.phase.copy(alloc)?,
+            hand: self.hand.as_slice().to_vec(alloc)?,
+            spent: self.spent,
+            calls: copied_list(alloc, &self.calls)?,
+        })
+    }
+}
+
+/// What becomes of the fields of an idle seat after a turn. Answers the content that is to stand
+/// beside the entry, where the turn placed an index.
+fn settle(
+    phase: &mut Phase,
+    hand: &mut Vec<u32>,
+    spent: &mut Option<u64>,
+    calls: &mut Vec<Ended>,
+    next: Next,
+) -> Option<Bytes>
+    requires idle { phase.old ≡ Idle }
+    requires room { has_ended next ≡ true
+        → (vec_len hand.old < vec_capacity hand.old) × (vec_len calls.old < vec_capacity calls.old) }
+    ensures part { (before : ThePhase)
+        → part_of phase.new hand.new.items spent.new calls.new.items
+        ≡ part_after next (part_of before hand.old.items spent.old calls.old.items) }
+    ensures laid { result ≡ laid_by next }
+{
+    match next {
+        Next::Goes(goes) => {
+            *phase = goes;
+            None
+        }
+        Next::Ends(ended) => {
+            calls.push_reserved(ended);
+            None
+        }
+        Next::Spends { ring, ticket, put } => {
+            *spent = Some(ticket);
+            calls.push_reserved(Ended::Spent { ring, ticket, put });
+            None
+        }
+        Next::Places {
+            ring,
+            index,
+            content,
+            ticket,
+            laid,
+        } => {
+            take_out(hand, index);
+            *phase = Phase::AtE5 {
                 ring,
                 index,
                 content,
                 ticket,
-                laid,
-            } => {
-                take_out(&mut self.hand, index);
-                self.phase = Phase::AtE5 {
-                    ring,
-                    index,
-                    content,
-                    ticket,
-                };
-                Ok(Some(laid))
-            }
-            Next::Takes {
+            };
+            Some(laid)
+        }
+        Next::Takes {
+            ring,
+            place,
+            index,
+            content,
+        } => {
+            hand.push_reserved(index);
+            calls.push_reserved(Ended::Got {
                 ring,
                 place,
-                index,
                 content,
-            } => {
-                self.hand.push_reserved(index);
-                self.calls.push_reserved(Ended::Got {
-                    ring,
-                    place,
-                    content,
-                });
-                Ok(None)
-            }
+            });
+            None
         }
     }
 }

@@ -1,7 +1,6 @@
 //! An entry's word with its content, and which words a ring has.
 
-ghost use Rattle.std.specs.Prelude.{◌≡◌, IfOk};
-
+use crate::copies::Copies;
 use scq_word::{Bytes, NoMemory};
 use std::alloc::Global;
 
@@ -21,14 +20,11 @@ pub enum Cell {
     Entry { slot: u32 },
 }
 
-impl Slot {
-    /// An equal slot, with a copy of its content.
-    pub fn copy(&self, alloc: Global) -> Result<Slot, NoMemory>
-        ensures { IfOk result (λ copy. copy ≡ self.now) }
-    {
+impl Copies for Slot {
+    fn copied(&self, alloc: Global) -> Result<Slot, NoMemory> {
         Ok(Slot {
             word: self.word,
-            content: Bytes::copy_of(alloc, self.content.bytes())?,
+            content: self.content.copied(alloc)?,
         })
     }
 }

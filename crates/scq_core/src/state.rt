@@ -8,6 +8,7 @@ ghost use Rattle.scq_core.specs.Start.{idle_part};
 ghost use Rattle.scq_core.specs.Fresh.{IsStart};
 
 use crate::advance::{ApplyFault, advance};
+use crate::copies::copied_list;
 use crate::ended::Ended;
 use crate::phase::Phase;
 use crate::ring::Ring;
@@ -108,9 +109,9 @@ impl State {
         let alloc = *self.rings.allocator();
         Ok(State {
             setup: self.setup,
-            rings: copied_rings(alloc, &self.rings)?,
-            seats: copied_seats(alloc, &self.seats)?,
-            opening: copied_contents(alloc, &self.opening)?,
+            rings: copied_list(alloc, &self.rings)?,
+            seats: copied_list(alloc, &self.seats)?,
+            opening: copied_list(alloc, &self.opening)?,
         })
     }
 
@@ -271,37 +272,4 @@ fn idle_seats(alloc: Global, setup: &Setup) -> Result<Vec<Seat>, NoMemory>
         seats.push(Seat::idle(alloc))?;
     }
     Ok(seats)
-}
-
-fn copied_rings(alloc: Global, rings: &Vec<Ring>) -> Result<Vec<Ring>, NoMemory>
-    ensures { IfOk result (λ copy. copy.items ≡ rings.now.items) }
-{
-    let mut copy = Vec::new(alloc);
-    copy.reserve_exact(rings.len())?;
-    for ring in rings {
-        copy.push(ring.copy(alloc)?)?;
-    }
-    Ok(copy)
-}
-
-fn copied_seats(alloc: Global, seats: &Vec<Seat>) -> Result<Vec<Seat>, NoMemory>
-    ensures { IfOk result (λ copy. copy.items ≡ seats.now.items) }
-{
-    let mut copy = Vec::new(alloc);
-    copy.reserve_exact(seats.len())?;
-    for seat in seats {
-        copy.push(seat.copy(alloc)?)?;
-    }
-    Ok(copy)
-}
-
-fn copied_contents(alloc: Global, contents: &Vec<Bytes>) -> Result<Vec<Bytes>, NoMemory>
-    ensures { IfOk result (λ copy. copy.items ≡ contents.now.items) }
-{
-    let mut copy = Vec::new(alloc);
-    copy.reserve_exact(contents.len())?;
-    for content in contents {
-        copy.push(Bytes::copy_of(alloc, content.bytes())?)?;
-    }
-    Ok(copy)
 }

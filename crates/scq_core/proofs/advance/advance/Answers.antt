@@ -1,10 +1,10 @@
 -- The ring that is read is the one of the turn, and its cell is one of the ring's; then the clauses of the pieces say what
 -- the words and the seat's part are.
-use Rattle.std.proofs.Common.{◌≡◌, List, ℕ, rules}
+use Rattle.std.proofs.Common.{◌≡◌, List, ℕ, inl, true, rules}
 use Rattle.std.specs.Prelude.{unwrap_or}
 use Rattle.scq_core.specs.Table.{after, stores}
-use Rattle.scq_core.specs.Turn.{copied}
-use Rattle.scq_core.proofs.Advancing.{cell_fits, turn_is, advanced}
+use Rattle.scq_core.specs.Turn.{copied, ends_call}
+use Rattle.scq_core.proofs.Advancing.{cell_fits, turn_is, advanced, wanted, enabled_fault, wants_end}
 use Rattle.scq_core.proofs.advance.advance.Goals as goal
 
 pub beside-requires : goal.beside-requires
@@ -41,3 +41,33 @@ returns-clause-ok c =
     c.in_ok-laid.laid
     c.requires.rings (c.requires.ready t enabled).ring enabled c.ring_of-index.ensures c.index-ring.ensures c.index_mut.ensures.value c.cell_of-cell.ensures
     c.beside.ensures c.in_ok-copy.ensures.ok c.read-found.ensures c.written-word.ensures part lays c.write.ensures
+
+pub returns-in_err-started-clause-not_enabled : goal.returns-in_err-started-clause-not_enabled
+returns-in_err-started-clause-not_enabled c = enabled_fault _ _ (search rules) (wanted _ c.from_residual.ensures.1)
+
+pub returns-in_err-started-clause-no_memory : goal.returns-in_err-started-clause-no_memory
+returns-in_err-started-clause-no_memory c wants = inl c.in_err-started.ensures.err
+
+pub returns-in_err-copy-clause-not_enabled : goal.returns-in_err-copy-clause-not_enabled
+returns-in_err-copy-clause-not_enabled c = enabled_fault _ _ (search rules) (wanted _ c.from_residual-in_err-copy.ensures.1)
+
+pub returns-in_err-laid-clause-not_enabled : goal.returns-in_err-laid-clause-not_enabled
+returns-in_err-laid-clause-not_enabled c = enabled_fault _ _ (search rules) (wanted _ c.from_residual-in_err-laid.ensures.1)
+
+pub returns-in_err-laid-clause-no_memory : goal.returns-in_err-laid-clause-no_memory
+returns-in_err-laid-clause-no_memory c wants =
+    let t = c.turn-turn.result.now in
+    let enabled = turn_is c.args.setup.now c.args.seat.now c.args.step.now c.in_ok-started.started t (search rules) (search rules) c.turn-turn.ensures in
+    let ends : ends_call c.args.setup.now t c.read-found.result ≡ true = rw (← c.turn-turn.ensures) at c.in_err-laid.ensures.err.1 in
+    wants_end c.args.setup.now c.args.step.now c.args.rings.now.items c.args.seat.now t c.ring_of-index.result c.index-ring.result.now c.cell_of-cell.result
+    c.read-found.result c.requires.rings (c.requires.ready t enabled).ring enabled c.ring_of-index.ensures c.index-ring.ensures c.cell_of-cell.ensures
+    c.read-found.ensures ends
+
+pub returns-clause-not_enabled : goal.returns-clause-not_enabled
+returns-clause-not_enabled c = enabled_fault _ _ (search rules) (λ e. absurd cc)
+
+pub returns-clause-no_memory : goal.returns-clause-no_memory
+returns-clause-no_memory c wants = absurd cc
+
+pub returns-clause-err : goal.returns-clause-err
+returns-clause-err c = tt
