@@ -1,5 +1,5 @@
 -- The lines of totals, topic by topic.
-use Rattle.std.proofs.Common.{◌≡◌, ◌∙◌, sym, ap, arith, ℕ, ◌+◌, List, [], ◌∷◌, ◌++◌, map}
+use Rattle.std.proofs.Common.{◌≡◌, ◌∙◌, refl, sym, ap, append_assoc, arith, ℕ, ◌+◌, List, [], ◌∷◌, ◌++◌, map}
 use Rattle.std.specs.Prelude.{flat_map}
 use Rattle.std.specs.List.{range_with_len}
 use Rattle.std.proofs.lemmas.Grind.{flat_map-append}
@@ -16,3 +16,9 @@ lines-more f n =
     ∙ flat_map-append f (map same (range_with_len 0 n)) (n ∷ [])
     ∙ ap (λ (front : List ℕ). front ++ flat_map f (n ∷ [])) (flat_map-map f same (range_with_len 0 n))
     ∙ ap (λ (last : List ℕ). flat_map f (range_with_len 0 n) ++ last) (append-nil (f n))
+
+-- the parts of a line that were pushed one behind the other, two of them with what stands before each
+pub pushed-line : (old a b c d e f g one two three four five : List ℕ) → one ≡ old ++ a → two ≡ one ++ b → three ≡ two ++ c ++ d → four ≡ three ++ e ++ f
+    → five ≡ four ++ g → five ≡ old ++ (a ++ b ++ c ++ d ++ e ++ f ++ g)
+pushed-line old a b c d e f g one two three four five to_one to_two to_three to_four to_five =
+    rw (to_five, to_four, to_three, to_two, to_one) (simp append_assoc refl)

@@ -3,7 +3,7 @@ use Rattle.std.proofs.Common.{◌≡◌, ◌∙◌, refl, sym, ap, subst, arith,
 use Rattle.std.specs.Prelude.{Err, IfOk, IsTrue, Ok, Result, flat_map, is_ok, slice_index_or}
 use Rattle.std.specs.List.{All, filter}
 use Rattle.std.proofs.lemmas.Grind.{flat_map-append}
-use Rattle.std.proofs.lemmas.List.{get_or-map, length-append, length-map, take_more}
+use Rattle.std.proofs.lemmas.List.{get_or-map, length-map, take_more}
 use Rattle.std.proofs.lemmas.List.Elements.{All-append, All-cons, All-filter, All-head, All-nil, All-tail}
 use Rattle.std.proofs.lemmas.List.Sorted.{All-permutation}
 use Rattle.scq_topics.specs.declared.kind.Kind.{Kind}
@@ -15,7 +15,7 @@ use Rattle.scq_collect.specs.declared.stretches.Stretch.{Stretch}
 use Rattle.scq_collect.specs.Coding.{IsCodable}
 use Rattle.scq_collect.specs.Joined.{BeginsMessage, PartAnswer, answers_of, joined, messages_in_order, without_way}
 use Rattle.scq_collect.specs.Output.{Answer}
-use Rattle.scq_collect.specs.Pieces.{AreMadeOf, AreOfMembers, AreStretchesOf, IsMadeOf, IsPieceOf, IsStretchOf, all_answers}
+use Rattle.scq_collect.specs.Pieces.{AreMadeOf, AreOfMembers, AreStretchesOf, IsMadeOf, IsStretchOf, all_answers}
 use Rattle.scq_collect.specs.Spans.{AreNext, is_in}
 use Rattle.scq_collect.specs.Spots.{plain, spot_answer}
 use Rattle.scq_collect.specs.Taken.{AreTaken, AreAnswersIn}
@@ -144,16 +144,16 @@ taken-known most answers span spots taken known k d less =
     subst P (get_or-map spot_answer spots k d (spot_answer d) less) (all k (spot_answer d) (omega (arith, less, length-map spots spot_answer)))
 
 -- messages are no more than their parts
-few-answers : (topics : List (List ℕ × Kind)) (own : List PartAnswer) → length (answers_of topics own) ≤ length own
+pub few-answers : (topics : List (List ℕ × Kind)) (own : List PartAnswer) → length (answers_of topics own) ≤ length own
 few-answers topics own = omega (arith, length-map (messages_in_order own) (joined topics), few-messages own)
 
 -- a stretch of one span more
 pub made-more : (topics : List (List ℕ × Kind)) (answers : List PartAnswer) (spans : List Span) (n : ℕ) (d : Span) (was now : Stretch) (spots : List Spot)
     → n < length spans → IsMadeOf topics answers (take n spans) was → AreAnswersIn answers (slice_index_or spans n d) (plain spots)
-    → ((own : List Answer) → IsPieceOf topics own was.piece → IsPieceOf topics (own ++ answers_of topics (plain spots)) now.piece)
-    → now.parts ≡ was.parts + length spots → (IsTrue now.whole → IsTrue was.whole × BeginsMessage (plain spots))
+    → ((own : List Answer) → IsStretchOf topics own was → IsStretchOf topics (own ++ answers_of topics (plain spots)) now)
+    → (IsTrue now.whole → IsTrue was.whole × BeginsMessage (plain spots))
     → IsMadeOf topics answers (take (n + 1) spans) now
-made-more topics answers spans n d was now spots less made taken piece parts whole =
+made-more topics answers spans n d was now spots less made taken added whole =
     let span : Span = slice_index_or spans n d in
     let own : List PartAnswer = plain spots in
     let had : List Answer = flat_map (answers_of topics) made.parts in
@@ -163,10 +163,7 @@ made-more topics answers spans n d was now spots less made taken piece parts who
       parts = made.parts ++ own ∷ [];
       taken = subst (λ (ss : List Span). AreTaken answers ss (made.parts ++ own ∷ [])) (sym front)
           (taken-append answers (take n spans) (span ∷ []) made.parts (own ∷ []) made.taken (taken, tt));
-      made = record {
-        piece = subst (λ (l : List Answer). IsPieceOf topics l now.piece) (sym same) (piece had made.made.piece);
-        few = omega (arith, ap length same, length-append had (answers_of topics own), made.made.few, few-answers topics own, length-map spots spot_answer, parts);
-      };
+      made = subst (λ (l : List Answer). IsStretchOf topics l now) (sym same) (added had made.made);
       whole = λ all.
           let both = whole all in
           All-append BeginsMessage made.parts (own ∷ []) (made.whole both.0) (All-cons BeginsMessage own [] both.1 (All-nil BeginsMessage));

@@ -9,7 +9,8 @@ ghost use Rattle.scq_collect.specs.Joined.{IsJoined, answers_of, part_answers, w
 ghost use Rattle.scq_collect.specs.Merging.{members_of};
 ghost use Rattle.scq_collect.specs.Output.{Answer, answer_of_view, one_thread_output};
 ghost use Rattle.scq_collect.specs.Output.{text_of_answers};
-ghost use Rattle.scq_collect.specs.Pieces.{AreStretchesOf, IsPieceOf, all_answers, pieces_bytes};
+ghost use Rattle.scq_collect.specs.Pieces.{AreOfMembers, AreStretchesOf, IsPieceOf};
+ghost use Rattle.scq_collect.specs.Pieces.{all_answers, pieces_bytes};
 ghost use Rattle.scq_collect.specs.Spots.{plain, spot_answer};
 
 use crate::Answers;
@@ -83,6 +84,23 @@ pub fn output_in_pieces<R: Threads + Sync>(
         → IfOk result (λ text. text ≡ one_thread_output topics.now contents) }
 {
     let numbers = topics.len() + 1;
+    let made = stretches_of_lists(rt, alloc, topics, lists, threads)?;
+    let pieces = joined(alloc, topics, numbers, made)?;
+    Ok(Text { pieces })
+}
+
+/// The stretches of the answers of these lists, made by at most so many threads.
+fn stretches_of_lists<R: Threads + Sync>(
+    rt: &R,
+    alloc: Global,
+    topics: &Topics,
+    lists: &[Answers],
+    threads: u32,
+) -> Result<Vec<Result<Stretch, NoMemory>>, NoMemory>
+    requires topics { length topics.now ≤ 16 }
+    requires known { All (λ a. a.topic ≤ length topics.now) (members_of lists.now) }
+    ensures { IfOk result (λ made. AreOfMembers topics.now (members_of lists.now) made.items) }
+{
     let mut samples = Vec::new(alloc);
     let blocks = blocks_of(alloc, lists, &mut samples)?;
     samples.sort_unstable();
@@ -90,9 +108,7 @@ pub fn output_in_pieces<R: Threads + Sync>(
     let pieces = count_of_pieces(parts, bytes_in(blocks.as_slice()), threads);
     let spans = spans_of(alloc, samples.as_slice(), count_of_spans(parts, pieces))?;
     let cuts = cuts_of(alloc, spans.as_slice(), pieces)?;
-    let made = stretches_in_order(rt, alloc, topics, blocks.as_slice(), cuts.as_slice())?;
-    let pieces = joined(alloc, topics, numbers, made)?;
-    Ok(Text { pieces })
+    stretches_in_order(rt, alloc, topics, blocks.as_slice(), cuts.as_slice())
 }
 
 impl Piece {
@@ -171,6 +187,55 @@ fn parts_in(lists: &[Answers]) -> usize {
     parts
 }
 
+/// The texts of stretches, of how many parts they were made, and the totals of their answers.
+#[derive(Drop)]
+pub struct Texts {
+    pub texts: Vec<Vec<u8>>,
+    pub parts: usize,
+    pub totals: Totals,
+}
+
+impl Texts {
+    ghost use Rattle.std.specs.Prelude.{◌++◌};
+    ghost use Rattle.scq_topics.specs.declared.kind.Kind.{Kind};
+    ghost use Rattle.scq_collect.specs.Pieces.{AreTextsOf, IsStretchOf};
+
+    /// Adds a stretch, where it was made.
+    fn add(&mut self, made: Result<Stretch, NoMemory>) -> Result<(), NoMemory>
+        requires { (topics : List (List ℕ × Kind)) × (answers more : List Answer)
+            × AreTextsOf topics answers self.old × IfOk made (IsStretchOf topics more) }
+        ensures added { (topics : List (List ℕ × Kind)) (answers more : List Answer)
+            → AreTextsOf topics answers self.old → IfOk made (IsStretchOf topics more)
+            → OnOk result (AreTextsOf topics (answers ++ more) self.new) }
+        ensures made { OnOk result (IsTrue (is_ok made)) }
+    {
+        let stretch = made?;
+        self.parts = self.parts.checked_add(stretch.parts).ok_or(NoMemory)?;
+        self.totals.add(&stretch.piece.totals);
+        self.texts.push(stretch.piece.text)?;
+        Ok(())
+    }
+
+    /// The texts, and behind them that of the totals.
+    fn with_totals(
+        self,
+        alloc: Global,
+        topics: &Topics,
+        numbers: u32,
+    ) -> Result<Vec<Vec<u8>>, NoMemory>
+        requires numbers { (numbers ≡ length topics.now + 1) × (numbers ≤ 17) }
+        ensures { (answers : List Answer) → AreTextsOf topics.now answers self
+            → IfOk result (λ texts.
+            pieces_bytes texts.items ≡ text_of_answers topics.now answers) }
+    {
+        let mut last = Vec::new(alloc);
+        push_all_totals(&mut last, topics, numbers, &self.totals)?;
+        let mut texts = self.texts;
+        texts.push(last)?;
+        Ok(texts)
+    }
+}
+
 /// The texts of the stretches of these answers, and behind them that of the totals.
 fn joined(
     alloc: Global,
@@ -185,18 +250,13 @@ fn joined(
         pieces_bytes texts.items ≡ text_of_answers topics.now (all_answers lists)) }
     ensures made { OnOk result (All (λ s. IsTrue (is_ok s)) made.items) }
 {
-    let mut texts = Vec::with_capacity(alloc, made.len())?;
-    let mut totals = Totals::none();
-    let mut parts: usize = 0;
+    let mut so_far = Texts {
+        texts: Vec::with_capacity(alloc, made.len())?,
+        parts: 0,
+        totals: Totals::none(),
+    };
     'stretches: for stretch in made {
-        let stretch = stretch?;
-        parts = parts.checked_add(stretch.parts).ok_or(NoMemory)?;
-        let Piece { text, totals: more } = stretch.piece;
-        texts.push_reserved(text);
-        totals.add(&more);
+        so_far.add(stretch)?;
     }
-    let mut last = Vec::new(alloc);
-    push_all_totals(&mut last, topics, numbers, &totals)?;
-    texts.push(last)?;
-    Ok(texts)
+    so_far.with_totals(alloc, topics, numbers)
 }

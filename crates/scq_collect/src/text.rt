@@ -110,17 +110,16 @@ fn push_total(
 {
     text.extend_from_slice(b"total ")?;
     text.extend_from_slice(topics.name(topic))?;
-    text.extend_from_slice(b" ")?;
-    push_number(text, u128::from(totals.counts[topic as usize]))?;
-    text.extend_from_slice(b" ")?;
-    push_number(text, totals.bytes[topic as usize])?;
+    push_number(text, b" ", u128::from(totals.counts[topic as usize]))?;
+    push_number(text, b" ", totals.bytes[topic as usize])?;
     text.extend_from_slice(b"\n")?;
     Ok(())
 }
 
-fn push_number(text: &mut Vec<u8>, number: u128) -> Result<(), NoMemory>
-    ensures { OnOk result (text.new.items ≡ text.old.items ++ decimal number) }
+fn push_number(text: &mut Vec<u8>, before: &[u8], number: u128) -> Result<(), NoMemory>
+    ensures { OnOk result (text.new.items ≡ text.old.items ++ before.now ++ decimal number) }
 {
+    text.extend_from_slice(before)?;
     text.extend_from_slice(Buffer::new().format(number).as_bytes())?;
     Ok(())
 }

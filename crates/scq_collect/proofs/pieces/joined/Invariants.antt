@@ -1,10 +1,8 @@
-use Rattle.std.proofs.Common.{◌≡◌, ◌≤◌, ◌++◌, List, length, take}
+use Rattle.std.proofs.Common.{◌≡◌, ◌++◌, List, length, take}
 use Rattle.std.specs.List.{All}
-use Rattle.std.specs.Prelude.{flat_map, vec_capacity, vec_len}
 use Rattle.std.specs.Vec.Iter.{into_iter_items, into_iter_len}
-use Rattle.scq_collect.specs.Output.{Answer, reply_line}
-use Rattle.scq_collect.specs.Pieces.{AreStretchesOf, all_answers, pieces_bytes}
-use Rattle.scq_collect.specs.Sums.{AreTotals}
+use Rattle.scq_collect.specs.Output.{Answer}
+use Rattle.scq_collect.specs.Pieces.{AreStretchesOf, AreTextsOf, all_answers}
 use Rattle.scq_collect.proofs.Stretched.{WasMade}
 use Rattle.scq_collect.proofs.pieces.joined.Given as goal
 
@@ -14,12 +12,6 @@ invariant-stretches l = record {
   all : l.yielded ++ into_iter_items l.stretch-iterator ≡ into_iter_items l.initial.stretch-iterator;
   left : into_iter_len l.stretch-iterator ≡ length (into_iter_items l.stretch-iterator);
   texts : (lists : List (List Answer)) → AreStretchesOf l.topics lists l.fn.made.items
-      → pieces_bytes l.texts.items ≡ flat_map (reply_line l.topics) (all_answers (take (length l.yielded) lists));
-  totals : (lists : List (List Answer)) → AreStretchesOf l.topics lists l.fn.made.items
-      → AreTotals l.totals (all_answers (take (length l.yielded) lists));
-  few : (lists : List (List Answer)) → AreStretchesOf l.topics lists l.fn.made.items
-      → length (all_answers (take (length l.yielded) lists)) ≤ l.parts;
+      → AreTextsOf l.topics (all_answers (take (length l.yielded) lists)) l.so_far;
   made : All WasMade l.yielded;
-  count : vec_len l.texts ≡ length l.yielded;
-  room : into_iter_len l.initial.stretch-iterator ≤ vec_capacity l.texts;
 }

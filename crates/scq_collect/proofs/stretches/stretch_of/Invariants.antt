@@ -6,5 +6,5 @@ use Rattle.scq_collect.proofs.stretches.stretch_of.Given as goal
 
 -- the stretch of the spans so far
 abbrev pub invariant-each : goal.invariant-each
-invariant-each l = (answers : List PartAnswer) → AreLaid answers l.blocks
-    → IsMadeOf l.topics answers (take l.span-index l.spans) (record { piece = l.piece; parts = l.parts; whole = l.whole })
+invariant-each l = (answers : List PartAnswer) → AreLaid answers l.given.blocks.now
+    → IsMadeOf l.given.topics.now answers (take l.span-index l.spans) l.stretch

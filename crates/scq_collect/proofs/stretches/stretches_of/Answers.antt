@@ -11,7 +11,7 @@ map_indices-requires-after_bounds g c κs within = λ n less. (less, c.requires.
 
 pub returns : goal.returns
 returns g c = λ answers laid.
-    let topics = c.args.topics.now in
+    let topics = c.args.given.now.topics.now in
     let cuts = c.args.cuts.now in
     let made = c.in_ok-made.made.items in
     let spans : Bor (List Span) → List Span = λ cut. cut.now in

@@ -7,5 +7,5 @@ use Rattle.scq_collect.proofs.stretches.fn.stretches_of.stretch.Goals as goal
 
 pub returns : goal.returns
 returns c = λ answers d laid.
-    subst (λ (cut : Bor (List Span)). IfOk c.stretch_of.result (λ s. IsMadeOf c.captures.topics.now answers cut.now s))
+    subst (λ (cut : Bor (List Span)). IfOk c.stretch_of.result (λ s. IsMadeOf c.captures.given.now.topics.now answers cut.now s))
     (get_or_default c.captures.cuts.now c.args.n _ d c.requires.0) (c.stretch_of.ensures answers laid)
