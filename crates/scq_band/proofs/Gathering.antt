@@ -8,8 +8,8 @@ use Rattle.scq_band.specs.RunSeen.{Seen, both_seen}
 use Rattle.scq_band.specs.Known.{Member, Known, both_of}
 use Rattle.scq_band.specs.Steps.{my}
 use Rattle.scq_band.specs.Standing.{Standing}
-use Rattle.scq_band.specs.Closing.{indices_of}
-use Rattle.scq_band.specs.Homes.{IsMemberOf, OutOrHome, SeatsAreGathered, all_seen}
+use Rattle.scq_band.specs.Closing.{indices_of, lifted_of}
+use Rattle.scq_band.specs.Homes.{IsMemberOf, OutOrHome, HasAll, SeatsAreGathered, all_seen}
 use Rattle.scq_band.proofs.SeatsHome.{has_one, has_more}
 
 module _ {B : Type 0} where
@@ -82,7 +82,7 @@ module _ {B : Type 0} where
       let push : sum_by f seats ≡ sum_by f left + f s = ap (sum_by f) last ∙ sum_by_push f left s in
       omega (arith, push, is, less)
 
-  pub none_out : {T : Type 0} (pair : T → ℕ × B) (out : List T) → ((i : ℕ) → times i (indices_of (map pair out)) ≡ 0) → length out ≡ 0
+  none_out : {T : Type 0} (pair : T → ℕ × B) (out : List T) → ((i : ℕ) → times i (indices_of (map pair out)) ≡ 0) → length out ≡ 0
   none_out {T} pair [] none = refl
   none_out {T} pair (x ∷ xs) none =
       let i = (pair x).0 in
@@ -90,7 +90,19 @@ module _ {B : Type 0} where
       let no = none i in
       absurd (omega (arith, here, no))
 
-  -- no seat is left
-  pub sum_none : (f : Standing B → ℕ) (seats : List (Standing B)) → length seats ≡ 0 → sum_by f seats ≡ 0
+  -- no seat is left: nothing is lifted
+  sum_none : (f : Standing B → ℕ) (seats : List (Standing B)) → length seats ≡ 0 → sum_by f seats ≡ 0
   sum_none f [] none = refl
   sum_none f (s ∷ seats) none = absurd (omega arith)
+
+  -- so nothing is out
+  pub none_left_out : {T : Type 0} (pair : T → ℕ × B) (out : List T) (seats : List (Standing B))
+      → ((i : ℕ) → times i (indices_of (map pair out)) ≡ sum_by (λ (s : Standing B). times i (lifted_of s.hand)) seats) → length seats ≡ 0 → length out ≡ 0
+  none_left_out pair out seats sums none = none_out pair out (λ i. sums i ∙ sum_none (λ (s : Standing B). times i (lifted_of s.hand)) seats none)
+
+  -- and all of them stand in the view
+  pub all_gathered : (contents : B → List ℕ) (rings : ℕ) (all left : List (Standing B)) (v : Known) (told : Seen)
+      → SeatsAreGathered contents rings all left v told → length left ≡ 0 → HasAll contents rings all v × (told ≡ all_seen all)
+  all_gathered contents rings all [] v told now none =
+      (subst (λ (ss : List (Standing B)). HasAll contents rings ss v) (sym now.split) now.has, now.seen ∙ ap all_seen (sym now.split))
+  all_gathered contents rings all (s ∷ left) v told now none = absurd (omega arith)

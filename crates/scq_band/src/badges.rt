@@ -1,6 +1,6 @@
 //! How what one seat knows gets to another: a copy of its view lies in a badge, and is joined to
 //! the other's view. No seat stands in the copy.
-ghost use Rattle.std.specs.Prelude.{◌≡◌, ◌<◌, [], ◌∷◌};
+ghost use Rattle.std.specs.Prelude.{◌≡◌, ◌≢◌, ◌<◌, [], ◌∷◌};
 ghost use Rattle.scq_band.specs.Sights.{Sight, note_sight, both_sight};
 ghost use Rattle.scq_band.specs.Seats.{IsAlone};
 
@@ -41,6 +41,19 @@ pub fn note<B: Buffer>(words: &Words<B>, token: &mut Token<B>) -> Badge<View>
     words.split_seat::<Copies>(token).into_badge()
 }
 
+/// The view of the seat takes in another's. No slot is out with that one, which is spent.
+pub fn take_in<B: Buffer>(words: &Words<B>, token: &mut Token<B>, other: Token<B>)
+    requires own { (token.old.table_id ≡ words.now.table_id)
+        × (other.table_id ≡ words.now.table_id) }
+    requires room { 0 < words.now.table_id.words }
+    requires stands { token.old.me.0.known.seats ≢ [] }
+    requires empty { other.me.1 ≡ [] }
+    ensures own { (token.new.table_id ≡ token.old.table_id) × (token.new.id ≡ token.old.id) }
+    ensures both { token.new.me ≡ (both_sight token.old.me.0 other.me.0, token.old.me.1) }
+{
+    words.join_seat::<Gathers>(token, other);
+}
+
 /// From then on the seat knows the larger of each number.
 pub fn learn<B: Buffer>(words: &Words<B>, token: &mut Token<B>, note: Badge<View>)
     requires own { (token.old.table_id ≡ words.now.table_id)
@@ -52,5 +65,5 @@ pub fn learn<B: Buffer>(words: &Words<B>, token: &mut Token<B>, note: Badge<View
     ensures learned { (v : Sight) → note.views ≡ v ∷ []
         → token.new.me ≡ (both_sight token.old.me.0 v, token.old.me.1) }
 {
-    words.join_seat::<Gathers>(token, note.into_seat());
+    take_in(words, token, note.into_seat());
 }

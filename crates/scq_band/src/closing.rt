@@ -18,7 +18,7 @@ ghost use Rattle.scq_band.specs.Homes.{OutOrHome, AllOutGiven, MayLeave, IsMembe
 ghost use Rattle.scq_band.specs.Homes.{all_seen};
 ghost use Rattle.scq_band.specs.Sights.{known_me};
 
-use crate::badges::Gathers;
+use crate::badges::take_in;
 use crate::band::Band;
 use crate::layout::GATE;
 use crate::leftovers::{count_left, unload};
@@ -180,7 +180,7 @@ pub fn gather<B: Buffer, T: Lifted<B>>(
     let mut first = bring_seat_home(words, last, &mut out);
     while let Some(seat) = seats.pop() {
         let token = bring_seat_home(words, seat, &mut out);
-        words.join_seat::<Gathers>(&mut first, token);
+        take_in(words, &mut first, token);
     }
     seats.destroy_empty();
     out.destroy_empty();

@@ -5,16 +5,13 @@ use Rattle.std.proofs.lemmas.List.Elements.{All-pop}
 use Rattle.atomic_table.specs.Table.{Me}
 use Rattle.scq_law.specs.Hands.{times}
 use Rattle.scq_band.specs.declared.slot.Slot.{Slot}
-use Rattle.scq_band.specs.Buffers.{LiesIn}
 use Rattle.scq_band.specs.Known.{Member}
-use Rattle.scq_band.specs.Sights.{Sight, both_sight, spent_sight}
+use Rattle.scq_band.specs.Sights.{Sight}
 use Rattle.scq_band.specs.Standing.{Standing}
 use Rattle.scq_band.specs.Kept.{identity_of}
 use Rattle.scq_band.specs.Closing.{indices_of, lifted_of}
 use Rattle.scq_band.specs.Homes.{OutOrHome, SeatsAreGathered}
-use Rattle.scq_band.proofs.RunShown.{joins_run}
-use Rattle.scq_band.proofs.Views.{joins}
-use Rattle.scq_band.proofs.Gathering.{gathered_first, gathered_more, out_joined, all_home_then, out_some, out_less, none_out, sum_none}
+use Rattle.scq_band.proofs.Gathering.{gathered_first, gathered_more, out_joined, all_home_then, out_some, out_less, none_left_out, all_gathered}
 use Rattle.scq_band.proofs.closing.gather.Goals as goal
 
 pub loop-seat-init : goal.loop-seat-init
@@ -38,6 +35,17 @@ loop-seat-init g c =
           (sym e.alone) e.home,
     )
 
+pub bring_seat_home-first-requires-clause-band : goal.bring_seat_home-first-requires-clause-band
+bring_seat_home-first-requires-clause-band g c κs within =
+    let bands = All-pop (λ (s : Standing g.row.B.Denot). s.band ≡ identity_of c.args.words.now.table_id c.args.words.now.key) c.args.seats.items
+    c.pop.new.self.items (Some c.in-Some.last) c.in-Some.ensures.items c.requires.bands in
+    bands.1
+
+pub bring_seat_home-first-requires-clause-lifted : goal.bring_seat_home-first-requires-clause-lifted
+bring_seat_home-first-requires-clause-lifted g c κs within i =
+    out_some (λ (s : Standing g.row.B.Denot). times i (lifted_of s.hand)) c.args.seats.items c.pop.new.self.items c.in-Some.last
+    (times i (indices_of (map g.T.Lifted.pair c.args.out.items))) (c.requires.lifted i) c.in-Some.ensures.items
+
 pub bring_seat_home-token-requires-clause-band : goal.bring_seat_home-token-requires-clause-band
 bring_seat_home-token-requires-clause-band g c κs within =
     let bands = All-pop (λ (s : Standing g.row.B.Denot). s.band ≡ identity_of c.args.words.now.table_id c.args.words.now.key) c.loop-seat.seats.items
@@ -49,20 +57,17 @@ bring_seat_home-token-requires-clause-lifted g c κs within i =
     out_some (λ (s : Standing g.row.B.Denot). times i (lifted_of s.hand)) c.loop-seat.seats.items c.pop-in-loop-seat.new.self.items c.in-Some-pop.seat
     (times i (indices_of (map g.T.Lifted.pair c.loop-seat.out.items))) (c.loop-seat.invariant.2 i) c.in-Some-pop.ensures.items
 
-pub join_seat-requires : goal.join_seat-requires
-join_seat-requires g c =
-    let k = c.args.words.now.key in
-    let Lie = LiesIn g.B.Buffer.contents g.B.Buffer.IsSameBuffer k.given.value.items in
-    let v = c.loop-seat.first.me.0 in
-    let w = c.bring_seat_home-token.result.me.0 in
-    let e = c.bring_seat_home-token.ensures in (
-      c.loop-seat.invariant.0,
-      e.own,
-      e.none,
-      c.requires.room,
-      joins_run Lie k.setup c.loop-seat.first.id v c.bring_seat_home-token.result.id w (both_sight v w) spent_sight refl refl
-          (λ gone run. joins Lie k.setup c.loop-seat.first.id v.known c.bring_seat_home-token.result.id w.known c.loop-seat.invariant.4.some),
-    )
+pub take_in-requires-clause-own : goal.take_in-requires-clause-own
+take_in-requires-clause-own g c κs within = (c.loop-seat.invariant.0, c.bring_seat_home-token.ensures.own)
+
+pub take_in-requires-clause-room : goal.take_in-requires-clause-room
+take_in-requires-clause-room g c κs within = c.requires.room
+
+pub take_in-requires-clause-stands : goal.take_in-requires-clause-stands
+take_in-requires-clause-stands g c κs within = c.loop-seat.invariant.4.some
+
+pub take_in-requires-clause-empty : goal.take_in-requires-clause-empty
+take_in-requires-clause-empty g c κs within = c.bring_seat_home-token.ensures.none
 
 pub loop-seat-preserved : goal.loop-seat-preserved
 loop-seat-preserved g c =
@@ -82,7 +87,7 @@ loop-seat-preserved g c =
     let out = map g.T.Lifted.pair c.args.out.items in
     let still = map g.T.Lifted.pair c.bring_seat_home-token.new.out.items in
     let home = out_joined g.B.Buffer.contents out (map g.T.Lifted.pair c.loop-seat.out.items) still v w e.alone c.loop-seat.invariant.5 e.home in (
-      c.join_seat.ensures.0 ∙ c.loop-seat.invariant.0,
+      c.take_in.ensures.own.0 ∙ c.loop-seat.invariant.0,
       bands.0,
       λ i.
           out_less (λ (s : Standing g.row.B.Denot). times i (lifted_of s.hand)) before left c.in-Some-pop.seat
@@ -90,28 +95,37 @@ loop-seat-preserved g c =
           (times i (indices_of (map g.T.Lifted.pair c.bring_seat_home-token.new.out.items))) (c.loop-seat.invariant.2 i) c.in-Some-pop.ensures.items (e.less i),
       e.given,
       subst (λ (m : Me (Slot g.row.B.Denot) Sight). SeatsAreGathered g.B.Buffer.contents rings c.args.seats.items left m.0.known m.0.seen)
-          (sym c.join_seat.ensures.2) more,
-      subst (λ (m : Me (Slot g.row.B.Denot) Sight). OutOrHome g.B.Buffer.contents out still m.0.known.seats) (sym c.join_seat.ensures.2) home,
+          (sym c.take_in.ensures.both) more,
+      subst (λ (m : Me (Slot g.row.B.Denot) Sight). OutOrHome g.B.Buffer.contents out still m.0.known.seats) (sym c.take_in.ensures.both) home,
     )
 
 pub destroy_empty-requires-2 : goal.destroy_empty-requires-2
 destroy_empty-requires-2 g c =
-    let none = none_out g.T.Lifted.pair c.loop-seat.out.items
-    (λ i.
-    let sums = c.loop-seat.invariant.2 i in
     let items : length c.loop-seat.seats.items ≡ 0 = omega (arith, c.in_default-pop.ensures.cases.0, c.loop-seat.seats.ok) in
-    let empty = sum_none (λ (s : Standing g.row.B.Denot). times i (lifted_of s.hand)) c.loop-seat.seats.items items in
-    omega (arith, sums, empty)) in
+    let none = none_left_out g.T.Lifted.pair c.loop-seat.out.items c.loop-seat.seats.items c.loop-seat.invariant.2 items in
     omega (arith, none, c.loop-seat.out.ok)
+
+pub returns-clause-own : goal.returns-clause-own
+returns-clause-own g c = c.loop-seat.invariant.0
+
+pub returns-clause-all : goal.returns-clause-all
+returns-clause-all g c =
+    let items : length c.loop-seat.seats.items ≡ 0 = omega (arith, c.in_default-pop.ensures.cases.0, c.loop-seat.seats.ok) in
+    let all = all_gathered g.B.Buffer.contents c.args.words.now.key.setup.rings c.args.seats.items c.loop-seat.seats.items c.loop-seat.first.me.0.known
+    c.loop-seat.first.me.0.seen c.loop-seat.invariant.4 items in
+    all.0
+
+pub returns-clause-seen : goal.returns-clause-seen
+returns-clause-seen g c =
+    let items : length c.loop-seat.seats.items ≡ 0 = omega (arith, c.in_default-pop.ensures.cases.0, c.loop-seat.seats.ok) in
+    let all = all_gathered g.B.Buffer.contents c.args.words.now.key.setup.rings c.args.seats.items c.loop-seat.seats.items c.loop-seat.first.me.0.known
+    c.loop-seat.first.me.0.seen c.loop-seat.invariant.4 items in
+    all.1
 
 pub returns-clause-home : goal.returns-clause-home
 returns-clause-home g c =
     let pair = g.T.Lifted.pair in
-    let none = none_out pair c.loop-seat.out.items
-    (λ i.
-    let sums = c.loop-seat.invariant.2 i in
     let items : length c.loop-seat.seats.items ≡ 0 = omega (arith, c.in_default-pop.ensures.cases.0, c.loop-seat.seats.ok) in
-    let empty = sum_none (λ (s : Standing g.row.B.Denot). times i (lifted_of s.hand)) c.loop-seat.seats.items items in
-    omega (arith, sums, empty)) in
+    let none = none_left_out pair c.loop-seat.out.items c.loop-seat.seats.items c.loop-seat.invariant.2 items in
     all_home_then g.B.Buffer.contents (map pair c.args.out.items) (map pair c.loop-seat.out.items) c.loop-seat.first.me.0.known.seats
     c.loop-seat.invariant.5 (length-map c.loop-seat.out.items pair ∙ none)
