@@ -1,5 +1,5 @@
 -- What is asked, from the matches of `clap` and the tests of the texts.
-use Rattle.std.proofs.Common.{◌≡◌, ◌∙◌, refl, sym, ap, ℕ, List, [], ◌∷◌, length, eqb, true, false, codes, Option, Some, None, Result, Ok, Err}
+use Rattle.std.proofs.Common.{◌≡◌, ◌∙◌, refl, sym, ap, ℕ, List, [], ◌∷◌, ◌++◌, length, eqb, true, false, codes, Option, Some, None, Result, Ok, Err}
 use Rattle.std.specs.Prelude.{◌≢◌, IsErrOf, unwrap_or, option_map}
 use Rattle.std.specs.Result.{IsErrAnd}
 use Rattle.std.specs.Option.{option_or}
@@ -111,7 +111,7 @@ pub name-there : (name : List ℕ) → eqb (length name) 0 ≡ false → first_o
 name-there name is = rw is refl
 
 -- an error that `?` hands on
-handed-on : {T E : Type 0} (r : Result T E) (e f : E) → IsErrAnd r (λ passed. passed ≡ e) → IsErrOf r f → e ≡ f
+pub handed-on : {T E : Type 0} (r : Result T E) (e f : E) → IsErrAnd r (λ passed. passed ≡ e) → IsErrOf r f → e ≡ f
 handed-on (Ok x) e f passed is = absurd passed
 handed-on (Err x) e f passed is = let same : x ≡ f = cc in sym passed ∙ same
 
@@ -138,3 +138,22 @@ pub clap-refused : {T : Type 0} (app : App) (words : List (List ℕ)) (result : 
     → IsErrAnd result (λ passed. passed ≡ error) → IsErrOf result (Refused fault) → answered_by (option_or (refused_by_clap app words) rest) what ≡ Err fault
 clap-refused app words result error fault rest what said passed is =
     ap (λ test. answered_by (option_or test rest) what) (refused-on app words result error fault said passed is)
+
+-- tests before others
+pub tests-then : (tests more : List (Option WordsFault)) → first_of_tests (tests ++ more) ≡ option_or (first_of_tests tests) (first_of_tests more)
+tests-then [] more = refl
+tests-then (None ∷ tests) more = tests-then tests more
+tests-then (Some fault ∷ tests) more = refl
+
+-- where those pass, the others decide
+pub tests-pass : (tests more : List (Option WordsFault)) (said : Option WordsFault) → None ≡ first_of_tests tests → first_of_tests more ≡ said
+    → first_of_tests (tests ++ more) ≡ said
+tests-pass tests more said none then = tests-then tests more ∙ ap (λ test. option_or test (first_of_tests more)) (sym none) ∙ then
+
+-- else theirs is the fault that `?` hands on
+pub tests-refuse : {T : Type 0} (tests more : List (Option WordsFault)) (result : Result T WordsError) (error fault : WordsFault)
+    → Some error ≡ first_of_tests tests → IsErrAnd result (λ passed. passed ≡ Refused error) → IsErrOf result (Refused fault)
+    → first_of_tests (tests ++ more) ≡ Some fault
+tests-refuse tests more result error fault some passed is =
+    tests-then tests more ∙ ap (λ test. option_or test (first_of_tests more)) (sym some)
+    ∙ ap Some (refused-same (handed-on result (Refused error) (Refused fault) passed is))

@@ -1,14 +1,14 @@
--- The tests of `run`'s, `stages`' and `judge`'s arguments never answer that the words aren't understood.
+-- The tests of the arguments of `run`, `stages`, `judge` and `self` never answer that the words aren't understood.
 use Rattle.std.proofs.Common.{◌≡◌, ◌≢◌, ◌<◌, ◌⊎◌, sym, subst, map, inl, inr, arith, true, false, ℕ, ◌+◌, ◌≤◌, Bool, List, [], ◌∷◌, length, Option, Some, None}
 use Rattle.std.specs.Prelude.{◌==◌, ◌&&◌, nat_lt, nat_le, option_map, if◌then◌else◌}
 use Rattle.std.specs.List.{All, position}
 use Rattle.std.proofs.lemmas.List.Elements.{All-map}
 use Rattle.std.specs.Option.{option_or}
 use Rattle.scq_topics.specs.Topics.{entries_of, first_fault}
-use Rattle.scq_words.specs.Asked.{JudgeTexts, RunTexts, StagesTexts, first_of_tests, judge_tests, refused_if, refused_names, refused_topics, run_tests, stages_tests}
+use Rattle.scq_words.specs.Asked.{JudgeTexts, RunTexts, SelfTexts, StagesTexts, first_of_tests, judge_tests, refused_if, refused_names, refused_topics, run_tests, self_tests, stages_tests}
 use Rattle.scq_words.specs.Numbers.{fault_outside, number_in, refused_outside}
 use Rattle.scq_words.specs.declared.fault.WordsFault.{WordsFault}
-use Rattle.scq_words.specs.declared.fault.WordsFault.TheVariants.{NotUnderstood, Workers, Order, Size, Topics, TooManyFiles, TooManyRecordings, NoName, Room}
+use Rattle.scq_words.specs.declared.fault.WordsFault.TheVariants.{NotUnderstood, Workers, Order, Size, Topics, TooManyFiles, TooManyRecordings, NoName, Room, Seed, Lines}
 
 -- a test that doesn't answer that the words aren't understood
 abbrev IsOther : Option WordsFault → Type 0
@@ -62,6 +62,11 @@ stages-other t =
     or-other _ _ (outside-other 1 4096 Workers t.workers (λ e. cc))
     (or-other _ _ (outside-other 1 12 Order t.order (λ e. cc))
     (or-other _ _ (outside-other 1 65536 Size t.size (λ e. cc)) (files-other 64 TooManyFiles t.files (λ e. cc))))
+
+pub self-other : (t : SelfTexts) → first_of_tests (self_tests t) ≢ Some NotUnderstood
+self-other t =
+    or-other _ _ (outside-other 0 2147483647 Seed t.seed (λ e. cc))
+    (or-other _ _ (outside-other 1 1000000 Lines t.lines (λ e. cc)) (or-other _ None (outside-other 1 4096 Workers t.workers (λ e. cc)) (λ e. cc)))
 
 -- a number that is the default or was tested is in its range
 pub in-range : (n default low high : ℕ) → (n ≡ default) ⊎ ((low ≤ n) × (n ≤ high)) → low ≤ default → default ≤ high → (low ≤ n) × (n ≤ high)

@@ -1,44 +1,48 @@
-ghost use Rattle.std.specs.Prelude.{◌≡◌, ◌<◌, ◌≤◌, length, map, nat_lt, string_bytes, vec_len};
-ghost use Rattle.std.specs.Prelude.{IfOk, OnOk};
+ghost use Rattle.std.specs.Prelude.{◌≡◌, ◌<◌, ◌≤◌, None, Some, length, map, string_bytes, vec_len};
+ghost use Rattle.std.specs.Prelude.{IfOk, IsErrOf, OnOk};
 ghost use Rattle.std.specs.List.{All};
 ghost use Rattle.std.specs.Result.{result_err};
-ghost use Rattle.scq_words.specs.Asked.{refused_if, refused_names};
+ghost use Rattle.scq_words.specs.Asked.{first_of_tests, refused_names};
+ghost use Rattle.scq_words.specs.Tested.{files_tests};
+ghost use Rattle.scq_words.specs.declared.fault.WordsFault.{WordsFault as TheFault};
 
-use crate::WordsFault;
+use crate::{WordsError, WordsFault};
 use std::alloc::{AllocError, Global};
 
 /// The most files of a run.
-const MOST_FILES: usize = 64;
+pub const MOST_FILES: usize = 64;
 
 /// The most files of recordings.
-const MOST_RECORDINGS: usize = 4096;
+pub const MOST_RECORDINGS: usize = 4096;
 
-/// There are at most 64 files.
-pub fn few_files(files: &[&str]) -> Result<(), WordsFault>
-    ensures refused { result_err result
-        ≡ refused_if (nat_lt 64 (length files.now)) WordsFault.TooManyFiles }
-    ensures few { OnOk result (length files.now ≤ 64) }
+/// Copies of the names of at most so many files, each of which has one.
+pub fn files_of(
+    alloc: Global,
+    files: &[&str],
+    most: usize,
+    many: WordsFault,
+) -> Result<Vec<String>, WordsError>
+    requires { most ≤ 4096 }
+    ensures passes { OnOk result (first_of_tests
+        (files_tests most many (map (λ name. name.now) files.now)) ≡ None) }
+    ensures names { IfOk result (λ own.
+        map string_bytes own.items ≡ map (λ name. name.now) files.now) }
+    ensures refused { (fault : TheFault) → IsErrOf result (WordsError.Refused fault)
+        → first_of_tests (files_tests most many (map (λ name. name.now) files.now)) ≡ Some fault }
+    ensures few { IfOk result (λ own. vec_len own ≤ most) }
+    ensures named { IfOk result (λ own.
+        All (λ name. 0 < length name) (map string_bytes own.items)) }
 {
-    if files.len() > MOST_FILES {
-        return Err(WordsFault::TooManyFiles);
+    if files.len() > most {
+        return Err(WordsError::Refused(many));
     }
-    Ok(())
-}
-
-/// There are at most 4,096 files of recordings.
-pub fn few_recordings(files: &[&str]) -> Result<(), WordsFault>
-    ensures refused { result_err result
-        ≡ refused_if (nat_lt 4096 (length files.now)) WordsFault.TooManyRecordings }
-    ensures few { OnOk result (length files.now ≤ 4096) }
-{
-    if files.len() > MOST_RECORDINGS {
-        return Err(WordsFault::TooManyRecordings);
-    }
-    Ok(())
+    named_files(files)?;
+    let own = own_files(alloc, files)?;
+    Ok(own)
 }
 
 /// Each of at most 4,096 files has a name.
-pub fn named_files(files: &[&str]) -> Result<(), WordsFault>
+fn named_files(files: &[&str]) -> Result<(), WordsFault>
     requires { length files.now ≤ 4096 }
     ensures refused { result_err result ≡ refused_names (map (λ name. name.now) files.now) }
     ensures named { OnOk result (All (λ name. 0 < length name.now) files.now) }
@@ -52,7 +56,7 @@ pub fn named_files(files: &[&str]) -> Result<(), WordsFault>
 }
 
 /// Copies of the names.
-pub fn own_files(alloc: Global, files: &[&str]) -> Result<Vec<String>, AllocError>
+fn own_files(alloc: Global, files: &[&str]) -> Result<Vec<String>, AllocError>
     ensures len { IfOk result (λ own. vec_len own ≡ length files.now) }
     ensures names { IfOk result (λ own.
         map string_bytes own.items ≡ map (λ name. name.now) files.now) }

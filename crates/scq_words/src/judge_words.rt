@@ -8,7 +8,7 @@ ghost use Rattle.scq_words.specs.Commands.{judge_app};
 ghost use Rattle.scq_words.specs.Numbers.{number_or, text_in};
 ghost use Rattle.scq_words.specs.Ranges.{IsJudgeInRange};
 
-use crate::files::{few_recordings, named_files, own_files};
+use crate::files::{MOST_RECORDINGS, files_of};
 use crate::number::optional_number;
 use crate::parsing::judge_matches;
 use crate::request::JudgeRequest;
@@ -49,9 +49,7 @@ fn check_judge(
     ensures ranges { IfOk result (λ request. IsJudgeInRange (judge_of request)) }
 {
     let number = optional_number(room, 1, 1, u32::MAX, WordsFault::Room)?;
-    few_recordings(files)?;
-    named_files(files)?;
-    let files = own_files(alloc, files)?;
+    let files = files_of(alloc, files, MOST_RECORDINGS, WordsFault::TooManyRecordings)?;
     Ok(JudgeRequest {
         room: room_given(room, number),
         files,

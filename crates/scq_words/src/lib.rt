@@ -12,6 +12,7 @@ mod parsing;
 mod reading;
 mod request;
 mod run;
+mod run_numbers;
 mod self_words;
 mod stages_words;
 mod text_request;

@@ -1,9 +1,9 @@
 ghost use Rattle.std.specs.Prelude.{◌≡◌, ◌≢◌, IfOk, map, string_bytes, true, false};
-ghost use Rattle.clap.specs.Words.{app_of, is_simple_and_free, kind_of, rule_of};
-ghost use Rattle.scq_words.specs.Commands.{batch_app, files_rule, flag_rule, judge_app, lines_app};
-ghost use Rattle.scq_words.specs.Commands.{named_app, numbers_app, option_rule, order_app};
-ghost use Rattle.scq_words.specs.Commands.{plain_app, report_app, room_app, run_app, seed_app};
-ghost use Rattle.scq_words.specs.Commands.{self_app, stages_app, text_app, topics_app, workers_app};
+ghost use Rattle.clap.specs.Words.{App, Rule, app_of, is_simple_and_free, kind_of, rule_of};
+ghost use Rattle.clap.specs.Words.{with_rule};
+ghost use Rattle.scq_words.specs.Commands.{file_rule, files_rule, flag_rule, judge_app, named_app};
+ghost use Rattle.scq_words.specs.Commands.{numbers_app, option_rule, plain_app, required_rule};
+ghost use Rattle.scq_words.specs.Commands.{run_app, self_app, stages_app, text_app};
 ghost use Rattle.scq_words.specs.Parsing.{Parses};
 
 use crate::{TextCommand, WordsError, WordsFault};
@@ -12,11 +12,15 @@ use clap::{Arg, ArgAction, ArgMatches, Command, Error};
 use std::alloc::{AllocError, Global};
 
 /// The matches of the words, or the one fault of words that this command refuses.
-fn parse<'a>(command: Command<'a>, words: &'a [String]) -> Result<ArgMatches<'a>, WordsError>
-    requires { is_simple_and_free (app_of command) ≡ true }
-    ensures { Parses (app_of command.entry) (map string_bytes words.entry.now) result }
+fn parse<'a>(
+    command: Result<Command<'a>, AllocError>,
+    words: &'a [String],
+) -> Result<ArgMatches<'a>, WordsError>
+    ensures { (app : App) → is_simple_and_free app ≡ true
+        → IfOk command.entry (λ command. app_of command ≡ app)
+        → Parses app (map string_bytes words.entry.now) result }
 {
-    match command.try_get_matches_from(words) {
+    match command?.try_get_matches_from(words) {
         Ok(matches) => Ok(matches),
         Err(error) => Err(error_of(&error)),
     }
@@ -26,116 +30,71 @@ fn parse<'a>(command: Command<'a>, words: &'a [String]) -> Result<ArgMatches<'a>
 pub fn run_matches<'a>(alloc: Global, words: &'a [String]) -> Result<ArgMatches<'a>, WordsError>
     ensures { Parses run_app (map string_bytes words.entry.now) result }
 {
-    parse(run_command(alloc)?, words)
+    parse(run_command(alloc), words)
 }
 
 fn run_command<'a>(alloc: Global) -> Result<Command<'a>, AllocError>
     ensures { IfOk result (λ command. app_of command ≡ run_app) }
 {
-    report_command(alloc)?.arg(files(alloc))
-}
-
-fn report_command<'a>(alloc: Global) -> Result<Command<'a>, AllocError>
-    ensures { IfOk result (λ command. app_of command ≡ report_app) }
-{
-    batch_command(alloc)?.arg(flag(alloc, "report"))
-}
-
-fn batch_command<'a>(alloc: Global) -> Result<Command<'a>, AllocError>
-    ensures { IfOk result (λ command. app_of command ≡ batch_app) }
-{
-    topics_command(alloc)?.arg(flag(alloc, "batch"))
-}
-
-fn topics_command<'a>(alloc: Global) -> Result<Command<'a>, AllocError>
-    ensures { IfOk result (λ command. app_of command ≡ topics_app) }
-{
-    numbers_command(alloc, "run")?.arg(option(alloc, "topics"))
+    let numbers = numbers_command(alloc, "run");
+    let topics = with(numbers, option(alloc, "topics"));
+    let batch = with(topics, flag(alloc, "batch"));
+    let report = with(batch, flag(alloc, "report"));
+    with(report, files(alloc))
 }
 
 /// A command with the options that are numbers of a run.
 fn numbers_command<'a>(alloc: Global, name: &'a str) -> Result<Command<'a>, AllocError>
     ensures { IfOk result (λ command. app_of command ≡ numbers_app name.entry.now) }
 {
-    order_command(alloc, name)?.arg(option(alloc, "size"))
-}
-
-fn order_command<'a>(alloc: Global, name: &'a str) -> Result<Command<'a>, AllocError>
-    ensures { IfOk result (λ command. app_of command ≡ order_app name.entry.now) }
-{
-    workers_command(alloc, name)?.arg(option(alloc, "order"))
-}
-
-fn workers_command<'a>(alloc: Global, name: &'a str) -> Result<Command<'a>, AllocError>
-    ensures { IfOk result (λ command. app_of command ≡ workers_app name.entry.now) }
-{
-    plain_command(alloc, name).arg(option(alloc, "workers"))
-}
-
-fn files<'a>(alloc: Global) -> Arg<'a>
-    ensures rule { rule_of result ≡ files_rule }
-    ensures local { result.global ≡ false }
-{
-    Arg::new(alloc, "files")
-        .required(true)
-        .action(ArgAction::Append)
+    let workers = with(Ok(plain_command(alloc, name)), option(alloc, "workers"));
+    let order = with(workers, option(alloc, "order"));
+    with(order, option(alloc, "size"))
 }
 
 /// The matches of `stages`'s words, or the one fault of words that `clap` refuses.
 pub fn stages_matches<'a>(alloc: Global, words: &'a [String]) -> Result<ArgMatches<'a>, WordsError>
     ensures { Parses stages_app (map string_bytes words.entry.now) result }
 {
-    parse(stages_command(alloc)?, words)
+    parse(stages_command(alloc), words)
 }
 
 fn stages_command<'a>(alloc: Global) -> Result<Command<'a>, AllocError>
     ensures { IfOk result (λ command. app_of command ≡ stages_app) }
 {
-    numbers_command(alloc, "stages")?.arg(files(alloc))
+    with(numbers_command(alloc, "stages"), files(alloc))
 }
 
 /// The matches of `self`'s words, or the one fault of words that `clap` refuses.
 pub fn self_matches<'a>(alloc: Global, words: &'a [String]) -> Result<ArgMatches<'a>, WordsError>
     ensures { Parses self_app (map string_bytes words.entry.now) result }
 {
-    parse(self_command(alloc)?, words)
+    parse(self_command(alloc), words)
 }
 
 fn self_command<'a>(alloc: Global) -> Result<Command<'a>, AllocError>
     ensures { IfOk result (λ command. app_of command ≡ self_app) }
 {
-    lines_command(alloc)?.arg(option(alloc, "workers"))
-}
-
-fn lines_command<'a>(alloc: Global) -> Result<Command<'a>, AllocError>
-    ensures { IfOk result (λ command. app_of command ≡ lines_app) }
-{
-    seed_command(alloc)?.arg(option(alloc, "lines").required(true))
-}
-
-fn seed_command<'a>(alloc: Global) -> Result<Command<'a>, AllocError>
-    ensures { IfOk result (λ command. app_of command ≡ seed_app) }
-{
-    plain_command(alloc, "self").arg(option(alloc, "seed").required(true))
+    let seed = with(
+        Ok(plain_command(alloc, "self")),
+        required_option(alloc, "seed"),
+    );
+    let lines = with(seed, required_option(alloc, "lines"));
+    with(lines, option(alloc, "workers"))
 }
 
 /// The matches of `judge`'s words, or the one fault of words that `clap` refuses.
 pub fn judge_matches<'a>(alloc: Global, words: &'a [String]) -> Result<ArgMatches<'a>, WordsError>
     ensures { Parses judge_app (map string_bytes words.entry.now) result }
 {
-    parse(judge_command(alloc)?, words)
+    parse(judge_command(alloc), words)
 }
 
 fn judge_command<'a>(alloc: Global) -> Result<Command<'a>, AllocError>
     ensures { IfOk result (λ command. app_of command ≡ judge_app) }
 {
-    room_command(alloc)?.arg(files(alloc))
-}
-
-fn room_command<'a>(alloc: Global) -> Result<Command<'a>, AllocError>
-    ensures { IfOk result (λ command. app_of command ≡ room_app) }
-{
-    plain_command(alloc, "judge").arg(option(alloc, "room"))
+    let room = with(Ok(plain_command(alloc, "judge")), option(alloc, "room"));
+    with(room, files(alloc))
 }
 
 /// The matches of the words of a command that takes one file.
@@ -146,13 +105,13 @@ pub fn text_matches<'a>(
 ) -> Result<ArgMatches<'a>, WordsError>
     ensures { Parses (text_app command) (map string_bytes words.entry.now) result }
 {
-    parse(text_command(alloc, command)?, words)
+    parse(text_command(alloc, command), words)
 }
 
 fn text_command<'a>(alloc: Global, command: TextCommand) -> Result<Command<'a>, AllocError>
     ensures { IfOk result (λ app. app_of app ≡ text_app command) }
 {
-    named_command(alloc, command)?.arg(Arg::new(alloc, "file").required(true))
+    with(named_command(alloc, command), file(alloc))
 }
 
 fn named_command<'a>(alloc: Global, command: TextCommand) -> Result<Command<'a>, AllocError>
@@ -161,7 +120,7 @@ fn named_command<'a>(alloc: Global, command: TextCommand) -> Result<Command<'a>,
     match command {
         TextCommand::Check => Ok(plain_command(alloc, "check")),
         TextCommand::Replay | TextCommand::Order => {
-            plain_command(alloc, "replay").arg(flag(alloc, "order"))
+            with(Ok(plain_command(alloc, "replay")), flag(alloc, "order"))
         }
     }
 }
@@ -176,12 +135,50 @@ fn plain_command<'a>(alloc: Global, name: &'a str) -> Command<'a>
         .disable_version_flag(true)
 }
 
+/// The command with an argument more, which is not for commands below it.
+fn with<'a>(
+    command: Result<Command<'a>, AllocError>,
+    arg: Arg<'a>,
+) -> Result<Command<'a>, AllocError>
+    ensures { (app : App) (rule : Rule) → arg.entry.global ≡ false
+        → IfOk command.entry (λ command. app_of command ≡ app) → rule_of arg.entry ≡ rule
+        → IfOk result (λ command. app_of command ≡ with_rule app rule) }
+{
+    command?.arg(arg)
+}
+
+/// One or more files.
+fn files<'a>(alloc: Global) -> Arg<'a>
+    ensures rule { rule_of result ≡ files_rule }
+    ensures local { result.global ≡ false }
+{
+    Arg::new(alloc, "files")
+        .required(true)
+        .action(ArgAction::Append)
+}
+
+/// The one file.
+fn file<'a>(alloc: Global) -> Arg<'a>
+    ensures rule { rule_of result ≡ file_rule }
+    ensures local { result.global ≡ false }
+{
+    Arg::new(alloc, "file").required(true)
+}
+
 /// `--name VALUE` or `--name=VALUE`.
 fn option<'a>(alloc: Global, name: &'a str) -> Arg<'a>
     ensures rule { rule_of result ≡ option_rule name.entry.now }
     ensures local { result.global ≡ false }
 {
     Arg::new(alloc, name).long(name)
+}
+
+/// The same, which must be given.
+fn required_option<'a>(alloc: Global, name: &'a str) -> Arg<'a>
+    ensures rule { rule_of result ≡ required_rule name.entry.now }
+    ensures local { result.global ≡ false }
+{
+    option(alloc, name).required(true)
 }
 
 /// `--name`.

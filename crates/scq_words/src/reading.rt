@@ -27,12 +27,12 @@ pub fn read_words(alloc: Global, words: &[String]) -> Result<Request, WordsError
 {
     match words {
         [command, rest @ ..] => match command.as_str() {
-            "run" => Ok(Request::Run(read_run(alloc, rest)?)),
-            "self" => Ok(Request::SelfRun(read_self(alloc, rest)?)),
-            "judge" => Ok(Request::Judge(read_judge(alloc, rest)?)),
-            "check" => Ok(Request::Text(read_text(alloc, TextCommand::Check, rest)?)),
-            "replay" => Ok(Request::Text(read_text(alloc, TextCommand::Replay, rest)?)),
-            "stages" => Ok(Request::Stages(read_stages(alloc, rest)?)),
+            "run" => read_run(alloc, rest).map(Request::Run),
+            "self" => read_self(alloc, rest).map(Request::SelfRun),
+            "judge" => read_judge(alloc, rest).map(Request::Judge),
+            "check" => read_text(alloc, TextCommand::Check, rest).map(Request::Text),
+            "replay" => read_text(alloc, TextCommand::Replay, rest).map(Request::Text),
+            "stages" => read_stages(alloc, rest).map(Request::Stages),
             _ => Err(WordsError::Refused(WordsFault::NotUnderstood)),
         },
         [] => Err(WordsError::Refused(WordsFault::NotUnderstood)),

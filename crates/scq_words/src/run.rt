@@ -10,10 +10,9 @@ ghost use Rattle.scq_words.specs.Commands.{run_app};
 ghost use Rattle.scq_words.specs.Numbers.{text_in};
 ghost use Rattle.scq_words.specs.Ranges.{IsRunInRange};
 
-use crate::files::{few_files, named_files, own_files};
-use crate::number::optional_number;
+use crate::files::{MOST_FILES, files_of};
 use crate::parsing::run_matches;
-use crate::workers::workers_of;
+use crate::run_numbers::{RunNumbers, numbers_of};
 use crate::{RunRequest, WordsError, WordsFault};
 use scq_topics::Topics;
 use std::alloc::Global;
@@ -64,14 +63,13 @@ fn check_run(
         → first_of_tests (run_tests texts) ≡ Some fault }
     ensures ranges { IfOk result (λ request. IsRunInRange (asked_run request)) }
 {
-    let given = optional_number(workers, 0, 1, 4096, WordsFault::Workers)?;
-    let order = optional_number(order, 6, 1, 12, WordsFault::Order)?;
-    let size = optional_number(size, 65536, 1, 65536, WordsFault::Size)?;
+    let RunNumbers {
+        workers,
+        order,
+        size,
+    } = numbers_of(workers, order, size)?;
     let topics = topics_of(topics)?;
-    few_files(files)?;
-    named_files(files)?;
-    let workers = workers_of(workers, given, order);
-    let files = own_files(alloc, files)?;
+    let files = files_of(alloc, files, MOST_FILES, WordsFault::TooManyFiles)?;
     Ok(RunRequest {
         workers,
         order,

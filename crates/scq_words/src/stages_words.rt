@@ -8,10 +8,9 @@ ghost use Rattle.scq_words.specs.Commands.{stages_app};
 ghost use Rattle.scq_words.specs.Numbers.{text_in};
 ghost use Rattle.scq_words.specs.Ranges.{IsStagesInRange};
 
-use crate::files::{few_files, named_files, own_files};
-use crate::number::optional_number;
+use crate::files::{MOST_FILES, files_of};
 use crate::parsing::stages_matches;
-use crate::workers::workers_of;
+use crate::run_numbers::{RunNumbers, numbers_of};
 use crate::{StagesRequest, WordsError, WordsFault};
 use std::alloc::Global;
 
@@ -53,13 +52,12 @@ fn check_stages(
         → first_of_tests (stages_tests texts) ≡ Some fault }
     ensures ranges { IfOk result (λ request. IsStagesInRange (stages_of request)) }
 {
-    let given = optional_number(workers, 0, 1, 4096, WordsFault::Workers)?;
-    let order = optional_number(order, 6, 1, 12, WordsFault::Order)?;
-    let size = optional_number(size, 65536, 1, 65536, WordsFault::Size)?;
-    few_files(files)?;
-    named_files(files)?;
-    let workers = workers_of(workers, given, order);
-    let files = own_files(alloc, files)?;
+    let RunNumbers {
+        workers,
+        order,
+        size,
+    } = numbers_of(workers, order, size)?;
+    let files = files_of(alloc, files, MOST_FILES, WordsFault::TooManyFiles)?;
     Ok(StagesRequest {
         workers,
         order,

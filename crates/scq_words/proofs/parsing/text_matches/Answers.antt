@@ -1,4 +1,4 @@
-use Rattle.std.proofs.Common.{◌≡◌, ◌∙◌, refl, ap, true}
+use Rattle.std.proofs.Common.{◌≡◌, refl, true}
 use Rattle.clap.specs.Words.{is_simple_and_free}
 use Rattle.scq_words.specs.Commands.{text_app}
 use Rattle.scq_words.specs.declared.text_request.TextCommand.{TextCommand}
@@ -10,5 +10,5 @@ simple Check = refl
 simple Replay = refl
 simple Order = refl
 
-pub parse-requires : goal.parse-requires
-parse-requires c = ap is_simple_and_free c.in_ok-text_command.ensures ∙ simple c.args.command
+pub returns : goal.returns
+returns c = c.parse.ensures (text_app c.args.command) (simple c.args.command) c.text_command.ensures

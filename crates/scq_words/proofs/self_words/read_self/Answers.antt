@@ -2,8 +2,11 @@ use Rattle.std.proofs.Common.{◌≡◌, ◌∙◌, ap, sym, map, Some, Ok, Err}
 use Rattle.std.specs.Prelude.{string_bytes}
 use Rattle.clap.specs.Words.{found_of, matches_of}
 use Rattle.scq_words.specs.Commands.{self_app}
-use Rattle.scq_words.specs.Asked.{generated, self_of, asked_of_self, self_tests, self_asked}
+use Rattle.scq_words.specs.Asked.{generated, self_of, asked_of_self, self_tests, self_asked, texts_of_self}
+use Rattle.scq_words.specs.Numbers.{text_in}
+use Rattle.scq_words.specs.declared.fault.WordsFault.TheVariants.{NotUnderstood}
 use Rattle.scq_words.proofs.Answering.{self-texts, tests-answer, answer-ok, answer-err, clap-refused}
+use Rattle.scq_words.proofs.InRange.{self-other}
 use Rattle.scq_words.proofs.self_words.read_self.Goals as goal
 
 pub returns-in-Ok-clause-request : goal.returns-in-Ok-clause-request
@@ -30,3 +33,9 @@ unfolding asked_of_self
 returns-in_err-matches-clause-refused c = λ fault is.
     clap-refused self_app (map string_bytes c.args.words.now) c.from_residual.result c.in_err-matches.field-0.0 fault _ _ c.in_err-matches.ensures.refused
     c.from_residual.ensures.1 is
+
+pub returns-clause-taken : goal.returns-clause-taken
+returns-clause-taken c = λ is.
+    let same : c.in-Err.fault ≡ NotUnderstood = cc in
+    absurd (self-other (texts_of_self (text_in c.get_str-seed.result) (text_in c.get_str-lines.result) (text_in c.get_str-workers.result))
+    (sym c.in-Err.ensures.refused ∙ ap Some same))

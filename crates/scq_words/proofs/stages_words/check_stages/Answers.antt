@@ -1,14 +1,41 @@
-use Rattle.std.proofs.Common.{arith}
+use Rattle.std.proofs.Common.{Err, ap, arith, map, sym}
 use Rattle.std.specs.Prelude.{string_bytes}
 use Rattle.std.proofs.lemmas.List.{length-map}
-use Rattle.scq_words.proofs.InRange.{all-named, in-range}
+use Rattle.scq_words.specs.Numbers.{text_in}
+use Rattle.scq_words.specs.Tested.{numbers_tests, files_tests}
+use Rattle.scq_words.specs.declared.fault.WordsFault.TheVariants.{TooManyFiles}
+use Rattle.scq_words.specs.declared.fault.WordsError.TheVariants.{Refused}
+use Rattle.scq_words.proofs.Answering.{handed-on, tests-pass, tests-refuse}
 use Rattle.scq_words.proofs.stages_words.check_stages.Goals as goal
+
+pub returns-in_err-workers-clause-refused : goal.returns-in_err-workers-clause-refused
+returns-in_err-workers-clause-refused c = λ fault is.
+    tests-refuse (numbers_tests (text_in c.args.workers) (text_in c.args.order) (text_in c.args.size)) (files_tests 64 TooManyFiles (map (λ name. name.now) c.args.files.now))
+    c.from_residual.result c.in_err-workers.field-0.0 fault c.in_err-workers.ensures.refused c.from_residual.ensures.1 is
+
+pub returns-in_err-files-clause-refused : goal.returns-in_err-files-clause-refused
+returns-in_err-files-clause-refused c = λ fault is.
+    let same = handed-on c.from_residual-in_err-files.result c.in_err-files.field-0.0 (Refused fault) c.from_residual-in_err-files.ensures.1 is in
+    tests-pass (numbers_tests (text_in c.args.workers) (text_in c.args.order) (text_in c.args.size)) (files_tests 64 TooManyFiles (map (λ name. name.now) c.args.files.now)) _
+    c.in_ok-workers.ensures.refused (c.in_err-files.ensures.refused fault (ap Err same))
+
+pub returns-clause-request : goal.returns-clause-request
+returns-clause-request c = (
+  tests-pass (numbers_tests (text_in c.args.workers) (text_in c.args.order) (text_in c.args.size)) (files_tests 64 TooManyFiles (map (λ name. name.now) c.args.files.now)) _
+      c.in_ok-workers.ensures.refused c.in_ok-files.ensures.passes,
+  λ i. record {
+    workers = sym c.in_ok-workers.ensures.workers i;
+    order = sym c.in_ok-workers.ensures.order i;
+    size = sym c.in_ok-workers.ensures.size i;
+    files = sym c.in_ok-files.ensures.names i;
+  },
+)
 
 pub returns-clause-ranges : goal.returns-clause-ranges
 returns-clause-ranges c = record {
-  order = in-range c.in_ok-order.order 6 1 12 c.in_ok-order.ensures.within (omega arith) (omega arith);
-  workers = c.workers_of-workers.ensures.within;
-  size = in-range c.in_ok-size.size 65536 1 65536 c.in_ok-size.ensures.within (omega arith) (omega arith);
-  files = omega (arith, length-map c.in_ok-files.files.items string_bytes, c.in_ok-files.ensures.len, c.in_ok-few_files.ensures.few);
-  names = all-named c.args.files.now (λ name. name.now) _ c.in_ok-files.ensures.names c.in_ok-named_files.ensures.named;
+  order = c.in_ok-workers.ensures.small_order;
+  workers = c.in_ok-workers.ensures.few_workers;
+  size = c.in_ok-workers.ensures.small_size;
+  files = omega (arith, length-map c.in_ok-files.files.items string_bytes, c.in_ok-files.ensures.few);
+  names = c.in_ok-files.ensures.named;
 }

@@ -1,0 +1,6 @@
+use Rattle.std.proofs.Common.{refl}
+use Rattle.scq_words.specs.Commands.{run_app}
+use Rattle.scq_words.proofs.parsing.run_matches.Goals as goal
+
+pub returns : goal.returns
+returns c = c.parse.ensures run_app refl c.run_command.ensures
