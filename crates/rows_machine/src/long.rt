@@ -1,13 +1,22 @@
 //! Runs and copies so many that a call which gave up at some length would be seen. They are made
 //! here, so that no file has them.
 
-use crate::replays::{counts, replayed};
+use crate::replays::{replayed, show_counts};
 use crate::schedules::push_steps;
-use crate::steps::ring_shown;
+use crate::steps::show_ring;
 use anyhow::{Context, Result};
 use scq_core::State;
 use scq_law::Replayed;
+use scq_word::NoMemory;
 use std::alloc::Global;
+
+/// A number of times, and the steps behind it.
+fn times_of(given: &str) -> Result<(u32, &str)> {
+    let (times, round) = given
+        .split_once("; ")
+        .context("a number of times and steps")?;
+    Ok((times.parse::<u32>()?, round))
+}
 
 /// What was replayed by seat 0, of steps that stand so often behind one another.
 fn often(alloc: Global, times: u32, round: &str) -> Result<Replayed> {
@@ -21,31 +30,28 @@ fn often(alloc: Global, times: u32, round: &str) -> Result<Replayed> {
 /// `TIMES; STEPS`: seat 0 makes the steps so often, in one replay. How many events there are, and
 /// ring 0 as a copy of the state has it, with its resets and fails.
 pub fn repeated(alloc: Global, given: &str) -> Result<String> {
-    let (times, round) = given
-        .split_once("; ")
-        .context("a number of times and steps")?;
-    let replayed = often(alloc, times.parse::<u32>()?, round)?;
-    let ring = ring_shown(alloc, &replayed.state.copy()?, 0)?;
-    let counts = counts(alloc, &replayed, 0)?;
-    let events = replayed.events.len();
-    Ok(format!(in alloc; "{events} events; {ring} {counts}")?)
+    let (times, round) = times_of(given)?;
+    let replayed = often(alloc, times, round)?;
+    let mut text = format!(in alloc; "{} events; ", replayed.events.len())?;
+    show_ring(&mut text, &replayed.state.copy()?, 0)?;
+    show_counts(&mut text, &replayed, 0)?;
+    Ok(text)
 }
 
-fn copy_often(state: State, times: u32) -> Result<State> {
-    let mut copy = state;
+fn copy_often(state: &mut State, times: u32) -> Result<(), NoMemory> {
     for _ in 0..times {
-        copy = copy.copy()?;
+        *state = state.copy()?;
     }
-    Ok(copy)
+    Ok(())
 }
 
 /// `TIMES; STEPS`: ring 0 after the steps of seat 0, as a copy has it that is the last of so many,
 /// each made of the one before.
 pub fn copied(alloc: Global, given: &str) -> Result<String> {
-    let (times, round) = given
-        .split_once("; ")
-        .context("a number of times and steps")?;
-    let replayed = often(alloc, 1, round)?;
-    let state = copy_often(replayed.state, times.parse::<u32>()?)?;
-    ring_shown(alloc, &state, 0)
+    let (times, round) = times_of(given)?;
+    let mut replayed = often(alloc, 1, round)?;
+    copy_often(&mut replayed.state, times)?;
+    let mut text = String::new(alloc);
+    show_ring(&mut text, &replayed.state, 0)?;
+    Ok(text)
 }

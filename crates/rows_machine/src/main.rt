@@ -37,16 +37,21 @@ impl Calls for Machine {
     }
 }
 
+fn run_file(rt: HostRuntime, name: &str) -> Result<()> {
+    let text = fs::read_to_string(&rt, name)?;
+    if name.ends_with(".schedule") {
+        let window = longest_window(rt.alloc(), &text)?;
+        println!(rt; "{name}: {window}")?;
+    } else {
+        let rows = run_rows(&rt, rt.alloc(), &Machine, name, &text)?;
+        println!(rt; "{name}: {rows} rows")?;
+    }
+    Ok(())
+}
+
 fn main(rt: HostRuntime) -> Result<()> {
     for name in env::args(&rt)?.skip(1) {
-        let text = fs::read_to_string(&rt, &name)?;
-        if name.ends_with(".schedule") {
-            let window = longest_window(rt.alloc(), &text)?;
-            println!(rt; "{name}: {window}")?;
-        } else {
-            let rows = run_rows(&rt, rt.alloc(), &Machine, &name, &text)?;
-            println!(rt; "{name}: {rows} rows")?;
-        }
+        run_file(rt, &name)?;
     }
     Ok(())
 }

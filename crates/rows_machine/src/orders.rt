@@ -3,19 +3,18 @@ ghost use Rattle.std.specs.Prelude.{◌≡◌, ℕ, ◌<◌, IfOk};
 ghost use Rattle.std.specs.List.{All};
 ghost use Rattle.scq_core.specs.declared.step.Step.{Step as StepOf};
 
-use crate::schedules::{one_of_two, opening, push_steps};
+use crate::schedules::{one_of_two, opening, push_steps, two_of_each};
 use anyhow::{Context, Result};
 use scq_core::Step;
 use scq_law::{OrderFault, Ordered, one_order};
-use scq_word::Setup;
-use std::alloc::Global;
+use std::alloc::{AllocError, Global};
 
 /// The steps of one seat.
 fn push_piece(alloc: Global, piece: &str, steps: &mut Vec<(u32, Step)>) -> Result<()>
     requires { All (λ (x : ℕ × StepOf). x.0 < 2) steps.old.items }
     ensures { All (λ (x : ℕ × StepOf). x.0 < 2) steps.new.items }
 {
-    let (seat, words) = piece.split_once(' ').context("no seat")?;
+    let (seat, words) = piece.split_once(' ').unwrap_or((piece, ""));
     push_steps(alloc, one_of_two(seat)?, words, steps)
 }
 
@@ -35,35 +34,29 @@ fn order_of(alloc: Global, steps: &[(u32, Step)], queue: u32) -> Result<Vec<Orde
     requires seats { All (λ (x : ℕ × StepOf). x.0 < 2) steps.now }
     requires queue { queue < 2 }
 {
-    let setup = Setup {
-        order: 1,
-        rings: 2,
-        seats: 2,
-        limit: 16,
-    };
-    one_order(alloc, setup, opening(alloc)?, steps, queue)
+    one_order(alloc, two_of_each(16), opening(alloc)?, steps, queue)
+}
+
+fn show_call(into: &mut String, ordered: &Ordered) -> Result<(), AllocError> {
+    match ordered {
+        Ordered::Opening { number } => write!(into, "t{number} "),
+        Ordered::Call { seat, number } => write!(into, "{seat}.{number} "),
+    }
+}
+
+fn show_order(into: &mut String, order: &[Ordered]) -> Result<(), AllocError> {
+    for ordered in order {
+        show_call(into, ordered)?;
+    }
+    Ok(())
 }
 
 /// An order, or why there is none.
-fn shown(alloc: Global, text: &str, queue: u32) -> Result<String>
-    requires { queue < 2 }
-{
-    let steps = steps_of(alloc, text)?;
+fn shown(alloc: Global, order: Result<Vec<Ordered>, OrderFault>) -> Result<String, AllocError> {
     let mut shown = String::new(alloc);
-    match order_of(alloc, &steps, queue) {
-        Ok(order) => {
-            for ordered in &order {
-                match ordered {
-                    Ordered::Opening { number } => {
-                        shown.push_str(&format!(in alloc; "t{number} ")?)?;
-                    }
-                    Ordered::Call { seat, number } => {
-                        shown.push_str(&format!(in alloc; "{seat}.{number} ")?)?;
-                    }
-                }
-            }
-        }
-        Err(fault) => shown.push_str(&format!(in alloc; "{fault}")?)?,
+    match order {
+        Ok(order) => show_order(&mut shown, &order)?,
+        Err(fault) => write!(shown, "{fault}")?,
     }
     Ok(shown)
 }
@@ -72,5 +65,7 @@ fn shown(alloc: Global, text: &str, queue: u32) -> Result<String>
 /// opening put, and `1.2` the second call of seat 1. The limit of tickets is 16.
 pub fn ordered(alloc: Global, given: &str) -> Result<String> {
     let (ring, pieces) = given.split_once("; ").context("a ring and pieces")?;
-    shown(alloc, pieces, one_of_two(ring)?)
+    let ring = one_of_two(ring)?;
+    let steps = steps_of(alloc, pieces)?;
+    Ok(shown(alloc, order_of(alloc, &steps, ring))?)
 }

@@ -4,14 +4,14 @@ ghost use Rattle.std.specs.List.{All};
 ghost use Rattle.scq_core.specs.declared.step.Step.{Step as StepOf};
 ghost use Rattle.scq_hist.specs.Aspects.{IsLawful};
 
-use crate::schedules::{opening, push_steps};
-use crate::steps::{Part, part_of, ring_shown, text_of};
+use crate::schedules::{opening, push_steps, two_of_each};
+use crate::steps::{Part, part_of, show_ring, text_of};
 use anyhow::{Context, Result, anyhow, ensure};
 use scq_core::{Ended, State, Step};
 use scq_hist::{Call, Event, PutName, Reply, empty_right, fresh, in_order, lawful_calls, once};
 use scq_law::{ReplayFault, Replayed, replay};
-use scq_word::{Bytes, Setup};
-use std::alloc::Global;
+use scq_word::Bytes;
+use std::alloc::{AllocError, Global};
 
 /// From the start of a setup with two indices, rings and seats, and the opening contents `a` and
 /// `b`.
@@ -21,100 +21,84 @@ pub fn replayed(alloc: Global, limit: u64, steps: &[(u32, Step)]) -> Result<Repl
     ensures lawful { IfOk result (λ replayed. IsLawful replayed.events.items) }
     ensures seats { IfOk result (λ replayed. replayed.state.setup.seats ≡ 2) }
 {
-    let setup = Setup {
-        order: 1,
-        rings: 2,
-        seats: 2,
-        limit,
-    };
-    replay(alloc, setup, opening(alloc)?, steps)
+    replay(alloc, two_of_each(limit), opening(alloc)?, steps)
 }
 
-/// A line taken apart.
-fn line_of(text: &str) -> Result<Part<'_>>
-    ensures { IfOk result (λ line. line.seat < 2) }
-{
-    let line = part_of(text)?;
-    ensure!(line.seat < 2, "no such seat");
-    Ok(line)
+/// The resets or the fails of a ring.
+fn count(counts: &[u64], ring: u32) -> u64 {
+    counts.get(ring as usize).copied().unwrap_or(u64::MAX)
 }
 
-/// The resets and fails of a ring.
-pub fn counts(alloc: Global, replayed: &Replayed, ring: u32) -> Result<String> {
-    let resets = replayed.resets.get(ring as usize).context("no resets")?;
-    let fails = replayed.fails.get(ring as usize).context("no fails")?;
-    Ok(format!(in alloc; "{resets}/{fails}")?)
+/// Adds the resets and fails of a ring.
+pub fn show_counts(into: &mut String, replayed: &Replayed, ring: u32) -> Result<(), AllocError> {
+    let resets = count(&replayed.resets, ring);
+    let fails = count(&replayed.fails, ring);
+    write!(into, " {resets}/{fails}")
 }
 
-fn call(alloc: Global, state: &State, seat: u32) -> Result<String>
+/// Adds the newest call of a seat, or `-` in the middle of one.
+fn show_call(into: &mut String, state: &State, seat: u32) -> Result<(), AllocError>
     requires { seat < state.now.setup.seats }
 {
     if state.idle(seat) {
-        newest(alloc, state.last(seat))
+        show_newest(into, state.last(seat))
     } else {
-        Ok(String::from_str(alloc, "-")?)
+        into.push_str(" -")
     }
 }
 
-fn newest(alloc: Global, last: Option<&Ended>) -> Result<String> {
-    let said = match last {
-        None => format!(in alloc; "no call"),
-        Some(Ended::Done { place, .. }) => format!(in alloc; "done {place}"),
+fn show_newest(into: &mut String, last: Option<&Ended>) -> Result<(), AllocError> {
+    match last {
+        None => into.push_str(" no call"),
+        Some(Ended::Done { place, .. }) => write!(into, " done {place}"),
         Some(Ended::Got { place, content, .. }) => {
-            let text = text_of(content)?;
-            format!(in alloc; "got {place} {text}")
+            let text = text_of(content);
+            write!(into, " got {place} {text}")
         }
-        Some(Ended::Nothing { .. }) => format!(in alloc; "nothing"),
-        Some(Ended::Spent { ticket, .. }) => format!(in alloc; "spent {ticket}"),
-    };
-    Ok(said?)
+        Some(Ended::Nothing { .. }) => into.push_str(" nothing"),
+        Some(Ended::Spent { ticket, .. }) => write!(into, " spent {ticket}"),
+    }
 }
 
-fn event_text(alloc: Global, event: &Event) -> Result<String> {
+fn show_event(into: &mut String, event: &Event) -> Result<(), AllocError> {
     match event {
-        Event::Start {
-            seat,
-            call: Call::Put { queue, content },
-        } => {
-            let text = text_of(content)?;
-            Ok(format!(in alloc; " {seat} put {queue} {text},")?)
-        }
-        Event::Start {
-            seat,
-            call: Call::Get { queue },
-        } => Ok(format!(in alloc; " {seat} get {queue},")?),
-        Event::End { seat, reply } => end_text(alloc, *seat, reply),
+        Event::Start { seat, call } => show_start(into, *seat, call),
+        Event::End { seat, reply } => show_end(into, *seat, reply),
     }
 }
 
-fn end_text(alloc: Global, seat: u32, reply: &Reply) -> Result<String> {
-    let text = match reply {
-        Reply::Done => format!(in alloc; " {seat} done,"),
-        Reply::Got { name, content } => {
-            let name = name_text(alloc, name)?;
-            let content = text_of(content)?;
-            format!(in alloc; " {seat} got {name} {content},")
+fn show_start(into: &mut String, seat: u32, call: &Call) -> Result<(), AllocError> {
+    match call {
+        Call::Put { queue, content } => {
+            let text = text_of(content);
+            write!(into, " {seat} put {queue} {text},")
         }
-        Reply::Nothing => format!(in alloc; " {seat} nothing,"),
-        Reply::Spent => format!(in alloc; " {seat} spent,"),
-    };
-    Ok(text?)
+        Call::Get { queue } => write!(into, " {seat} get {queue},"),
+    }
 }
 
-fn name_text(alloc: Global, name: &PutName) -> Result<String> {
-    let text = match name {
-        PutName::Opening { number } => format!(in alloc; "token {number}"),
-        PutName::Of { seat, number } => format!(in alloc; "{seat}.{number}"),
-    };
-    Ok(text?)
+fn show_end(into: &mut String, seat: u32, reply: &Reply) -> Result<(), AllocError> {
+    match reply {
+        Reply::Done => write!(into, " {seat} done,"),
+        Reply::Got { name, content } => show_got(into, seat, name, text_of(content)),
+        Reply::Nothing => write!(into, " {seat} nothing,"),
+        Reply::Spent => write!(into, " {seat} spent,"),
+    }
 }
 
-fn events_text(alloc: Global, events: &[Event]) -> Result<String> {
-    let mut text = String::new(alloc);
+fn show_got(into: &mut String, seat: u32, name: &PutName, text: &str) -> Result<(), AllocError> {
+    match name {
+        PutName::Opening { number } => write!(into, " {seat} got token {number} {text},"),
+        PutName::Of { seat: of, number } => write!(into, " {seat} got {of}.{number} {text},"),
+    }
+}
+
+fn show_events(into: &mut String, events: &[Event]) -> Result<(), AllocError> {
+    into.push_str(":")?;
     for event in events {
-        text.push_str(event_text(alloc, event)?.as_str())?;
+        show_event(into, event)?;
     }
-    Ok(text)
+    Ok(())
 }
 
 /// Whether a history passes the five tests. Of steps that can't all be made there is none: what
@@ -153,40 +137,75 @@ fn all_pass(alloc: Global, limit: u64, steps: &[(u32, Step)]) -> Result<bool>
     passes(alloc, limit, steps)
 }
 
-/// What was replayed up to a line, with the events after those that were seen before.
-fn replayed_text(alloc: Global, line: &Part, seen: usize, replayed: &Replayed) -> Result<String>
+/// Adds what was replayed up to a line, with the events after those that were seen before.
+fn show_replayed(into: &mut String, line: &Part, seen: usize, replayed: &Replayed) -> Result<()>
     requires { line.now.seat < replayed.now.state.setup.seats }
 {
-    let words = ring_shown(alloc, &replayed.state, line.ring)?;
-    let counts = counts(alloc, replayed, line.ring)?;
-    let call = call(alloc, &replayed.state, line.seat)?;
-    let events = events_text(alloc, replayed.events.get(seen..).context("no events")?)?;
-    Ok(format!(in alloc; "{words} {counts} {call}:{events}")?)
+    show_ring(into, &replayed.state, line.ring)?;
+    show_counts(into, replayed, line.ring)?;
+    show_call(into, &replayed.state, line.seat)?;
+    show_events(into, replayed.events.get(seen..).context("no events")?)?;
+    Ok(())
 }
 
-/// What a line has to say of the steps up to it, and how many events there are then. A line that
-/// stops is the last.
-fn line_text(
+/// Adds what a line has to say of the steps up to it, and tells how many events there are then. A
+/// line that stops is the last.
+fn show_line(
     alloc: Global,
+    into: &mut String,
     limit: u64,
     line: &Part,
     seen: usize,
     steps: &[(u32, Step)],
-) -> Result<(String, usize)>
+) -> Result<usize>
     requires seat { line.now.seat < 2 }
     requires seats { All (λ (x : ℕ × StepOf). x.0 < 2) steps.now }
     requires limit { (16 ≤ limit) × (limit ≤ 2 ^ 60) }
 {
     match replayed(alloc, limit, steps) {
-        Ok(replayed) => Ok((
-            replayed_text(alloc, line, seen, &replayed)?,
-            replayed.events.len(),
-        )),
+        Ok(replayed) => {
+            show_replayed(into, line, seen, &replayed)?;
+            Ok(replayed.events.len())
+        }
         Err(ReplayFault::NotEnabled { at }) => {
-            Ok((format!(in alloc; "{} stops at {at}:", line.ring)?, seen))
+            write!(into, "{} stops at {at}:", line.ring)?;
+            Ok(seen)
         }
         Err(ReplayFault::NoMemory) => Err(anyhow!("memory")),
     }
+}
+
+/// Adds a line behind the steps before it, and tells how many events there are then.
+fn add_line(
+    alloc: Global,
+    into: &mut String,
+    limit: u64,
+    line: &str,
+    seen: usize,
+    steps: &mut Vec<(u32, Step)>,
+) -> Result<usize>
+    requires seats { All (λ (x : ℕ × StepOf). x.0 < 2) steps.old.items }
+    requires limit { (16 ≤ limit) × (limit ≤ 2 ^ 60) }
+    ensures { All (λ (x : ℕ × StepOf). x.0 < 2) steps.new.items }
+{
+    let line = part_of(line);
+    ensure!(line.seat < 2, "no such seat");
+    push_steps(alloc, line.seat, line.steps, steps)?;
+    into.push_str("; ")?;
+    show_line(alloc, into, limit, &line, seen, steps)
+}
+
+/// Adds each line, and tells the steps of all.
+fn add_lines(alloc: Global, into: &mut String, limit: u64, lines: &str) -> Result<Vec<(u32, Step)>>
+    requires { (16 ≤ limit) × (limit ≤ 2 ^ 60) }
+    ensures { IfOk result (λ steps. All (λ (x : ℕ × StepOf). x.0 < 2) steps.items) }
+{
+    let mut steps = Vec::new(alloc);
+    let mut seen = 0;
+    for line in lines.split("; ") {
+        seen = add_line(alloc, into, limit, line, seen, &mut steps)?;
+    }
+    Ok(steps)
 }
 
 /// `LIMIT; SEAT STEPS @RING; ..`: after each line the ring with its Head, Tail, Threshold and
@@ -200,16 +219,7 @@ pub fn replayed_lines(alloc: Global, given: &str) -> Result<String> {
     let limit = limit.parse::<u64>()?;
     ensure!(16 <= limit && limit <= 1 << 60, "a limit");
     let mut text = String::new(alloc);
-    let mut steps = Vec::new(alloc);
-    let mut seen = 0;
-    for line in lines.split("; ") {
-        let line = line_of(line)?;
-        push_steps(alloc, line.seat, line.steps, &mut steps)?;
-        let (said, events) = line_text(alloc, limit, &line, seen, &steps)?;
-        text.push_str("; ")?;
-        text.push_str(said.as_str())?;
-        seen = events;
-    }
+    let steps = add_lines(alloc, &mut text, limit, lines)?;
     if all_pass(alloc, limit, &steps)? {
         text.push_str(" passes")?;
     }

@@ -1,13 +1,26 @@
 //! Steps of seats in a setup with two indices, rings and seats.
-ghost use Rattle.std.specs.Prelude.{◌≡◌, ℕ, ◌<◌, IfOk, vec_len};
+ghost use Rattle.std.specs.Prelude.{◌≡◌, ℕ, ◌^◌, ◌<◌, ◌≤◌, IfOk, vec_len};
 ghost use Rattle.std.specs.List.{All};
 ghost use Rattle.scq_core.specs.declared.step.Step.{Step as StepOf};
 
 use crate::steps::{number, step_of};
 use anyhow::{Result, ensure};
 use scq_core::Step;
-use scq_word::{Bytes, NoMemory};
+use scq_word::{Bytes, NoMemory, Setup};
 use std::alloc::Global;
+
+/// A setup with two indices, rings and seats.
+pub fn two_of_each(limit: u64) -> Setup
+    requires { (16 ≤ limit) × (limit ≤ 2 ^ 60) }
+    ensures { (result.order ≡ 1) × (result.rings ≡ 2) × (result.seats ≡ 2) }
+{
+    Setup {
+        order: 1,
+        rings: 2,
+        seats: 2,
+        limit,
+    }
+}
 
 /// The opening contents.
 pub fn opening(alloc: Global) -> Result<Vec<Bytes>, NoMemory>
@@ -23,7 +36,7 @@ pub fn opening(alloc: Global) -> Result<Vec<Bytes>, NoMemory>
 pub fn one_of_two(text: &str) -> Result<u32>
     ensures { IfOk result (λ number. number < 2) }
 {
-    let number = number(Some(text))?;
+    let number = number(text);
     ensure!(number < 2, "no such seat or ring");
     Ok(number)
 }

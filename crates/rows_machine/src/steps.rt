@@ -1,173 +1,238 @@
 //! Steps of the machine, made one by one.
+ghost use Rattle.std.specs.Prelude.{◌<◌};
 
-use anyhow::{Context, Result, anyhow};
+use anyhow::{Context, Result, ensure};
+use rows_text::field;
 use scq_core::{ApplyFault, Ended, State, Step};
-use scq_word::{Bytes, Setup};
-use std::alloc::Global;
+use scq_word::{Bytes, NoMemory, Setup};
+use std::alloc::{AllocError, Global};
 
-pub fn number(text: Option<&str>) -> Result<u32> {
-    Ok(text.context("a number is missing")?.parse::<u32>()?)
+/// The number that a text says. Where it says none this is the greatest, and no seat, ring or index
+/// has that.
+pub fn number(text: &str) -> u32 {
+    text.parse().unwrap_or(u32::MAX)
 }
 
+/// A step as rows say it.
 pub fn step_of(alloc: Global, text: &str) -> Result<Step> {
-    let mut parts = text.split('/');
-    match parts.next().context("no step")? {
-        "E1" => Ok(Step::E1 {
-            ring: number(parts.next())?,
-            index: number(parts.next())?,
-            content: Bytes::copy_of(alloc, parts.next().context("no content")?.as_bytes())?,
-        }),
-        "D1" => Ok(Step::D1 {
-            ring: number(parts.next())?,
-        }),
-        name => Ok(bare_step(name).context("no such step")?),
+    let (name, of) = text.split_once('/').unwrap_or((text, ""));
+    match name {
+        "E1" => Ok(put_of(alloc, of)?),
+        "D1" => Ok(Step::D1 { ring: number(of) }),
+        _ => bare_step(name).context("no such step"),
     }
 }
 
-fn bare_step(name: &str) -> Option<Step> {
-    Some(match name {
-        "E1Again" => Step::E1Again,
-        "E2" => Step::E2,
-        "E3" => Step::E3,
-        "E4" => Step::E4,
-        "E5" => Step::E5,
-        "E6" => Step::E6,
-        "D2" => Step::D2,
-        "D3" => Step::D3,
-        "D4" => Step::D4,
-        "D5" => Step::D5,
-        "D6" => Step::D6,
-        "D7" => Step::D7,
-        "D8" => Step::D8,
-        "D9" => Step::D9,
-        "D10" => Step::D10,
-        _ => return None,
+/// The step that begins a put, of its ring, its index and its content.
+fn put_of(alloc: Global, of: &str) -> Result<Step, NoMemory> {
+    Ok(Step::E1 {
+        ring: number(part_at(of, 0)),
+        index: number(part_at(of, 1)),
+        content: Bytes::copy_of(alloc, part_at(of, 2).as_bytes())?,
     })
+}
+
+/// A part of a step, which is cut at slashes.
+fn part_at(step: &str, at: usize) -> &str {
+    step.split('/').nth(at).unwrap_or("")
+}
+
+fn bare_step(name: &str) -> Option<Step> {
+    if name.starts_with('E') {
+        put_step(name)
+    } else {
+        get_step(name)
+    }
+}
+
+fn put_step(name: &str) -> Option<Step> {
+    match name {
+        "E1Again" => Some(Step::E1Again),
+        "E2" => Some(Step::E2),
+        "E3" => Some(Step::E3),
+        "E4" => Some(Step::E4),
+        "E5" => Some(Step::E5),
+        "E6" => Some(Step::E6),
+        _ => None,
+    }
+}
+
+fn get_step(name: &str) -> Option<Step> {
+    match name {
+        "D2" => Some(Step::D2),
+        "D3" => Some(Step::D3),
+        "D4" => Some(Step::D4),
+        "D5" => Some(Step::D5),
+        "D6" => Some(Step::D6),
+        "D7" => Some(Step::D7),
+        "D8" => Some(Step::D8),
+        "D9" => Some(Step::D9),
+        "D10" => Some(Step::D10),
+        _ => None,
+    }
+}
+
+/// Whether the machine makes a step. No seat makes one that isn't there.
+fn is_made(state: &mut State, seat: u32, step: &Step) -> Result<bool, NoMemory> {
+    if seat >= state.setup().seats() {
+        return Ok(false);
+    }
+    match state.apply(seat, step) {
+        Ok(()) => Ok(true),
+        Err(ApplyFault::NotEnabled) => Ok(false),
+        Err(ApplyFault::NoMemory) => Err(NoMemory),
+    }
 }
 
 /// The state after a step, made by a copy of the step on a copy of the state: so a state is copied
 /// at each phase and after each kind of call. A step behind `!` has to be refused.
 fn stepped(alloc: Global, state: &State, seat: u32, word: &str) -> Result<State> {
+    let refused = word.strip_prefix("!");
+    let step = step_of(alloc, refused.unwrap_or(word))?;
     let mut copy = state.copy()?;
-    if seat >= copy.setup().seats() {
-        return Err(anyhow!("no such seat"));
-    }
-    match word.strip_prefix("!") {
-        None => {
-            let step = step_of(alloc, word)?;
-            copy.apply(seat, &step.copy(alloc)?)?;
-            Ok(copy)
-        }
-        Some(word) => match copy.apply(seat, &step_of(alloc, word)?) {
-            Err(ApplyFault::NotEnabled) => Ok(copy),
-            _ => Err(anyhow!("a step that is not enabled was made")),
-        },
-    }
+    let made = is_made(&mut copy, seat, &step.copy(alloc)?)?;
+    ensure!(
+        made == refused.is_none(),
+        "a step is made that is not enabled, or is refused"
+    );
+    Ok(copy)
 }
 
-fn made(alloc: Global, mut state: State, seat: u32, steps: &str) -> Result<State> {
-    for word in steps.split_whitespace() {
-        state = stepped(alloc, &state, seat, word)?;
+/// Makes the steps of a part.
+fn make(alloc: Global, state: &mut State, part: &Part) -> Result<()> {
+    for word in part.steps.split_whitespace() {
+        *state = stepped(alloc, state, part.seat, word)?;
     }
-    Ok(state)
+    Ok(())
 }
 
-/// The text of a content.
-pub fn text_of(content: &Bytes) -> Result<&str> {
-    Ok(std::str::from_utf8(content.bytes())?)
+/// The text of a content, or `?` where it is none.
+pub fn text_of(content: &Bytes) -> &str {
+    std::str::from_utf8(content.bytes()).unwrap_or("?")
 }
 
-/// The newest call, as a copy of it says.
-fn call_shown(alloc: Global, last: Option<&Ended>) -> Result<String> {
+/// Adds the newest call, as a copy of it says.
+fn show_newest(alloc: Global, into: &mut String, last: Option<&Ended>) -> Result<()> {
     match last {
-        Some(ended) => ended_shown(alloc, &ended.copy(alloc)?),
-        None => Ok(String::from_str(alloc, "no call")?),
+        Some(ended) => show_ended(into, &ended.copy(alloc)?)?,
+        None => into.push_str("no call")?,
     }
+    Ok(())
 }
 
-fn ended_shown(alloc: Global, ended: &Ended) -> Result<String> {
-    let shown = match ended {
+fn show_ended(into: &mut String, ended: &Ended) -> Result<(), AllocError> {
+    match ended {
         Ended::Done {
             ring,
             place,
             content,
         } => {
-            let text = text_of(content)?;
-            format!(in alloc; "done {ring} {place} {text}")
+            let text = text_of(content);
+            write!(into, "done {ring} {place} {text}")
         }
         Ended::Got {
             ring,
             place,
             content,
         } => {
-            let text = text_of(content)?;
-            format!(in alloc; "got {ring} {place} {text}")
+            let text = text_of(content);
+            write!(into, "got {ring} {place} {text}")
         }
-        Ended::Nothing { ring } => format!(in alloc; "nothing {ring}"),
-        Ended::Spent { ring, ticket, put } => format!(in alloc; "spent {ring} {ticket} {put}"),
-    };
-    Ok(shown?)
+        Ended::Nothing { ring } => write!(into, "nothing {ring}"),
+        Ended::Spent { ring, ticket, put } => write!(into, "spent {ring} {ticket} {put}"),
+    }
 }
 
-fn seat_shown(alloc: Global, state: &State, seat: u32) -> Result<String> {
-    if seat >= state.setup().seats() {
-        return Err(anyhow!("no such seat"));
-    }
-    let mut text = String::new(alloc);
+/// Adds the indices in the seat's hand, or `-`.
+fn show_hand(into: &mut String, state: &State, seat: u32) -> Result<(), AllocError>
+    requires { seat < state.now.setup.seats }
+{
+    let mut empty = "- ";
     for index in 0..state.setup().shape().n() {
         if state.in_hand(seat, index) {
-            text = format!(in alloc; "{text}{index}")?;
+            write!(into, "{index}")?;
+            empty = " ";
         }
     }
-    if text.is_empty() {
-        text = String::from_str(alloc, "-")?;
-    }
-    let next = state.next_step(seat);
-    if state.idle(seat) != next.is_none() {
-        return Err(anyhow!("idle in the middle of a call"));
-    }
-    let call = match (next, state.ring_of(seat)) {
-        (Some(step), Some(ring)) => format!(in alloc; "at {step:?} on {ring}")?,
-        _ => call_shown(alloc, state.last(seat))?,
-    };
-    match state.spent(seat) {
-        Some(ticket) => Ok(format!(in alloc; "{text} {call} keeps {ticket}")?),
-        None => Ok(format!(in alloc; "{text} {call}")?),
+    into.push_str(empty)
+}
+
+/// Adds the step that the seat makes next, or its newest call.
+fn show_call(alloc: Global, into: &mut String, state: &State, seat: u32) -> Result<()>
+    requires { seat < state.now.setup.seats }
+{
+    match state.next_step(seat) {
+        Some(step) => {
+            let ring = state.ring_of(seat).context("a step on no ring")?;
+            write!(into, "at {step:?} on {ring}")?;
+            Ok(())
+        }
+        None => show_newest(alloc, into, state.last(seat)),
     }
 }
 
-/// A ring with its Head, Tail, Threshold and entries.
-pub fn ring_shown(alloc: Global, state: &State, ring: u32) -> Result<String> {
-    if ring >= state.setup().rings() {
-        return Err(anyhow!("no such ring"));
+/// Adds the spent ticket that a seat keeps.
+fn show_spent(into: &mut String, spent: Option<u64>) -> Result<(), AllocError> {
+    match spent {
+        Some(ticket) => write!(into, " keeps {ticket}"),
+        None => Ok(()),
     }
-    let mut text = format!(in alloc;
-        "{ring} {} {} {}",
-        state.head(ring),
-        state.tail(ring),
-        state.threshold(ring)
-    )?;
+}
+
+/// Whether the seat is idle just where it makes no next step.
+fn is_idle_between(state: &State, seat: u32) -> bool
+    requires { seat < state.now.setup.seats }
+{
+    state.idle(seat) == state.next_step(seat).is_none()
+}
+
+fn show_seat(alloc: Global, into: &mut String, state: &State, seat: u32) -> Result<()> {
+    ensure!(seat < state.setup().seats(), "no such seat");
+    ensure!(is_idle_between(state, seat), "idle in the middle of a call");
+    show_hand(into, state, seat)?;
+    show_call(alloc, into, state, seat)?;
+    show_spent(into, state.spent(seat))?;
+    Ok(())
+}
+
+/// Adds a ring with its Head, Tail, Threshold and entries.
+pub fn show_ring(into: &mut String, state: &State, ring: u32) -> Result<()> {
+    ensure!(ring < state.setup().rings(), "no such ring");
+    let (head, tail) = (state.head(ring), state.tail(ring));
+    let threshold = state.threshold(ring);
+    write!(into, "{ring} {head} {tail} {threshold}")?;
+    show_entries(into, state, ring)?;
+    Ok(())
+}
+
+fn show_entries(into: &mut String, state: &State, ring: u32) -> Result<(), AllocError>
+    requires { ring < state.now.setup.rings }
+{
     for slot in 0..state.setup().shape().slots() {
-        write!(text, " {}", state.entry(ring, slot))?;
+        write!(into, " {}", state.entry(ring, slot))?;
     }
-    Ok(text)
+    Ok(())
 }
 
-/// The start of a setup with two rings and two seats, and the opening contents a, b and so on.
-fn started(alloc: Global, order: u32, limit: u64) -> Result<State> {
-    let setup = Setup::new(order, 2, 2, limit)?;
-    let n = setup.shape().n();
-    let mut opening = Vec::new(alloc);
+/// The contents a, b and so on.
+fn contents(alloc: Global, n: u32) -> Result<Vec<Bytes>, NoMemory> {
+    let mut contents = Vec::new(alloc);
     for index in 0..n {
-        opening.push(Bytes::copy_of(alloc, [97 + (index % 26) as u8].as_slice())?)?;
+        contents.push(Bytes::copy_of(alloc, [97 + (index % 26) as u8].as_slice())?)?;
     }
-    if opening.len() != n as usize {
-        return Err(anyhow!("not as many contents as indices"));
-    }
+    Ok(contents)
+}
+
+/// The start of a setup with two rings and two seats, and the opening contents a, b and so on, for
+/// an order and a limit.
+fn started(alloc: Global, given: &str) -> Result<State> {
+    let limit = field(given, 1).parse::<u64>()?;
+    let setup = Setup::new(number(field(given, 0)), 2, 2, limit)?;
+    let n = setup.shape().n() as usize;
+    let opening = contents(alloc, setup.shape().n())?;
+    ensure!(opening.len() == n, "not as many contents as indices");
     let state = State::start(alloc, setup, opening)?;
-    if state.opening().len() != n as usize {
-        return Err(anyhow!("opening contents are lost"));
-    }
+    ensure!(state.opening().len() == n, "opening contents are lost");
     Ok(state)
 }
 
@@ -180,19 +245,24 @@ pub struct Part<'a> {
 }
 
 /// `SEAT STEPS @RING`, or `SEAT @RING` where no step is made.
-pub fn part_of(text: &str) -> Result<Part<'_>> {
-    let (made, ring) = text.split_once(" @").context("a ring")?;
+pub fn part_of(text: &str) -> Part<'_> {
+    let (made, ring) = text.split_once(" @").unwrap_or((text, ""));
     let (seat, steps) = made.split_once(' ').unwrap_or((made, ""));
-    let seat = number(Some(seat))?;
-    let ring = number(Some(ring))?;
-    Ok(Part { seat, steps, ring })
+    Part {
+        seat: number(seat),
+        steps,
+        ring: number(ring),
+    }
 }
 
-/// What stands after a part.
-fn part_shown(alloc: Global, state: &State, part: &Part) -> Result<String> {
-    let stands = ring_shown(alloc, state, part.ring)?;
-    let does = seat_shown(alloc, state, part.seat)?;
-    Ok(format!(in alloc; "; {stands} | {does}")?)
+/// Makes the steps of a part, and adds what stands after it.
+fn show_part(alloc: Global, into: &mut String, state: &mut State, text: &str) -> Result<()> {
+    let part = part_of(text);
+    make(alloc, state, &part)?;
+    into.push_str("; ")?;
+    show_ring(into, state, part.ring)?;
+    into.push_str(" | ")?;
+    show_seat(alloc, into, state, part.seat)
 }
 
 /// `ORDER LIMIT; SEAT STEPS @RING; ..`: after each part the ring's Head, Tail, Threshold and
@@ -201,13 +271,10 @@ fn part_shown(alloc: Global, state: &State, part: &Part) -> Result<String> {
 /// 1, and a step behind `!` must not be enabled.
 pub fn stepped_through(alloc: Global, given: &str) -> Result<String> {
     let (setup, parts) = given.split_once("; ").context("a setup and parts")?;
-    let (order, limit) = setup.split_once(' ').context("an order and a limit")?;
-    let mut state = started(alloc, order.parse::<u32>()?, limit.parse::<u64>()?)?;
+    let mut state = started(alloc, setup)?;
     let mut shown = String::new(alloc);
     for text in parts.split("; ") {
-        let part = part_of(text)?;
-        state = made(alloc, state, part.seat, part.steps)?;
-        shown.push_str(&part_shown(alloc, &state, &part)?)?;
+        show_part(alloc, &mut shown, &mut state, text)?;
     }
     Ok(shown)
 }

@@ -9,23 +9,49 @@ fn ends_a_call(line: &str) -> bool {
     line.split(' ').any(|word| matches!(word, "done" | "got" | "nothing" | "spent"))
 }
 
+/// How many steps there are up to a line, how many of the last of them end no call, and how many
+/// such follow one another at most.
+#[derive(Clone, Copy)]
+struct Window {
+    steps: u64,
+    now: u64,
+    longest: u64,
+}
+
+impl Window {
+    /// With one more line.
+    fn and(self, line: &str) -> Window {
+        let now = if ends_a_call(line) {
+            0
+        } else {
+            self.now.saturating_add(1)
+        };
+        Window {
+            steps: self.steps.saturating_add(1),
+            now,
+            longest: self.longest.max(now),
+        }
+    }
+}
+
+fn window_of(text: &str) -> Window {
+    let mut window = Window {
+        steps: 0,
+        now: 0,
+        longest: 0,
+    };
+    for line in text.lines() {
+        window = window.and(line);
+    }
+    window
+}
+
 /// How many steps a schedule makes, how many of them at most follow one another of which none ends
 /// a call, and the line of the last step.
 pub fn longest_window(alloc: Global, schedule: &str) -> Result<String> {
     let printed = schedule_text(alloc, schedule.as_bytes())?;
     let text = std::str::from_utf8(printed.bytes())?;
-    let mut steps = 0u64;
-    let mut window = 0u64;
-    let mut longest = 0u64;
-    for line in text.lines() {
-        steps = steps.saturating_add(1);
-        window = if ends_a_call(line) {
-            0
-        } else {
-            window.saturating_add(1)
-        };
-        longest = longest.max(window);
-    }
+    let Window { steps, longest, .. } = window_of(text);
     let last = text.lines().last().context("no step")?;
     Ok(format!(in alloc; "{steps} steps, {longest} in a row without an end, the last: {last}")?)
 }
