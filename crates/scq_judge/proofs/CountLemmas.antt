@@ -1,11 +1,12 @@
 -- What is counted of a history, event by event
-use Rattle.std.proofs.Common.{◌≡◌, ℕ, suc, ◌+◌, ◌-◌, ◌<◌, ◌≤◌, ◌⊎◌, ◌↔◌, ◌==◌, ◌||◌, ltb, inl, inr, Bool, true, false, IsTrue, List, [], ◌∷◌, length, Option, Some, None, is_some, slice_get, refl, sym, ◌∙◌, subst, arith, if◌then◌else◌}
+use Rattle.std.proofs.Common.{◌≡◌, ℕ, suc, ◌+◌, ◌-◌, ◌<◌, ◌≤◌, ◌⊎◌, ◌↔◌, ◌==◌, ◌||◌, ltb, inl, inr, Bool, true, false, IsTrue, List, [], ◌∷◌, length, Option, Some, None, is_some, slice_get, refl, sym, ◌∙◌, subst, arith, if◌then◌else◌, MatchOption}
 use Rattle.std.proofs.lemmas.Bool.{cases_eq, lt-ltb}
 use Rattle.std.proofs.lemmas.Bool.Decides.{eqb_tells}
 use Rattle.std.proofs.lemmas.Option.{slice_get_within}
 use Rattle.scq_hist.specs.Aspects.{IsLawful, IsLawfulAt}
 use Rattle.scq_hist.specs.Calls.{under_way}
 use Rattle.scq_hist.specs.Counts.{IsCount, StandsIn}
+use Rattle.scq_hist.specs.Lookups.{StartsCall, StartsNoCall}
 use Rattle.scq_hist.specs.declared.events.Call.{Call}
 use Rattle.scq_hist.specs.declared.events.Event.{Event}
 use Rattle.scq_hist.specs.declared.events.Event.TheVariants.{Start, End}
@@ -40,6 +41,16 @@ start_within events s start = go (slice_get events s) refl start where
   go : (event : Option Event) → slice_get events s ≡ event → IsStarting event → s < length events
   go None at starts = absurd starts
   go (Some event) at starts = slice_get_within events s event at
+
+-- a call that starts there is told
+pub start_told : {X : Type 0} (events : List Event) (s : ℕ) (call_of : X → Call) (found : Option X)
+    → MatchOption found (StartsNoCall events s) (λ x. StartsCall events s (call_of x)) → IsTrue (is_some found) ↔ IsStartAt events s
+start_told events s call_of None none = (λ t. absurd cc, λ starts. go (slice_get events s) refl starts) where
+  go : (event : Option Event) → slice_get events s ≡ event → IsStarting event → IsTrue false
+  go None at starting = absurd starting
+  go (Some (Start seat call)) at starting = absurd (none call (seat, at))
+  go (Some (End seat reply)) at starting = absurd starting
+start_told events s call_of (Some x) start = (λ t. subst IsStarting (sym start.1) tt, λ starts. refl)
 
 pub overlap_within : (events : List Event) (s : ℕ) → Overlaps events s → s < length events
 overlap_within events s overlap = start_within events s overlap.start

@@ -8,7 +8,7 @@ use Rattle.scq_hist.specs.declared.events.Event.{Event}
 use Rattle.scq_judge.specs.Files.{NoneIsLarge, IsFile}
 use Rattle.scq_judge.specs.Judged.{IsHistoryOf, IsOutOfPlace, IsCause, IsCauseIn, IsSharing, AreSoundBefore, IsUnlawfulAt, fault_of_merging}
 use Rattle.scq_judge.specs.Merged.{IsMergeOf, HasEqual, HasStampOfAnother}
-use Rattle.scq_judge.specs.Seats.{HasSeatOfAnother, EventIsAt}
+use Rattle.scq_judge.specs.Seats.{EventIsAt}
 use Rattle.scq_judge.specs.Reads.{AreQuiet, AreReadUntil, AreReadWhole}
 use Rattle.scq_judge.specs.Recording.{Recording, EventsAreOfFiles, AllAreOfFiles, recording_of}
 use Rattle.scq_judge.specs.declared.judging.JudgeFault.{JudgeFault}

@@ -1,6 +1,6 @@
 -- What recordings with visible contents tell: the report of the merged history, or the cause of a
 -- fault
-use Rattle.std.specs.Prelude.{◌≡◌, ◌⊎◌, ℕ, ◌-◌, Bool, ◌==◌, List, Ok, Err, Option, Some, length}
+use Rattle.std.specs.Prelude.{◌≡◌, ℕ, ◌-◌, Bool, ◌==◌, List, Ok, Err, Option, Some, length}
 use Rattle.std.specs.Prelude.{take, slice_get}
 use Rattle.scq_hist.specs.Aspects.{IsLawful, IsLawfulAt}
 use Rattle.scq_hist.specs.First.{IsFirstFailing}

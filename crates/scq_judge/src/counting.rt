@@ -1,13 +1,14 @@
 //! What is counted of a history.
 
 ghost use Rattle.std.specs.Prelude.{◌≡◌, ◌+◌, ◌<◌, ◌≤◌, ◌↔◌, ◌==◌, ◌||◌, ℕ, IsTrue, false, IfOk};
-ghost use Rattle.std.specs.Prelude.{OnOk, length, slice_get};
+ghost use Rattle.std.specs.Prelude.{OnOk, Some, length};
 ghost use Rattle.scq_hist.specs.Aspects.{IsLawful};
 ghost use Rattle.scq_hist.specs.Counts.{IsCount};
+ghost use Rattle.scq_hist.specs.declared.events.Event.TheVariants.{Start};
 ghost use Rattle.scq_judge.specs.Counted.{IsStartAt, IsNamed, Overlaps, Before, AreSeen, AreBusy};
 ghost use Rattle.scq_judge.specs.Counted.{named_by, is_seen};
 
-use scq_hist::{Call, Event};
+use scq_hist::{Call, Event, call_started};
 use scq_word::NoMemory;
 use std::alloc::Global;
 use std::collections::BTreeMap;
@@ -79,31 +80,29 @@ pub(crate) fn count(alloc: Global, events: &[Event]) -> Result<Counts, NoMemory>
     })
 }
 
-// What the event at this position names.
-fn named_by(named: Named, events: &[Event], e: usize) -> Option<u32>
-    ensures { result ≡ named_by named (slice_get events.now e) }
+// The queue of a call.
+fn queue_of(call: &Call) -> u32
+    ensures { (seat : ℕ) → named_by Named.Queue (Some (Start seat call.now)) ≡ Some result }
 {
-    match (named, events.get(e)) {
-        (Named::Seat, Some(Event::Start { seat, .. })) => Some(*seat),
-        (
-            Named::Queue,
-            Some(
-                Event::Start {
-                    call: Call::Put { queue, .. },
-                    ..
-                },
-            ),
-        ) => Some(*queue),
-        (
-            Named::Queue,
-            Some(
-                Event::Start {
-                    call: Call::Get { queue },
-                    ..
-                },
-            ),
-        ) => Some(*queue),
-        _ => None,
+    match call {
+        Call::Put { queue, .. } => *queue,
+        Call::Get { queue } => *queue,
+    }
+}
+
+// What the event names.
+fn named_by(named: Named, event: &Event) -> Option<u32>
+    ensures { result ≡ named_by named (Some event.now) }
+{
+    match named {
+        Named::Seat => match event {
+            Event::Start { seat, .. } => Some(*seat),
+            Event::End { .. } => None,
+        },
+        Named::Queue => match event {
+            Event::Start { call, .. } => Some(queue_of(call)),
+            Event::End { .. } => None,
+        },
     }
 }
 
@@ -131,7 +130,7 @@ fn add_named(
     requires before { AreSeen named events.now e seen.old count }
     ensures { IfOk result (AreSeen named events.now (e + 1) seen.new) }
 {
-    match named_by(named, events, e) {
+    match named_by(named, &events[e]) {
         None => Ok(count),
         Some(number) => {
             if seen.has(number) {
@@ -147,10 +146,7 @@ fn add_named(
 fn is_start(events: &[Event], e: usize) -> bool
     ensures { IsTrue result ↔ IsStartAt events.now e }
 {
-    match events.get(e) {
-        Some(Event::Start { .. }) => true,
-        _ => false,
-    }
+    call_started(events, e).is_some()
 }
 
 // How many calls start.

@@ -101,11 +101,11 @@ fn add_byte(text: &mut Vec<u8>, byte: u8) -> Result<(), NoMemory>
 {
     if (33..=126).contains(&byte) {
         text.push(byte)?;
-    } else {
-        text.extend_from_slice(b"\\x")?;
-        text.push(hex_digit(byte / 16))?;
-        text.push(hex_digit(byte % 16))?;
+        return Ok(());
     }
+    text.extend_from_slice(b"\\x")?;
+    text.push(hex_digit(byte / 16))?;
+    text.push(hex_digit(byte % 16))?;
     Ok(())
 }
 

@@ -1,6 +1,6 @@
 //! A report as text.
 
-ghost use Rattle.std.specs.Prelude.{◌≡◌, ◌<◌, ◌^◌, ◌++◌, decimal, length, Some, IfOk, IfSome, OnOk};
+ghost use Rattle.std.specs.Prelude.{◌≡◌, ◌<◌, ◌^◌, ◌++◌, codes, decimal, length, Some, IfOk, IfSome, OnOk};
 ghost use Rattle.scq_check.specs.Counterparts.{IsOriginWithin};
 ghost use Rattle.scq_check.specs.Verdicts.{AreWithin};
 ghost use Rattle.scq_check.specs.Waiting.{IsToldWithin};
@@ -10,6 +10,7 @@ ghost use Rattle.scq_judge.specs.Report.{order_line, origin_line, origin_text, o
 ghost use Rattle.scq_judge.specs.Report.{plain_line, put_text, report_lines, verdict_text};
 ghost use Rattle.scq_judge.specs.Report.{waiting_line, waiting_text};
 
+use crate::counting::Counts;
 use crate::judging::Report;
 use crate::telling::{Teller, add_event_at, add_number, add_token};
 use scq_check::{Failures, Origin, Waiting};
@@ -65,11 +66,7 @@ pub(crate) fn report_text(
         told.accepted,
     )?;
     add_full(&mut text, teller, report.full)?;
-    add_count(&mut text, b"events", report.counts.events)?;
-    add_count(&mut text, b"queues", report.counts.queues)?;
-    add_count(&mut text, b"seats", report.counts.seats)?;
-    add_count(&mut text, b"calls", report.counts.calls)?;
-    add_count(&mut text, b"overlapping", report.counts.overlapping)?;
+    add_counts(&mut text, report.counts)?;
     Ok(Bytes::from(text))
 }
 
@@ -105,36 +102,39 @@ fn add_origin(
         ≡ text.old.items ++ origin_line name.now (told_by teller.entry) failures.now origin) }
 {
     add_verdict(text, name, teller, failures)?;
-    if let Some(origin) = origin {
-        add_put_of(text, teller, origin)?;
-    }
+    add_put_of(text, teller, origin)?;
     text.extend_from_slice(b"\n")?;
     Ok(())
 }
 
 // Where the put that a Got names was put.
-fn add_put_of(text: &mut Vec<u8>, teller: Teller<'_>, origin: Origin) -> Result<(), NoMemory>
+fn add_put_of(
+    text: &mut Vec<u8>,
+    teller: Teller<'_>,
+    origin: Option<Origin>,
+) -> Result<(), NoMemory>
     requires many { length teller.places.now ≡ length teller.events.now }
-    requires within { IsOriginWithin (length teller.events.now) origin }
+    requires within { IfSome origin (IsOriginWithin (length teller.events.now)) }
     ensures { OnOk result (text.new.items
-        ≡ text.old.items ++ origin_text (told_by teller.entry) (Some origin)) }
+        ≡ text.old.items ++ origin_text (told_by teller.entry) origin) }
 {
     match origin {
-        Origin::Nobody => {
+        None => Ok(()),
+        Some(Origin::Nobody) => {
             text.extend_from_slice(
                 b"; names a put that nobody made: values have to be the recorder's",
             )?;
+            Ok(())
         }
-        Origin::Token { number } => {
+        Some(Origin::Token { number }) => {
             text.extend_from_slice(b"; names the opening at ")?;
-            add_token(text, teller, number as usize)?;
+            add_token(text, teller, number as usize)
         }
-        Origin::Start { position } => {
+        Some(Origin::Start { position }) => {
             text.extend_from_slice(b"; names the put started at ")?;
-            add_event_at(text, teller, position)?;
+            add_event_at(text, teller, position)
         }
     }
-    Ok(())
 }
 
 // The line on refusals, where they are judged.
@@ -227,11 +227,13 @@ fn add_overtaker(
     ensures { OnOk result (text.new.items
         ≡ text.old.items ++ overtaker_text (told_by teller.entry) overtaker) }
 {
-    if let Some(Origin::Start { position }) = overtaker {
-        text.extend_from_slice(b"; overtaken by the put started at ")?;
-        add_event_at(text, teller, position)?;
+    match overtaker {
+        Some(Origin::Start { position }) => {
+            text.extend_from_slice(b"; overtaken by the put started at ")?;
+            add_event_at(text, teller, position)
+        }
+        _ => Ok(()),
     }
-    Ok(())
 }
 
 fn add_verdict(
@@ -247,16 +249,19 @@ fn add_verdict(
 {
     text.extend_from_slice(name)?;
     match failures.first {
-        None => text.extend_from_slice(b" holds")?,
+        None => {
+            text.extend_from_slice(b" holds")?;
+            Ok(())
+        }
         Some(e) => {
             text.extend_from_slice(b" fails at ")?;
             add_event_at(text, teller, e)?;
             text.extend_from_slice(b", ")?;
             add_number(text, failures.count as u64)?;
             text.extend_from_slice(b" in all")?;
+            Ok(())
         }
     }
-    Ok(())
 }
 
 // These words and the place of this event, where there is one.
@@ -271,11 +276,13 @@ fn add_event(
     ensures { OnOk result (text.new.items
         ≡ text.old.items ++ event_text words.now (told_by teller.entry) event) }
 {
-    if let Some(at) = event {
-        text.extend_from_slice(words)?;
-        add_event_at(text, teller, at)?;
+    match event {
+        None => Ok(()),
+        Some(at) => {
+            text.extend_from_slice(words)?;
+            add_event_at(text, teller, at)
+        }
     }
-    Ok(())
 }
 
 // How many puts wait, and of the one that is told where it was put and where it is got.
@@ -305,13 +312,15 @@ fn add_got(text: &mut Vec<u8>, teller: Teller<'_>, got: Option<usize>) -> Result
     ensures { OnOk result (text.new.items ≡ text.old.items ++ got_text (told_by teller.entry) got) }
 {
     match got {
-        None => text.extend_from_slice(b", never got")?,
+        None => {
+            text.extend_from_slice(b", never got")?;
+            Ok(())
+        }
         Some(at) => {
             text.extend_from_slice(b", got at ")?;
-            add_event_at(text, teller, at)?;
+            add_event_at(text, teller, at)
         }
     }
-    Ok(())
 }
 
 // Where the one that is told was put: the line of its opening token, or that of its End.
@@ -332,6 +341,21 @@ fn add_put(
         (None, Some(d)) => add_event_at(text, teller, d),
         (None, None) => Ok(()),
     }
+}
+
+// The lines of the counts.
+fn add_counts(text: &mut Vec<u8>, counts: Counts) -> Result<(), NoMemory>
+    ensures { OnOk result (text.new.items ≡ text.old.items
+        ++ count_line (codes "events") counts.events ++ count_line (codes "queues") counts.queues
+        ++ count_line (codes "seats") counts.seats ++ count_line (codes "calls") counts.calls
+        ++ count_line (codes "overlapping") counts.overlapping) }
+{
+    add_count(text, b"events", counts.events)?;
+    add_count(text, b"queues", counts.queues)?;
+    add_count(text, b"seats", counts.seats)?;
+    add_count(text, b"calls", counts.calls)?;
+    add_count(text, b"overlapping", counts.overlapping)?;
+    Ok(())
 }
 
 fn add_count(text: &mut Vec<u8>, name: &[u8], count: usize) -> Result<(), NoMemory>

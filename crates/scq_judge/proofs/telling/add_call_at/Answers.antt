@@ -1,5 +1,4 @@
-use Rattle.std.proofs.Common.{◌≡◌, ◌∙◌, ◌++◌, ℕ, List, Some, ap, slice_get, sym}
-use Rattle.scq_hist.specs.declared.events.Event.{Event}
+use Rattle.std.proofs.Common.{◌∙◌, ◌++◌, ℕ, List, ap, slice_get, sym}
 use Rattle.scq_judge.specs.Telling.{call_text, got_name_text}
 use Rattle.scq_judge.proofs.ReadLemmas.{on_ok}
 use Rattle.scq_judge.proofs.TextLemmas.{behind}

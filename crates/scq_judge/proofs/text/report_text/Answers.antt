@@ -12,7 +12,7 @@ returns c =
     let told = b.counterparts in
     let counts = c.args.report.now.counts in
     c.from.ensures
-    ∙ grown _ _ _ _ _ _ _ _ _ _ _ _
+    ∙ grown _ _ _ _ _ _ _ _
     (origin_line (codes "fresh") t b.fresh told.fresh)
     (beside_line (codes "once") t b.once (codes "; named before at ") told.once)
     (order_line (codes "in order") t b.in_order told.in_order told.overtaker)
@@ -26,6 +26,4 @@ returns c =
     (count_line (codes "overlapping") counts.overlapping)
     c.new-text.ensures.items
     c.in_ok-add_origin.ensures c.in_ok-add_beside.ensures c.in_ok-add_order.ensures
-    c.in_ok-add_waiting.ensures c.in_ok-add_beside-2.ensures c.in_ok-add_full.ensures c.in_ok-add_count.ensures
-    c.in_ok-add_count-2.ensures c.in_ok-add_count-3.ensures c.in_ok-add_count-4.ensures
-    c.in_ok-add_count-5.ensures
+    c.in_ok-add_waiting.ensures c.in_ok-add_beside-2.ensures c.in_ok-add_full.ensures c.in_ok-add_counts.ensures
