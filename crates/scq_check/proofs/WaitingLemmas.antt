@@ -10,7 +10,7 @@ use Rattle.scq_hist.specs.declared.events.Event.{Event}
 use Rattle.scq_hist.specs.declared.events.PutName.{PutName}
 use Rattle.scq_hist.specs.declared.events.PutName.TheVariants.{Opening, Of}
 use Rattle.scq_hist.proofs.TallyLemmas.{names_from_get, one_get}
-use Rattle.scq_check.specs.Waiting.{IsLeftOut, IsTokenLeftOut, IsPutLeftOut, told_of}
+use Rattle.scq_check.specs.Waiting.{IsLeftOut, IsTokenLeftOut, IsPutLeftOut, IsToldPut, told_of}
 use Rattle.scq_check.specs.declared.waiting.Sought.{Sought}
 use Rattle.scq_check.specs.declared.waiting.Sought.TheVariants.{Every, GotLater}
 
@@ -114,3 +114,33 @@ first_within events name (Some d) is = slice_get_within events d _ is.names.ends
 pub none_done : (events : List Event) (queue d : ℕ) (name : PutName) → NoDoneAt events queue d → EndsDone events queue d name → ¬ IsGot events name
 none_done events queue d (Opening i) none ends = absurd ends
 none_done events queue d (Of k n) none ends = absurd (none.none k n ends)
+
+-- the first Got that names the one that is told: a token, a put that ends with Done, or none
+pub told_token : (events : List Event) (queue : ℕ) (token put : Option ℕ) (number : ℕ) (name : PutName) (got : Option ℕ) → token ≡ Some number
+    → MatchOption got (¬ IsGot events (Opening number)) (IsFirstNamed events (Opening number)) → IsToldPut events queue token put name
+    → MatchOption got (¬ IsGot events name) (IsFirstNamed events name)
+told_token events queue token put number name got is first told =
+    let same : name ≡ Opening number = subst (λ t. IsToldPut events queue t put name) is told in
+    subst (λ n. MatchOption got (¬ IsGot events n) (IsFirstNamed events n)) (sym same) first
+
+told_done : (events : List Event) (queue : ℕ) (token put : Option ℕ) (d : ℕ) (name : PutName) → token ≡ None → put ≡ Some d
+    → IsToldPut events queue token put name → EndsDone events queue d name
+told_done events queue token put d name tokenless is told =
+    subst (λ p. IsToldPut events queue None p name) is (subst (λ t. IsToldPut events queue t put name) tokenless told)
+
+pub told_put : (events : List Event) (queue : ℕ) (token put : Option ℕ) (d : ℕ) (mine name : PutName) (got : Option ℕ) → token ≡ None → put ≡ Some d
+    → EndsDone events queue d mine → MatchOption got (¬ IsGot events mine) (IsFirstNamed events mine) → IsToldPut events queue token put name
+    → MatchOption got (¬ IsGot events name) (IsFirstNamed events name)
+told_put events queue token put d mine name got tokenless is done first told =
+    let same : mine ≡ name = one_done events queue d mine name done (told_done events queue token put d name tokenless is told) in
+    subst (λ n. MatchOption got (¬ IsGot events n) (IsFirstNamed events n)) same first
+
+pub told_undone : (events : List Event) (queue : ℕ) (token put : Option ℕ) (d : ℕ) (name : PutName) (got : Option ℕ) → token ≡ None → put ≡ Some d
+    → NoDoneAt events queue d → got ≡ None → IsToldPut events queue token put name → MatchOption got (¬ IsGot events name) (IsFirstNamed events name)
+told_undone events queue token put d name got tokenless is none got_is told =
+    rw got_is (none_done events queue d name none (told_done events queue token put d name tokenless is told))
+
+pub told_nothing : (events : List Event) (queue : ℕ) (token put : Option ℕ) (name : PutName) → token ≡ None → put ≡ None
+    → IsToldPut events queue token put name → ⊥
+told_nothing events queue token put name tokenless none told =
+    subst (λ p. IsToldPut events queue None p name) none (subst (λ t. IsToldPut events queue t put name) tokenless told)

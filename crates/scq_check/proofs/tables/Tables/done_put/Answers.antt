@@ -1,5 +1,6 @@
 use Rattle.std.proofs.Common.{false}
-use Rattle.scq_hist.specs.Ended.{NoPutEnds}
+use Rattle.std.proofs.lemmas.Option.{slice_get_within}
+use Rattle.scq_hist.specs.Ended.{EndsPut, NoPutEnds}
 use Rattle.scq_hist.proofs.EndedLemmas.{done_there, none_done, refused_here, done_elsewhere}
 use Rattle.scq_check.proofs.EndedLemmas.{counted}
 use Rattle.scq_check.proofs.tables.Tables.done_put.Goals as goal
@@ -19,3 +20,7 @@ pub returns : goal.returns
 returns c =
     done_there _ _ _ _ _ c.in_ok-put.ensures c.if-put.false c.if-put-queue.false
     (counted _ _ _ _ c.in_ok-put.ensures c.number-number.ensures)
+
+pub number-number-requires-clause-within : goal.number-number-requires-clause-within
+number-number-requires-clause-within c =
+    let is : EndsPut c.args.events.now c.args.e c.in_ok-put.put = c.in_ok-put.ensures in slice_get_within c.args.events.now _ _ is.call.starts
