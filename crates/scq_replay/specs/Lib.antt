@@ -1,3 +1,4 @@
+pub mod BareSteps
 pub mod Schedule
 pub mod Printed
 pub mod Replay

@@ -1,6 +1,6 @@
 -- How a step of a schedule is printed: the words of its call's ring after it, and the reply where
 -- it ends the call
-use Rattle.std.specs.Prelude.{ℕ, zero, suc, ◌-◌, ℤ, pos, ◌-ℤ◌, List, [], ◌++◌, Option, Some, None}
+use Rattle.std.specs.Prelude.{ℕ, zero, suc, ℤ, pos, ◌-ℤ◌, List, [], ◌++◌, Option, Some, None}
 use Rattle.std.specs.Prelude.{unwrap_or, codes, decimal}
 use Rattle.std.specs.Fmt.{signed_decimal}
 use Rattle.std.specs.Option.{option_or}

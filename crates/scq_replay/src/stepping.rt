@@ -48,9 +48,7 @@ pub(crate) fn no_contents(alloc: Global, setup: &Setup) -> Result<Vec<Bytes>, No
 {
     let mut contents = Vec::new(alloc);
     for _ in 0..setup.shape().n() {
-        contents
-            .push(Bytes::from(Vec::new(alloc)))
-            .map_err(|_| NoMemory)?;
+        contents.push(Bytes::from(Vec::new(alloc)))?;
     }
     Ok(contents)
 }
