@@ -29,3 +29,4 @@ pub mod Points
 pub mod Order
 pub mod Notes
 pub mod Progress
+pub mod RecordedSteps

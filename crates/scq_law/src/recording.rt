@@ -10,9 +10,11 @@ ghost use Rattle.scq_law.specs.Run.{recorded_first};
 ghost use Rattle.scq_law.specs.Acts.{IsOnRing, starts_by, puts_after_act, names_by, resets_by};
 ghost use Rattle.scq_law.specs.Acts.{fails_by};
 ghost use Rattle.scq_law.specs.Names.{name_at, placer_in};
+ghost use Rattle.scq_law.specs.Replay.{Counts};
 ghost use Rattle.scq_law.specs.Recording.{Shows, CountsCanRise, AddsTurn, finishes_by};
 
 use crate::act::{Act, act_of, ended};
+use crate::replayed::Replayed;
 use scq_core::{ApplyFault, Ended, Phase, State, Step};
 use scq_hist::{Call, Event, PutName, Reply};
 use scq_word::{Bytes, NoMemory, Setup};
@@ -47,15 +49,37 @@ impl Recording {
         requires { vec_len opening ≡ n_of setup.order }
         ensures { IfOk result (Shows setup (recorded_first setup opening.items)) }
     {
-        let rings = setup.rings() as usize;
+        let rings = setup.rings();
         Ok(Recording {
             events: Vec::new(alloc),
-            puts: vec![in alloc; 0; setup.seats() as usize]?,
-            names: no_names(alloc, rings)?,
-            resets: vec![in alloc; 0; rings]?,
-            fails: vec![in alloc; 0; rings]?,
+            puts: no_counts(alloc, setup.seats())?,
+            names: no_names(alloc, rings as usize)?,
+            resets: no_counts(alloc, rings)?,
+            fails: no_counts(alloc, rings)?,
             state: State::start(alloc, setup, opening)?,
         })
+    }
+
+    /// What a replay answers of it.
+    pub(crate) fn replayed(self) -> Replayed
+        ensures state { result.state ≡ self.state }
+        ensures events { result.events ≡ self.events }
+        ensures resets { result.resets ≡ self.resets }
+        ensures fails { result.fails ≡ self.fails }
+    {
+        let Recording {
+            state,
+            events,
+            resets,
+            fails,
+            ..
+        } = self;
+        Replayed {
+            state,
+            events,
+            resets,
+            fails,
+        }
     }
 
     /// One more step.
@@ -102,6 +126,13 @@ impl Recording {
         begin(&mut self.events, seat, act)?;
         finish(&mut self.events, setup, &self.names, &self.state, seat)
     }
+}
+
+/// For each of so many nothing is counted.
+fn no_counts(alloc: Global, many: u32) -> Result<Vec<u64>, NoMemory>
+    ensures { IfOk result (λ counts. Counts many counts.items (λ _. 0)) }
+{
+    Ok(vec![in alloc; 0; many as usize]?)
 }
 
 /// A map for each ring, with no name in it.

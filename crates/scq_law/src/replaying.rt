@@ -1,9 +1,10 @@
 //! Replays a list of steps from the start.
 
-ghost use Rattle.std.specs.Prelude.{◌≡◌, ℕ, ◌<◌, Err, IfOk, vec_len};
+ghost use Rattle.std.specs.Prelude.{◌≡◌, ℕ, ◌<◌, List, [], Err, IfOk, OnOk, vec_len};
 ghost use Rattle.std.specs.List.{All};
 ghost use Rattle.scq_word.specs.Sizes.{n_of};
 ghost use Rattle.scq_core.specs.declared.step.Step.{Step as StepOf};
+ghost use Rattle.scq_law.specs.RecordedSteps.{IsRecording};
 ghost use Rattle.scq_law.specs.Replay.{ReplaysRun, StopsAt};
 ghost use Rattle.scq_law.specs.ReplayLaws.{ObeysLaws, ObeysRunLaws};
 
@@ -30,41 +31,31 @@ pub fn replay(
     ensures laws { IfOk result (ObeysLaws setup opening.items steps.now) }
     ensures all_along { ObeysRunLaws setup opening.items steps.now }
 {
-    recorded(alloc, setup, opening, steps)
+    let mut recording = Recording::first(alloc, setup, opening)?;
+    make_all(&mut recording, &setup, steps)?;
+    Ok(recording.replayed())
 }
 
-/// The steps one after another, and what is recorded of them.
-fn recorded(
-    alloc: Global,
-    setup: Setup,
-    opening: Vec<Bytes>,
+/// Makes these steps one after another from the start.
+fn make_all(
+    recording: &mut Recording,
+    setup: &Setup,
     steps: &[(u32, Step)],
-) -> Result<Replayed, ReplayFault>
-    requires opening { vec_len opening ≡ n_of setup.order }
-    requires seats { All (λ (x : ℕ × StepOf). x.0 < setup.seats) steps.now }
-    ensures run { IfOk result (ReplaysRun setup opening.items steps.now) }
-    ensures not_enabled { (at : ℕ) → result ≡ Err (ReplayFault.NotEnabled at)
-        → StopsAt setup opening.items steps.now at }
+) -> Result<(), ReplayFault>
+    requires first { (opening : List (List ℕ)) × IsRecording setup.now opening [] recording.old }
+    requires seats { All (λ (x : ℕ × StepOf). x.0 < setup.now.seats) steps.now }
+    ensures made { (opening : List (List ℕ)) → IsRecording setup.now opening [] recording.old
+        → OnOk result (IsRecording setup.now opening steps.now recording.new) }
+    ensures not_enabled { (opening : List (List ℕ)) (at : ℕ)
+        → IsRecording setup.now opening [] recording.old
+        → result ≡ Err (ReplayFault.NotEnabled at) → StopsAt setup.now opening steps.now at }
 {
-    let mut recording = Recording::first(alloc, setup, opening)?;
     for (at, (seat, step)) in steps.iter().enumerate() {
-        match recording.make(&setup, *seat, step) {
+        match recording.make(setup, *seat, step) {
             Ok(()) => {}
             Err(ApplyFault::NotEnabled) => return Err(ReplayFault::NotEnabled { at: at as u64 }),
             Err(ApplyFault::NoMemory) => return Err(ReplayFault::NoMemory),
         }
     }
-    let Recording {
-        state,
-        events,
-        resets,
-        fails,
-        ..
-    } = recording;
-    Ok(Replayed {
-        state,
-        events,
-        resets,
-        fails,
-    })
+    Ok(())
 }

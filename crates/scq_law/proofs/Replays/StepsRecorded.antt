@@ -1,27 +1,26 @@
 -- What is recorded of more and more steps of a run. Its counts are at most the number of steps.
 use Rattle.std.proofs.Common.{◌≡◌, ℕ, ◌+◌, ◌^◌, ◌<◌, ◌≤◌, List, [], ◌∷◌, ◌++◌, length, take, get_or, refl, sym, ◌∙◌, ap, subst, arith}
-use Rattle.std.specs.Prelude.{Option, Some, None}
+use Rattle.std.specs.Prelude.{Option, Some, None, Vec}
+use Rattle.std.specs.Global.{Global}
 use Rattle.std.specs.List.{All}
 use Rattle.std.specs.Option.{option_and_then}
 use Rattle.std.proofs.lemmas.List.{take_more, length-take-le}
+use Rattle.scq_word.specs.Sizes.{n_of}
 use Rattle.scq_word.specs.declared.setup.Setup.{Setup}
 use Rattle.scq_core.specs.declared.phase.Phase.{Phase}
 use Rattle.scq_core.specs.declared.phase.Phase.TheVariants.{Idle, AtE1, AtD10}
 use Rattle.scq_core.specs.declared.step.Step.{Step}
+use Rattle.scq_core.specs.StateLists.{machine_of}
 use Rattle.scq_core.specs.Updated.{updated}
 use Rattle.scq_core.proofs.UpdatedLemmas.{updated_cases}
 use Rattle.scq_law.specs.declared.recording.Recording.{Recording}
+use Rattle.scq_law.specs.declared.replayed.Replayed.{Replayed}
 use Rattle.scq_law.specs.Run.{Recorded, puts_after, resets_after, fails_after, recorded_after, recorded_by, recorded_first, recorded_along, recorded_of, IsRun}
-use Rattle.scq_law.specs.Replay.{StopsAt}
+use Rattle.scq_law.specs.RecordedSteps.{IsRecording}
+use Rattle.scq_law.specs.Replay.{Counts, StopsAt, ReplaysRun}
 use Rattle.scq_law.specs.Recording.{Shows, CountsCanRise}
 use Rattle.scq_law.proofs.Replays.RecordedRuns.{recorded_step}
-use Rattle.scq_law.proofs.Replays.LongerRuns.{run_last, run_stops}
-
--- the steps are a run, and this shows what is recorded of it
-pub record IsRecording (c : Setup) (opening : List (List ℕ)) (steps : List (ℕ × Step)) (t : Recording) : Type 0 where
-  pub recorded : Recorded
-  pub run : IsRun c opening steps recorded
-  pub shows : Shows c recorded t
+use Rattle.scq_law.proofs.Replays.LongerRuns.{run_first, run_last, run_stops}
 
 -- no count is above a number
 pub record IsFew (n : ℕ) (recorded : Recorded) : Type 0 where
@@ -117,4 +116,22 @@ stops c opening steps at x old low is recorded none =
           (λ (xs : List (ℕ × Step)). recorded_of c opening xs ≡ None)
           (sym (more steps at x low is))
           (run_stops c opening (take at steps) recorded.recorded x recorded.run none);
+    }
+
+-- before the first step
+pub first_recorded : (c : Setup) (opening : List (List ℕ)) (t : Recording) → length opening ≡ n_of c.order → Shows c (recorded_first c opening) t → IsRecording c opening [] t
+first_recorded c opening t full shows = record { recorded = recorded_first c opening; run = run_first c opening full; shows = shows }
+
+-- what is answered of it
+pub replays : (c : Setup) (opening : List (List ℕ)) (steps : List (ℕ × Step)) (t : Recording) (answered : Replayed) → IsRecording c opening steps t
+    → answered.state ≡ t.state → answered.events ≡ t.events → answered.resets ≡ t.resets → answered.fails ≡ t.fails → ReplaysRun c opening steps answered
+replays c opening steps t answered is state events resets fails =
+    record {
+      recorded = is.recorded;
+      run = is.run;
+      setup = ap (λ s. s.setup) state ∙ is.shows.setup;
+      state = ap machine_of state ∙ is.shows.state;
+      events = ap (λ es. es.items) events ∙ is.shows.events;
+      resets = subst (λ (v : Vec ℕ Global). Counts c.rings v.items is.recorded.resets) (sym resets) is.shows.resets;
+      fails = subst (λ (v : Vec ℕ Global). Counts c.rings v.items is.recorded.fails) (sym fails) is.shows.fails;
     }

@@ -1,4 +1,5 @@
-use Rattle.std.proofs.Common.{◌≡◌, ℕ, rules, ap, sym, ◌∙◌, subst, Err}
+use Rattle.std.proofs.Common.{◌≡◌, ℕ, rules, arith, ap, sym, ◌∙◌, subst, Err}
+use Rattle.scq_word.specs.declared.setup.Setup.{Setup}
 use Rattle.scq_law.specs.Replay.{StopsAt}
 use Rattle.scq_law.specs.RunSteps.{run_of}
 use Rattle.scq_law.proofs.Order.MarkedRuns.{marking_first, marking_stops, marking_next, marking_last}
@@ -28,3 +29,13 @@ pub returns-clause-run : goal.returns-clause-run
 returns-clause-run c =
     marking_last (run_of c.args.setup c.args.opening.items c.args.steps.now) c.args.ring c.loop-at.at c.loop-at.marking (search rules) (search rules)
     c.loop-at.invariant
+
+pub make-requires-clause-ring : goal.make-requires-clause-ring
+make-requires-clause-ring c =
+    let is = c.loop-at.invariant in
+    omega (arith, is.ring, ap (λ (setup : Setup). setup.rings) is.setup, c.requires.ring)
+
+pub make-requires-clause-calls : goal.make-requires-clause-calls
+make-requires-clause-calls c =
+    let is = c.loop-at.invariant in
+    omega (arith, is.size, c.loop-at.marking.marks.calls.ok, ap (λ (setup : Setup). setup.seats) is.setup)
