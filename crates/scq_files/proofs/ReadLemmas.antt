@@ -1,5 +1,5 @@
 -- How the answers of a framer add up to what is known of its file: the messages that it gave, and how its reading ended.
-use Rattle.std.proofs.Common.{◌≡◌, ◌≢◌, ◌∙◌, refl, sym, ap, subst, arith, Bool, true, false, ℕ, zero, suc, ◌+◌, ◌<◌, ◌≤◌, ◌^◌, List, [], ◌∷◌, ◌++◌, Option, Some, None, Result, Ok, Err, length, map, append_assoc}
+use Rattle.std.proofs.Common.{◌≡◌, ◌≢◌, ◌∙◌, refl, sym, ap, subst, arith, rules, Bool, true, false, ℕ, zero, suc, ◌+◌, ◌<◌, ◌≤◌, ◌^◌, List, [], ◌∷◌, ◌++◌, Option, Some, None, Result, Ok, Err, length, map, append_assoc}
 use Rattle.std.specs.Prelude.{IfSome, IsTrue, All, slice_index_or, sum_by}
 use Rattle.std.proofs.lemmas.List.Elements.{All-nil, All-push}
 use Rattle.std.specs.Option.{option_map}
@@ -120,6 +120,30 @@ pub record Answers {S : Type 0} (src : SourceOf S) (before now : S) (old new : F
   pub stays : IsTrue old.ended → IsTrue new.ended
   pub size_same : visible_size new (src.left now) ≡ visible_size old (src.left before)
   pub once : EndsOnce old.ended new.ended (src.ends before) (src.ends now)
+
+none-given : (o : Option (List Message)) → o ≡ option_map (λ rest. [] ++ rest) o
+none-given None = refl
+none-given (Some ms) = refl
+
+-- before the first message
+pub reading-first : {S : Type 0} (topics : List (List ℕ × Kind)) (size : ℕ) (src : SourceOf S) (file : ℕ) (start : S)
+    → FileIsBeingRead topics size src file start start (fresh file size (2 ^ 30)) []
+reading-first topics size src file start = record {
+  ahead = record { visible = none-given (visible_ahead (topic_of topics) (fresh file size (2 ^ 30)) (src.left start)) };
+  all = omega arith;
+  short = All-nil (λ (m : Message). length m.payload ≤ size);
+  number = refl;
+  gave = search rules;
+  going = refl;
+  payload = refl;
+  most = refl;
+  bounded = omega arith;
+  few = omega arith;
+  end = λ over. absurd (cc);
+  size_same = refl;
+  once = record { rose = λ _ over. absurd (cc); going = λ _. refl; over = λ over. absurd (cc) };
+  kept = refl;
+}
 
 -- it gave a message more
 pub reading-next : {S : Type 0} (topics : List (List ℕ × Kind)) (size : ℕ) (src : SourceOf S) (file : ℕ) (start before now : S)

@@ -1,8 +1,8 @@
-use Rattle.std.proofs.Common.{◌≡◌, ◌∙◌, sym, ap, subst, refl, arith, ℕ, ◌+◌, ◌%◌, ◌<◌, ◌≤◌, List, ◌∷◌, length, take, drop, reverse, get_or, set}
+use Rattle.std.proofs.Common.{◌≡◌, ◌∙◌, sym, ap, subst, refl, arith, ℕ, ◌+◌, ◌%◌, ◌<◌, ◌≤◌, List, [], ◌∷◌, length, take, drop, reverse, get_or, set}
 use Rattle.std.specs.Prelude.{slice_index_or, vec_len, vec_capacity}
 use Rattle.std.specs.List.{All}
-use Rattle.std.proofs.lemmas.List.{length-set, get_or_default}
-use Rattle.std.proofs.lemmas.List.Elements.{All-push}
+use Rattle.std.proofs.lemmas.List.{drop_all, length-set, get_or_default, take_all}
+use Rattle.std.proofs.lemmas.List.Elements.{All-nil, All-push}
 use Rattle.scq_files.specs.Files.{files_of}
 use Rattle.scq_files.specs.Desks.{AreDealt}
 use Rattle.scq_files.specs.OwnFiles.{IsNew, ids_of}
@@ -11,6 +11,24 @@ use Rattle.scq_files.specs.declared.own_file.OwnFile.{OwnFile}
 use Rattle.scq_files.proofs.Lists.{set-each, set-unseen}
 use Rattle.scq_files.proofs.DeskLemmas.{laid, other-first, taken-apart}
 use Rattle.scq_files.proofs.dealing.deal.Goals as goal
+
+pub sources-init : goal.sources-init
+sources-init g c =
+    let sources = c.args.sources.now in
+    let n = vec_len sources in
+    let desks = c.args.desks.now in
+    let past : drop n sources.items ≡ [] = drop_all n sources.items (omega (arith, sources.ok.0)) in
+    record {
+      long = refl;
+      few = omega arith;
+      front = sym (take_all n sources.items (omega (arith, sources.ok.0)));
+      capacity = refl;
+      dealt = λ w d less. ap ids_of (c.requires.empty w d less).0
+          ∙ ap (λ (rest : List g.row.S.Denot). reverse (files_of (length desks) w (n + 1) rest)) (sym past);
+      unread = λ w d less. subst (All IsNew) (sym (c.requires.empty w d less).0) (All-nil IsNew);
+      same = refl;
+      room = λ w d less. omega (arith, (c.requires.empty w d less).1, (c.requires.empty w d less).2);
+    }
 
 pub sources-preserved : goal.sources-preserved
 sources-preserved g c =

@@ -1,15 +1,15 @@
-use Rattle.std.proofs.Common.{rules, ◌≡◌, ◌≤◌, ◌∙◌, ap, sym, subst, ◌++◌, ◌∷◌, [], List, length, Some, None, Ok, Err, Result, Option}
+use Rattle.std.proofs.Common.{rules, ◌≡◌, ◌^◌, ◌∙◌, ap, sym, subst, ◌++◌, ◌∷◌, [], List, length, Some, None, Ok, Err, Result, Option}
 use Rattle.std.specs.Prelude.{IfErr, IfNone, IfSome, IsTrue}
 use Rattle.std.specs.Option.{option_map, option_to_list}
 use Rattle.scq_topics.specs.Topics.{topic_of}
 use Rattle.scq_frames.specs.Coming.{Found}
-use Rattle.scq_frames.specs.Framing.{IsNext, visible_ahead}
+use Rattle.scq_frames.specs.Framing.{Framing, IsNext, fresh, visible_ahead}
 use Rattle.scq_frames.specs.declared.message.Message.{Message}
 use Rattle.scq_files.specs.Given.{given_in}
 use Rattle.scq_files.specs.Reading.{IsRead}
 use Rattle.scq_frames.specs.declared.fault.FrameFault.TheVariants.{NoMemory}
 use Rattle.scq_files.specs.declared.own_file.FileEnd.TheVariants.{Stopped}
-use Rattle.scq_files.proofs.ReadLemmas.{FileIsBeingRead, Answers, reading-next, reading-whole, reading-fault, reading-left}
+use Rattle.scq_files.proofs.ReadLemmas.{FileIsBeingRead, Answers, reading-first, reading-next, reading-whole, reading-fault, reading-left}
 use Rattle.scq_files.proofs.Wants.{wants-none, wants-more}
 use Rattle.scq_files.proofs.reading.read_messages.Goals as goal
 use Rattle.scq_files.proofs.reading.read_messages.Goals.{After-next, After-handle_one}
@@ -149,3 +149,23 @@ returns-in-Ok-None-clause-wanted g c fed = wants-none _ _ _ _ _ c.messages.invar
 
 pub returns-in-Err-clause-wanted : goal.returns-in-Err-clause-wanted
 returns-in-Err-clause-wanted g c fed = wants-none _ _ _ _ _ c.messages.invariant.handled (c.messages.invariant.fed fed)
+
+pub messages-init : goal.messages-init
+messages-init g c =
+    let source = c.args.source.now in
+    let framer : Framing = fresh c.args.file c.args.longest (2 ^ 30) in
+    record {
+      reading =
+          subst (λ (framer : Framing). FileIsBeingRead c.args.topics.now c.args.longest g.S.Source c.args.file source source framer (given_in c.args.given.now.value))
+          (sym c.in-Ok.ensures)
+          (subst (λ (ms : List Message). FileIsBeingRead c.args.topics.now c.args.longest g.S.Source c.args.file source source framer ms) (sym c.requires.none)
+          (reading-first c.args.topics.now c.args.longest g.S.Source c.args.file source));
+      ready = c.requires.ready;
+      handled =
+          subst (λ (ms : List Message). g.H.Handler.handled c.args.with.now ms c.args.beside.now c.args.handler.now c.args.beside.now c.args.handler.now)
+          (sym c.requires.none) (g.met.H.Handler.none_handled c.args.with.now c.args.beside.now c.args.handler.now c.requires.ready);
+      fed = λ fed. fed;
+    }
+
+pub handle_one-requires-clause-ready : goal.handle_one-requires-clause-ready
+handle_one-requires-clause-ready g c = c.messages.invariant.ready
