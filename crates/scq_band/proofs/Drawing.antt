@@ -70,12 +70,8 @@ module _ {S : Type 0} (Lies : ℕ → S → List ℕ → Type 0) (c : Setup) (v0
       → later.0 ≡ goes_to (AtE2 r i w x 0) v0
   drew is alone went low turned =
       goes_as Lies c turn (AtE1 r i w l) me later x (goes_on (AtE2 r i w x 0) (my me.0).part) is (alone_at v0 me.0 (my_phase me.0) alone went)
-      (λ y. rw (not_past c.limit x low) refl) turned
+      (λ y. rw (lt-leb c.limit x low) refl) turned
       ∙ ap (goes_to (AtE2 r i w x 0)) went
-    where
-      not_past : (a b : ℕ) → b < a → nat_le a b ≡ false
-      not_past a b less =
-          elim (cases_Bool (nat_le a b)) [ inl holds ↦ absurd (let le = leb-true a b holds in omega arith) | inr fails ↦ fails ]
 
 -- a put that looks at its ticket's slot
 pub looks_as : (v : Known) (r i : ℕ) (w : List ℕ) (t l : ℕ) → my_phase v ≡ AtE2 r i w t l → IsLooking r t (my_phase v)

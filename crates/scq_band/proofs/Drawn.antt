@@ -1,8 +1,8 @@
 -- A get draws tickets: what it knows of Head after the last one is what it knew before, and that one.
-use Rattle.std.proofs.Common.{◌≡◌, ℕ, zero, suc, ◌+◌, ◌^◌, ◌<◌, ◌≤◌, false, List, [], ◌∷◌, refl, sym, ◌∙◌, ap, subst, inl, inr, arith, le-leb, leb-true, lt-ltb, ltb-true}
-use Rattle.std.specs.Prelude.{Some, None, nat_le, nat_lt, max, slice_get}
+use Rattle.std.proofs.Common.{◌≡◌, ℕ, zero, suc, ◌+◌, ◌^◌, ◌<◌, ◌≤◌, false, List, [], ◌∷◌, refl, sym, ◌∙◌, ap, subst, arith, le-leb, le-ltb, lt-ltb}
+use Rattle.std.specs.Prelude.{Some, None, max, slice_get}
 use Rattle.std.proofs.Math.Nat.{max-eq_left}
-use Rattle.std.proofs.lemmas.Bool.{cases_Bool}
+use Rattle.std.proofs.lemmas.Bool.{lt-leb}
 use Rattle.atomic_table.specs.Table.{Me}
 use Rattle.scq_word.specs.declared.setup.Setup.{Setup}
 use Rattle.scq_core.specs.declared.ended.Ended.TheVariants.{Nothing}
@@ -18,12 +18,6 @@ use Rattle.scq_band.specs.Turns.{MayTurn, Takes, Turned}
 use Rattle.scq_band.specs.Steps.{my, my_phase, loading, load_turn}
 use Rattle.scq_band.specs.Seats.{IsAlone, with_part, at_phase, seated, goes_to, nothing_at, got_at, SeatHasGot, drew_head, drawn_spent, to_draw}
 use Rattle.scq_band.proofs.Outcomes.{goes_as, turned_as}
-
-not_at_most : {a b : ℕ} → b < a → nat_le a b ≡ false
-not_at_most {a} {b} less = elim (cases_Bool (nat_le a b)) [ inl holds ↦ absurd (let le = leb-true a b holds in omega arith) | inr fails ↦ fails ]
-
-not_below : {a b : ℕ} → b ≤ a → nat_lt a b ≡ false
-not_below {a} {b} le = elim (cases_Bool (nat_lt a b)) [ inl holds ↦ absurd (let lt = ltb-true a b holds in omega arith) | inr fails ↦ fails ]
 
 -- to know that Head is at least 0 is to know nothing
 pub passes_none : (numbers : List Numbers) (r : ℕ) → changed (passes 0) r numbers ≡ numbers
@@ -62,16 +56,16 @@ module _ {S : Type 0} (Lies : ℕ → S → List ℕ → Type 0) (c : Setup) (v 
 
   pub saw_some : turn ≡ AtD1 r → IsAlone me.0 → zero_level ≤ x → Turned Lies c turn me x later → later.0 ≡ to_draw r 0 me.0
   saw_some is alone high turned =
-      goes_as Lies c turn (AtD1 r) me later x (goes_on (AtD2 r 0) (my me.0).part) is alone (λ y. rw (not_below high) refl) turned
+      goes_as Lies c turn (AtD1 r) me later x (goes_on (AtD2 r 0) (my me.0).part) is alone (λ y. rw (le-ltb x zero_level high) refl) turned
       ∙ ap (λ (ns : List Numbers). seated (with_part (goes_on (AtD2 r 0) (my me.0).part) (my me.0)) ns me.0)
-      (rw (not_below high) (sym (passes_none me.0.numbers r)))
+      (rw (le-ltb x zero_level high) (sym (passes_none me.0.numbers r)))
 
   pub drew_one : (l : ℕ) → turn ≡ AtD2 r l → IsAlone me.0 → me.0 ≡ to_draw r l v → x < c.limit → Turned Lies c turn me x later
       → later.0 ≡ goes_to (AtD3 r x 0) (drew_head r x v)
   drew_one l is alone here low turned =
       let u = turned_as Lies c turn (AtD2 r l) me later x is turned in
       let le = u.found in
-      goes_as Lies c turn (AtD2 r l) me later x (goes_on (AtD3 r x 0) (my me.0).part) is alone (λ y. rw (not_at_most low) refl) turned
+      goes_as Lies c turn (AtD2 r l) me later x (goes_on (AtD3 r x 0) (my me.0).part) is alone (λ y. rw (lt-leb c.limit x low) refl) turned
       ∙ ap (λ (w : Known). seated (at_phase (AtD3 r x 0) (my w)) (changed (passes (x + 1)) r w.numbers) w) here
       ∙ ap (λ (ns : List Numbers). seated (at_phase (AtD3 r x 0) (my v)) ns v) (passes_again v.numbers r l (x + 1) (omega arith))
 

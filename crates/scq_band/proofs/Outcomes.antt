@@ -5,15 +5,16 @@ use Rattle.scq_word.specs.declared.setup.Setup.{Setup}
 use Rattle.scq_core.specs.declared.phase.Phase.{Phase}
 use Rattle.scq_core.specs.Machine.{SeatPart}
 use Rattle.scq_core.specs.declared.step.Step.{Step}
-use Rattle.scq_core.specs.Table.{after, turn_at}
-use Rattle.scq_band.specs.Layout.{ring_of_word}
+use Rattle.scq_core.specs.Table.{after, turn_at, location_of}
+use Rattle.scq_band.specs.Layout.{at, ring_of_word}
 use Rattle.scq_band.specs.declared.numbers.Numbers.{Numbers}
 use Rattle.scq_band.specs.Known.{Member, Known}
-use Rattle.scq_band.specs.Steps.{my, my_phase, loading, load_turn}
+use Rattle.scq_band.specs.Steps.{my, my_phase, loading, load_turn, OnlyReads}
 use Rattle.scq_band.specs.Turns.{MayTurn, Turned, made, learned, turned_member}
 use Rattle.scq_band.specs.Seats.{IsAlone, with_part, at_phase, goes_to, seated}
 
-made_alone : (c : Setup) (t : Phase) (x : ℕ) (y : List ℕ) (v : Known) → v.seats ≡ my v ∷ []
+-- the view of a seat that stands alone after a turn
+pub made_alone : (c : Setup) (t : Phase) (x : ℕ) (y : List ℕ) (v : Known) → v.seats ≡ my v ∷ []
     → made c t x y v ≡ seated (turned_member c t x y (my v)) (learned c t x v.numbers) v
 made_alone c t x y v alone = ap (λ (xs : List Member). record v { seats = map (turned_member c t x y) xs; numbers = learned c t x v.numbers }) alone
 
@@ -54,6 +55,18 @@ pub may_load : (c : Setup) (v : Known) (word : ℕ) (t : Phase) (s : Step) → I
     → turn_at c (my v).part.hand (my v).part.spent t s ≡ Some t → MayTurn c v (load_turn c word v)
 may_load c v word t s alone phase reads able =
     subst (λ (u : Phase). MayTurn c v u) (sym (ap (loading (ring_of_word c word)) phase ∙ reads)) (may_go c v t s alone phase able)
+
+-- that load only reads, at the word of that turn
+pub load_kind : (c : Setup) (v : Known) (word : ℕ) (t : Phase) → my_phase v ≡ t → loading (ring_of_word c word) t ≡ t → OnlyReads t → OnlyReads (load_turn c word v)
+load_kind c v word t phase reads only = subst OnlyReads (sym (ap (loading (ring_of_word c word)) phase ∙ reads)) only
+
+pub load_word : (c : Setup) (v : Known) (word : ℕ) (t : Phase) → my_phase v ≡ t → loading (ring_of_word c word) t ≡ t → word ≡ at c (location_of c t)
+    → word ≡ at c (location_of c (load_turn c word v))
+load_word c v word t phase reads is = is ∙ ap (λ (u : Phase). at c (location_of c u)) (sym (ap (loading (ring_of_word c word)) phase ∙ reads))
+
+-- and the word of a seat's phase is that of the turn
+pub phase_word : (c : Setup) (v : Known) (word : ℕ) (t : Phase) → my_phase v ≡ t → word ≡ at c (location_of c t) → word ≡ at c (location_of c (my_phase v))
+phase_word c v word t phase is = is ∙ ap (λ (u : Phase). at c (location_of c u)) (sym phase)
 
 -- it stands alone still
 pub alone_seated : (v later : Known) (x : Member) (numbers : List Numbers) → x.brought ≡ [] → later ≡ seated x numbers v → IsAlone later

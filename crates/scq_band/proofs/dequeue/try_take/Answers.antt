@@ -1,18 +1,20 @@
-use Rattle.std.proofs.Common.{◌≡◌, ◌≢◌, ◌≤◌, refl, inr, sym, ◌∙◌, ap, arith}
+use Rattle.std.proofs.Common.{◌≡◌, ◌≢◌, ℕ, ◌≤◌, refl, inr, sym, ◌∙◌, ap, subst, arith}
 use Rattle.scq_word.specs.Words.{cycle_in, rank_in}
-use Rattle.scq_core.specs.declared.phase.Phase.TheVariants.{AtD3, AtD4, AtD5}
+use Rattle.scq_core.specs.declared.phase.Phase.{Phase}
+use Rattle.scq_core.specs.declared.phase.Phase.TheVariants.{AtD3, AtD4, AtD5, AtD6}
 use Rattle.scq_core.specs.declared.step.Step.TheVariants.{D3, D4, D5}
 use Rattle.scq_core.specs.Table.{ring_slots, cycle}
 use Rattle.scq_core.proofs.Packing.{cycle_fits}
 use Rattle.scq_band.specs.Sights.{known_me}
 use Rattle.scq_band.specs.Layout.{ring_of_word, entry_at}
 use Rattle.scq_band.specs.Buffers.{LiesIn}
-use Rattle.scq_band.specs.Steps.{my_phase, loading, load_turn}
-use Rattle.scq_band.specs.Seats.{IsAlone, goes_to, least_of}
+use Rattle.scq_band.specs.Turns.{Carries}
+use Rattle.scq_band.specs.Steps.{my_phase, loading, load_turn, Exchanges, IsTakingTurn}
+use Rattle.scq_band.specs.Seats.{IsAlone, SeatHasGot, goes_to, least_of}
 use Rattle.scq_band.proofs.RingLemmas.{tail_fits, entry_low}
-use Rattle.scq_band.proofs.Outcomes.{may_load, may_phase, alone_at, turned_as}
+use Rattle.scq_band.proofs.Outcomes.{may_load, may_phase, load_kind, load_word, phase_word, alone_at, turned_as}
 use Rattle.scq_band.proofs.Placing.{rank_fits}
-use Rattle.scq_band.proofs.Seeking.{saw_own_cycle, saw_earlier, passed_missed, passed_rises, earlier_cycle_of}
+use Rattle.scq_band.proofs.Seeking.{saw_own_cycle, saw_earlier, saw_later, took, passed_hit, passed_missed, passed_rises, earlier_cycle_of, later_cycle_of}
 use Rattle.scq_band.proofs.RunShown.{went_on, goes_then}
 use Rattle.scq_band.proofs.dequeue.try_take.Goals as goal
 use Rattle.scq_band.proofs.dequeue.try_take.Goals.{After-load-found, After-passed, After-exchange}
@@ -26,6 +28,19 @@ alone : (g : _) (c : After-load-found g) → IsAlone c.tries.token.me.0.known
 alone g c =
     alone_at c.args.token.now.me.0.known c.tries.token.me.0.known (AtD3 c.args.ring.now.number c.args.ticket (least_of (my_phase c.tries.token.me.0.known)))
     c.requires.alone c.tries.invariant.3
+
+stays : (g : _) (c : After-load-found g) → c.load-found.new.token.me.1 ≡ c.args.token.now.me.1
+stays g c =
+    (turned_as _ c.args.words.now.key.setup _ (AtD3 c.args.ring.now.number c.args.ticket _) (known_me c.tries.token.me) (known_me c.load-found.new.token.me)
+    c.load-found.result (seeks g c) c.load-found.ensures.turned).slots
+    ∙ c.tries.invariant.2
+
+-- it found the entry of its own cycle
+own-cycle : (g : _) (c : After-load-found g) → cycle_in (ring_slots c.args.words.now.key.setup) c.load-found.result ≡ cycle c.args.words.now.key.setup c.args.ticket
+    → c.load-found.new.token.me.0.known ≡ goes_to (AtD4 c.args.ring.now.number c.args.ticket) c.tries.token.me.0.known
+own-cycle g c same =
+    saw_own_cycle _ c.args.words.now.key.setup (known_me c.tries.token.me) (known_me c.load-found.new.token.me) _ c.load-found.result c.args.ring.now.number
+    c.args.ticket _ (seeks g c) (alone g c) same c.load-found.ensures.turned
 
 -- it found an entry of an earlier cycle
 earlier : (g : _) (c : After-passed g) → load_turn c.args.words.now.key.setup c.entry-word.result c.tries.token.me.0.known
@@ -62,6 +77,19 @@ load-found-requires-clause-may g c κs within =
     may_load k v c.entry-word.result turn D3 (alone_at c.args.token.now.me.0.known v turn c.requires.alone c.tries.invariant.3)
     (ap my_phase c.tries.invariant.3) refl refl
 
+pub load-found-requires-clause-kind : goal.load-found-requires-clause-kind
+load-found-requires-clause-kind g c κs within =
+    let v = c.tries.token.me.0.known in
+    load_kind c.args.words.now.key.setup v c.entry-word.result (AtD3 c.args.ring.now.number c.args.ticket (least_of (my_phase v)))
+    (ap my_phase c.tries.invariant.3) refl tt
+
+pub load-found-requires-clause-word : goal.load-found-requires-clause-word
+load-found-requires-clause-word g c κs within =
+    let k = c.args.words.now.key.setup in
+    let v = c.tries.token.me.0.known in
+    load_word k v c.entry-word.result (AtD3 c.args.ring.now.number c.args.ticket (least_of (my_phase v))) (ap my_phase c.tries.invariant.3) refl
+    (c.entry-word.ensures k c.requires.ring)
+
 pub consume-old-requires-clause-low : goal.consume-old-requires-clause-low
 consume-old-requires-clause-low g c κs within = entry_low c.args.ticket c.requires.ring (c.entry-word.ensures _ c.requires.ring) c.requires.own.1
 
@@ -71,9 +99,22 @@ consume-old-requires-clause-may g c κs within =
     let at = (goal.at.consume-old-requires-clause-may g c).After-load-found in
     let turn = AtD4 c.args.ring.now.number c.args.ticket in
     let w = c.load-found.new.token.me.0.known in
-    let now = saw_own_cycle _ k (known_me c.tries.token.me) (known_me c.load-found.new.token.me) _ c.load-found.result c.args.ring.now.number c.args.ticket _
-    (seeks g at) (alone g at) (c.is_of_cycle.ensures.own c.if-is_of_cycle.true k c.requires.ring) c.load-found.ensures.turned in
+    let now = own-cycle g at (c.is_of_cycle.ensures.own c.if-is_of_cycle.true k c.requires.ring) in
     may_phase k w turn D4 (alone_at c.tries.token.me.0.known w turn (alone g at) now) (ap my_phase now) refl
+
+pub consume-old-requires-clause-kind : goal.consume-old-requires-clause-kind
+consume-old-requires-clause-kind g c κs within =
+    let at = (goal.at.consume-old-requires-clause-kind g c).After-load-found in
+    let now = own-cycle g at (c.is_of_cycle.ensures.own c.if-is_of_cycle.true c.args.words.now.key.setup c.requires.ring) in
+    subst IsTakingTurn (sym (ap my_phase now)) tt
+
+pub consume-old-requires-clause-word : goal.consume-old-requires-clause-word
+consume-old-requires-clause-word g c κs within =
+    let k = c.args.words.now.key.setup in
+    let at = (goal.at.consume-old-requires-clause-word g c).After-load-found in
+    let now = own-cycle g at (c.is_of_cycle.ensures.own c.if-is_of_cycle.true k c.requires.ring) in
+    phase_word k c.load-found.new.token.me.0.known c.entry-word.result (AtD4 c.args.ring.now.number c.args.ticket) (ap my_phase now)
+    (c.entry-word.ensures k c.requires.ring)
 
 pub exchange-requires-clause-low : goal.exchange-requires-clause-low
 exchange-requires-clause-low g c κs within = entry_low c.args.ticket c.requires.ring (c.entry-word.ensures _ c.requires.ring) c.requires.own.1
@@ -94,6 +135,28 @@ exchange-requires-clause-may g c κs within =
     let now = earlier g at.After-passed (seeks g at.After-load-found) stands in
     may_phase c.args.words.now.key.setup w turn D5 (alone_at c.tries.token.me.0.known w turn stands now) (ap my_phase now) refl
 
+pub exchange-requires-clause-kind : goal.exchange-requires-clause-kind
+exchange-requires-clause-kind g c κs within =
+    let k = c.args.words.now.key.setup in
+    let at = goal.at.exchange-requires-clause-kind g c in
+    let now = earlier g at.After-passed (seeks g at.After-load-found) (alone g at.After-load-found) in
+    subst (λ (p : Phase). Exchanges k p c.load-found.result c.passed.result) (sym (ap my_phase now)) (refl, c.passed.ensures k c.requires.ring.order)
+
+pub exchange-requires-clause-word : goal.exchange-requires-clause-word
+exchange-requires-clause-word g c κs within =
+    let k = c.args.words.now.key.setup in
+    let at = goal.at.exchange-requires-clause-word g c in
+    let now = earlier g at.After-passed (seeks g at.After-load-found) (alone g at.After-load-found) in
+    phase_word k c.load-found.new.token.me.0.known c.entry-word.result (AtD5 c.args.ring.now.number c.args.ticket c.load-found.result) (ap my_phase now)
+    (c.entry-word.ensures k c.requires.ring)
+
+pub exchange-requires-clause-carries : goal.exchange-requires-clause-carries
+exchange-requires-clause-carries g c κs within =
+    let at = goal.at.exchange-requires-clause-carries g c in
+    let now = earlier g at.After-passed (seeks g at.After-load-found) (alone g at.After-load-found) in
+    let Lie = LiesIn g.B.Buffer.contents g.B.Buffer.IsSameBuffer c.args.words.now.key.given.value.items in
+    subst (λ (p : Phase). Carries Lie p c.load-found.new.token.me.1) (sym (ap my_phase now)) tt
+
 pub tries-smaller : goal.tries-smaller
 tries-smaller g c =
     let k = c.args.words.now.key.setup in
@@ -110,6 +173,55 @@ tries-smaller g c =
     (turned_as _ k _ (AtD3 c.args.ring.now.number c.args.ticket _) (known_me c.tries.token.me) (known_me c.load-found.new.token.me) c.load-found.result
     (seeks g at.After-load-found) c.load-found.ensures.turned).found in
     omega (arith, up, least, fits, found)
+
+pub returns-then-is_of_cycle-clause-got : goal.returns-then-is_of_cycle-clause-got
+returns-then-is_of_cycle-clause-got g c =
+    let k = c.args.words.now.key.setup in
+    let at = (goal.at.returns-then-is_of_cycle-clause-got g c).After-load-found in
+    let r = c.args.ring.now.number in
+    let h = c.args.ticket in
+    let turn = AtD4 r h in
+    let w = c.load-found.new.token.me.0.known in
+    let later = known_me c.consume-old.new.token.me in
+    let Lie = LiesIn g.B.Buffer.contents g.B.Buffer.IsSameBuffer c.args.words.now.key.given.value.items in
+    let now = own-cycle g at (c.is_of_cycle.ensures.own c.if-is_of_cycle.true k c.requires.ring) in
+    subst (λ (i : ℕ). SeatHasGot Lie k r h i (known_me c.args.token.now.me) later) (sym (c.index.ensures k c.requires.ring))
+    (took Lie k (known_me c.load-found.new.token.me) later _ c.consume-old.result r h c.args.token.now.me.0.known c.args.token.now.me.1 (ap my_phase now)
+    (alone_at c.tries.token.me.0.known w turn (alone g at) now) (now ∙ ap (goes_to turn) c.tries.invariant.3) (stays g at) c.consume-old.ensures.turned)
+
+pub returns-then-unpack-cycle_of-clause-given_up : goal.returns-then-unpack-cycle_of-clause-given_up
+returns-then-unpack-cycle_of-clause-given_up g c =
+    let k = c.args.words.now.key.setup in
+    let at = (goal.at.returns-then-unpack-cycle_of-clause-given_up g c).After-load-found in
+    let high = later_cycle_of k _ c.args.ticket c.load-found.result c.cycle_of.result c.unpack.result c.requires.ring.order c.unpack.ensures.entry
+    c.cycle_of.ensures c.if-unpack-cycle_of.true in
+    saw_later _ k (known_me c.tries.token.me) (known_me c.load-found.new.token.me) _ c.load-found.result c.args.ring.now.number c.args.ticket _ (seeks g at)
+    (alone g at) high c.load-found.ensures.turned
+    ∙ ap (goes_to (AtD6 c.args.ring.now.number c.args.ticket)) c.tries.invariant.3
+
+pub returns-then-unpack-cycle_of-clause-slots : goal.returns-then-unpack-cycle_of-clause-slots
+returns-then-unpack-cycle_of-clause-slots g c = stays g (goal.at.returns-then-unpack-cycle_of-clause-slots g c).After-load-found
+
+pub returns-then-exchange-found-clause-given_up : goal.returns-then-exchange-found-clause-given_up
+returns-then-exchange-found-clause-given_up g c =
+    let k = c.args.words.now.key.setup in
+    let at = goal.at.returns-then-exchange-found-clause-given_up g c in
+    let r = c.args.ring.now.number in
+    let h = c.args.ticket in
+    let w = c.load-found.new.token.me.0.known in
+    let stands = alone g at.After-load-found in
+    let now = earlier g at.After-passed (seeks g at.After-load-found) stands in
+    passed_hit _ k (known_me c.load-found.new.token.me) (known_me c.exchange.new.token.me) _ c.exchange.result r h c.load-found.result (ap my_phase now)
+    (alone_at c.tries.token.me.0.known w (AtD5 r h c.load-found.result) stands now) c.if-exchange-found.true c.exchange.ensures.turned
+    ∙ ap (goes_to (AtD6 r h)) (now ∙ ap (goes_to (AtD5 r h c.load-found.result)) c.tries.invariant.3)
+
+pub returns-then-exchange-found-clause-slots : goal.returns-then-exchange-found-clause-slots
+returns-then-exchange-found-clause-slots g c =
+    let at = goal.at.returns-then-exchange-found-clause-slots g c in
+    let now = earlier g at.After-passed (seeks g at.After-load-found) (alone g at.After-load-found) in
+    (turned_as _ c.args.words.now.key.setup _ (AtD5 c.args.ring.now.number c.args.ticket c.load-found.result) (known_me c.load-found.new.token.me)
+    (known_me c.exchange.new.token.me) c.exchange.result (ap my_phase now) c.exchange.ensures.turned).slots
+    ∙ stays g at.After-load-found
 
 pub returns-then-unpack-cycle_of-clause-went : goal.returns-then-unpack-cycle_of-clause-went
 returns-then-unpack-cycle_of-clause-went g c =
@@ -140,9 +252,7 @@ tries-preserved g c =
       c.exchange.ensures.own.1 ∙ c.load-found.ensures.own.1 ∙ c.tries.invariant.1,
       (turned_as _ k _ (AtD5 r h x) (known_me c.load-found.new.token.me) (known_me c.exchange.new.token.me) y
           (ap my_phase now) c.exchange.ensures.turned).slots
-          ∙ (turned_as _ k _ (AtD3 r h _) (known_me c.tries.token.me) (known_me c.load-found.new.token.me) x (seeks g at.After-load-found)
-          c.load-found.ensures.turned).slots
-          ∙ c.tries.invariant.2,
+          ∙ stays g at.After-load-found,
       next ∙ ap again now ∙ ap again c.tries.invariant.3 ∙ ap (λ l. goes_to (AtD3 r h l) c.args.token.now.me.0.known) (sym least),
       inr (goes_then c.tries.invariant.4 (went_on c.load-found.ensures.went c.exchange.ensures.went)),
     )
