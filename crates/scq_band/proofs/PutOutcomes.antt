@@ -1,8 +1,8 @@
 -- What E2 and E3 make of a seat in the middle of a put, by what the entry and Head were.
-use Rattle.std.proofs.Common.{◌≡◌, ℕ, ◌<◌, Bool, true, false, ◌==◌, ◌&&◌, List, refl, sym, ◌∙◌, ap, subst, inl, inr, arith, eq-eqb}
+use Rattle.std.proofs.Common.{◌≡◌, ℕ, ◌+◌, ◌<◌, Bool, true, false, ◌==◌, ◌&&◌, List, refl, sym, ◌∙◌, ap, subst, inl, inr, arith, eq-eqb}
 use Rattle.std.specs.Prelude.{nat_lt, is_some}
 use Rattle.std.specs.Cmp.Derive.{both_true}
-use Rattle.std.proofs.lemmas.Bool.{cases_Bool, lt-ltb}
+use Rattle.std.proofs.lemmas.Bool.{cases_Bool, lt-ltb, lt-leb}
 use Rattle.scq_word.specs.declared.entry.Entry.{Entry}
 use Rattle.scq_word.specs.Sizes.{slots_of}
 use Rattle.scq_word.specs.Tickets.{cycle_of}
@@ -11,7 +11,7 @@ use Rattle.atomic_table.specs.Table.{Me}
 use Rattle.scq_word.specs.declared.setup.Setup.{Setup}
 use Rattle.scq_word.specs.Words.{safe_in, cycle_in, is_none_in}
 use Rattle.scq_core.specs.declared.phase.Phase.{Phase}
-use Rattle.scq_core.specs.declared.phase.Phase.TheVariants.{AtE2, AtE3, AtE4}
+use Rattle.scq_core.specs.declared.phase.Phase.TheVariants.{AtE1, AtE2, AtE3, AtE4}
 use Rattle.scq_core.specs.Table.{ring_slots, cycle, goes_on}
 use Rattle.scq_band.specs.Known.{Known}
 use Rattle.scq_band.specs.Turns.{Turned}
@@ -36,6 +36,13 @@ module _ {S : Type 0} (Lies : ℕ → S → List ℕ → Type 0) (c : Setup) (me
       let does : takes_an_index c t x ≡ true = both_true (lt-ltb _ _ vacant.earlier) vacant.none in
       let safe : (safe_in (ring_slots c) x == 1) ≡ true = eq-eqb _ _ vacant.safe in
       goes_as Lies c turn (AtE2 r i w t l) me later x (goes_on (AtE4 r i w t x) (my me.0).part) is alone (λ y. rw (does, safe) refl) turned
+
+  -- Head was past the ticket
+  pub saw_head_past : (t e : ℕ) (v : Known) → turn ≡ AtE3 r i w t e → IsAlone me.0 → me.0 ≡ goes_to (AtE3 r i w t e) v → t < x → Turned Lies c turn me x later
+      → later.0 ≡ goes_to (AtE1 r i w (t + 1)) v
+  saw_head_past t e v is alone here past turned =
+      goes_as Lies c turn (AtE3 r i w t e) me later x (goes_on (AtE1 r i w (t + 1)) (my me.0).part) is alone (λ y. rw (lt-leb x t past) refl) turned
+      ∙ ap (goes_to (AtE1 r i w (t + 1))) here
 
 -- what the running tests of an entry say of its word
 unset_index : (order x : ℕ) → is_some (index_of_word order x) ≡ false → is_none_in (slots_of order) x ≡ true
