@@ -1,8 +1,10 @@
 use Rattle.std.proofs.Common.{◌≡◌, ◌<◌, ◌≤◌, ◌+◌, ℕ, refl, inr, sym, ◌∙◌, ap, subst, arith}
-use Rattle.std.specs.Prelude.{Option, Some, None}
+use Rattle.std.specs.Prelude.{Option, Some, None, Result, Err}
+use Rattle.scq_band.specs.declared.dequeue.Without.{Without}
+use Rattle.scq_band.specs.declared.dequeue.Without.TheVariants.{Nothing, Spent}
 use Rattle.scq_core.specs.Machine.{head_of, threshold_of}
 use Rattle.scq_core.specs.declared.phase.Phase.{Phase}
-use Rattle.scq_core.specs.declared.phase.Phase.TheVariants.{AtD1, AtD2, AtD6}
+use Rattle.scq_core.specs.declared.phase.Phase.TheVariants.{AtD1, AtD2, AtD3, AtD6}
 use Rattle.scq_core.specs.declared.step.Step.TheVariants.{D2}
 use Rattle.scq_core.specs.Table.{location_of}
 use Rattle.scq_core.proofs.Entries.{zero_level_is}
@@ -11,12 +13,12 @@ use Rattle.scq_band.specs.Layout.{at, ring_of_word}
 use Rattle.scq_band.specs.Numbers.{changed, passes}
 use Rattle.scq_band.specs.Buffers.{LiesIn}
 use Rattle.scq_band.specs.Turns.{MayTurn}
-use Rattle.scq_band.specs.Steps.{my, my_phase, front_index, front_bytes, loading, drawing, draw_turn}
-use Rattle.scq_band.specs.Seats.{IsAlone, at_phase, goes_to, nothing_at, to_draw, least_of, HasFoundNone, HasSpentGet}
+use Rattle.scq_band.specs.Steps.{my, my_phase, front_index, front_bytes, loading, drawing, draw_turn, OnlyReads, IsDraw}
+use Rattle.scq_band.specs.Seats.{IsAlone, at_phase, goes_to, nothing_at, to_draw, drew_head, least_of, HasFoundNone, HasSpentGet}
 use Rattle.scq_band.proofs.Layouts.{ring_of_word-at}
 use Rattle.scq_band.proofs.RingLemmas.{tail_fits, head_low, threshold_low}
 use Rattle.scq_band.proofs.Grounds.{threshold_location}
-use Rattle.scq_band.proofs.Outcomes.{may_go, alone_seated, turned_as}
+use Rattle.scq_band.proofs.Outcomes.{may_go, alone_at, alone_seated, turned_as}
 use Rattle.scq_band.proofs.Drawn.{DrewFromHead, drew_from_head, may_get, saw_empty, saw_some, got_then}
 use Rattle.scq_band.proofs.Keeping.{found_first, found_after}
 use Rattle.scq_band.proofs.RunShown.{went_on, goes_then}
@@ -60,6 +62,25 @@ drawn g c alone turn =
     c.args.token.now.me.0.known c.args.token.now.me.1 (known_me c.draws.token.me) (known_me c.draw-ticket.new.token.me) _ c.draw-ticket.result
     c.args.ring.now.number _ turn alone c.draws.invariant.3 c.draws.invariant.2 c.draw-ticket.ensures.turned
 
+-- the ticket is below the limit
+below-limit : (g : _) (c : After-draw-ticket g) → DrewFromHead c.args.words.now.key.setup c.args.token.now.me.0.known c.args.token.now.me.1 c.draw-ticket.result
+    c.args.ring.now.number (known_me c.draw-ticket.new.token.me) → c.draw-ticket.result < c.args.ring.now.limit → c.draw-ticket.new.token.me.0.known
+    ≡ goes_to (AtD3 c.args.ring.now.number c.draw-ticket.result 0) (drew_head c.args.ring.now.number c.draw-ticket.result c.args.token.now.me.0.known)
+below-limit g c its less = let limit = c.requires.ring.limit in its.within (omega (arith, limit, less))
+
+beside : (g : _) (c : After-draw-ticket g) → DrewFromHead c.args.words.now.key.setup c.args.token.now.me.0.known c.args.token.now.me.1 c.draw-ticket.result
+    c.args.ring.now.number (known_me c.draw-ticket.new.token.me) → c.draw-ticket.result < c.args.ring.now.limit → IsAlone c.draw-ticket.new.token.me.0.known
+beside g c its less =
+    alone_at (drew_head c.args.ring.now.number c.draw-ticket.result c.args.token.now.me.0.known) c.draw-ticket.new.token.me.0.known
+    (AtD3 c.args.ring.now.number c.draw-ticket.result 0) (record { seats = refl; out = c.requires.alone.out }) (below-limit g c its less)
+
+-- an answer says what was drawn
+same_drawn : {A : Type 0} {a b : Option ℕ} → ◌≡◌ {A = Result A Without} (Err (Nothing a)) (Err (Nothing b)) → a ≡ b
+same_drawn is = cc
+
+same_spent : {A : Type 0} {a b : ℕ} → ◌≡◌ {A = Result A Without} (Err (Spent a)) (Err (Spent b)) → a ≡ b
+same_spent is = cc
+
 pub load-requires-clause-low : goal.load-requires-clause-low
 load-requires-clause-low g c κs within = threshold_low c.requires.ring (c.threshold.ensures _ c.requires.ring) c.requires.own.1
 
@@ -74,6 +95,9 @@ load-requires-clause-word g c κs within =
     c.threshold.ensures k c.requires.ring
     ∙ ap (λ t. at k (location_of k t)) (sym (first-turn g (goal.at.load-requires-clause-word g c).After-threshold))
 
+pub load-requires-clause-kind : goal.load-requires-clause-kind
+load-requires-clause-kind g c κs within = subst OnlyReads (sym (first-turn g (goal.at.load-requires-clause-kind g c).After-threshold)) tt
+
 pub returns-then-load-lt-ZERO_LEVEL-clause-nothing : goal.returns-then-load-lt-ZERO_LEVEL-clause-nothing
 returns-then-load-lt-ZERO_LEVEL-clause-nothing g c ticket is =
     let k = c.args.words.now.key.setup in
@@ -84,7 +108,7 @@ returns-then-load-lt-ZERO_LEVEL-clause-nothing g c ticket is =
     let turn = first-turn g (goal.at.returns-then-load-lt-ZERO_LEVEL-clause-nothing g c).After-threshold in
     let low = c.if-load-lt-ZERO_LEVEL.true in
     let level = zero_level_is in
-    let none : None ≡ ticket = cc in
+    let none : None ≡ ticket = same_drawn is in
     subst (λ (d : Option ℕ). HasFoundNone k r d me later) none
     (found_first k r me later (saw_empty Lie k me.0 me later _ c.load.result r turn c.requires.alone (omega arith) c.load.ensures.turned)
     (turned_as Lie k _ (AtD1 r) me later c.load.result turn c.load.ensures.turned).slots)
@@ -119,6 +143,37 @@ draw-ticket-requires-clause-may g c κs within =
     subst (λ (t : Phase). MayTurn c.args.words.now.key.setup w t) (sym (next-turn g at))
     (may_go c.args.words.now.key.setup w (AtD2 c.args.ring.now.number (least_of (my_phase w))) D2 (alone g at) (ap my_phase c.draws.invariant.3) refl)
 
+pub draw-ticket-requires-clause-kind : goal.draw-ticket-requires-clause-kind
+draw-ticket-requires-clause-kind g c κs within = subst IsDraw (sym (next-turn g (goal.at.draw-ticket-requires-clause-kind g c).After-head)) tt
+
+pub draw-ticket-requires-clause-word : goal.draw-ticket-requires-clause-word
+draw-ticket-requires-clause-word g c κs within =
+    let k = c.args.words.now.key.setup in
+    c.head.ensures k c.requires.ring ∙ ap (λ t. at k (location_of k t)) (sym (next-turn g (goal.at.draw-ticket-requires-clause-word g c).After-head))
+
+pub try_take-requires-clause-alone : goal.try_take-requires-clause-alone
+try_take-requires-clause-alone g c κs within =
+    let at = goal.at.try_take-requires-clause-alone g c in
+    let its = drawn g at.After-draw-ticket (alone g at.After-head) (next-turn g at.After-head) in
+    beside g at.After-draw-ticket its c.if-ticket-ring.false
+
+pub try_take-requires-clause-seeks : goal.try_take-requires-clause-seeks
+try_take-requires-clause-seeks g c κs within =
+    let at = goal.at.try_take-requires-clause-seeks g c in
+    let its = drawn g at.After-draw-ticket (alone g at.After-head) (next-turn g at.After-head) in
+    subst (λ (p : Phase). p ≡ AtD3 c.args.ring.now.number c.draw-ticket.result (least_of p))
+    (sym (ap my_phase (below-limit g at.After-draw-ticket its c.if-ticket-ring.false))) refl
+
+pub give_up-requires-clause-alone : goal.give_up-requires-clause-alone
+give_up-requires-clause-alone g c κs within =
+    let at = goal.at.give_up-requires-clause-alone g c in
+    let its = drawn g at.After-draw-ticket (alone g at.After-head) (next-turn g at.After-head) in
+    alone_at c.draw-ticket.new.token.me.0.known c.try_take.new.token.me.0.known (AtD6 c.args.ring.now.number c.draw-ticket.result)
+    (beside g at.After-draw-ticket its c.if-ticket-ring.false) c.in_default.ensures.given_up
+
+pub give_up-requires-clause-given_up : goal.give_up-requires-clause-given_up
+give_up-requires-clause-given_up g c κs within = ap my_phase c.in_default.ensures.given_up
+
 pub returns-then-ticket-ring-clause-spent : goal.returns-then-ticket-ring-clause-spent
 returns-then-ticket-ring-clause-spent g c ticket is =
     let k = c.args.words.now.key.setup in
@@ -126,7 +181,7 @@ returns-then-ticket-ring-clause-spent g c ticket is =
     let its = drawn g at.After-draw-ticket (alone g at.After-head) (next-turn g at.After-head) in
     let limit = c.requires.ring.limit in
     let past : k.limit ≤ c.draw-ticket.result = let more = c.if-ticket-ring.true in omega (arith, limit, more) in
-    let same : c.draw-ticket.result ≡ ticket = cc in
+    let same : c.draw-ticket.result ≡ ticket = same_spent is in
     subst (λ (t : ℕ). HasSpentGet k c.args.ring.now.number t (known_me c.args.token.now.me) (known_me c.draw-ticket.new.token.me)) same
     (record { view = its.past past; slots = its.kept; past = past; short = its.short })
 
@@ -156,11 +211,22 @@ returns-then-give_up-clause-nothing g c ticket is =
     let limit = c.requires.ring.limit in
     let h = c.draw-ticket.result in
     let low : h < k.limit = let less = c.if-ticket-ring.false in omega (arith, limit, less) in
-    let same : Some h ≡ ticket = cc in
+    let same : Some h ≡ ticket = same_drawn is in
     subst (λ (d : Option ℕ). HasFoundNone k r d me later) same
     (found_after k r me later h
     (c.if-give_up.ensures.over refl ∙ ap (nothing_at r) (c.in_default.ensures.given_up) ∙ ap (λ u. nothing_at r (goes_to (AtD6 r h) u)) (its.within low))
     (c.give_up.ensures.slots ∙ c.in_default.ensures.slots ∙ its.kept) low its.above)
+
+pub draws-smaller : goal.draws-smaller
+draws-smaller g c =
+    let at = goal.at.draws-smaller g c in
+    let limit = c.requires.ring.limit in
+    let less = c.if-ticket-ring.false in
+    let found = (turned_as _ c.args.words.now.key.setup _ (AtD2 c.args.ring.now.number (least_of (my_phase c.draws.token.me.0.known)))
+    (known_me c.draws.token.me) (known_me c.draw-ticket.new.token.me) c.draw-ticket.result (next-turn g at.After-head) c.draw-ticket.ensures.turned).found in
+    let next : least_of (my_phase c.give_up.new.token.me.0.known) ≡ c.draw-ticket.result + 1 =
+    ap (λ u. least_of (my_phase u)) (c.if-give_up.ensures.on refl) in
+    omega (arith, limit, less, found, next)
 
 pub draws-preserved : goal.draws-preserved
 draws-preserved g c =

@@ -1,14 +1,17 @@
-use Rattle.std.proofs.Common.{rules, ◌<◌, ◌≤◌, refl, inr, sym, ◌∙◌, ap, subst, arith}
+use Rattle.std.proofs.Common.{◌≡◌, ℕ, List, ◌+◌, ◌<◌, ◌≤◌, refl, inr, sym, ◌∙◌, ap, subst, arith}
 use Rattle.scq_core.specs.Machine.{tail_of}
 use Rattle.scq_core.specs.declared.phase.Phase.{Phase}
+use Rattle.scq_core.specs.declared.phase.Phase.TheVariants.{AtE1, AtE2, AtE5}
+use Rattle.scq_band.specs.declared.slot.Slot.{Slot}
 use Rattle.scq_core.specs.Table.{location_of}
 use Rattle.scq_band.specs.Sights.{known_me}
 use Rattle.scq_band.specs.Layout.{at}
 use Rattle.scq_band.specs.Buffers.{LiesIn}
-use Rattle.scq_band.specs.Turns.{MayTurn}
+use Rattle.scq_band.specs.Turns.{MayTurn, Fronts}
 use Rattle.atomic_table.specs.Table.{rest}
 use Rattle.scq_band.specs.Steps.{my_phase, front_bytes}
-use Rattle.scq_band.specs.Seats.{done_at, placed_to, content_of}
+use Rattle.scq_band.specs.Seats.{IsAlone, goes_to, done_at, placed_to, put_index, content_of, least_of}
+use Rattle.scq_band.proofs.Outcomes.{alone_at, alone_seated, turned_as}
 use Rattle.scq_band.proofs.RingLemmas.{tail_low}
 use Rattle.scq_band.proofs.Drawing.{DrewFromTail, drew_from_tail, turn_of_draw, may_draw, looks_as}
 use Rattle.scq_band.proofs.RunShown.{went_on, goes_then}
@@ -26,6 +29,25 @@ drawn g c =
     drew_from_tail (LiesIn contents g.B.Buffer.IsSameBuffer c.args.words.now.key.given.value.items) c.args.words.now.key.setup c.args.token.now.me.0.known slots
     (known_me c.draws.token.me) (known_me c.draw-ticket.new.token.me) _ c.draw-ticket.result c.args.ring.now.number c.args.index
     (front_bytes contents slots) _ turn c.requires.alone c.draws.invariant.3 c.draws.invariant.2 c.draw-ticket.ensures.turned
+
+-- the ticket is no lower than the least that was known
+least : (g : _) (c : After-draw-ticket g) → least_of (my_phase c.draws.token.me.0.known) ≤ c.draw-ticket.result
+least g c =
+    let contents = g.B.Buffer.contents in
+    let slots = c.args.token.now.me.1 in
+    let turn = turn_of_draw contents c.args.words.now.key.setup c.args.ring.now (known_me c.draws.token.me) slots c.args.index c.requires.ring
+    c.draws.invariant.2 c.requires.first c.draws.invariant.4 in
+    (turned_as _ c.args.words.now.key.setup _ (AtE1 c.args.ring.now.number c.args.index (front_bytes contents slots) _) (known_me c.draws.token.me)
+    (known_me c.draw-ticket.new.token.me) c.draw-ticket.result turn c.draw-ticket.ensures.turned).found
+
+-- the ticket is below the limit
+below-limit : (g : _) (c : After-draw-ticket g) → c.draw-ticket.result < c.args.ring.now.limit → c.draw-ticket.new.token.me.0.known
+    ≡ goes_to (AtE2 c.args.ring.now.number c.args.index (front_bytes g.B.Buffer.contents c.args.token.now.me.1) c.draw-ticket.result 0)
+    c.args.token.now.me.0.known
+below-limit g c less = let limit = c.requires.ring.limit in (drawn g c).within (omega (arith, limit, less))
+
+alone : (g : _) (c : After-draw-ticket g) → c.draw-ticket.result < c.args.ring.now.limit → IsAlone c.draw-ticket.new.token.me.0.known
+alone g c less = alone_at c.args.token.now.me.0.known c.draw-ticket.new.token.me.0.known _ c.requires.alone (below-limit g c less)
 
 pub draw-ticket-requires-clause-low : goal.draw-ticket-requires-clause-low
 draw-ticket-requires-clause-low g c κs within = tail_low c.requires.ring c.requires.ring.tail c.requires.own.1
@@ -60,11 +82,33 @@ returns-then-ticket-ring-clause-spent g c =
 
 pub try_place-requires-clause-looks : goal.try_place-requires-clause-looks
 try_place-requires-clause-looks g c κs within =
-    let its = drawn g (goal.at.try_place-requires-clause-looks g c).After-draw-ticket in
-    let limit = c.requires.ring.limit in
-    let low = c.if-ticket-ring.false in
     looks_as c.draw-ticket.new.token.me.0.known c.args.ring.now.number c.args.index (front_bytes g.B.Buffer.contents c.args.token.now.me.1)
-    c.draw-ticket.result 0 (ap my_phase (its.within (omega (arith, limit, low))))
+    c.draw-ticket.result 0 (ap my_phase (below-limit g (goal.at.try_place-requires-clause-looks g c).After-draw-ticket c.if-ticket-ring.false))
+
+pub try_place-requires-clause-alone : goal.try_place-requires-clause-alone
+try_place-requires-clause-alone g c κs within = alone g (goal.at.try_place-requires-clause-alone g c).After-draw-ticket c.if-ticket-ring.false
+
+pub try_place-requires-clause-index : goal.try_place-requires-clause-index
+try_place-requires-clause-index g c κs within =
+    (sym (ap (λ u. put_index (my_phase u)) (below-limit g (goal.at.try_place-requires-clause-index g c).After-draw-ticket c.if-ticket-ring.false)), c.requires.held.1)
+
+pub try_place-requires-clause-front : goal.try_place-requires-clause-front
+try_place-requires-clause-front g c κs within =
+    let at = (goal.at.try_place-requires-clause-front g c).After-draw-ticket in
+    let Lie = LiesIn g.B.Buffer.contents g.B.Buffer.IsSameBuffer c.args.words.now.key.given.value.items in
+    subst (λ (w : List ℕ). Fronts Lie c.args.index w c.draw-ticket.new.token.me.1) (sym (ap (λ u. content_of (my_phase u)) (below-limit g at c.if-ticket-ring.false)))
+    (subst (λ (ss : List (ℕ × Slot g.row.B.Denot)). Fronts Lie c.args.index (front_bytes g.B.Buffer.contents c.args.token.now.me.1) ss) (sym (drawn g at).kept)
+    c.requires.front)
+
+pub reset_threshold-requires-clause-alone : goal.reset_threshold-requires-clause-alone
+reset_threshold-requires-clause-alone g c κs within =
+    let stands = alone g (goal.at.reset_threshold-requires-clause-alone g c).After-draw-ticket c.if-ticket-ring.false in
+    alone_seated c.draw-ticket.new.token.me.0.known c.try_place.new.token.me.0.known _ _ stands.out (c.if-try_place.ensures.placed refl)
+
+pub reset_threshold-requires-clause-placed : goal.reset_threshold-requires-clause-placed
+reset_threshold-requires-clause-placed g c κs within =
+    let is = ap my_phase (c.if-try_place.ensures.placed refl) in
+    subst (λ (p : Phase). p ≡ AtE5 c.args.ring.now.number (put_index p) (content_of p) c.draw-ticket.result) (sym is) refl
 
 pub returns-then-try_place-clause-put : goal.returns-then-try_place-clause-put
 returns-then-try_place-clause-put g c =
@@ -90,13 +134,32 @@ pub returns-then-try_place-clause-went : goal.returns-then-try_place-clause-went
 returns-then-try_place-clause-went g c =
     goes_then c.draws.invariant.5 (went_on c.draw-ticket.ensures.went (went_on c.try_place.ensures.went c.reset_threshold.ensures.went))
 
+pub draws-smaller : goal.draws-smaller
+draws-smaller g c =
+    let at = (goal.at.draws-smaller g c).After-draw-ticket in
+    let limit = c.requires.ring.limit in
+    let low = c.if-ticket-ring.false in
+    let found = least g at in
+    let next : least_of (my_phase c.try_place.new.token.me.0.known) ≡ c.draw-ticket.result + 1 =
+    ap (λ u. least_of (my_phase u)) (c.if-try_place.ensures.passed refl) in
+    omega (arith, limit, low, found, next)
+
 pub draws-preserved : goal.draws-preserved
-draws-preserved g c = (
-  c.try_place.ensures.own.0 ∙ c.draw-ticket.ensures.own.0 ∙ c.draws.invariant.0,
-  c.try_place.ensures.own.1 ∙ c.draw-ticket.ensures.own.1 ∙ c.draws.invariant.1,
-  search rules,
-  search rules,
-  search rules,
-  inr (goes_then c.draws.invariant.5
-      (went_on c.draw-ticket.ensures.went c.try_place.ensures.went)),
-)
+draws-preserved g c =
+    let at = (goal.at.draws-preserved g c).After-draw-ticket in
+    let v = c.args.token.now.me.0.known in
+    let r = c.args.ring.now.number in
+    let t = c.draw-ticket.result in
+    let w = front_bytes g.B.Buffer.contents c.args.token.now.me.1 in
+    let next : c.try_place.new.token.me.0.known ≡ goes_to (AtE1 r c.args.index w (t + 1)) v =
+    c.if-try_place.ensures.passed refl
+    ∙ ap (λ u. goes_to (AtE1 r c.args.index (content_of (my_phase u)) (t + 1)) u) (below-limit g at c.if-ticket-ring.false) in
+    let phase = ap my_phase next in (
+      c.try_place.ensures.own.0 ∙ c.draw-ticket.ensures.own.0 ∙ c.draws.invariant.0,
+      c.try_place.ensures.own.1 ∙ c.draw-ticket.ensures.own.1 ∙ c.draws.invariant.1,
+      c.if-try_place.ensures.slots ∙ (drawn g at).kept,
+      next ∙ ap (λ p. goes_to p v) (sym phase),
+      inr (phase ∙ ap (λ l. AtE1 r c.args.index w l) (sym (ap least_of phase))),
+      inr (goes_then c.draws.invariant.5
+          (went_on c.draw-ticket.ensures.went c.try_place.ensures.went)),
+    )
