@@ -1,5 +1,9 @@
 use Rattle.std.proofs.Common.{◌≡◌, ◌<◌, ◌≤◌, ◌+◌, ◌^◌, ℕ, length, refl, sym, ◌∙◌, ap, subst, arith, List}
-use Rattle.std.specs.Prelude.{Err, slice_set}
+use Rattle.std.specs.Prelude.{Option, Some, None, Result, Ok, Err, slice_set}
+use Rattle.scq_word.specs.Sizes.{n_of}
+use Rattle.scq_band.specs.declared.calls.DeqRefusal.{DeqRefusal}
+use Rattle.scq_band.specs.declared.calls.DeqRefusal.TheVariants.{Empty, Spent}
+use Rattle.scq_band.specs.Rings.{IsRing}
 use Rattle.scq_word.specs.declared.setup.Setup.{Setup}
 use Rattle.scq_band.specs.declared.numbers.Numbers.{Numbers}
 use Rattle.scq_core.specs.declared.phase.Phase.TheVariants.{Idle}
@@ -16,6 +20,25 @@ use Rattle.scq_band.proofs.Keeping.{none_rises, call_seen, empty_seen, kept_got,
 use Rattle.scq_band.proofs.LaidFirst.{ring_there, known_so}
 use Rattle.scq_band.proofs.band.Band.deq.Goals as goal
 use Rattle.scq_band.proofs.band.Band.deq.Goals.{After-dequeue-found, After-index-known, After-finds_none-later, In-Ok, In-Nothing, In-Spent}
+
+-- what two answers that are the same say
+no_ticket : {t : ℕ} → ◌≡◌ {A = Option ℕ} None (Some t) → ⊥
+no_ticket is = cc
+
+not_refused : {got : ℕ × ℕ} {why : DeqRefusal} → ◌≡◌ {A = Result (ℕ × ℕ) DeqRefusal} (Ok got) (Err why) → ⊥
+not_refused is = cc
+
+not_empty : {ticket head : ℕ} → ◌≡◌ {A = Result (ℕ × ℕ) DeqRefusal} (Err (Spent ticket)) (Err (Empty head)) → ⊥
+not_empty is = cc
+
+not_spent : {head ticket : ℕ} → ◌≡◌ {A = Result (ℕ × ℕ) DeqRefusal} (Err (Empty head)) (Err (Spent ticket)) → ⊥
+not_spent is = cc
+
+same_head : {a b : ℕ} → ◌≡◌ {A = Result (ℕ × ℕ) DeqRefusal} (Err (Empty a)) (Err (Empty b)) → a ≡ b
+same_head is = cc
+
+same_ticket : {a b : ℕ} → ◌≡◌ {A = Result (ℕ × ℕ) DeqRefusal} (Err (Spent a)) (Err (Spent b)) → a ≡ b
+same_ticket is = cc
 
 -- what the seat knows of the ring
 knows : (g : _) (c : After-index-known g) → c.index-known.result.now ≡ known_of c.seat.inside.numbers.items c.args.ring
@@ -57,6 +80,69 @@ found g c =
 -- and the head number is that of what the seat knows now
 later-is : (g : _) (c : After-finds_none-later g) → c.index-known.result.now ≡ known_of c.seat.inside.numbers.items c.args.ring → c.finds_none-later.result ≡ empties (drew c.in-Nothing.drawn (known_of c.seat.inside.numbers.items c.args.ring))
 later-is g c known = c.finds_none-later.ensures ∙ ap (λ x. empties (drew c.in-Nothing.drawn x)) known
+
+pub dequeue-found-requires-clause-own : goal.dequeue-found-requires-clause-own
+dequeue-found-requires-clause-own g c κs within =
+    let ident = ap (λ (s : Standing g.row.B.Denot). s.band) c.seat.view_is ∙ c.requires.seat ∙ sym c.self.view_is in
+    (ap (λ (i : Identity g.row.B.Denot). i.table) ident, c.self.invariant.words)
+
+pub dequeue-found-requires-clause-ring : goal.dequeue-found-requires-clause-ring
+dequeue-found-requires-clause-ring g c κs within =
+    subst (λ (s : Setup). IsRing s c.ring.result.now) (sym (ap (λ (i : Identity g.row.B.Denot). i.setup) c.self.view_is)) c.ring.ensures.ring
+
+pub dequeue-found-requires-clause-alone : goal.dequeue-found-requires-clause-alone
+dequeue-found-requires-clause-alone g c κs within = c.seat.invariant.alone
+
+pub dequeue-found-requires-clause-idle : goal.dequeue-found-requires-clause-idle
+dequeue-found-requires-clause-idle g c κs within = (c.seat.invariant.idle, sym c.seat.invariant.spent ∙ c.in_default.is)
+
+pub returns-in-Ok-clause-index : goal.returns-in-Ok-clause-index
+returns-in-Ok-clause-index g c =
+    subst (λ (s : Setup). c.in-Ok.index < n_of s.order) (ap (λ (i : Identity g.row.B.Denot). i.setup) c.self.view_is) c.in-Ok.ensures.got.got.low
+
+pub returns-in-Ok-clause-kept : goal.returns-in-Ok-clause-kept
+returns-in-Ok-clause-kept g c t is =
+    absurd (no_ticket (sym c.in_default.is ∙ c.seat.invariant.spent ∙ ap (λ (s : Standing g.row.B.Denot). s.spent) c.seat.view_is ∙ is))
+
+pub returns-in-Nothing-clause-kept : goal.returns-in-Nothing-clause-kept
+returns-in-Nothing-clause-kept g c t is =
+    absurd (no_ticket (sym c.in_default.is ∙ c.seat.invariant.spent ∙ ap (λ (s : Standing g.row.B.Denot). s.spent) c.seat.view_is ∙ is))
+
+pub returns-in-Spent-clause-kept : goal.returns-in-Spent-clause-kept
+returns-in-Spent-clause-kept g c t is =
+    absurd (no_ticket (sym c.in_default.is ∙ c.seat.invariant.spent ∙ ap (λ (s : Standing g.row.B.Denot). s.spent) c.seat.view_is ∙ is))
+
+pub returns-in-Ok-clause-empty : goal.returns-in-Ok-clause-empty
+returns-in-Ok-clause-empty g c head is = absurd (not_refused is)
+
+pub returns-in-Ok-clause-empty_in_run : goal.returns-in-Ok-clause-empty_in_run
+returns-in-Ok-clause-empty_in_run g c head is = absurd (not_refused is)
+
+pub returns-in-Ok-clause-spent : goal.returns-in-Ok-clause-spent
+returns-in-Ok-clause-spent g c t is = absurd (not_refused is)
+
+pub returns-in-Nothing-clause-spent : goal.returns-in-Nothing-clause-spent
+returns-in-Nothing-clause-spent g c t is = absurd (not_spent is)
+
+pub returns-in-Spent-clause-empty : goal.returns-in-Spent-clause-empty
+returns-in-Spent-clause-empty g c head is = absurd (not_empty is)
+
+pub returns-in-Spent-clause-empty_in_run : goal.returns-in-Spent-clause-empty_in_run
+returns-in-Spent-clause-empty_in_run g c head is = absurd (not_empty is)
+
+pub returns-in-Some-clause-empty : goal.returns-in-Some-clause-empty
+returns-in-Some-clause-empty g c head is = absurd (not_empty is)
+
+pub returns-in-Some-clause-empty_in_run : goal.returns-in-Some-clause-empty_in_run
+returns-in-Some-clause-empty_in_run g c head is = absurd (not_empty is)
+
+pub returns-in-Some-clause-spent : goal.returns-in-Some-clause-spent
+returns-in-Some-clause-spent g c t is fresh =
+    absurd (no_ticket (sym fresh ∙ sym (c.seat.invariant.spent ∙ ap (λ (s : Standing g.row.B.Denot). s.spent) c.seat.view_is) ∙ c.in-Some.is))
+
+pub returns-in-Some-clause-run : goal.returns-in-Some-clause-run
+returns-in-Some-clause-run g c fresh =
+    absurd (no_ticket (sym fresh ∙ sym (c.seat.invariant.spent ∙ ap (λ (s : Standing g.row.B.Denot). s.spent) c.seat.view_is) ∙ c.in-Some.is))
 
 pub invariant_of-seat : goal.invariant_of-seat
 invariant_of-seat g c =
@@ -125,7 +211,7 @@ invariant_of-seat-in-Spent g c =
 pub returns-in-Spent-clause-spent : goal.returns-in-Spent-clause-spent
 returns-in-Spent-clause-spent g c ticket is fresh =
     let its = spends g (goal.at.returns-in-Spent-clause-spent g c).In-Spent in
-    let same : c.in-Spent.ticket ≡ ticket = cc in
+    let same : c.in-Spent.ticket ≡ ticket = same_ticket is in
     rw (← same) (
       spent_get_standing g.B.Buffer.IsSameBuffer c.seat.inside.token.me.0.seen c.dequeue-found.new.token.me.0.seen c.seat.inside.token.table_id
           c.dequeue-found.new.token.table_id c.seat.inside.key.value _ (known_me c.seat.inside.token.me) (known_me c.dequeue-found.new.token.me)
@@ -152,7 +238,7 @@ returns-in-Nothing-clause-empty g c head is =
     let standing = c.seat.invariant.numbers ∙ ap (λ (s : Standing g.row.B.Denot). s.numbers) c.seat.view_is in
     let there : r < length numbers = ring_there c.seat.inside.key.value c.seat.inside.token.me c.seat.inside.numbers.items c.args.ring c.seat.view_is c.requires.seat c.seat.invariant.rings
     c.requires.ring in
-    let answered : c.finds_none-later.result.head ≡ head = cc in
+    let answered : c.finds_none-later.result.head ≡ head = same_head is in
     let end : (known_of c.dequeue-found.new.token.me.0.known.numbers r).head ≡ (empties (drew drawn (known_of numbers r))).head =
     ap (λ (u : Known). (known_of u.numbers r).head) none.view
     ∙ ap (λ (ns : List Numbers). (known_of (changed (λ x. empties (drew drawn x)) r ns) r).head) (sym c.seat.invariant.numbers)
