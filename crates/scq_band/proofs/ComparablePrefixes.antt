@@ -1,9 +1,8 @@
 -- Two prefixes of one list are comparable: by their first steps, which are those of the list.
-use Rattle.std.proofs.Common.{◌≡◌, ◌⊎◌, ℕ, List, [], ◌∷◌, ◌++◌, refl, sym, ◌∙◌, ap, inl, inr}
-use Rattle.std.specs.List.{Contains}
+use Rattle.std.proofs.Common.{◌≡◌, ℕ, List, [], ◌∷◌, ◌++◌, refl, sym, ◌∙◌, ap, inl, inr}
 use Rattle.std.specs.Prelude.{drop}
 use Rattle.scq_core.specs.declared.step.Step.{Step}
-use Rattle.scq_law.specs.Prefixes.{IsPrefix, AllPrefixes}
+use Rattle.scq_law.specs.Prefixes.{AllPrefixes}
 use Rattle.scq_band.specs.RunSeen.{Seen, AreComparable, EachTwoPrefixesAreComparable, HaveSeenOneRun}
 use Rattle.scq_band.proofs.SeenCalls.{among}
 

@@ -14,7 +14,7 @@ use Rattle.scq_word.specs.Words.{packed, index_in, cycle_in, safe_in, is_none_in
 use Rattle.scq_word.proofs.TicketLemmas.{slot_of_small}
 use Rattle.scq_word.proofs.WordLemmas.{index_in-packed, index_in_small}
 use Rattle.scq_core.specs.declared.phase.Phase.{Phase}
-use Rattle.scq_core.specs.declared.phase.Phase.TheVariants.{Idle, AtE1, AtE2, AtE3, AtE4, AtE5, AtE6, AtD1, AtD2, AtD3, AtD4, AtD5, AtD6, AtD7, AtD8, AtD9, AtD10}
+use Rattle.scq_core.specs.declared.phase.Phase.TheVariants.{AtE2, AtE4, AtD3, AtD4, AtD5}
 use Rattle.scq_core.specs.Machine.{Cells, Entries, Machine, entry_of, read, beside, written}
 use Rattle.scq_core.specs.Table.{ring_slots, cycle, slot, passed, location_of, writes, stores, cells_after}
 use Rattle.scq_core.specs.Laws.{Busy, word_at}

@@ -7,7 +7,6 @@ use Rattle.std.proofs.Math.Nat.{max-eq_left, max-eq_right}
 use Rattle.std.proofs.lemmas.List.{length-append, length-set}
 use Rattle.atomic_table.specs.Seated.{TableId}
 use Rattle.atomic_table.specs.Table.{Me, rest}
-use Rattle.scq_word.specs.Sizes.{n_of}
 use Rattle.scq_core.specs.Machine.{SeatPart, Location}
 use Rattle.scq_core.specs.Table.{hand_without, ends}
 use Rattle.scq_word.specs.declared.setup.Setup.{Setup}

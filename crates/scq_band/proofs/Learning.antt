@@ -1,6 +1,6 @@
 -- What a turn tells of its ring is true of the state after it. One case for each turn that tells something: a put that has
 -- ended, a place that was got, a head that was drawn, and the three steps that find nothing finished left.
-use Rattle.std.proofs.Common.{◌≡◌, ℕ, ◌+◌, ◌<◌, ◌≤◌, true, false, ◌==◌, List, [], ◌∷◌, ◌++◌, length, refl, sym, subst, inl, inr, arith, ltb-true, ◌-◌, eq-eqb, ne_eqb}
+use Rattle.std.proofs.Common.{◌≡◌, ℕ, ◌+◌, ◌<◌, ◌≤◌, false, ◌==◌, List, [], ◌∷◌, ◌++◌, length, refl, sym, subst, inl, inr, arith, ltb-true, ◌-◌, eq-eqb, ne_eqb}
 use Rattle.std.specs.Prelude.{nat_lt, nat_le}
 use Rattle.std.specs.List.{Contains}
 use Rattle.std.proofs.lemmas.Bool.{cases_Bool, cases_eq, cases_lt}
@@ -12,7 +12,7 @@ use Rattle.scq_word.specs.declared.setup.Setup.{Setup}
 use Rattle.scq_core.specs.declared.ended.Ended.{Ended}
 use Rattle.scq_core.specs.declared.ended.Ended.TheVariants.{Done}
 use Rattle.scq_core.specs.declared.phase.Phase.{Phase}
-use Rattle.scq_core.specs.declared.phase.Phase.TheVariants.{Idle, AtE1, AtE2, AtE3, AtE4, AtE5, AtE6, AtD1, AtD2, AtD3, AtD4, AtD5, AtD6, AtD7, AtD8, AtD9, AtD10}
+use Rattle.scq_core.specs.declared.phase.Phase.TheVariants.{AtE5, AtE6, AtD1, AtD2, AtD4, AtD6, AtD10}
 use Rattle.scq_core.specs.Machine.{Machine, read}
 use Rattle.scq_core.specs.Table.{ring_slots, zero_level, reset_level, location_of, moved}
 use Rattle.scq_core.specs.Laws.{CountersRise, Busy}

@@ -1,5 +1,4 @@
 use Rattle.std.proofs.Common.{◌≡◌, true, ◌∙◌, refl, sym, inr, ap, subst}
-use Rattle.scq_core.specs.Machine.{tail_of, head_of}
 use Rattle.scq_core.specs.declared.phase.Phase.{Phase}
 use Rattle.scq_core.specs.declared.phase.Phase.TheVariants.{AtD7, AtD8, AtD9, AtD10}
 use Rattle.scq_core.specs.declared.step.Step.TheVariants.{D7, D8, D9}

@@ -2,7 +2,7 @@ use Rattle.std.proofs.Common.{◌≡◌, ◌<◌, ◌≤◌, ◌+◌, ℕ, refl,
 use Rattle.std.specs.Prelude.{Option, Some, None, Result, Err}
 use Rattle.scq_band.specs.declared.dequeue.Without.{Without}
 use Rattle.scq_band.specs.declared.dequeue.Without.TheVariants.{Nothing, Spent}
-use Rattle.scq_core.specs.Machine.{head_of, threshold_of}
+use Rattle.scq_core.specs.Machine.{threshold_of}
 use Rattle.scq_core.specs.declared.phase.Phase.{Phase}
 use Rattle.scq_core.specs.declared.phase.Phase.TheVariants.{AtD1, AtD2, AtD3, AtD6}
 use Rattle.scq_core.specs.declared.step.Step.TheVariants.{D2}

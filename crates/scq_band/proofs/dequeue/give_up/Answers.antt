@@ -1,5 +1,4 @@
 use Rattle.std.proofs.Common.{◌≡◌, ◌<◌, ◌≤◌, ◌+◌, refl, sym, ◌∙◌, ap, subst, arith, leb-true, leb-false, true, false}
-use Rattle.scq_core.specs.Machine.{tail_of, threshold_of}
 use Rattle.scq_core.specs.declared.phase.Phase.TheVariants.{AtD2, AtD6, AtD7, AtD10}
 use Rattle.scq_core.specs.declared.step.Step.TheVariants.{D6, D10}
 use Rattle.scq_core.specs.Table.{zero_level}

@@ -6,7 +6,7 @@ use Rattle.scq_core.specs.declared.step.Step.TheVariants.{D3, D4, D5}
 use Rattle.scq_core.specs.Table.{ring_slots, cycle}
 use Rattle.scq_core.proofs.Packing.{cycle_fits}
 use Rattle.scq_band.specs.Sights.{known_me}
-use Rattle.scq_band.specs.Layout.{ring_of_word, entry_at}
+use Rattle.scq_band.specs.Layout.{ring_of_word}
 use Rattle.scq_band.specs.Buffers.{LiesIn}
 use Rattle.scq_band.specs.Turns.{Carries}
 use Rattle.scq_band.specs.Steps.{my_phase, loading, load_turn, Exchanges, IsTakingTurn}

@@ -1,5 +1,4 @@
 use Rattle.std.proofs.Common.{◌≡◌, ℕ, List, ◌+◌, ◌<◌, ◌≤◌, refl, inr, sym, ◌∙◌, ap, subst, arith}
-use Rattle.scq_core.specs.Machine.{tail_of}
 use Rattle.scq_core.specs.declared.phase.Phase.{Phase}
 use Rattle.scq_core.specs.declared.phase.Phase.TheVariants.{AtE1, AtE2, AtE5}
 use Rattle.scq_band.specs.declared.slot.Slot.{Slot}

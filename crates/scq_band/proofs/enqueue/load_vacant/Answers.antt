@@ -1,11 +1,10 @@
 use Rattle.std.proofs.Common.{◌≡◌, refl, sym, ap, ◌∙◌}
-use Rattle.scq_core.specs.Machine.{head_of}
 use Rattle.scq_core.specs.declared.phase.Phase.TheVariants.{AtE2, AtE3}
 use Rattle.scq_band.specs.Turns.{Turned}
 use Rattle.scq_core.specs.declared.step.Step.TheVariants.{E2, E3}
 use Rattle.scq_band.specs.Sights.{known_me}
-use Rattle.scq_band.specs.Layout.{ring_of_word, entry_at}
-use Rattle.scq_band.specs.Buffers.{LiesIn, opening_of}
+use Rattle.scq_band.specs.Layout.{ring_of_word}
+use Rattle.scq_band.specs.Buffers.{LiesIn}
 use Rattle.scq_band.specs.Steps.{my_phase, loading, load_turn}
 use Rattle.scq_band.specs.Seats.{goes_to, put_index, content_of, least_of}
 use Rattle.scq_band.proofs.RingLemmas.{tail_fits, head_low, entry_low}

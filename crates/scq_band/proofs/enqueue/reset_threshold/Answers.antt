@@ -1,5 +1,4 @@
 use Rattle.std.proofs.Common.{◌≡◌, ◌≢◌, refl, sym, ◌∙◌, ap, subst}
-use Rattle.scq_core.specs.Machine.{threshold_of}
 use Rattle.scq_core.specs.declared.phase.Phase.TheVariants.{AtE5, AtE6}
 use Rattle.scq_core.specs.declared.step.Step.TheVariants.{E5, E6}
 use Rattle.scq_band.specs.Sights.{known_me}

@@ -1,6 +1,5 @@
-use Rattle.std.proofs.Common.{◌≡◌, sym, ◌∙◌, ap, subst}
+use Rattle.std.proofs.Common.{sym, ◌∙◌, ap, subst}
 use Rattle.std.specs.Prelude.{Some, vec_capacity}
-use Rattle.scq_band.specs.Sights.{known_me}
 use Rattle.scq_band.specs.Standing.{Identity, Standing, with_buffer, IsAsGiven}
 use Rattle.scq_band.proofs.LaidFirst.{LaidFirst, held_there, came_first, front_slot, laid_first}
 use Rattle.scq_band.proofs.band.Band.lay.Goals as goal
