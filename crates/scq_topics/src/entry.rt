@@ -1,18 +1,18 @@
-ghost use Rattle.std.specs.Prelude.{◌≡◌, ◌==◌, IfSome, is_some};
-ghost use Rattle.std.specs.List.{list_any, after_first};
-ghost use Rattle.scq_topics.specs.Topics.{entry_name, is_name, is_name_byte};
+ghost use Rattle.std.specs.Prelude.{◌≡◌};
+ghost use Rattle.scq_topics.specs.Topics.{entry_kind, entry_name, is_name, is_name_byte};
+
+use crate::Kind;
 
 /// The most bytes of a name.
 pub const MOST_NAME: usize = 32;
 
-/// The name of an entry, and what stands after its first `=`, if it has one.
-pub fn split_entry(entry: &[u8]) -> (&[u8], Option<&[u8]>)
+/// The name of an entry, and the kind that is named after its first `=`, if it has one.
+pub fn split_entry(entry: &[u8]) -> (&[u8], Option<Kind>)
     ensures name { result.0.now ≡ entry_name entry.now }
-    ensures word { IfSome result.1 (λ word. word.now ≡ after_first (λ byte. byte == 61) entry.now) }
-    ensures has_word { is_some result.1 ≡ list_any (λ byte. byte == 61) entry.now }
+    ensures kind { result.1 ≡ entry_kind entry.now }
 {
     match entry.iter().position(|byte| *byte == b'=') {
-        Some(end) => (&entry[..end], Some(&entry[end + 1..])),
+        Some(end) => (&entry[..end], Kind::named(&entry[end + 1..])),
         None => (entry, None),
     }
 }

@@ -24,13 +24,18 @@ impl Kind {
     pub(crate) fn named(word: &[u8]) -> Option<Kind>
         ensures { result ≡ kind_named word.now }
     {
-        match word {
-            b"len" => Some(Kind::Len),
-            b"words" => Some(Kind::Words),
-            b"sum" => Some(Kind::Sum),
-            b"sha256" => Some(Kind::Sha256),
-            b"echo" => Some(Kind::Echo),
-            _ => None,
+        if word == b"len".as_slice() {
+            Some(Kind::Len)
+        } else if word == b"words".as_slice() {
+            Some(Kind::Words)
+        } else if word == b"sum".as_slice() {
+            Some(Kind::Sum)
+        } else if word == b"sha256".as_slice() {
+            Some(Kind::Sha256)
+        } else if word == b"echo".as_slice() {
+            Some(Kind::Echo)
+        } else {
+            None
         }
     }
 }

@@ -117,11 +117,11 @@ impl Topics {
         if self.topics.is_full() {
             return Err(TopicFault::TooMany { at });
         }
-        let (name, word) = split_entry(entry);
+        let (name, kind) = split_entry(entry);
         if !is_name(name) {
             return Err(TopicFault::BadName { at });
         }
-        let Some(kind) = word.and_then(Kind::named) else {
+        let Some(kind) = kind else {
             return Err(TopicFault::BadKind { at });
         };
         if self.find(name) < self.len() {
