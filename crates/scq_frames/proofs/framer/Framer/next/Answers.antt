@@ -1,9 +1,12 @@
 -- A line that was passed took its message off those ahead, and the last line was all of them.
-use Rattle.std.proofs.Common.{IsTrue, Ok, Err, ◌+◌, ◌≤◌, ◌≡◌, ◌∙◌, sym, ap, subst, ◌++◌, length, Option, Bool, true, false, arith, length-append}
+use Rattle.std.proofs.Common.{IsTrue, Result, Ok, Err, [], refl, take, ◌+◌, ◌≤◌, ◌≡◌, ◌∙◌, sym, ap, subst, ◌++◌, length, Option, Bool, true, false, arith, length-append}
 use Rattle.std.proofs.lemmas.Bool.{true≢false}
 use Rattle.scq_frames.specs.declared.message.Message.{Message}
 use Rattle.scq_frames.specs.declared.fault.FrameFault.TheVariants.{ReadFault}
-use Rattle.scq_frames.specs.Answers.{GivesFirst}
+use Rattle.std.specs.Prelude.{IfErr}
+use Rattle.scq_frames.specs.declared.fault.FrameFault.{FrameFault}
+use Rattle.scq_frames.specs.Answers.{GivesFirst, HasFault, ReadsFrom}
+use Rattle.scq_frames.proofs.StopLemmas.{fault-of_line, goes_on-err, last-kept, no-read_fault, reads-no_more, unchanged}
 use Rattle.scq_frames.specs.Lines.{EndsAt, HasNoLineFeed}
 use Rattle.scq_topics.specs.Topics.{topic_of}
 use Rattle.scq_frames.proofs.EndLemmas.{ends-start, began-going, ends-read, reads-on}
@@ -252,3 +255,146 @@ returns-in_err-read-in-None-clause-source g c =
     reads-on g.S.Source _ (result ≡ Err ReadFault) c.args.self.now c.trim.new.self c.read.new.self c.args.source.now
     c.loop-len.source c.read.new.source (began-going _ _ (λ h. (s.ended h).1) trimmed.2) trimmed.2 trimmed.3 s.size s.kept
     c.in_err-read-in-None.ensures.source (λ e. cc) (λ e. cc)
+
+-- a framer that has not failed gave what it read
+bound : (g : _) (c : After-line_len g) → c.args.self.now.weight ≤ c.args.self.now.most + 1
+bound g c =
+    let within = c.self.invariant.within (ap (λ (f : Framing). f.failed) c.self.view_is ∙ c.requires) in
+    subst (λ (f : Framing). f.weight ≤ f.most + 1) c.self.view_is (omega (arith, c.self.invariant.weight, within))
+
+-- the end is answered at most once before what is done last
+once : (g : _) (c : After-line_len g)
+    → EndsOnce c.args.self.now.ended c.line_len.new.self.ended (g.S.Source.ends c.args.source.now) (g.S.Source.ends c.loop-len.source)
+once g c = subst (λ (f : Framing). EndsOnce c.args.self.now.ended f.ended (g.S.Source.ends c.args.source.now) (g.S.Source.ends c.loop-len.source))
+    (sym c.line_len.ensures.same) c.loop-len.invariant.1
+
+pub returns-in_err-message-in-Some-clause-fault : goal.returns-in_err-message-in-Some-clause-fault
+returns-in_err-message-in-Some-clause-fault g c =
+    let is = err_from_is_err_and c.from_residual.result c.from_residual.ensures.1 in
+    let fault = c.in_err-message-in-Some.field-0.0 in
+    let same : c.from_residual.result ≡ Err fault = is.1 ∙ ap Err is.2 in
+    let at = (goal.at.returns-in_err-message-in-Some-clause-fault g c).After-line_len in
+    let now = c.line_len.new.self in
+    let line = c.in_err-message-in-Some.ensures in
+    fault-of_line (topic_of c.args.topics.now) g.S.Source.left g.S.Source.faults c.args.self.now now c.pass.new.self c.args.source.now c.loop-len.source fault c.from_residual.result
+    (take c.in-Some.len c.line_len.new.self.held) (searches g at) line.faults same (λ at count e. line.long at count (ap Err e))
+
+pub returns-in_err-message-in-Some-clause-source : goal.returns-in_err-message-in-Some-clause-source
+returns-in_err-message-in-Some-clause-source g c =
+    let is = err_from_is_err_and c.from_residual.result c.from_residual.ensures.1 in
+    let fault = c.in_err-message-in-Some.field-0.0 in
+    let same : c.from_residual.result ≡ Err fault = is.1 ∙ ap Err is.2 in
+    let at = (goal.at.returns-in_err-message-in-Some-clause-source g c).After-line_len in
+    let now = c.line_len.new.self in
+    let line = c.in_err-message-in-Some.ensures in
+    reads-no_more (topic_of c.args.topics.now) g.S.Source _ c.args.self.now now c.pass.new.self c.args.source.now c.loop-len.source
+    (searches g at) (once g at) (ap (λ (f : Framing). f.ended) line.err) (ap (λ (f : Framing). f.read) line.err)
+    (λ e. no-read_fault fault line.faults (cc))
+
+pub returns-in_err-message-in-Some-clause-goes_on : goal.returns-in_err-message-in-Some-clause-goes_on
+returns-in_err-message-in-Some-clause-goes_on g c =
+    let is = err_from_is_err_and c.from_residual.result c.from_residual.ensures.1 in
+    let fault = c.in_err-message-in-Some.field-0.0 in
+    let same : c.from_residual.result ≡ Err fault = is.1 ∙ ap Err is.2 in
+    let at = (goal.at.returns-in_err-message-in-Some-clause-goes_on g c).After-line_len in
+    let now = c.line_len.new.self in
+    let line = c.in_err-message-in-Some.ensures in
+    let ends = subst (λ (f : Framing). EndsAt f.held c.in-Some.len) (sym c.line_len.ensures.same) c.in-Some.ensures.found in
+    let s = searches g at in
+    goes_on-err (topic_of c.args.topics.now) g.S.Source.left g.S.Source.faults c.args.self.now now c.pass.new.self c.args.source.now c.loop-len.source fault c.from_residual.result s
+    (bound g at) (unchanged now c.pass.new.self line.err) (subst (λ (f : Framing). length f.held ≤ f.size + 4130) (sym line.err) s.short) same
+    (λ h none. omega (arith, ends.within, ap length (s.empty h none)))
+
+pub returns-in_err-given-in-None-clause-fault : goal.returns-in_err-given-in-None-clause-fault
+returns-in_err-given-in-None-clause-fault g c =
+    let is = err_from_is_err_and c.from_residual-in_err-given-in-None.result c.from_residual-in_err-given-in-None.ensures.1 in
+    let fault = c.in_err-given-in-None.field-0.0 in
+    let same : c.from_residual-in_err-given-in-None.result ≡ Err fault = is.1 ∙ ap Err is.2 in
+    let at = (goal.at.returns-in_err-given-in-None-clause-fault g c).After-line_len in
+    let now = c.line_len.new.self in
+    let line = c.in_err-given-in-None.ensures in
+    fault-of_line (topic_of c.args.topics.now) g.S.Source.left g.S.Source.faults c.args.self.now now c.last_line.new.self c.args.source.now c.loop-len.source fault c.from_residual-in_err-given-in-None.result
+    c.line_len.new.self.held (searches g at) line.faults same (λ at count e. line.long at count (ap Err e))
+
+pub returns-in_err-given-in-None-clause-source : goal.returns-in_err-given-in-None-clause-source
+returns-in_err-given-in-None-clause-source g c =
+    let is = err_from_is_err_and c.from_residual-in_err-given-in-None.result c.from_residual-in_err-given-in-None.ensures.1 in
+    let fault = c.in_err-given-in-None.field-0.0 in
+    let same : c.from_residual-in_err-given-in-None.result ≡ Err fault = is.1 ∙ ap Err is.2 in
+    let at = (goal.at.returns-in_err-given-in-None-clause-source g c).After-line_len in
+    let now = c.line_len.new.self in
+    let line = c.in_err-given-in-None.ensures in
+    reads-no_more (topic_of c.args.topics.now) g.S.Source _ c.args.self.now now c.last_line.new.self c.args.source.now c.loop-len.source
+    (searches g at) (once g at) (ap (λ (f : Framing). f.ended) line.err) (ap (λ (f : Framing). f.read) line.err)
+    (λ e. no-read_fault fault line.faults (cc))
+
+pub returns-in_err-given-in-None-clause-goes_on : goal.returns-in_err-given-in-None-clause-goes_on
+returns-in_err-given-in-None-clause-goes_on g c =
+    let is = err_from_is_err_and c.from_residual-in_err-given-in-None.result c.from_residual-in_err-given-in-None.ensures.1 in
+    let fault = c.in_err-given-in-None.field-0.0 in
+    let same : c.from_residual-in_err-given-in-None.result ≡ Err fault = is.1 ∙ ap Err is.2 in
+    let at = (goal.at.returns-in_err-given-in-None-clause-goes_on g c).After-line_len in
+    let now = c.line_len.new.self in
+    let line = c.in_err-given-in-None.ensures in
+    let s = searches g at in
+    goes_on-err (topic_of c.args.topics.now) g.S.Source.left g.S.Source.faults c.args.self.now now c.last_line.new.self c.args.source.now c.loop-len.source fault c.from_residual-in_err-given-in-None.result s
+    (bound g at) (unchanged now c.last_line.new.self line.err) (subst (λ (f : Framing). length f.held ≤ f.size + 4130) (sym line.err) s.short) same
+    (λ h none. cc (line.nothing (s.empty h none)))
+
+pub returns-then-trim-clause-fault : goal.returns-then-trim-clause-fault
+returns-then-trim-clause-fault g c =
+    let s = (cut g (goal.at.returns-then-trim-clause-fault g c).After-trim).0 in
+    let its = c.count_long.ensures.fault in record {
+      too_long = λ line len e. let long = its.too_long line len e in (omega (arith, long.0, s.line), omega (arith, long.1, s.payload));
+      too_large = its.too_large;
+    }
+
+pub returns-then-trim-clause-goes_on : goal.returns-then-trim-clause-goes_on
+returns-then-trim-clause-goes_on g c =
+    let trimmed = cut g (goal.at.returns-then-trim-clause-goes_on g c).After-trim in
+    let s = trimmed.0 in
+    goes_on-err (topic_of c.args.topics.now) g.S.Source.left g.S.Source.faults c.args.self.now c.trim.new.self c.count_long.new.self c.args.source.now c.loop-len.source c.count_long.result (Err c.count_long.result) s
+    (bound g (goal.at.returns-then-trim-clause-goes_on g c).After-line_len) c.count_long.ensures.same c.count_long.ensures.held refl
+    (λ h none. true≢false (sym (s.ended h).1 ∙ trimmed.2))
+
+pub returns-in_err-read-in-None-clause-fault : goal.returns-in_err-read-in-None-clause-fault
+returns-in_err-read-in-None-clause-fault g c =
+    let result = c.from_residual-in_err-read-in-None.result in
+    let is = err_from_is_err_and result c.from_residual-in_err-read-in-None.ensures.1 in
+    let read = c.in_err-read-in-None.ensures in
+    let its : HasFault c.args.self.now c.read.new.self c.in_err-read-in-None.field-0.0 = record {
+      too_long = λ line len e. absurd (read.long line len (ap Err e));
+      too_large = λ bytes e. let large = read.too_large bytes (ap Err e) in (large.0, large.1);
+    } in
+    subst (λ (r : Result (Option Message) FrameFault). IfErr r (HasFault c.args.self.now c.read.new.self)) (sym (is.1 ∙ ap Err is.2)) its
+
+pub returns-in_err-read-in-None-clause-goes_on : goal.returns-in_err-read-in-None-clause-goes_on
+returns-in_err-read-in-None-clause-goes_on g c =
+    let result = c.from_residual-in_err-read-in-None.result in
+    let is = err_from_is_err_and result c.from_residual-in_err-read-in-None.ensures.1 in
+    let trimmed = cut g (goal.at.returns-in_err-read-in-None-clause-goes_on g c).After-trim in
+    let s = trimmed.0 in
+    goes_on-err (topic_of c.args.topics.now) g.S.Source.left g.S.Source.faults c.args.self.now c.trim.new.self c.read.new.self c.args.source.now c.loop-len.source c.in_err-read-in-None.field-0.0 result s
+    (bound g (goal.at.returns-in_err-read-in-None-clause-goes_on g c).After-line_len) c.in_err-read-in-None.ensures.same
+    c.in_err-read-in-None.ensures.held (is.1 ∙ ap Err is.2) (λ h none. true≢false (sym (s.ended h).1 ∙ trimmed.2))
+
+pub returns-clause-source : goal.returns-clause-source
+returns-clause-source g c =
+    let at = (goal.at.returns-clause-source g c).After-line_len in
+    let first = c.args.self.now in
+    let now = c.line_len.new.self in
+    let self = c.match-line_len.self in
+    let kept : (self.ended ≡ now.ended) × (self.read ≡ now.read) = elim c.match-line_len.branch [
+      | in-Some+in_ok-message-in-Some+in-Some-2 w ↦
+          let same = w.self-is ∙ w.in_ok-message-in-Some.ensures.passed in
+          (ap (λ (f : Framing). f.ended) same, ap (λ (f : Framing). f.read) same)
+      | in-None+then-has_ended+in_ok-given-in-None w ↦
+          let last = last-kept now w.last_line.new.self w.in_ok-given-in-None.given w.in_ok-given-in-None.ensures.none w.in_ok-given-in-None.ensures.some in
+          (ap (λ (f : Framing). f.ended) w.self-is ∙ last.0, ap (λ (f : Framing). f.read) w.self-is ∙ last.1)
+    ] in
+    let failed = Ok c.match-line_len.given ≡ Err ReadFault in
+    let done : ReadsFrom g.S.Source failed first (record self { failed = false }) c.args.source.now c.loop-len.source =
+    reads-no_more (topic_of c.args.topics.now) g.S.Source failed first now (record self { failed = false }) c.args.source.now c.loop-len.source
+    (searches g at) (once g at) kept.0 kept.1 (λ e. cc) in
+    subst (λ (f : Framing). ReadsFrom g.S.Source failed first f c.args.source.now c.loop-len.source)
+    (ap (λ (f : Framing). record f { failed = false }) (sym c.self-2.view_is)) done
