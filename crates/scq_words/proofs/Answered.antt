@@ -36,9 +36,17 @@ answered make said takes (Err error) result is its =
     })
 
 -- the words where the first is this one
-pub first-word : {A : Type 0} (text : A → List ℕ) (words : List A) (first : A) (word : List ℕ) → 1 ≤ length words → first ≡ get_or words 0 first
+first-word : {A : Type 0} (text : A → List ℕ) (words : List A) (first : A) (word : List ℕ) → 1 ≤ length words → first ≡ get_or words 0 first
     → word ≡ text first → map text words ≡ word ∷ map text (take (length words - 1) (drop 1 words))
 first-word {A} text [] first word some is same = absurd (omega arith)
 first-word {A} text (x ∷ xs) first word some is same =
     ap (λ (w : List ℕ). w ∷ map text xs) (sym (same ∙ ap text is))
     ∙ ap (λ (rest : List A). word ∷ map text rest) (sym (take_all (length (x ∷ xs) - 1) xs (omega arith)))
+
+-- an answer to the words behind the first as one to all of them
+pub answered-first : {A T : Type 0} (text : A → List ℕ) (asks : T → Asked) (all : List (List ℕ) → Result Asked WordsFault) (takes : List (List ℕ) → Bool)
+    (words : List A) (first : A) (read word : List ℕ) (result : Result T WordsError) → 1 ≤ length words → first ≡ get_or words 0 first → read ≡ text first → read ≡ word
+    → Answered asks (all (word ∷ map text (take (length words - 1) (drop 1 words)))) (takes (word ∷ map text (take (length words - 1) (drop 1 words)))) result
+    → Answered asks (all (map text words)) (takes (map text words)) result
+answered-first text asks all takes words first read word result some is same named =
+    subst (λ (words : List (List ℕ)). Answered asks (all words) (takes words) result) (sym (first-word text words first word some is (sym named ∙ same)))

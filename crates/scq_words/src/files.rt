@@ -30,6 +30,7 @@ pub fn files_of(
     ensures refused { (fault : TheFault) → IsErrOf result (WordsError.Refused fault)
         → first_of_tests (files_tests most many (map (λ name. name.now) files.now)) ≡ Some fault }
     ensures few { IfOk result (λ own. vec_len own ≤ most) }
+    ensures few_names { IfOk result (λ own. length (map string_bytes own.items) ≤ most) }
     ensures named { IfOk result (λ own.
         All (λ name. 0 < length name) (map string_bytes own.items)) }
 {

@@ -28,14 +28,14 @@ returns-clause-refused c = λ fault is.
     tests-answer self_app words self_tests (λ t. generated (self_asked t)) _ _ (Err fault) c.in_ok-matches.ensures.passes texts
     (answer-err _ _ fault (sym c.in-Err.ensures.refused ∙ ap Some same))
 
-pub returns-in_err-matches-clause-refused : goal.returns-in_err-matches-clause-refused
-unfolding asked_of_self
-returns-in_err-matches-clause-refused c = λ fault is.
-    clap-refused self_app (map string_bytes c.args.words.now) c.from_residual.result c.in_err-matches.field-0.0 fault _ _ c.in_err-matches.ensures.refused
-    c.from_residual.ensures.1 is
-
 pub returns-clause-taken : goal.returns-clause-taken
 returns-clause-taken c = λ is.
     let same : c.in-Err.fault ≡ NotUnderstood = cc in
     absurd (self-other (texts_of_self (text_in c.get_str-seed.result) (text_in c.get_str-lines.result) (text_in c.get_str-workers.result))
     (sym c.in-Err.ensures.refused ∙ ap Some same))
+
+pub returns-in_err-matches-clause-refused : goal.returns-in_err-matches-clause-refused
+unfolding asked_of_self
+returns-in_err-matches-clause-refused c = λ fault is.
+    clap-refused self_app (map string_bytes c.args.words.now) c.from_residual.result c.in_err-matches.field-0.0 fault _ _ c.in_err-matches.ensures.refused
+    c.from_residual.ensures.1 is

@@ -1,6 +1,4 @@
-use Rattle.std.proofs.Common.{Err, ap, arith, map, sym}
-use Rattle.std.specs.Prelude.{string_bytes}
-use Rattle.std.proofs.lemmas.List.{length-map}
+use Rattle.std.proofs.Common.{Err, ap, map, sym}
 use Rattle.scq_words.specs.Numbers.{text_in}
 use Rattle.scq_words.specs.Tested.{numbers_tests, files_tests}
 use Rattle.scq_words.specs.declared.fault.WordsFault.TheVariants.{TooManyFiles}
@@ -10,32 +8,29 @@ use Rattle.scq_words.proofs.stages_words.check_stages.Goals as goal
 
 pub returns-in_err-workers-clause-refused : goal.returns-in_err-workers-clause-refused
 returns-in_err-workers-clause-refused c = λ fault is.
-    tests-refuse (numbers_tests (text_in c.args.workers) (text_in c.args.order) (text_in c.args.size)) (files_tests 64 TooManyFiles (map (λ name. name.now) c.args.files.now))
+    let numbers = numbers_tests (text_in c.args.workers) (text_in c.args.order) (text_in c.args.size) in
+    let files = files_tests 64 TooManyFiles (map (λ name. name.now) c.args.files.now) in
+    tests-refuse numbers files
     c.from_residual.result c.in_err-workers.field-0.0 fault c.in_err-workers.ensures.refused c.from_residual.ensures.1 is
 
 pub returns-in_err-files-clause-refused : goal.returns-in_err-files-clause-refused
 returns-in_err-files-clause-refused c = λ fault is.
+    let numbers = numbers_tests (text_in c.args.workers) (text_in c.args.order) (text_in c.args.size) in
+    let files = files_tests 64 TooManyFiles (map (λ name. name.now) c.args.files.now) in
     let same = handed-on c.from_residual-in_err-files.result c.in_err-files.field-0.0 (Refused fault) c.from_residual-in_err-files.ensures.1 is in
-    tests-pass (numbers_tests (text_in c.args.workers) (text_in c.args.order) (text_in c.args.size)) (files_tests 64 TooManyFiles (map (λ name. name.now) c.args.files.now)) _
+    tests-pass numbers files _
     c.in_ok-workers.ensures.refused (c.in_err-files.ensures.refused fault (ap Err same))
 
 pub returns-clause-request : goal.returns-clause-request
-returns-clause-request c = (
-  tests-pass (numbers_tests (text_in c.args.workers) (text_in c.args.order) (text_in c.args.size)) (files_tests 64 TooManyFiles (map (λ name. name.now) c.args.files.now)) _
-      c.in_ok-workers.ensures.refused c.in_ok-files.ensures.passes,
-  λ i. record {
-    workers = sym c.in_ok-workers.ensures.workers i;
-    order = sym c.in_ok-workers.ensures.order i;
-    size = sym c.in_ok-workers.ensures.size i;
-    files = sym c.in_ok-files.ensures.names i;
-  },
-)
-
-pub returns-clause-ranges : goal.returns-clause-ranges
-returns-clause-ranges c = record {
-  order = c.in_ok-workers.ensures.small_order;
-  workers = c.in_ok-workers.ensures.few_workers;
-  size = c.in_ok-workers.ensures.small_size;
-  files = omega (arith, length-map c.in_ok-files.files.items string_bytes, c.in_ok-files.ensures.few);
-  names = c.in_ok-files.ensures.named;
-}
+returns-clause-request c =
+    let numbers = numbers_tests (text_in c.args.workers) (text_in c.args.order) (text_in c.args.size) in
+    let files = files_tests 64 TooManyFiles (map (λ name. name.now) c.args.files.now) in (
+      tests-pass numbers files _
+          c.in_ok-workers.ensures.refused c.in_ok-files.ensures.passes,
+      λ i. record {
+        workers = sym c.in_ok-workers.ensures.workers i;
+        order = sym c.in_ok-workers.ensures.order i;
+        size = sym c.in_ok-workers.ensures.size i;
+        files = sym c.in_ok-files.ensures.names i;
+      },
+    )
