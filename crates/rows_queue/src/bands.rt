@@ -2,7 +2,7 @@
 ghost use Rattle.std.specs.Prelude.{◌≡◌, ◌≤◌, [], All, IfOk, vec_len};
 ghost use Rattle.scq_band.specs.Closing.{lifted_of};
 
-use anyhow::{Context, Result, anyhow};
+use anyhow::{Context, Result, anyhow, ensure};
 use scq_band::{Band, BandClosed, Seat};
 use scq_queue::HeapBuffer;
 use scq_word::{Buffer, BufferMut, Setup};
@@ -15,6 +15,15 @@ fn filled(alloc: Global, byte: u8) -> Result<HeapBuffer> {
     Ok(buffer)
 }
 
+/// Buffers of one byte each, a, b and so on.
+fn buffers_of(alloc: Global, n: u32) -> Result<Vec<HeapBuffer>> {
+    let mut buffers = Vec::new(alloc);
+    for index in 0..n {
+        buffers.push(filled(alloc, 97 + (index % 26) as u8)?)?;
+    }
+    Ok(buffers)
+}
+
 /// A band of this setup with buffers of one byte each, a, b and so on; and its seats, none of which
 /// has lifted a buffer.
 pub fn made(alloc: Global, setup: Setup) -> Result<(Band<HeapBuffer>, Vec<Seat<HeapBuffer>>)>
@@ -24,13 +33,11 @@ pub fn made(alloc: Global, setup: Setup) -> Result<(Band<HeapBuffer>, Vec<Seat<H
     ensures count { IfOk result (λ made. vec_len made.1 ≡ setup.seats) }
 {
     let n = setup.shape().n();
-    let mut buffers = Vec::new(alloc);
-    for index in 0..n {
-        buffers.push(filled(alloc, 97 + (index % 26) as u8)?)?;
-    }
-    if buffers.len() != n as usize {
-        return Err(anyhow!("not as many buffers as indices"));
-    }
+    let buffers = buffers_of(alloc, n)?;
+    ensure!(
+        buffers.len() == n as usize,
+        "not as many buffers as indices"
+    );
     match Band::make(alloc, setup, buffers) {
         Ok(made) => Ok(made),
         Err(_) => Err(anyhow!("no memory")),

@@ -4,19 +4,15 @@ ghost use Rattle.std.specs.Prelude.{◌≡◌, ◌+◌, ◌<◌, ◌≤◌, [], 
 ghost use Rattle.scq_queue.specs.Passes.{first_passes};
 ghost use Rattle.scq_queue.specs.HoldsJust.{HoldsJust};
 
-use crate::replies::{Reply, of_give, of_lend, of_send, of_take, show, show_closed, tell};
+use crate::replies::{Reply, of_lend, of_take, show, show_closed, tell};
 use anyhow::{Context, Result, anyhow, ensure};
 use rows_text::field;
-use scq_queue::{Closed, HeapBuffer, Held, LendRefusal, Pass, Queue, Spent, TakeRefusal};
+use scq_queue::{Closed, HeapBuffer, Held, Pass, Queue};
 use scq_word::{BufferMut, Setup};
-use std::alloc::Global;
+use std::alloc::{AllocError, Global};
 
 /// Is lent a value, which goes on top.
-pub fn lent<B: BufferMut>(
-    queue: &Queue<B>,
-    pass: &mut Pass<B>,
-    values: &mut Vec<Held<B>>,
-) -> Result<u32, LendRefusal>
+pub fn lent<B: BufferMut>(queue: &Queue<B>, pass: &mut Pass<B>, values: &mut Vec<Held<B>>) -> Reply
     requires stack { HoldsJust queue.now pass.old values.old.items }
     requires room { vec_len values.old < vec_capacity values.old }
     ensures stack { HoldsJust queue.now pass.new values.new.items }
@@ -25,9 +21,9 @@ pub fn lent<B: BufferMut>(
         Ok(held) => {
             let index = held.index();
             values.push_reserved(held);
-            Ok(index)
+            Reply::Index(index)
         }
-        Err(refusal) => Err(refusal),
+        Err(refusal) => of_lend(refusal),
     }
 }
 
@@ -37,7 +33,7 @@ pub fn took<B: BufferMut>(
     pass: &mut Pass<B>,
     topic: u32,
     values: &mut Vec<Held<B>>,
-) -> Result<u64, TakeRefusal>
+) -> Reply
     requires stack { HoldsJust queue.now pass.old values.old.items }
     requires topic { topic + 1 < queue.now.setup.rings }
     requires room { vec_len values.old < vec_capacity values.old }
@@ -46,9 +42,9 @@ pub fn took<B: BufferMut>(
     match queue.take(pass, topic) {
         Ok((place, held)) => {
             values.push_reserved(held);
-            Ok(place)
+            Reply::Place(place)
         }
-        Err(refusal) => Err(refusal),
+        Err(refusal) => of_take(refusal),
     }
 }
 
@@ -58,40 +54,36 @@ pub fn sent<B: BufferMut>(
     pass: &mut Pass<B>,
     topic: u32,
     values: &mut Vec<Held<B>>,
-) -> Option<Result<u64, Spent>>
+) -> Reply
     requires stack { HoldsJust queue.now pass.old values.old.items }
     requires topic { topic + 1 < queue.now.setup.rings }
     ensures stack { HoldsJust queue.now pass.new values.new.items }
 {
     let Some(held) = values.pop() else {
-        return None;
+        return Reply::Odd;
     };
     match queue.send(pass, topic, held) {
-        Ok(place) => Some(Ok(place)),
+        Ok(place) => Reply::Place(place),
         Err((held, spent)) => {
             values.push_reserved(held);
-            Some(Err(spent))
+            Reply::Spent(spent.ticket)
         }
     }
 }
 
 /// Gives the value on top back; where it comes back it is on top again.
-fn gave<B: BufferMut>(
-    queue: &Queue<B>,
-    pass: &mut Pass<B>,
-    values: &mut Vec<Held<B>>,
-) -> Option<Result<(), Spent>>
+fn gave<B: BufferMut>(queue: &Queue<B>, pass: &mut Pass<B>, values: &mut Vec<Held<B>>) -> Reply
     requires stack { HoldsJust queue.now pass.old values.old.items }
     ensures stack { HoldsJust queue.now pass.new values.new.items }
 {
     let Some(held) = values.pop() else {
-        return None;
+        return Reply::Odd;
     };
     match queue.give_back(pass, held) {
-        Ok(()) => Some(Ok(())),
+        Ok(()) => Reply::Back,
         Err((held, spent)) => {
             values.push_reserved(held);
-            Some(Err(spent))
+            Reply::Spent(spent.ticket)
         }
     }
 }
@@ -116,6 +108,27 @@ fn write(bytes: &mut [u8], text: &[u8]) {
     }
 }
 
+/// The reply to a call that gets a value, for which there has to be room.
+fn got<B: BufferMut>(
+    queue: &Queue<B>,
+    pass: &mut Pass<B>,
+    values: &mut Vec<Held<B>>,
+    call: &str,
+) -> Reply
+    requires stack { HoldsJust queue.now pass.old values.old.items }
+    requires rings { 2 ≤ queue.now.setup.rings }
+    ensures stack { HoldsJust queue.now pass.new values.new.items }
+{
+    if values.len() >= values.capacity() {
+        return Reply::Odd;
+    }
+    match call {
+        "lend" => lent(queue, pass, values),
+        "take 0" => took(queue, pass, 0, values),
+        _ => Reply::Odd,
+    }
+}
+
 /// The reply to one call.
 fn reply_to<B: BufferMut>(
     queue: &Queue<B>,
@@ -131,64 +144,66 @@ fn reply_to<B: BufferMut>(
         wrote(queue, pass, values, text);
         return Reply::Written;
     }
-    if call == "give" {
-        return of_give(gave(queue, pass, values));
+    match call {
+        "give" => gave(queue, pass, values),
+        "send 0" => sent(queue, pass, 0, values),
+        _ => got(queue, pass, values, call),
     }
-    if call == "send 0" {
-        return of_send(sent(queue, pass, 0, values));
-    }
-    if values.len() >= values.capacity() {
-        return Reply::Odd;
-    }
-    if call == "lend" {
-        return of_lend(lent(queue, pass, values));
-    }
-    if call == "take 0" {
-        return of_take(took(queue, pass, 0, values));
-    }
-    Reply::Odd
 }
 
 /// Adds the bytes of the value on top.
-fn read<B: BufferMut>(into: &mut String, values: &Vec<Held<B>>) -> Result<()> {
+fn read<B: BufferMut>(into: &mut String, values: &Vec<Held<B>>) -> Result<(), AllocError> {
     if let Some(held) = values.last() {
         show(into, held.bytes())?;
     }
-    into.push_str(";")?;
-    Ok(())
+    into.push_str(";")
 }
 
-/// The replies to calls.
-fn replies<B: BufferMut>(
-    alloc: Global,
+/// Makes a call, and adds the reply to it.
+fn make<B: BufferMut>(
+    into: &mut String,
     queue: &Queue<B>,
     pass: &mut Pass<B>,
     values: &mut Vec<Held<B>>,
-    calls: &str,
-) -> Result<String>
+    call: &str,
+) -> Result<(), AllocError>
     requires stack { HoldsJust queue.now pass.old values.old.items }
     requires rings { 2 ≤ queue.now.setup.rings }
     ensures stack { HoldsJust queue.now pass.new values.new.items }
 {
-    let mut got = String::new(alloc);
-    for text in calls.split("; ") {
-        if text == "read" {
-            read(&mut got, values)?;
-        } else {
-            tell(&mut got, reply_to(queue, pass, values, text))?;
-        }
+    if call == "read" {
+        read(into, values)
+    } else {
+        tell(into, reply_to(queue, pass, values, call))
     }
-    Ok(got)
+}
+
+/// Makes calls, and adds the replies to them.
+fn replies<B: BufferMut>(
+    into: &mut String,
+    queue: &Queue<B>,
+    pass: &mut Pass<B>,
+    values: &mut Vec<Held<B>>,
+    calls: &str,
+) -> Result<(), AllocError>
+    requires stack { HoldsJust queue.now pass.old values.old.items }
+    requires rings { 2 ≤ queue.now.setup.rings }
+    ensures stack { HoldsJust queue.now pass.new values.new.items }
+{
+    for text in calls.split("; ") {
+        make(into, queue, pass, values, text)?;
+    }
+    Ok(())
 }
 
 /// Makes calls of the last pass of a new queue, and closes the queue.
 fn run<B: BufferMut>(
-    alloc: Global,
+    into: &mut String,
     queue: Queue<B>,
     mut passes: Vec<Pass<B>>,
     mut values: Vec<Held<B>>,
     calls: &str,
-) -> (Result<String>, Closed<B>)
+) -> (Result<(), AllocError>, Closed<B>)
     requires setup { (queue.setup.rings ≡ 2) × (1 ≤ queue.setup.seats) }
     requires passes { passes.items ≡ first_passes queue queue.setup.seats }
     requires values { values.items ≡ [] }
@@ -196,7 +211,7 @@ fn run<B: BufferMut>(
     let Some(mut pass) = passes.pop() else {
         unreachable!()
     };
-    let got = replies(alloc, &queue, &mut pass, &mut values, calls);
+    let got = replies(into, &queue, &mut pass, &mut values, calls);
     passes.push_reserved(pass);
     let closed = queue.close(passes, values);
     (got, closed)
@@ -221,13 +236,16 @@ pub fn made(
     }
 }
 
-/// `PASSES LIMIT; CALL; ..`, of the last pass on two rings over two buffers of two bytes: the reply
-/// to each call, the bytes on top for `read`; and what the queue closed with.
-pub fn called(alloc: Global, given: &str) -> Result<String> {
-    let (setup, calls) = given.split_once("; ").context("a setup and calls")?;
-    let seats = field(setup, 0).parse::<u32>()?;
-    let limit = field(setup, 1).parse::<u64>()?;
-    ensure!(1 <= seats, "a pass");
+/// Makes calls of the last of so many passes of a queue with this limit.
+fn called_of(
+    alloc: Global,
+    into: &mut String,
+    seats: u32,
+    limit: u64,
+    calls: &str,
+) -> Result<Closed<HeapBuffer>>
+    requires { 1 ≤ seats }
+{
     let values = Vec::with_capacity(alloc, 3)?;
     let (queue, passes) = match made(alloc, seats, limit) {
         Ok(made) => made,
@@ -236,8 +254,20 @@ pub fn called(alloc: Global, given: &str) -> Result<String> {
             return Err(fail);
         }
     };
-    let (got, closed) = run(alloc, queue, passes, values, calls);
-    let mut text = got?;
+    let (got, closed) = run(into, queue, passes, values, calls);
+    got?;
+    Ok(closed)
+}
+
+/// `PASSES LIMIT; CALL; ..`, of the last pass on two rings over two buffers of two bytes: the reply
+/// to each call, the bytes on top for `read`; and what the queue closed with.
+pub fn called(alloc: Global, given: &str) -> Result<String> {
+    let (setup, calls) = given.split_once("; ").context("a setup and calls")?;
+    let seats = field(setup, 0).parse::<u32>()?;
+    let limit = field(setup, 1).parse::<u64>()?;
+    ensure!(1 <= seats, "a pass");
+    let mut text = String::new(alloc);
+    let closed = called_of(alloc, &mut text, seats, limit, calls)?;
     show_closed(&mut text, &closed)?;
     Ok(text)
 }

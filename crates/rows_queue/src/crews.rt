@@ -5,7 +5,7 @@ ghost use Rattle.scq_park.specs.Crews.{first_post, first_posts};
 
 use anyhow::Result;
 use scq_park::{Crew, Rested, Stand};
-use std::alloc::Global;
+use std::alloc::{AllocError, Global};
 use std::sync::Wait;
 use std::thread::{Threads, join};
 
@@ -49,15 +49,18 @@ fn woken_twice<R: Wait>(rt: &R, crew: Crew, stands: Vec<Stand>) -> Vec<Rested>
     close_two(crew, stands, first, second)
 }
 
+/// Adds how often a worker rested, and was woken.
+fn show_rested(into: &mut String, its: &Rested) -> Result<(), AllocError> {
+    let comma = if into.is_empty() { "" } else { ", " };
+    let (rests, wakes) = (its.rests(), its.wakes());
+    write!(into, "{comma}{rests} {wakes}")
+}
+
 /// How often each worker rested, and was woken.
-fn counted(alloc: Global, rested: &[Rested]) -> Result<String> {
+fn counted(alloc: Global, rested: &[Rested]) -> Result<String, AllocError> {
     let mut text = String::new(alloc);
     for its in rested {
-        if !text.is_empty() {
-            text.push_str(", ")?;
-        }
-        let (rests, wakes) = (its.rests(), its.wakes());
-        text.push_str(format!(in alloc; "{rests} {wakes}")?.as_str())?;
+        show_rested(&mut text, its)?;
     }
     Ok(text)
 }
@@ -66,7 +69,7 @@ fn counted(alloc: Global, rested: &[Rested]) -> Result<String> {
 pub fn woken<R: Wait>(rt: &R, alloc: Global) -> Result<String> {
     let (crew, stands) = Crew::make(alloc, 2)?;
     let rested = woken_twice(rt, crew, stands);
-    counted(alloc, rested.as_slice())
+    Ok(counted(alloc, rested.as_slice())?)
 }
 
 /// Wakes the other and rests, so many times; or rests first.
@@ -138,5 +141,5 @@ fn apart<R: Threads + Wait + Sync>(
 pub fn in_turn<R: Threads + Wait + Sync>(rt: &R, alloc: Global, rounds: u32) -> Result<String> {
     let (crew, stands) = Crew::make(alloc, 2)?;
     let rested = both(rt, crew, stands, rounds);
-    counted(alloc, rested.as_slice())
+    Ok(counted(alloc, rested.as_slice())?)
 }

@@ -24,6 +24,8 @@ use pair::told;
 use ports::ported;
 use rows_text::{Calls, run_rows};
 use std::alloc::Global;
+use std::sync::Wait;
+use std::thread::Threads;
 use std::{env, fs};
 use threads::two_threads;
 
@@ -49,17 +51,26 @@ const ROUNDS: u32 = 20_000;
 /// How often each of two workers wakes the other.
 const WAKES: u32 = 1_000;
 
-fn main(rt: HostRuntime) -> Result<()> {
-    for name in env::args(&rt)?.skip(1) {
-        let text = fs::read_to_string(&rt, &name)?;
-        let rows = run_rows(&rt, rt.alloc(), &Queues, &name, &text)?;
-        println!(rt; "{name}: {rows} rows")?;
-    }
-    let kept = two_threads(&rt, rt.alloc(), ROUNDS)?;
+fn run_file(rt: HostRuntime, name: &str) -> Result<()> {
+    let text = fs::read_to_string(&rt, name)?;
+    let rows = run_rows(&rt, rt.alloc(), &Queues, name, &text)?;
+    println!(rt; "{name}: {rows} rows")?;
+    Ok(())
+}
+
+fn run_threads<R: Threads + Wait + Sync + Print>(rt: &R, alloc: Global) -> Result<()> {
+    let kept = two_threads(rt, alloc, ROUNDS)?;
     println!(rt; "two threads: {kept}")?;
-    let rested = woken(&rt, rt.alloc())?;
+    let rested = woken(rt, alloc)?;
     println!(rt; "a crew of two, rests and wakes: {rested}")?;
-    let rested = in_turn(&rt, rt.alloc(), WAKES)?;
+    let rested = in_turn(rt, alloc, WAKES)?;
     println!(rt; "two threads of a crew, in turn: {rested}")?;
     Ok(())
+}
+
+fn main(rt: HostRuntime) -> Result<()> {
+    for name in env::args(&rt)?.skip(1) {
+        run_file(rt, &name)?;
+    }
+    run_threads(&rt, rt.alloc())
 }

@@ -5,13 +5,13 @@ ghost use Rattle.scq_queue.specs.Passes.{first_passes};
 
 use crate::calls::{lent, made, sent, took};
 use crate::replies;
-use crate::replies::{of_lend, of_send, of_take, show_closed};
+use crate::replies::{Reply, show_closed};
 use crate::ways::{Way, tell, way_of};
 use anyhow::{Context, Result, anyhow};
 use scq_band::Lifted;
-use scq_queue::{Closed, Held, LendRefusal, Pass, Queue, Spent, TakeRefusal};
+use scq_queue::{Closed, HeapBuffer, Held, Pass, Queue};
 use scq_word::BufferMut;
-use std::alloc::Global;
+use std::alloc::{AllocError, Global};
 
 /// Whether the gate was closed at first; for each of the passes, the first of which had retired,
 /// once the other was told so; and for each once both had, in the other order.
@@ -24,10 +24,11 @@ struct Gates {
 
 /// What the passes were answered: the index lent, the places of the send and of the take, and
 /// whether the gate was closed.
+#[derive(Clone, Copy)]
 struct Answers {
-    lent: Result<u32, LendRefusal>,
-    sent: Option<Result<u64, Spent>>,
-    taken: Result<u64, TakeRefusal>,
+    lent: Reply,
+    sent: Reply,
+    taken: Reply,
     gates: Gates,
 }
 
@@ -112,7 +113,7 @@ fn run<B: BufferMut + Drop>(
 }
 
 /// Adds what the gate was read as.
-fn show_gates(into: &mut String, gates: Gates) -> Result<()> {
+fn show_gates(into: &mut String, gates: Gates) -> Result<(), AllocError> {
     let Gates {
         at_first,
         by_one: (itself, told),
@@ -121,39 +122,41 @@ fn show_gates(into: &mut String, gates: Gates) -> Result<()> {
     write!(
         into,
         "{at_first}, {itself} {told}, {itself_last} {told_last}"
-    )?;
-    Ok(())
+    )
 }
 
-/// `WAY`: what the passes were answered, of which each tells the other in this way, and what the
-/// queue closed with.
-pub fn told(alloc: Global, given: &str) -> Result<String> {
-    let way = way_of(given)?;
+fn show_answers(into: &mut String, answers: Answers) -> Result<(), AllocError> {
+    replies::tell(into, answers.lent)?;
+    replies::tell(into, answers.sent)?;
+    replies::tell(into, answers.taken)?;
+    show_gates(into, answers.gates)
+}
+
+/// What two passes of a new queue are answered, and what it closes with.
+fn answers_in(alloc: Global, way: Way) -> Result<(Answers, Closed<HeapBuffer>)> {
     let sender = Vec::with_capacity(alloc, 1)?;
     let Ok(taker) = Vec::with_capacity(alloc, 1) else {
         sender.destroy_empty();
         return Err(anyhow!("no memory"));
     };
-    let (queue, passes) = match made(alloc, 2, 1 << 60) {
-        Ok(made) => made,
+    match made(alloc, 2, 1 << 60) {
+        Ok((queue, passes)) => {
+            run(queue, passes, sender, taker, way).context("nothing was sent")
+        }
         Err(fail) => {
             sender.destroy_empty();
             taker.destroy_empty();
-            return Err(fail);
+            Err(fail)
         }
-    };
-    let (answers, closed) = run(queue, passes, sender, taker, way).context("nothing was sent")?;
-    let Answers {
-        lent,
-        sent,
-        taken,
-        gates,
-    } = answers;
+    }
+}
+
+/// `WAY`: what the passes were answered, of which each tells the other in this way, and what the
+/// queue closed with.
+pub fn told(alloc: Global, given: &str) -> Result<String> {
+    let (answers, closed) = answers_in(alloc, way_of(given)?)?;
     let mut text = String::new(alloc);
-    replies::tell(&mut text, of_lend(lent))?;
-    replies::tell(&mut text, of_send(sent))?;
-    replies::tell(&mut text, of_take(taken))?;
-    show_gates(&mut text, gates)?;
+    show_answers(&mut text, answers)?;
     show_closed(&mut text, &closed)?;
     Ok(text)
 }

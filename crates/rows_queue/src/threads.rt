@@ -85,6 +85,14 @@ fn circulate_all<R: Threads + Sync>(
     thread::map_vec(rt, seats, &run)
 }
 
+fn sum_of(numbers: &[u64]) -> u64 {
+    let mut sum = 0u64;
+    for number in numbers {
+        sum = sum.saturating_add(*number);
+    }
+    sum
+}
+
 /// Two threads move two indices so many rounds: how many the two rings have left, and the bytes of
 /// both buffers.
 pub fn two_threads<R: Threads + Sync>(rt: &R, alloc: Global, rounds: u32) -> Result<String> {
@@ -92,11 +100,7 @@ pub fn two_threads<R: Threads + Sync>(rt: &R, alloc: Global, rounds: u32) -> Res
     let (band, seats) = made(alloc, setup)?;
     let seats = circulate_all(rt, &band, seats, rounds)?;
     let ended = closed(alloc, band, seats);
-    let mut sum = 0u64;
-    for left in &ended.left {
-        sum = sum.saturating_add(*left);
-    }
-    let mut text = format!(in alloc; "{sum} left,")?;
-    show_buffers(&mut text, ended.buffers.as_slice())?;
+    let mut text = format!(in alloc; "{} left,", sum_of(&ended.left))?;
+    show_buffers(&mut text, &ended.buffers)?;
     Ok(text)
 }
