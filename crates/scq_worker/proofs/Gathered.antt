@@ -316,17 +316,20 @@ few-with most t parts bs opens was its some_ =
     (cases_eq u t)) in
     omega (arith, all, some_)
 
+-- the parts of a topic are put among what is open
+put-on : (opens : List (List Part)) (t : ℕ) (b : List Part) → t < length opens → (u : ℕ)
+    → open_on u (set opens t b) ≡ if u == t then b else open_on u opens
+put-on opens t b within u =
+    ⊎_elim (λ (own : u ≡ t). ap (λ k. open_on k (set opens t b)) own ∙ get_or-set_same opens t b [] within ∙ sym (rw (eq-eqb u t own) refl))
+    (λ (apart : u ≡ t → ⊥). get_or-set_other opens t u b [] apart ∙ sym (rw (ne_eqb u t apart) refl)) (cases_eq u t)
+
 -- the batch of a topic is taken out, and put back with nothing in it
 pub set-closed : (opens : List (List Part)) (t : ℕ) (mid b : List Part) → t < length opens → b ≡ [] → (u : ℕ)
     → open_on u (set (set opens t mid) t b) ≡ if u == t then [] else open_on u opens
 set-closed opens t mid b within none u =
-    ⊎_elim (λ (own : u ≡ t).
-    ap (λ k. open_on k (set (set opens t mid) t b)) own
-    ∙ get_or-set_same (set opens t mid) t b [] (omega (arith, within, length-set opens t mid)) ∙ none
-    ∙ sym (rw (eq-eqb u t own) refl))
-    (λ (apart : u ≡ t → ⊥).
-    get_or-set_other (set opens t mid) t u b [] apart ∙ get_or-set_other opens t u mid [] apart ∙ sym (rw (ne_eqb u t apart) refl))
-    (cases_eq u t)
+    put-on (set opens t mid) t b (omega (arith, within, length-set opens t mid)) u
+    ∙ ⊎_elim (λ (own : u ≡ t). rw (eq-eqb u t own) none)
+    (λ (apart : u ≡ t → ⊥). rw (ne_eqb u t apart) (put-on opens t mid within u ∙ rw (ne_eqb u t apart) refl)) (cases_eq u t)
 
 pub set-few : (opens : List (List Part)) (t n : ℕ) (mid b : List Part) → length opens ≤ n → length (set (set opens t mid) t b) ≤ n
 set-few opens t n mid b few = omega (arith, few, length-set (set opens t mid) t b, length-set opens t mid)
@@ -336,3 +339,28 @@ pub none-past : (opens : List (List Part)) (t : ℕ) → length opens ≤ t → 
 none-past [] t past = nil-at t
 none-past (b ∷ opens) zero past = absurd (omega (arith, past))
 none-past (b ∷ opens) (suc t) past = none-past opens t (omega (arith, past))
+
+-- as much is open in these, each beyond those that were, and the parts of a topic are put among them
+module _ (opens begun : List (List Part)) (t : ℕ) (own : List Part) (begins : (u : ℕ) → open_on u begun ≡ open_on u opens)
+    (within : t < length begun) (is : own ≡ open_on t opens) where
+  pub open-put : (most topics : ℕ) (b : List Part) → AreOpen most topics opens → length begun ≤ topics → IsOpen most t b
+      → AreOpen most topics (set begun t b)
+  open-put most topics b was few its = record {
+    few = omega (arith, few, length-set begun t b);
+    each = λ u.
+        ⊎_elim (λ (here : u ≡ t). subst (IsOpen most u) (sym (put-on begun t b within u ∙ rw (eq-eqb u t here) refl)) (subst (λ k. IsOpen most k b) (sym here) its))
+        (λ (apart : u ≡ t → ⊥). subst (IsOpen most u) (sym (put-on begun t b within u ∙ rw (ne_eqb u t apart) (begins u))) (was.each u)) (cases_eq u t);
+  }
+
+  pub put-more : (b more : List Part) → b ≡ own ++ more → (u : ℕ)
+      → open_on u (set begun t b) ≡ open_on u opens ++ (if u == t then more else [])
+  put-more b more grown u =
+      put-on begun t b within u
+      ∙ ⊎_elim (λ (here : u ≡ t). rw (eq-eqb u t here) (grown ∙ ap (λ (l : List Part). l ++ more) (is ∙ ap (λ k. open_on k opens) (sym here))))
+      (λ (apart : u ≡ t → ⊥). rw (ne_eqb u t apart) (begins u ∙ sym (append-nil (open_on u opens)))) (cases_eq u t)
+
+  pub put-same : (b : List Part) → b ≡ own → (u : ℕ) → open_on u (set begun t b) ≡ open_on u opens
+  put-same b same u =
+      put-on begun t b within u
+      ∙ ⊎_elim (λ (here : u ≡ t). rw (eq-eqb u t here) (same ∙ is ∙ ap (λ k. open_on k opens) (sym here)))
+      (λ (apart : u ≡ t → ⊥). rw (ne_eqb u t apart) (begins u)) (cases_eq u t)

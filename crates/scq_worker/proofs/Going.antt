@@ -13,7 +13,6 @@ use Rattle.scq_worker.specs.Bells.{RingsOn}
 use Rattle.scq_worker.specs.Opening.{PartsAreGathered, AreOpen, open_on, takes_behind}
 use Rattle.scq_worker.specs.Reading.{KeepsCalling, goes-along, HasGathered, HasPassedOn, HasStoppedBehind, HasStoppedIn, IsSameWorker, IsWorking}
 use Rattle.scq_worker.specs.Sweeping.{HasTakenAll, KeepsItsOwn}
-use Rattle.scq_worker.specs.Working.{HasStopped}
 use Rattle.scq_worker.specs.declared.job.Job.{Job}
 use Rattle.scq_worker.specs.declared.worker.Worker.{Worker}
 use Rattle.scq_passes.proofs.PassLemmas.{taken-along, taken-nothing}

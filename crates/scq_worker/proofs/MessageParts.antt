@@ -1,9 +1,8 @@
 -- The parts of messages, one message behind the other.
-use Rattle.std.proofs.Common.{◌≡◌, refl, sym, ◌∙◌, ap, arith, zero, suc, true, false, Bool, ℕ, ◌+◌, ◌≤◌, List, [], ◌∷◌, ◌++◌, map, append_assoc}
+use Rattle.std.proofs.Common.{◌≡◌, refl, sym, ◌∙◌, ap, arith, zero, suc, true, false, Bool, ℕ, ◌+◌, ◌≤◌, List, [], ◌∷◌, ◌++◌, map}
 use Rattle.std.specs.Prelude.{flat_map}
 use Rattle.std.specs.List.{All, range_with_len}
 use Rattle.std.proofs.lemmas.Grind.{flat_map-append}
-use Rattle.std.proofs.lemmas.List.{append-nil}
 use Rattle.std.proofs.lemmas.List.Elements.{All-nil, All-append, All-map}
 use Rattle.scq_frames.specs.declared.message.Message.{Message}
 use Rattle.scq_frames.specs.Parts.{Part, all_parts, part_of, parts_of}
@@ -41,12 +40,3 @@ own-parts size workers worker file (own ∷ more) = at (own-parts size workers w
   at rest true e =
       rw e (ap (λ (l : List Part). parts_in size own ++ l) rest ∙ sym (flat_map-append (all_parts size) own (own_of workers worker (file + 1) more)))
   at rest false e = rw e rest
-
--- one message more behind those that were given, and behind all
-pub parts-behind : (size : ℕ) (parts : List Part) (old new : List Message) (m : Message) → new ≡ old ++ m ∷ []
-    → (parts ++ parts_in size old) ++ all_parts size m ≡ parts ++ parts_in size new
-parts-behind size parts old new m grown =
-    let last : parts_in size (m ∷ []) ≡ all_parts size m = append-nil (all_parts size m) in
-    append_assoc parts (parts_in size old) (all_parts size m)
-    ∙ ap (λ (l : List Part). parts ++ l)
-    (ap (λ (l : List Part). parts_in size old ++ l) (sym last) ∙ sym (flat_map-append (all_parts size) old (m ∷ [])) ∙ ap (parts_in size) (sym grown))

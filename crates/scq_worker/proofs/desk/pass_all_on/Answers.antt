@@ -1,9 +1,11 @@
 use Rattle.std.proofs.Common.{rules, ◌≡◌, ◌+◌, ◌∙◌, ap, sym, subst, arith, [], ◌++◌, List, length, take, drop, Err, Result}
-use Rattle.std.specs.Prelude.{IfErr}
+use Rattle.std.specs.Prelude.{IfErr, All}
 use Rattle.std.proofs.lemmas.List.{append-nil}
 use Rattle.scq_frames.specs.Parts.{Part}
 use Rattle.scq_queue.specs.Passes.{PassStanding}
-use Rattle.scq_files.specs.OwnFiles.{StopsAtAFault, all_given}
+use Rattle.scq_files.specs.Given.{given_in}
+use Rattle.scq_files.specs.OwnFiles.{IsNew, StopsAtAFault, ids_of, all_given}
+use Rattle.scq_files.specs.Reading.{IsRead}
 use Rattle.scq_worker.specs.Passing.{parts_in}
 use Rattle.scq_worker.specs.Reading.{HasGathered, gathered-along, HasStoppedIn, still-along, stopped-along}
 use Rattle.scq_files.specs.declared.own_file.OwnFile.{OwnFile}
@@ -28,6 +30,9 @@ read_files-requires-clause-ready g c κs within =
 pub read_files-requires-clause-takes : goal.read_files-requires-clause-takes
 read_files-requires-clause-takes g c κs within m topic short = (topic, short)
 
+pub read_files-requires-clause-unread : goal.read_files-requires-clause-unread
+read_files-requires-clause-unread g c κs within = subst (λ (fs : List (OwnFile _)). All IsNew fs) (sym c.as_mut_slice-files.ensures.value) c.requires.unread
+
 -- the files on the desk are those that were read
 whole : (g : _) (c : After-read_files g)
     → take c.args.desk.now.files.len (c.read_files.new.files ++ drop (length c.read_files.new.files) c.args.desk.now.files.items) ≡ c.read_files.new.files
@@ -38,6 +43,22 @@ whole g c =
     let long : length new ≡ length old = c.read_files.auto.files ∙ ap length is in
     let len : c.args.desk.now.files.len ≡ length old = sym (c.as_mut_slice-files.ensures.len) ∙ ap length is in
     written-back c.args.desk.now.files.len new old (omega (arith, long, len))
+
+-- as many, of the same numbers
+ids-kept : (g : _) (c : After-read_files g)
+    → ids_of (take c.args.desk.now.files.len (c.read_files.new.files ++ drop (length c.read_files.new.files) c.args.desk.now.files.items))
+    ≡ ids_of c.args.desk.now.files.items
+ids-kept g c =
+    let ids = λ (fs : List (OwnFile _)). ids_of fs in
+    ap ids (whole g c) ∙ c.read_files.ensures.same ∙ ap ids c.as_mut_slice-files.ensures.value
+
+pub returns-in_err-read_files-clause-same : goal.returns-in_err-read_files-clause-same
+returns-in_err-read_files-clause-same g c = ids-kept g (goal.at.returns-in_err-read_files-clause-same g c).After-read_files
+
+pub returns-in_err-read_files-clause-read : goal.returns-in_err-read_files-clause-read
+returns-in_err-read_files-clause-read g c =
+    subst (λ (fs : List (OwnFile _)). All (λ f. IsRead c.args.job.now.topics c.args.job.now.longest g.S.Source f.number f.was.value f.source
+    (given_in f.given.value) f.end) fs) (sym (whole g (goal.at.returns-in_err-read_files-clause-read g c).After-read_files)) c.read_files.ensures.read
 
 pub returns-in_err-read_files-clause-stops : goal.returns-in_err-read_files-clause-stops
 returns-in_err-read_files-clause-stops g c =
@@ -76,6 +97,14 @@ pass_all_open-requires-clause-bell g c κs within =
 pub pass_all_open-requires-clause-opens : goal.pass_all_open-requires-clause-opens
 pass_all_open-requires-clause-opens g c κs within = c.in_ok-read_files.ensures.handled.0.opens
 
+pub returns-in_err-pass_all_open-clause-same : goal.returns-in_err-pass_all_open-clause-same
+returns-in_err-pass_all_open-clause-same g c = ids-kept g (goal.at.returns-in_err-pass_all_open-clause-same g c).After-read_files
+
+pub returns-in_err-pass_all_open-clause-read : goal.returns-in_err-pass_all_open-clause-read
+returns-in_err-pass_all_open-clause-read g c =
+    subst (λ (fs : List (OwnFile _)). All (λ f. IsRead c.args.job.now.topics c.args.job.now.longest g.S.Source f.number f.was.value f.source
+    (given_in f.given.value) f.end) fs) (sym (whole g (goal.at.returns-in_err-pass_all_open-clause-read g c).After-read_files)) c.read_files.ensures.read
+
 pub returns-in_err-pass_all_open-clause-stops : goal.returns-in_err-pass_all_open-clause-stops
 returns-in_err-pass_all_open-clause-stops g c =
     subst (λ (fs : List (OwnFile _)). StopsAtAFault fs) (sym (whole g (goal.at.returns-in_err-pass_all_open-clause-stops g c).After-read_files))
@@ -105,6 +134,14 @@ returns-in_err-pass_all_open-clause-still g c =
     let kept = g.W.Bell.kept in
     still-along c.args.desk.now.worker.worker c.read_files.new.handler c.pass_all_open.new.self (kept c.args.stand.now) (kept c.read_files.new.beside)
     (kept c.pass_all_open.new.stand) c.in_ok-read_files.ensures.handled.1 c.pass_all_open.ensures.still
+
+pub returns-clause-same : goal.returns-clause-same
+returns-clause-same g c = ids-kept g (goal.at.returns-clause-same g c).After-read_files
+
+pub returns-clause-read : goal.returns-clause-read
+returns-clause-read g c =
+    subst (λ (fs : List (OwnFile _)). All (λ f. IsRead c.args.job.now.topics c.args.job.now.longest g.S.Source f.number f.was.value f.source
+    (given_in f.given.value) f.end) fs) (sym (whole g (goal.at.returns-clause-read g c).After-read_files)) c.read_files.ensures.read
 
 pub returns-clause-stops : goal.returns-clause-stops
 returns-clause-stops g c =

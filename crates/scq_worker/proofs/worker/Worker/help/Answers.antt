@@ -1,4 +1,4 @@
-use Rattle.std.proofs.Common.{rules, ◌≡◌, sym, subst, arith, refl, ℕ}
+use Rattle.std.proofs.Common.{rules, ◌≡◌, sym, subst, arith, refl}
 use Rattle.std.specs.Prelude.{count_by, IfErr, Result, Err}
 use Rattle.scq_passes.specs.Records.{is_take}
 use Rattle.scq_worker.specs.Sweeping.{HasLeftAt, HasTakenAll, KeepsItsOwn}

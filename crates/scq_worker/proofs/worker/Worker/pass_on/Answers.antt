@@ -1,5 +1,5 @@
 -- Each part goes behind those that were passed on before it.
-use Rattle.std.proofs.Common.{rules, ◌≡◌, ◌∙◌, ◌≤◌, ◌+◌, sym, subst, arith, ℕ, ◌++◌, ◌∷◌, [], List, map, length, Err, Result}
+use Rattle.std.proofs.Common.{rules, ◌≡◌, ◌≤◌, ◌+◌, sym, subst, arith, ℕ, ◌++◌, ◌∷◌, [], List, map, length, Err, Result}
 use Rattle.std.specs.Prelude.{IfErr}
 use Rattle.std.specs.List.{range_with_len}
 use Rattle.std.proofs.lemmas.List.{length-append}

@@ -3,7 +3,7 @@ use Rattle.std.specs.Prelude.{IfErr, slice_set}
 use Rattle.std.proofs.lemmas.List.{append-nil, get_or_read, length-append}
 use Rattle.scq_frames.specs.Parts.{Part}
 use Rattle.scq_worker.specs.Opening.{AreOpen, PartsAreGathered, open_on}
-use Rattle.scq_worker.specs.Reading.{gathered-nothing, HasStoppedIn, IsWorking, still-same}
+use Rattle.scq_worker.specs.Reading.{gathered-nothing, HasStoppedIn, still-same}
 use Rattle.scq_worker.specs.Working.{HasPassed}
 use Rattle.scq_worker.proofs.Gathered.{gathered-passed, open-closed, few-with, set-closed, set-few}
 use Rattle.scq_worker.proofs.PassedOn.{stopped-more}

@@ -1,4 +1,4 @@
-use Rattle.std.proofs.Common.{rules, ◌≡◌, ◌≤◌, ◌∙◌, false, refl, sym, subst, arith, List, [], ◌∷◌, Err, Result}
+use Rattle.std.proofs.Common.{rules, ◌≡◌, ◌∙◌, false, refl, sym, subst, arith, List, [], ◌∷◌, Err, Result}
 use Rattle.std.specs.Prelude.{IfErr}
 use Rattle.scq_frames.specs.Parts.{Part, part_of}
 use Rattle.scq_worker.specs.Opening.{open_on}

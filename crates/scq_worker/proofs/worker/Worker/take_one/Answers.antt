@@ -1,10 +1,13 @@
-use Rattle.std.proofs.Common.{rules, ◌≡◌, ◌<◌, ◌++◌, ◌∷◌, ◌∙◌, ap, sym, refl, subst, arith, suc, List, [], length, filter, None}
+use Rattle.std.proofs.Common.{rules, ◌≡◌, ◌<◌, ◌++◌, ◌∷◌, ◌∙◌, ap, sym, refl, subst, arith, suc, ◌+◌, ℕ, List, [], length, filter, None}
 use Rattle.std.specs.Prelude.{count_by}
+use Rattle.std.proofs.lemmas.List.{append-nil}
 use Rattle.std.proofs.lemmas.List.Sums.{sum_by-append}
-use Rattle.scq_core.specs.declared.ended.Ended.TheVariants.{Nothing}
+use Rattle.scq_queue.proofs.Records.{takes-append}
+use Rattle.scq_core.specs.declared.ended.Ended.{Ended}
+use Rattle.scq_core.specs.declared.ended.Ended.TheVariants.{Done, Got, Nothing}
 use Rattle.scq_band.specs.Buffers.{opening_of}
 use Rattle.scq_band.specs.RunSeen.{IsCallInRun}
-use Rattle.scq_queue.specs.Lists.{Placed}
+use Rattle.scq_queue.specs.Lists.{Placed, takes_of}
 use Rattle.scq_queue.specs.Passes.{PassStanding, WasGivenBack, having_seen, after_spent_put, caller_of}
 use Rattle.scq_passes.specs.Records.{is_take}
 use Rattle.scq_passes.specs.Waiting.{TookInVain, TookMore}
@@ -84,6 +87,40 @@ pub returns-in-Err-Empty-clause-vain : goal.returns-in-Err-Empty-clause-vain
 returns-in-Err-Empty-clause-vain g c =
     let found = (c.in-Err-Empty.ensures.empty c.in-Err-Empty.field-0-0 (cc)).found in
     vain-none c.args.topic c.args.self.now.pass c.take.new.pass (ap (λ (x : PassStanding _). x.calls) found.pass)
+
+-- the take, and what gave back what it got
+abbrev got-at : (g : _) (c : goal.In-Ok-give_back g) → List Ended
+got-at g c = c.args.self.now.pass.calls ++ Got (suc c.args.topic) c.in-Ok.place (g.B.Buffer.contents c.in-Ok.held.buffer) ∷ []
+
+abbrev back-at : (g : _) (c : goal.In-Ok-give_back g) → List Ended
+back-at g c = Done 0 c.in-Ok-give_back.ensures.given.place (g.B.Buffer.contents c.in-Ok.held.buffer) ∷ []
+
+calls-at : (g : _) (c : goal.In-Ok-give_back g) → c.give_back.new.pass.calls ≡ got-at g c ++ back-at g c
+calls-at g c =
+    let calls = λ (x : PassStanding _). x.calls in
+    ap calls c.in-Ok-give_back.ensures.given.pass
+    ∙ ap (λ (l : List Ended). l ++ back-at g c) (ap calls c.answer_taken.ensures.same.0 ∙ ap calls c.in-Ok.ensures.took.got.pass)
+
+pub returns-in-Ok-give_back-clause-one : goal.returns-in-Ok-give_back-clause-one
+returns-in-Ok-give_back-clause-one g c t =
+    let first = Got (suc c.args.topic) c.in-Ok.place (g.B.Buffer.contents c.in-Ok.held.buffer) in
+    ap (count_by (is_take t)) (calls-at g c) ∙ sum_by-append _ (got-at g c) (back-at g c)
+    ∙ ap (λ n. n + 0) (sum_by-append _ c.args.self.now.pass.calls (first ∷ [])) ∙ omega arith
+
+pub returns-in-Ok-give_back-clause-answered : goal.returns-in-Ok-give_back-clause-answered
+returns-in-Ok-give_back-clause-answered g c fed =
+    let topics = c.args.job.now.topics in
+    let was = takes_of c.args.self.now.pass.calls in
+    let first = Got (suc c.args.topic) c.in-Ok.place (g.B.Buffer.contents c.in-Ok.held.buffer) in
+    let more = λ (bytes : List ℕ). was ++ record { topic = c.args.topic; place = c.in-Ok.place; bytes = bytes } ∷ [] in
+    let same : takes_of c.give_back.new.pass.calls ≡ more c.bytes.result.now =
+    ap takes_of (calls-at g c) ∙ takes-append (got-at g c) (back-at g c) ∙ append-nil (takes_of (got-at g c))
+    ∙ takes-append c.args.self.now.pass.calls (first ∷ []) ∙ ap more (sym c.bytes.ensures) in
+    record {
+      takes = λ so. subst (λ (ts : List Placed). AnswersSoFar topics ts (filter is_taken c.answer_taken.new.self.members)) (sym same)
+          (c.answer_taken.ensures.takes fed c.args.topic was so);
+      directs = c.answer_taken.ensures.directs fed;
+    }
 
 -- these calls alone were made
 pub returns-in-Ok-give_back-clause-only : goal.returns-in-Ok-give_back-clause-only
