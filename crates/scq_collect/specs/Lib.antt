@@ -13,3 +13,4 @@ pub mod Spots
 pub mod Spans
 pub mod Laid
 pub mod Taken
+pub mod Texts

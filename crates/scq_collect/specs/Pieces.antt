@@ -7,7 +7,6 @@ use Rattle.scq_topics.specs.declared.kind.Kind.{Kind}
 use Rattle.scq_word.specs.declared.NoMemory.{NoMemory}
 use Rattle.scq_collect.specs.declared.answered.Answered.{Answered}
 use Rattle.scq_collect.specs.declared.pieces.Piece.{Piece}
-use Rattle.scq_collect.specs.declared.pieces.Texts.{Texts}
 use Rattle.scq_collect.specs.declared.stretches.Stretch.{Stretch}
 use Rattle.scq_collect.specs.declared.spans.Span.{Span}
 use Rattle.scq_collect.specs.Joined.{BeginsMessage, IsJoined, PartAnswer, answers_of}
@@ -34,13 +33,6 @@ pub record IsStretchOf (topics : List (List ℕ × Kind)) (answers : List Answer
     (stretch : Stretch) : Type 0 where
   pub piece : IsPieceOf topics answers stretch.piece
   pub few : length answers ≤ stretch.parts
-
--- the texts and totals of these answers, which are no more than the parts
-pub record AreTextsOf (topics : List (List ℕ × Kind)) (answers : List Answer)
-    (texts : Texts) : Type 0 where
-  pub text : pieces_bytes texts.texts.items ≡ flat_map (reply_line topics) answers
-  pub totals : AreTotals texts.totals answers
-  pub few : length answers ≤ texts.parts
 
 -- each stretch that was made is that of the list at its place
 pub record AreStretchesOf (topics : List (List ℕ × Kind)) (lists : List (List Answer))

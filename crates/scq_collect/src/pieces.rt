@@ -198,7 +198,8 @@ pub struct Texts {
 impl Texts {
     ghost use Rattle.std.specs.Prelude.{◌++◌};
     ghost use Rattle.scq_topics.specs.declared.kind.Kind.{Kind};
-    ghost use Rattle.scq_collect.specs.Pieces.{AreTextsOf, IsStretchOf};
+    ghost use Rattle.scq_collect.specs.Pieces.{IsStretchOf};
+    ghost use Rattle.scq_collect.specs.Texts.{AreTextsOf};
 
     /// Adds a stretch, where it was made.
     fn add(&mut self, made: Result<Stretch, NoMemory>) -> Result<(), NoMemory>

@@ -7,7 +7,8 @@ use Rattle.std.proofs.lemmas.List.Elements.{All-append, All-cons, All-nil}
 use Rattle.std.proofs.lemmas.Result.{IfOk-weaker}
 use Rattle.scq_topics.specs.declared.kind.Kind.{Kind}
 use Rattle.scq_collect.specs.Output.{Answer}
-use Rattle.scq_collect.specs.Pieces.{AreStretchesOf, AreTextsOf, IsStretchOf, all_answers}
+use Rattle.scq_collect.specs.Pieces.{AreStretchesOf, IsStretchOf, all_answers}
+use Rattle.scq_collect.specs.Texts.{AreTextsOf}
 use Rattle.scq_collect.proofs.InChunks.{behind-front, flat-push, nothing-left}
 use Rattle.scq_collect.proofs.Stretched.{Made, WasMade}
 use Rattle.scq_collect.proofs.pieces.joined.Goals as goal
