@@ -1,4 +1,3 @@
-pub mod BareSteps
 pub mod Schedule
 pub mod Printed
 pub mod Replay

@@ -5,7 +5,6 @@ ghost use Rattle.std.specs.Str.{bytes_eq};
 ghost use Rattle.scq_word.specs.declared.setup.Setup.{Setup as SetupOf};
 ghost use Rattle.scq_lines.specs.Lines.{fields_of, fields_after};
 ghost use Rattle.scq_replay.specs.Schedule.{setup_said, IsSetupLine, bare_step, step_said, turn_in};
-ghost use Rattle.scq_replay.specs.BareSteps.{bare_put, bare_get};
 ghost use Rattle.scq_replay.specs.Printed.{begins_on};
 
 use scq_core::Step;
@@ -180,17 +179,6 @@ fn bare_step(name: &[u8]) -> Option<Step>
     ensures step { result ≡ bare_step name.now }
     ensures ring { IfSome result (λ step. begins_on step ≡ None) }
 {
-    match bare_put(name) {
-        Some(step) => Some(step),
-        None => bare_get(name),
-    }
-}
-
-// Those of a put.
-fn bare_put(name: &[u8]) -> Option<Step>
-    ensures step { result ≡ bare_put name.now }
-    ensures ring { IfSome result (λ step. begins_on step ≡ None) }
-{
     match name {
         b"E1" => Some(Step::E1Again),
         b"E2" => Some(Step::E2),
@@ -198,16 +186,6 @@ fn bare_put(name: &[u8]) -> Option<Step>
         b"E4" => Some(Step::E4),
         b"E5" => Some(Step::E5),
         b"E6" => Some(Step::E6),
-        _ => None,
-    }
-}
-
-// And those of a get.
-fn bare_get(name: &[u8]) -> Option<Step>
-    ensures step { result ≡ bare_get name.now }
-    ensures ring { IfSome result (λ step. begins_on step ≡ None) }
-{
-    match name {
         b"D2" => Some(Step::D2),
         b"D3" => Some(Step::D3),
         b"D4" => Some(Step::D4),
