@@ -1,5 +1,8 @@
-use Rattle.std.proofs.Common.{◌≡◌, List, [], All, map, length, sym, ◌∙◌, ap, subst, arith}
-use Rattle.std.specs.Prelude.{None}
+use Rattle.std.proofs.Common.{◌≡◌, ◌≤◌, rules, List, [], All, map, length, sym, ◌∙◌, ap, subst, arith}
+use Rattle.std.specs.Prelude.{None, vec_capacity}
+use Rattle.scq_word.specs.declared.setup.Setup.{Setup}
+use Rattle.scq_band.specs.Layout.{word_count}
+use Rattle.scq_band.specs.Rings.{AreRings}
 use Rattle.scq_word.specs.Sizes.{n_of}
 use Rattle.atomic_table.specs.Table.{opening}
 use Rattle.scq_band.specs.Buffers.{LiesIn, opening_of}
@@ -38,6 +41,33 @@ lift_all-requires-clause-laid g c =
 pub returns-clause-refused : goal.returns-clause-refused
 returns-clause-refused g c =
     c.lift_all.ensures ∙ ap lifted (c.in-Err-new.ensures.err ∙ c.lay_all.ensures.slots) ∙ lifted-laid c.args.buffers.items
+
+pub returns-in-Ok-new-clause-seats : goal.returns-in-Ok-new-clause-seats
+returns-in-Ok-new-clause-seats g c =
+    let table = c.in-Ok-new.table.shared.table_id in
+    c.split_all-seats.ensures ∙ ap (λ k. first_standings (identity_of table k) c.args.setup.seats) (sym c.in-Ok-new.ensures.ok.5)
+
+pub invariant_of-band : goal.invariant_of-band
+invariant_of-band g c =
+    let bs = c.args.buffers.items in
+    let contents = g.B.Buffer.contents in
+    let memory = c.in-Ok.ensures in
+    let new = c.in-Ok-new.ensures.ok in
+    let whole = c.args.buffers.ok in
+    let many = c.requires in
+    let all : length bs ≡ n_of c.args.setup.order = omega (arith, whole, many) in
+    let setup : c.args.setup ≡ c.in-Ok-new.table.shared.key.setup = sym (ap (λ k. k.setup) new.5) in
+    record {
+      same = setup;
+      words = new.0 ∙ ap length c.as_slice.ensures.value ∙ memory.opened.count ∙ ap word_count setup;
+      slots = new.1 ∙ ap length c.lay_all.ensures.slots ∙ length-map contents full_slot bs ∙ all ∙ ap (λ (s : Setup). n_of s.order) setup;
+      given = ap (λ k. length k.given.value.items) new.5 ∙ rw c.of.ensures all ∙ ap (λ (s : Setup). n_of s.order) setup;
+      each = subst (λ (s : Setup). AreRings s s.rings c.in-Ok.memory.rings.items) setup memory.rings;
+      no_buffer = c.lay_all.ensures.emptied;
+      holds_all = subst (λ (s : Setup). n_of s.order ≤ vec_capacity c.lay_all.new.buffers) setup (search rules);
+      none_left = memory.none_left;
+      each_ring = subst (λ (s : Setup). s.rings ≤ vec_capacity c.in-Ok.memory.left) setup memory.each_ring;
+    }
 
 pub returns-in-Ok-new-clause-own : goal.returns-in-Ok-new-clause-own
 returns-in-Ok-new-clause-own g c =
