@@ -38,13 +38,16 @@ beside g c stands =
     alone_at c.tries.token.me.0.known c.exchange.new.token.me.0.known (AtD8 c.args.ring.now.number c.args.ticket c.tries.from) stands (missed g c stands)
 
 -- and Head was loaded
-again : (g : _) (c : After-load-to g) → IsAlone c.exchange.new.token.me.0.known
+again : (g : _) (c : After-load-to g) → IsAlone c.tries.token.me.0.known
     → c.exchange.new.token.me.0.known ≡ goes_to (AtD8 c.args.ring.now.number c.args.ticket c.tries.from) c.tries.token.me.0.known
     → c.load-to.new.token.me.0.known ≡ goes_to (AtD9 c.args.ring.now.number c.args.ticket c.tries.from c.load-to.result) c.exchange.new.token.me.0.known
 again g c stands next =
     let k = c.args.words.now.key.setup in
-    saw_head_again _ k (known_me c.exchange.new.token.me) (known_me c.load-to.new.token.me) _ c.load-to.result c.args.ring.now.number c.args.ticket c.tries.from
-    (ap (loading (ring_of_word k c.head.result)) (ap my_phase next)) stands c.load-to.ensures.turned
+    let r = c.args.ring.now.number in
+    let h = c.args.ticket in
+    saw_head_again _ k (known_me c.exchange.new.token.me) (known_me c.load-to.new.token.me) _ c.load-to.result r h c.tries.from
+    (ap (loading (ring_of_word k c.head.result)) (ap my_phase next))
+    (alone_at c.tries.token.me.0.known c.exchange.new.token.me.0.known (AtD8 r h c.tries.from) stands next) c.load-to.ensures.turned
 
 -- and Tail: the turn of that load, and what it left of the slots
 third : (g : _) (c : After-load-from g)
@@ -133,28 +136,24 @@ load-from-requires-clause-may g c κs within =
     let turn = AtD9 r h c.tries.from c.load-to.result in
     let stands = alone g at.After-exchange in
     let next = missed g at.After-head stands in
-    let seen = again g at.After-load-to (beside g at.After-head stands) next in
+    let seen = again g at.After-load-to stands next in
     may_load c.args.words.now.key.setup u c.args.ring.now.tail turn D9 (alone_at w u turn (beside g at.After-head stands) seen) (ap my_phase seen) refl refl
 
 pub load-from-requires-clause-kind : goal.load-from-requires-clause-kind
 load-from-requires-clause-kind g c κs within =
     let at = goal.at.load-from-requires-clause-kind g c in
-    let r = c.args.ring.now.number in
-    let h = c.args.ticket in
     let stands = alone g at.After-exchange in
-    let next = missed g at.After-head stands in
-    load_kind c.args.words.now.key.setup c.load-to.new.token.me.0.known c.args.ring.now.tail (AtD9 r h c.tries.from c.load-to.result)
-    (ap my_phase (again g at.After-load-to (beside g at.After-head stands) next)) refl tt
+    load_kind c.args.words.now.key.setup c.load-to.new.token.me.0.known c.args.ring.now.tail
+    (AtD9 c.args.ring.now.number c.args.ticket c.tries.from c.load-to.result)
+    (ap my_phase (again g at.After-load-to stands (missed g at.After-head stands))) refl tt
 
 pub load-from-requires-clause-word : goal.load-from-requires-clause-word
 load-from-requires-clause-word g c κs within =
     let at = goal.at.load-from-requires-clause-word g c in
-    let r = c.args.ring.now.number in
-    let h = c.args.ticket in
     let stands = alone g at.After-exchange in
-    let next = missed g at.After-head stands in
-    load_word c.args.words.now.key.setup c.load-to.new.token.me.0.known c.args.ring.now.tail (AtD9 r h c.tries.from c.load-to.result)
-    (ap my_phase (again g at.After-load-to (beside g at.After-head stands) next)) refl c.requires.ring.tail
+    load_word c.args.words.now.key.setup c.load-to.new.token.me.0.known c.args.ring.now.tail
+    (AtD9 c.args.ring.now.number c.args.ticket c.tries.from c.load-to.result)
+    (ap my_phase (again g at.After-load-to stands (missed g at.After-head stands))) refl c.requires.ring.tail
 
 pub returns-then-exchange-from-clause-went : goal.returns-then-exchange-from-clause-went
 returns-then-exchange-from-clause-went g c =
@@ -185,7 +184,7 @@ returns-then-from-to-clause-caught_up g c =
     let turn = AtD9 r h c.tries.from c.load-to.result in
     let stands = alone g at.After-exchange in
     let next = missed g at.After-head stands in
-    let seen = again g at.After-load-to (beside g at.After-head stands) next in
+    let seen = again g at.After-load-to stands next in
     saw_tail_past _ c.args.words.now.key.setup (known_me c.load-to.new.token.me) (known_me c.load-from.new.token.me) _ c.load-from.result r h c.tries.from
     c.load-to.result (third g at.After-load-from seen) (alone_at w c.load-to.new.token.me.0.known turn (beside g at.After-head stands) seen) c.if-from-to.true c.load-from.ensures.turned
     ∙ ap (goes_to (AtD10 r h true)) (seen ∙ ap (goes_to turn) (next ∙ ap (goes_to (AtD8 r h c.tries.from)) c.tries.invariant.3))
@@ -195,7 +194,7 @@ returns-then-from-to-clause-slots g c =
     let at = goal.at.returns-then-from-to-clause-slots g c in
     let stands = alone g at.After-exchange in
     let next = missed g at.After-head stands in
-    stay g at.After-load-from next (again g at.After-load-to (beside g at.After-head stands) next) ∙ stays g at.After-exchange
+    stay g at.After-load-from next (again g at.After-load-to stands next) ∙ stays g at.After-exchange
 
 pub tries-preserved : goal.tries-preserved
 tries-preserved g c =
@@ -206,7 +205,7 @@ tries-preserved g c =
     let turn = AtD9 r h c.tries.from c.load-to.result in
     let stands = alone g at.After-exchange in
     let next = missed g at.After-head stands in
-    let seen = again g at.After-load-to (beside g at.After-head stands) next in
+    let seen = again g at.After-load-to stands next in
     let low = saw_tail_again _ c.args.words.now.key.setup (known_me c.load-to.new.token.me) (known_me c.load-from.new.token.me) _ c.load-from.result r h
     c.tries.from c.load-to.result (third g at.After-load-from seen) (alone_at w c.load-to.new.token.me.0.known turn (beside g at.After-head stands) seen) c.if-from-to.false
     c.load-from.ensures.turned in (

@@ -1,5 +1,5 @@
 use Rattle.std.proofs.Common.{◌≡◌, ◌<◌, ◌≤◌, ◌+◌, ◌^◌, ℕ, length, refl, sym, ◌∙◌, ap, subst, arith, List}
-use Rattle.std.specs.Prelude.{Option, Some, None, Result, Ok, Err, slice_set}
+use Rattle.std.specs.Prelude.{Option, Some, None, Result, Err, slice_set}
 use Rattle.scq_word.specs.Sizes.{n_of}
 use Rattle.scq_band.specs.declared.calls.DeqRefusal.{DeqRefusal}
 use Rattle.scq_band.specs.declared.calls.DeqRefusal.TheVariants.{Empty, Spent}
@@ -19,20 +19,11 @@ use Rattle.scq_band.specs.Kept.{standing_of}
 use Rattle.scq_band.proofs.Keeping.{none_rises, call_seen, empty_seen, kept_got, got_standing, if_drawn, kept_none, none_standing, kept_spent_get, spent_get_standing, known_read, known_here}
 use Rattle.scq_band.proofs.LaidFirst.{ring_there, known_so}
 use Rattle.scq_band.proofs.band.Band.deq.Goals as goal
-use Rattle.scq_band.proofs.band.Band.deq.Goals.{After-dequeue-found, After-index-known, After-finds_none-later, In-Ok, In-Nothing, In-Spent}
+use Rattle.scq_band.proofs.band.Band.deq.Goals.{After-dequeue-found, After-index-known, After-finds_none-later, In-Some, In-Ok, In-Nothing, In-Spent}
 
 -- what two answers that are the same say
 no_ticket : {t : ℕ} → ◌≡◌ {A = Option ℕ} None (Some t) → ⊥
 no_ticket is = cc
-
-not_refused : {got : ℕ × ℕ} {why : DeqRefusal} → ◌≡◌ {A = Result (ℕ × ℕ) DeqRefusal} (Ok got) (Err why) → ⊥
-not_refused is = cc
-
-not_empty : {ticket head : ℕ} → ◌≡◌ {A = Result (ℕ × ℕ) DeqRefusal} (Err (Spent ticket)) (Err (Empty head)) → ⊥
-not_empty is = cc
-
-not_spent : {head ticket : ℕ} → ◌≡◌ {A = Result (ℕ × ℕ) DeqRefusal} (Err (Empty head)) (Err (Spent ticket)) → ⊥
-not_spent is = cc
 
 same_head : {a b : ℕ} → ◌≡◌ {A = Result (ℕ × ℕ) DeqRefusal} (Err (Empty a)) (Err (Empty b)) → a ≡ b
 same_head is = cc
@@ -100,49 +91,29 @@ pub returns-in-Ok-clause-index : goal.returns-in-Ok-clause-index
 returns-in-Ok-clause-index g c =
     subst (λ (s : Setup). c.in-Ok.index < n_of s.order) (ap (λ (i : Identity g.row.B.Denot). i.setup) c.self.view_is) c.in-Ok.ensures.got.got.low
 
+-- the seat keeps no ticket, or it does
+unspent : (g : _) (c : After-dequeue-found g) {t : ℕ} → c.args.seat.now.spent ≡ Some t → ⊥
+unspent g c is =
+    no_ticket (sym c.in_default.is ∙ c.seat.invariant.spent ∙ ap (λ (s : Standing g.row.B.Denot). s.spent) c.seat.view_is ∙ is)
+
+still_spent : (g : _) (c : In-Some g) → c.args.seat.now.spent ≡ None → ⊥
+still_spent g c fresh =
+    no_ticket (sym fresh ∙ sym (c.seat.invariant.spent ∙ ap (λ (s : Standing g.row.B.Denot). s.spent) c.seat.view_is) ∙ c.in-Some.is)
+
 pub returns-in-Ok-clause-kept : goal.returns-in-Ok-clause-kept
-returns-in-Ok-clause-kept g c t is =
-    absurd (no_ticket (sym c.in_default.is ∙ c.seat.invariant.spent ∙ ap (λ (s : Standing g.row.B.Denot). s.spent) c.seat.view_is ∙ is))
+returns-in-Ok-clause-kept g c t is = absurd (unspent g (goal.at.returns-in-Ok-clause-kept g c).After-dequeue-found is)
 
 pub returns-in-Nothing-clause-kept : goal.returns-in-Nothing-clause-kept
-returns-in-Nothing-clause-kept g c t is =
-    absurd (no_ticket (sym c.in_default.is ∙ c.seat.invariant.spent ∙ ap (λ (s : Standing g.row.B.Denot). s.spent) c.seat.view_is ∙ is))
+returns-in-Nothing-clause-kept g c t is = absurd (unspent g (goal.at.returns-in-Nothing-clause-kept g c).After-dequeue-found is)
 
 pub returns-in-Spent-clause-kept : goal.returns-in-Spent-clause-kept
-returns-in-Spent-clause-kept g c t is =
-    absurd (no_ticket (sym c.in_default.is ∙ c.seat.invariant.spent ∙ ap (λ (s : Standing g.row.B.Denot). s.spent) c.seat.view_is ∙ is))
-
-pub returns-in-Ok-clause-empty : goal.returns-in-Ok-clause-empty
-returns-in-Ok-clause-empty g c head is = absurd (not_refused is)
-
-pub returns-in-Ok-clause-empty_in_run : goal.returns-in-Ok-clause-empty_in_run
-returns-in-Ok-clause-empty_in_run g c head is = absurd (not_refused is)
-
-pub returns-in-Ok-clause-spent : goal.returns-in-Ok-clause-spent
-returns-in-Ok-clause-spent g c t is = absurd (not_refused is)
-
-pub returns-in-Nothing-clause-spent : goal.returns-in-Nothing-clause-spent
-returns-in-Nothing-clause-spent g c t is = absurd (not_spent is)
-
-pub returns-in-Spent-clause-empty : goal.returns-in-Spent-clause-empty
-returns-in-Spent-clause-empty g c head is = absurd (not_empty is)
-
-pub returns-in-Spent-clause-empty_in_run : goal.returns-in-Spent-clause-empty_in_run
-returns-in-Spent-clause-empty_in_run g c head is = absurd (not_empty is)
-
-pub returns-in-Some-clause-empty : goal.returns-in-Some-clause-empty
-returns-in-Some-clause-empty g c head is = absurd (not_empty is)
-
-pub returns-in-Some-clause-empty_in_run : goal.returns-in-Some-clause-empty_in_run
-returns-in-Some-clause-empty_in_run g c head is = absurd (not_empty is)
+returns-in-Spent-clause-kept g c t is = absurd (unspent g (goal.at.returns-in-Spent-clause-kept g c).After-dequeue-found is)
 
 pub returns-in-Some-clause-spent : goal.returns-in-Some-clause-spent
-returns-in-Some-clause-spent g c t is fresh =
-    absurd (no_ticket (sym fresh ∙ sym (c.seat.invariant.spent ∙ ap (λ (s : Standing g.row.B.Denot). s.spent) c.seat.view_is) ∙ c.in-Some.is))
+returns-in-Some-clause-spent g c t is fresh = absurd (still_spent g (goal.at.returns-in-Some-clause-spent g c).In-Some fresh)
 
 pub returns-in-Some-clause-run : goal.returns-in-Some-clause-run
-returns-in-Some-clause-run g c fresh =
-    absurd (no_ticket (sym fresh ∙ sym (c.seat.invariant.spent ∙ ap (λ (s : Standing g.row.B.Denot). s.spent) c.seat.view_is) ∙ c.in-Some.is))
+returns-in-Some-clause-run g c fresh = absurd (still_spent g (goal.at.returns-in-Some-clause-run g c).In-Some fresh)
 
 pub invariant_of-seat : goal.invariant_of-seat
 invariant_of-seat g c =
