@@ -56,6 +56,13 @@ module _ {B : Type 0} (IsSame : B → B → Type 0) where
   held_there {key} {table} {hand} {room} {numbers} {spent} {o} {s} i me kept is has =
       held IsSame key (known_me me) hand room numbers spent i o kept (ap (λ (t : Standing B). in_hand t.hand i) is ∙ has)
 
+  -- a seat that keeps no ticket has none for its callers
+  pub keeps_none : {key : Key B} {table : TableId} {hand : List ℕ} {room : ℕ} {numbers : List Numbers} {spent : Option ℕ} {s : Standing B} {t : ℕ}
+      (me : Me (Slot B) Sight) → IsKept IsSame key (known_me me) hand room numbers spent → standing_of table key me ≡ s → spent ≡ None → s.spent ≡ Some t → ⊥
+  keeps_none {t = t} me kept is none has =
+      let never : ◌≡◌ {A = Option ℕ} None (Some t) = sym none ∙ kept.spent ∙ ap (λ (u : Standing B). u.spent) is ∙ has in
+      cc
+
   -- it is the slot of the index, with what the hand has of it
   pub front_slot : {me : Me (Slot B) Known} {given : List B} {ms : List (ℕ × Slot B)} {i : ℕ} {o : Option B} → Brought IsSame me given ms i o
       → (slot : Slot B) × (ms ≡ (i, slot) ∷ rest ms) × (slot.buffer ≡ o)

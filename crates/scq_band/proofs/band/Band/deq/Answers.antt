@@ -17,7 +17,7 @@ use Rattle.scq_band.specs.Steps.{my}
 use Rattle.scq_band.specs.Standing.{Identity, Standing, caller_of}
 use Rattle.scq_band.specs.Kept.{standing_of}
 use Rattle.scq_band.proofs.Keeping.{none_rises, call_seen, empty_seen, kept_got, got_standing, if_drawn, kept_none, none_standing, kept_spent_get, spent_get_standing, known_read, known_here}
-use Rattle.scq_band.proofs.LaidFirst.{ring_there, known_so}
+use Rattle.scq_band.proofs.LaidFirst.{ring_there, known_so, keeps_none}
 use Rattle.scq_band.proofs.band.Band.deq.Goals as goal
 use Rattle.scq_band.proofs.band.Band.deq.Goals.{After-dequeue-found, After-index-known, After-finds_none-later, In-Some, In-Ok, In-Nothing, In-Spent}
 
@@ -91,23 +91,19 @@ pub returns-in-Ok-clause-index : goal.returns-in-Ok-clause-index
 returns-in-Ok-clause-index g c =
     subst (λ (s : Setup). c.in-Ok.index < n_of s.order) (ap (λ (i : Identity g.row.B.Denot). i.setup) c.self.view_is) c.in-Ok.ensures.got.got.low
 
--- the seat keeps no ticket, or it does
-unspent : (g : _) (c : After-dequeue-found g) {t : ℕ} → c.args.seat.now.spent ≡ Some t → ⊥
-unspent g c is =
-    no_ticket (sym c.in_default.is ∙ c.seat.invariant.spent ∙ ap (λ (s : Standing g.row.B.Denot). s.spent) c.seat.view_is ∙ is)
-
+-- the seat keeps a ticket
 still_spent : (g : _) (c : In-Some g) → c.args.seat.now.spent ≡ None → ⊥
 still_spent g c fresh =
     no_ticket (sym fresh ∙ sym (c.seat.invariant.spent ∙ ap (λ (s : Standing g.row.B.Denot). s.spent) c.seat.view_is) ∙ c.in-Some.is)
 
 pub returns-in-Ok-clause-kept : goal.returns-in-Ok-clause-kept
-returns-in-Ok-clause-kept g c t is = absurd (unspent g (goal.at.returns-in-Ok-clause-kept g c).After-dequeue-found is)
+returns-in-Ok-clause-kept g c t is = absurd (keeps_none g.B.Buffer.IsSameBuffer c.seat.inside.token.me c.seat.invariant c.seat.view_is c.in_default.is is)
 
 pub returns-in-Nothing-clause-kept : goal.returns-in-Nothing-clause-kept
-returns-in-Nothing-clause-kept g c t is = absurd (unspent g (goal.at.returns-in-Nothing-clause-kept g c).After-dequeue-found is)
+returns-in-Nothing-clause-kept g c t is = absurd (keeps_none g.B.Buffer.IsSameBuffer c.seat.inside.token.me c.seat.invariant c.seat.view_is c.in_default.is is)
 
 pub returns-in-Spent-clause-kept : goal.returns-in-Spent-clause-kept
-returns-in-Spent-clause-kept g c t is = absurd (unspent g (goal.at.returns-in-Spent-clause-kept g c).After-dequeue-found is)
+returns-in-Spent-clause-kept g c t is = absurd (keeps_none g.B.Buffer.IsSameBuffer c.seat.inside.token.me c.seat.invariant c.seat.view_is c.in_default.is is)
 
 pub returns-in-Some-clause-spent : goal.returns-in-Some-clause-spent
 returns-in-Some-clause-spent g c t is fresh = absurd (still_spent g (goal.at.returns-in-Some-clause-spent g c).In-Some fresh)

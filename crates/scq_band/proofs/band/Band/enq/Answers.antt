@@ -8,8 +8,9 @@ use Rattle.scq_band.specs.Sights.{known_me}
 use Rattle.scq_band.specs.Steps.{my}
 use Rattle.scq_band.specs.Seats.{spent_at}
 use Rattle.scq_band.specs.Standing.{Identity, Standing, having_seen, seat_after_spent_put}
+use Rattle.scq_band.specs.Rings.{IsRing}
 use Rattle.scq_band.specs.Kept.{standing_of, IsKept}
-use Rattle.scq_band.proofs.LaidFirst.{LaidFirst, ring_there, held_there, turned_first, refused_first, laid_held, laid_fronts, laid_some, laid_above, laid_kept, laid_put, laid_call}
+use Rattle.scq_band.proofs.LaidFirst.{LaidFirst, keeps_none, ring_there, held_there, turned_first, refused_first, laid_held, laid_fronts, laid_some, laid_above, laid_kept, laid_put, laid_call}
 use Rattle.scq_band.proofs.band.Band.enq.Goals as goal
 use Rattle.scq_band.proofs.band.Band.enq.Goals.{After-bring_to_front, In-Err}
 
@@ -36,6 +37,26 @@ refused g c =
 
 pub bring_to_front-requires-clause-held : goal.bring_to_front-requires-clause-held
 bring_to_front-requires-clause-held g c κs within = held_there g.B.Buffer.IsSameBuffer c.args.index c.seat.inside.token.me c.seat.invariant c.seat.view_is c.requires.held.1
+
+pub enqueue-requires-clause-ring : goal.enqueue-requires-clause-ring
+enqueue-requires-clause-ring g c κs within =
+    subst (λ (s : Setup). IsRing s c.ring.result.now) (sym (ap (λ (i : Identity g.row.B.Denot). i.setup) c.self.view_is)) c.ring.ensures.ring
+
+pub enqueue-requires-clause-alone : goal.enqueue-requires-clause-alone
+enqueue-requires-clause-alone g c κs within = (laid g (goal.at.enqueue-requires-clause-alone g c).After-bring_to_front).kept.alone
+
+pub enqueue-requires-clause-idle : goal.enqueue-requires-clause-idle
+enqueue-requires-clause-idle g c κs within =
+    let kept = (laid g (goal.at.enqueue-requires-clause-idle g c).After-bring_to_front).kept in
+    (kept.idle, sym kept.spent ∙ c.in_default.is)
+
+pub returns-in-Ok-clause-kept : goal.returns-in-Ok-clause-kept
+returns-in-Ok-clause-kept g c t is =
+    absurd (keeps_none g.B.Buffer.IsSameBuffer c.seat.inside.token.me c.seat.invariant c.seat.view_is c.in_default.is is)
+
+pub returns-in-Err-clause-kept : goal.returns-in-Err-clause-kept
+returns-in-Err-clause-kept g c t is =
+    absurd (keeps_none g.B.Buffer.IsSameBuffer c.seat.inside.token.me c.seat.invariant c.seat.view_is c.in_default.is is)
 
 pub enqueue-requires-clause-held : goal.enqueue-requires-clause-held
 enqueue-requires-clause-held g c κs within =

@@ -11,10 +11,11 @@ use Rattle.scq_band.specs.Sights.{Sight, Went, known_me}
 use Rattle.scq_band.specs.Steps.{my, front_index}
 use Rattle.scq_band.specs.Seats.{HasSpentPut}
 use Rattle.scq_band.specs.Standing.{Identity, Standing, with_buffer, IsAsGiven, having_seen, seat_after_spent_put}
+use Rattle.scq_band.specs.Rings.{IsRing}
 use Rattle.scq_band.specs.Kept.{standing_of, IsKept}
 use Rattle.scq_band.proofs.Exchanging.{same_slot}
 use Rattle.scq_band.proofs.Putting.{put_laid}
-use Rattle.scq_band.proofs.LaidFirst.{LaidFirst, ring_there, held_there, came_first, front_slot, laid_first, refused_laid, laid_held, laid_fronts, laid_some, laid_above, laid_kept, laid_put, laid_call}
+use Rattle.scq_band.proofs.LaidFirst.{LaidFirst, keeps_none, ring_there, held_there, came_first, front_slot, laid_first, refused_laid, laid_held, laid_fronts, laid_some, laid_above, laid_kept, laid_put, laid_call}
 use Rattle.scq_band.proofs.band.Band.put.Goals as goal
 use Rattle.scq_band.proofs.band.Band.put.Goals.{After-lay_first, In-Err, After-lift_first-buffer}
 
@@ -62,6 +63,26 @@ lay_first-requires-clause-first g c κs within =
     let to = c.bring_to_front.ensures in
     front_slot g.B.Buffer.IsSameBuffer (came_first g.B.Buffer.IsSameBuffer c.seat.inside.token.me c.bring_to_front.new.token.me.1 c.seat.invariant
     c.seat.view_is to.turned to.first c.requires.lifted)
+
+pub enqueue-requires-clause-ring : goal.enqueue-requires-clause-ring
+enqueue-requires-clause-ring g c κs within =
+    subst (λ (s : Setup). IsRing s c.ring.result.now) (sym (ap (λ (i : Identity g.row.B.Denot). i.setup) c.self.view_is)) c.ring.ensures.ring
+
+pub enqueue-requires-clause-alone : goal.enqueue-requires-clause-alone
+enqueue-requires-clause-alone g c κs within = (laid g (goal.at.enqueue-requires-clause-alone g c).After-lay_first).kept.alone
+
+pub enqueue-requires-clause-idle : goal.enqueue-requires-clause-idle
+enqueue-requires-clause-idle g c κs within =
+    let kept = (laid g (goal.at.enqueue-requires-clause-idle g c).After-lay_first).kept in
+    (kept.idle, sym kept.spent ∙ c.in_default.is)
+
+pub returns-in-Ok-clause-kept : goal.returns-in-Ok-clause-kept
+returns-in-Ok-clause-kept g c t is =
+    absurd (keeps_none g.B.Buffer.IsSameBuffer c.seat.inside.token.me c.seat.invariant c.seat.view_is c.in_default.is is)
+
+pub returns-in-Err-clause-kept : goal.returns-in-Err-clause-kept
+returns-in-Err-clause-kept g c t is =
+    absurd (keeps_none g.B.Buffer.IsSameBuffer c.seat.inside.token.me c.seat.invariant c.seat.view_is c.in_default.is is)
 
 pub enqueue-requires-clause-held : goal.enqueue-requires-clause-held
 enqueue-requires-clause-held g c κs within =
