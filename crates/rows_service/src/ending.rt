@@ -1,9 +1,11 @@
 //! How the run of a row ended, and what of it isn't as wanted.
 
-use crate::files::RowFiles;
-use crate::row::Row;
+use crate::files::{RowFiles, RowSource};
+use crate::gates::RowGate;
+use crate::row::{Row, Wanted};
+use rows_text::field;
 use scq_outside::MemSink;
-use scq_service::{serve, serve_waiting};
+use scq_service::{Outcome, serve, serve_waiting};
 use scq_stages::Staged;
 use scq_word::NoMemory;
 use scq_work::Worked;
@@ -17,9 +19,17 @@ pub type Difference = Option<&'static str>;
 /// What a run left.
 #[derive(Drop)]
 struct Ending {
-    status: u8,
+    told: Told,
     output: MemSink,
     errors: MemSink,
+    met: bool,
+}
+
+/// What of an outcome is compared: the status, what all workers together sent, took and found no
+/// buffer for, and what is left in each ring.
+#[derive(Drop)]
+struct Told {
+    status: u8,
     counts: Option<[u64; 3]>,
     left: Option<Vec<u64>>,
 }
@@ -32,7 +42,7 @@ pub fn difference_of<R: Threads + Wait + Sync>(
     status: u8,
 ) -> Result<Difference, NoMemory> {
     let ending = ending_of(rt, alloc, row)?;
-    Ok(ending.difference(row, status))
+    Ok(ending.difference(&row.wanted, status))
 }
 
 /// Runs a row.
@@ -41,77 +51,85 @@ fn ending_of<R: Threads + Wait + Sync>(
     alloc: Global,
     row: &Row,
 ) -> Result<Ending, NoMemory> {
-    let mut files = RowFiles::new(alloc, row.files.as_slice(), row.reads, &row.gate)?;
-    let mut output = row.writes.sink(alloc, row.room)?;
-    let mut errors = row.error_writes.sink(alloc, row.room)?;
-    let words = row.words.as_slice();
-    let outcome = if row.waits {
-        serve_waiting(
-            rt,
-            alloc,
-            words,
-            &mut files,
-            &mut output,
-            &mut errors,
-            &row.gate,
-        )
-    } else {
-        serve(
-            rt,
-            alloc,
-            words,
-            &mut files,
-            &mut output,
-            &mut errors,
-            &row.gate,
-        )
-    };
+    let gate = RowGate::new(row.how.meeting);
+    let mut files = RowFiles::new(alloc, row.files.as_slice(), row.how.reads, &gate)?;
+    let mut output = row.how.writes.sink(alloc, row.how.room)?;
+    let mut errors = row.how.error_writes.sink(alloc, row.how.room)?;
+    let told = told_by(rt, alloc, row, &mut files, &mut output, &mut errors, &gate);
     Ok(Ending {
-        status: outcome.status,
+        told,
         output,
         errors,
+        met: gate.is_met(),
+    })
+}
+
+/// Serves the words of a row.
+fn told_by<R: Threads + Wait + Sync>(
+    rt: &R,
+    alloc: Global,
+    row: &Row,
+    files: &mut RowFiles,
+    out: &mut MemSink,
+    err: &mut MemSink,
+    gate: &RowGate,
+) -> Told {
+    let words = row.words.as_slice();
+    if row.how.waits {
+        told_of(serve_waiting(rt, alloc, words, files, out, err, gate))
+    } else {
+        told_of(serve(rt, alloc, words, files, out, err, gate))
+    }
+}
+
+fn told_of(outcome: Outcome<RowSource>) -> Told {
+    Told {
+        status: outcome.status,
         counts: counts_of(&outcome.worked, &outcome.staged),
         left: outcome.left,
-    })
+    }
 }
 
 impl Ending {
     /// The first thing that isn't as the row and its status want it.
-    fn difference(&self, row: &Row, status: u8) -> Difference {
-        if self.status != status {
-            return Some("the status");
-        }
-        if self.output.bytes() != row.output.as_slice() {
-            return Some("the output");
-        }
-        if !self.has_errors(row) {
-            return Some("what is written to the errors");
-        }
-        if !row.gate.is_met() {
-            return Some("how often workers met");
-        }
-        if !row.counts.is_empty() && !self.has_counts(row.counts.as_slice()) {
-            return Some("what workers sent, took and found no buffer for");
-        }
-        if row.left.is_empty() || self.has_left(row.left.as_slice()) {
-            None
+    fn difference(&self, wanted: &Wanted, status: u8) -> Difference {
+        if self.told.status != status {
+            Some("the status")
+        } else if self.output.bytes() != wanted.output.as_slice() {
+            Some("the output")
+        } else if !self.has_errors(wanted) {
+            Some("what is written to the errors")
+        } else if !self.met {
+            Some("how often workers met")
         } else {
-            Some("what is left in the queue")
+            self.told.difference(wanted)
         }
     }
 
     /// Whether the errors are those of the row, or a report that adds up to the messages that are
     /// answered. Where parts share buffers, a report may count fewer of these than there are parts.
-    fn has_errors(&self, row: &Row) -> bool {
+    fn has_errors(&self, wanted: &Wanted) -> bool {
         let errors = self.errors.bytes();
-        if row.reports {
+        if wanted.reports {
             let messages = answered(self.output.bytes());
-            passed_in(errors).is_some_and(|passed| passed == messages
-                || row.batches && passed <= messages)
-        } else if row.batches && self.status == 0 {
-            passed_in(errors) <= passed_in(row.errors.as_slice())
+            adds_up(passed_in(errors), messages, wanted.batches)
+        } else if wanted.batches && self.told.status == 0 {
+            passed_in(errors) <= passed_in(wanted.errors.as_slice())
         } else {
-            errors == row.errors.as_slice()
+            errors == wanted.errors.as_slice()
+        }
+    }
+}
+
+impl Told {
+    /// What of the counts and of what is left isn't as the row wants it, where it says that.
+    fn difference(&self, wanted: &Wanted) -> Difference {
+        if !wanted.counts.is_empty() && !self.has_counts(wanted.counts.as_slice()) {
+            Some("what workers sent, took and found no buffer for")
+        } else if !wanted.left.is_empty() && !self.has_left(wanted.left.as_slice()) {
+            Some("what is left in the queue")
+        } else {
+            None
         }
     }
 
@@ -132,46 +150,54 @@ impl Ending {
     }
 }
 
+/// Whether a report has passed on the messages, or no more of them where parts share buffers.
+fn adds_up(passed: Option<u64>, messages: u64, batches: bool) -> bool {
+    match passed {
+        Some(passed) => passed == messages || batches && passed <= messages,
+        None => false,
+    }
+}
+
 /// What all workers together sent, took and found no buffer for, whatever they made.
 fn counts_of(worked: &Option<Worked>, staged: &Option<Staged>) -> Option<[u64; 3]> {
-    let counts = if let Some(worked) = worked {
-        &worked.counts
-    } else if let Some(staged) = staged {
-        &staged.counts
-    } else {
-        return None;
+    let counts = match (worked, staged) {
+        (Some(worked), _) => &worked.counts,
+        (None, Some(staged)) => &staged.counts,
+        (None, None) => return None,
     };
-    let mut sums = [0u64; 3];
+    let (mut sent, mut taken, mut full) = (0u64, 0u64, 0u64);
     for each in counts {
-        sums[0] = sums[0].saturating_add(each.sent);
-        sums[1] = sums[1].saturating_add(each.taken);
-        sums[2] = sums[2].saturating_add(each.full);
+        sent = sent.saturating_add(each.sent);
+        taken = taken.saturating_add(each.taken);
+        full = full.saturating_add(each.full);
     }
-    Some(sums)
+    Some([sent, taken, full])
+}
+
+fn last_line(text: &[u8]) -> Option<&str> {
+    std::str::from_utf8(text).ok()?.lines().last()
 }
 
 /// How many a report tells in its last line that were sent or answered directly; none where that
 /// tells another number taken than sent.
 fn passed_in(report: &[u8]) -> Option<u64> {
-    let report = std::str::from_utf8(report).ok()?;
-    let last = report.lines().last()?;
+    let last = last_line(report)?;
     let sent = number_behind(last, "all sent ")?;
-    let taken = number_behind(last, " taken ")?;
-    let direct = number_behind(last, " direct ")?;
-    if sent == taken {
-        Some(sent.saturating_add(direct))
-    } else {
-        None
+    if number_behind(last, " taken ") != Some(sent) {
+        return None;
     }
+    Some(sent.saturating_add(number_behind(last, " direct ")?))
 }
 
 /// How many messages an output answers: its lines but those of totals.
 fn answered(output: &[u8]) -> u64 {
     let mut count = 0u64;
-    for line in output.split(|byte| *byte == b'\n') {
-        if line.first().is_some_and(|byte| byte.is_ascii_digit()) {
+    let mut begins = true;
+    for byte in output {
+        if begins && byte.is_ascii_digit() {
             count = count.saturating_add(1);
         }
+        begins = *byte == b'\n';
     }
     count
 }
@@ -179,6 +205,5 @@ fn answered(output: &[u8]) -> u64 {
 /// The number behind a word of a line.
 fn number_behind(line: &str, word: &str) -> Option<u64> {
     let (_, rest) = line.split_once(word)?;
-    let number = rest.split(' ').next()?;
-    number.trim().parse().ok()
+    field(rest, 0).trim().parse().ok()
 }

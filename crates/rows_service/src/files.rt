@@ -4,6 +4,7 @@ ghost use Rattle.scq_outside.specs.Calls.{are_pieces};
 
 use crate::gates::RowGate;
 use anyhow::{Context, Result};
+use rows_text::add_line;
 use scq_outside::{Failed, Files, MemSink, MemSource, Source};
 use scq_word::NoMemory;
 use std::alloc::Global;
@@ -76,22 +77,35 @@ impl Cut {
 #[derive(Drop)]
 pub struct RowFile {
     name: String,
-    pub content: Vec<u8>,
+    content: Vec<u8>,
     /// How its reads are cut, where not as those of all files.
-    pub reads: Option<Cut>,
+    reads: Option<Cut>,
     /// It gives lines that never end in place of its content.
-    pub endless: bool,
+    endless: bool,
+    /// It is the first file of the row.
+    first: bool,
 }
 
 impl RowFile {
     /// An empty file.
-    pub fn new(alloc: Global, name: String) -> RowFile {
+    pub fn new(alloc: Global, name: String, first: bool) -> RowFile {
         RowFile {
             name,
             content: Vec::new(alloc),
             reads: None,
             endless: false,
+            first,
         }
+    }
+
+    /// Adds what a line says of it; that of `|` is a line of its content.
+    pub fn add(&mut self, mark: &str, text: &str) -> Result<()> {
+        match mark {
+            "endless" => self.endless = true,
+            "cut" => self.reads = Some(Cut::of(text)?),
+            _ => add_line(&mut self.content, text)?,
+        }
+        Ok(())
     }
 }
 
@@ -154,27 +168,32 @@ impl<'a> RowFiles<'a> {
         })
     }
 
-    /// The source of the first file of this name that isn't given yet.
-    fn next(&mut self, name: &str) -> Option<RowSource<'a>>
-        ensures faults { self.new.faults ≡ self.old.faults }
-        ensures fresh { IfSome result (λ source. source.content.faults ≡ 0) }
+    /// The first file of this name that isn't given yet, which is given now.
+    fn next(&mut self, name: &str) -> Option<&'a RowFile>
+        ensures { self.new.faults ≡ self.old.faults }
     {
-        let mut first = true;
         for (file, given) in self.files.iter().zip(self.given.iter_mut()) {
             if file.name.as_str() == name && !*given {
                 *given = true;
-                let reads = file.reads.unwrap_or(self.reads);
-                let content = reads.source(self.alloc, file.content.as_slice()).ok()?;
-                let endless = file.endless;
-                return Some(RowSource {
-                    content,
-                    endless,
-                    gate: Some((self.gate, first)),
-                });
+                return Some(file);
             }
-            first = false;
         }
         None
+    }
+
+    /// The source of the next file of this name.
+    fn source_of(&mut self, name: &str) -> Option<RowSource<'a>>
+        ensures faults { self.new.faults ≡ self.old.faults }
+        ensures fresh { IfSome result (λ source. source.content.faults ≡ 0) }
+    {
+        let file = self.next(name)?;
+        let reads = file.reads.unwrap_or(self.reads);
+        let content = reads.source(self.alloc, file.content.as_slice()).ok()?;
+        Some(RowSource {
+            content,
+            endless: file.endless,
+            gate: Some((self.gate, file.first)),
+        })
     }
 }
 
@@ -186,7 +205,7 @@ impl<'a> Files for RowFiles<'a> {
     ghost table = { λ _. None };
 
     fn source(&mut self, name: &str) -> Result<RowSource<'a>, Failed> {
-        match self.next(name) {
+        match self.source_of(name) {
             Some(source) => Ok(source),
             None => {
                 self.faults = self.faults.saturating_add(1);

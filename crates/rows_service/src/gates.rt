@@ -16,47 +16,54 @@ const YIELDS: u32 = 4_000_000;
 const TAKES_OF_SWEEP: u64 = 2;
 
 /// Where the workers of a row wait.
-#[derive(Drop)]
-pub enum RowGate {
-    /// Nowhere.
-    Free,
-    Meeting(Meeting),
-    Handing(Handing),
-    Reading(FirstReads),
-    Waking(Waking),
+#[derive(Clone, Copy)]
+pub enum Meeting {
+    Nowhere,
+    /// For one another, each at its first call with a point.
+    AtPoints,
+    /// Worker 0 stays behind its send until worker 1 has taken, and worker 1 in front of its first
+    /// take until worker 0 has sent.
+    Handing,
+    /// In the first reads of their files, each of which waits for the other.
+    Reading,
+    /// Worker 1, whose file is empty, is to be woken by what worker 0 does next. Worker 0 stays in
+    /// its first read until worker 1 has swept: it takes nothing, and rests. Then worker 0 stays
+    /// behind its send, or where it sends nothing in front of its leaving, until worker 1 sweeps
+    /// again.
+    Waking,
 }
 
-/// Two workers wait for one another, each at its first call with a point. It counts how often a
-/// worker saw the other.
+/// Where the workers of a row wait, and what they have told one another: at points a flag for each
+/// point and worker, and otherwise the flags or the count that have a number below.
 #[derive(Drop)]
-pub struct Meeting {
+pub struct RowGate {
+    meeting: Meeting,
     came: [AtomicU64; 6],
+    /// How often one of them saw what it waited for.
     saw: AtomicU64,
 }
 
-/// Worker 0 stays behind its send until worker 1 has taken, and worker 1 in front of its first take
-/// until worker 0 has sent.
-#[derive(Drop)]
-pub struct Handing {
-    sent: AtomicU64,
-    came: AtomicU64,
-    took: AtomicU64,
-}
+/// Worker 0 has sent; worker 1 has come to a take, and has taken.
+const SENT: usize = 0;
 
-/// Worker 1, whose file is empty, is to be woken by what worker 0 does next. Worker 0 stays in its
-/// first read until worker 1 has swept: it takes nothing, and rests. Then worker 0 stays behind its
-/// send, or where it sends nothing in front of its leaving, until worker 1 sweeps again.
-#[derive(Drop)]
-pub struct Waking {
-    takes: AtomicU64,
-    waited: AtomicU64,
-    saw: AtomicU64,
-}
+const CAME: usize = 1;
+
+const TOOK: usize = 2;
+
+/// The first reads have begun, of the first file and of the other.
+const FIRST: usize = 0;
+
+const SECOND: usize = 1;
+
+/// How often worker 1 was about to take; worker 0 has waited behind what it did.
+const TAKES: usize = 0;
+
+const WAITED: usize = 1;
 
 impl RowGate {
-    /// Workers who meet at each point.
-    pub fn meeting() -> RowGate {
-        RowGate::Meeting(Meeting {
+    pub fn new(meeting: Meeting) -> RowGate {
+        RowGate {
+            meeting,
             came: [
                 AtomicU64::new(0),
                 AtomicU64::new(0),
@@ -66,136 +73,108 @@ impl RowGate {
                 AtomicU64::new(0),
             ],
             saw: AtomicU64::new(0),
-        })
-    }
-
-    /// One worker hands what it sends to the other.
-    pub fn handing() -> RowGate {
-        RowGate::Handing(Handing {
-            sent: AtomicU64::new(0),
-            came: AtomicU64::new(0),
-            took: AtomicU64::new(0),
-        })
-    }
-
-    /// Workers whose first reads wait for one another.
-    pub fn reading() -> RowGate {
-        RowGate::Reading(FirstReads {
-            first: AtomicU64::new(0),
-            second: AtomicU64::new(0),
-            saw: AtomicU64::new(0),
-        })
-    }
-
-    /// One worker has to wake the other.
-    pub fn waking() -> RowGate {
-        RowGate::Waking(Waking {
-            takes: AtomicU64::new(0),
-            waited: AtomicU64::new(0),
-            saw: AtomicU64::new(0),
-        })
+        }
     }
 
     /// What the first read of a file does, of the first file or of another.
     pub fn at_first_read(&self, first: bool) {
-        match self {
-            RowGate::Reading(reads) => reads.meet(first),
-            RowGate::Waking(waking) => waking.read(first),
-            RowGate::Free | RowGate::Meeting(_) | RowGate::Handing(_) => {}
+        match self.meeting {
+            Meeting::Reading => self.meet_in_read(first),
+            Meeting::Waking => self.wait_for_sweep(first),
+            Meeting::Nowhere | Meeting::AtPoints | Meeting::Handing => {}
         }
     }
 
     /// Whether nobody waited in vain: each of two workers saw the other at each of three points, or
     /// in its first read; or one saw the other rest, and go on.
     pub fn is_met(&self) -> bool {
-        match self {
-            RowGate::Meeting(meeting) => meeting.saw.load(Ordering::SeqCst) == 6,
-            RowGate::Reading(reads) => reads.saw.load(Ordering::SeqCst) == 2,
-            RowGate::Waking(waking) => waking.saw.load(Ordering::SeqCst) == 2,
-            RowGate::Free | RowGate::Handing(_) => true,
+        let saw = self.saw.load(Ordering::SeqCst);
+        match self.meeting {
+            Meeting::AtPoints => saw == 6,
+            Meeting::Reading | Meeting::Waking => saw == 2,
+            Meeting::Nowhere | Meeting::Handing => true,
         }
     }
-}
 
-impl Gate for RowGate {
-    fn at(&self, worker: u32, point: Point) {
-        match self {
-            RowGate::Free | RowGate::Reading(_) => {}
-            RowGate::Meeting(meeting) => meeting.meet(worker, point),
-            RowGate::Handing(handing) => handing.hand(worker, point),
-            RowGate::Waking(waking) => waking.wake(worker, point),
-        }
+    fn count_one_seen(&self) {
+        self.saw.fetch_add(1, Ordering::SeqCst);
     }
-}
 
-impl Meeting {
-    fn meet(&self, worker: u32, point: Point) {
+    fn meet_at(&self, worker: u32, point: Point) {
         let place = place(point);
         let own = if worker == 0 { place } else { 3 + place };
         let other = if worker == 0 { 3 + place } else { place };
-        let flag = &self.came[own];
-        if flag.swap(1, Ordering::SeqCst) == 0 && is_seen(&self.came[other]) {
-            self.saw.fetch_add(1, Ordering::SeqCst);
+        if self.came[own].swap(1, Ordering::SeqCst) == 0 && is_seen(&self.came[other]) {
+            self.count_one_seen();
         }
     }
-}
 
-impl Handing {
     fn hand(&self, worker: u32, point: Point) {
         match point {
             Point::AfterSend => {
-                self.sent.store(1, Ordering::SeqCst);
-                is_seen(&self.took);
+                self.came[SENT].store(1, Ordering::SeqCst);
+                is_seen(&self.came[TOOK]);
             }
             Point::BeforeTake => {
-                if worker == 1 && self.came.swap(1, Ordering::SeqCst) == 1 {
-                    self.took.store(1, Ordering::SeqCst);
-                } else if worker == 1 {
-                    is_seen(&self.sent);
+                if worker == 1 {
+                    self.take_handed();
                 }
             }
             Point::BeforeLeave => {}
         }
     }
-}
 
-impl Waking {
-    fn read(&self, first: bool) {
-        if first && is_reached(&self.takes, TAKES_OF_SWEEP) {
-            self.saw.fetch_add(1, Ordering::SeqCst);
+    fn take_handed(&self) {
+        if self.came[CAME].swap(1, Ordering::SeqCst) == 1 {
+            self.came[TOOK].store(1, Ordering::SeqCst);
+        } else {
+            is_seen(&self.came[SENT]);
+        }
+    }
+
+    /// Waits in the first read of a file until that of the other has begun.
+    fn meet_in_read(&self, first: bool) {
+        let own = if first { FIRST } else { SECOND };
+        let other = if first { SECOND } else { FIRST };
+        self.came[own].store(1, Ordering::SeqCst);
+        if is_seen(&self.came[other]) {
+            self.count_one_seen();
+        }
+    }
+
+    fn wait_for_sweep(&self, first: bool) {
+        if first && is_reached(&self.came[TAKES], TAKES_OF_SWEEP) {
+            self.count_one_seen();
         }
     }
 
     fn wake(&self, worker: u32, point: Point) {
         if worker == 1 {
             if point == Point::BeforeTake {
-                self.takes.fetch_add(1, Ordering::SeqCst);
+                self.came[TAKES].fetch_add(1, Ordering::SeqCst);
             }
-        } else if point != Point::BeforeTake && self.waited.swap(1, Ordering::SeqCst) == 0 {
-            if is_reached(&self.takes, TAKES_OF_SWEEP + 1) {
-                self.saw.fetch_add(1, Ordering::SeqCst);
-            }
+        } else if point != Point::BeforeTake {
+            self.wait_for_waking();
+        }
+    }
+
+    /// Waits once until the other, which rested, sweeps again.
+    fn wait_for_waking(&self) {
+        if self.came[WAITED].swap(1, Ordering::SeqCst) == 0
+            && is_reached(&self.came[TAKES], TAKES_OF_SWEEP + 1)
+        {
+            self.count_one_seen();
         }
     }
 }
 
-/// The first reads of two files, each of which waits for the other.
-#[derive(Drop)]
-pub struct FirstReads {
-    first: AtomicU64,
-    second: AtomicU64,
-    saw: AtomicU64,
-}
-
-impl FirstReads {
-    /// Waits in the first read of a file until that of the other has begun. It counts how often one
-    /// saw the other.
-    fn meet(&self, first: bool) {
-        let own = if first { &self.first } else { &self.second };
-        let other = if first { &self.second } else { &self.first };
-        own.store(1, Ordering::SeqCst);
-        if is_seen(other) {
-            self.saw.fetch_add(1, Ordering::SeqCst);
+impl Gate for RowGate {
+    fn at(&self, worker: u32, point: Point) {
+        match self.meeting {
+            Meeting::Nowhere | Meeting::Reading => {}
+            Meeting::AtPoints => self.meet_at(worker, point),
+            Meeting::Handing => self.hand(worker, point),
+            Meeting::Waking => self.wake(worker, point),
         }
     }
 }

@@ -11,7 +11,7 @@ mod row;
 mod timed;
 
 use anyhow::{Context, Result, anyhow};
-use ending::difference_of;
+use ending::{Difference, difference_of};
 use row::{BATCH, Row};
 use std::alloc::Global;
 use std::sync::Wait;
@@ -25,13 +25,25 @@ fn main(rt: HostRuntime) -> Result<()> {
     for name in env::args(&rt)?.skip(1) {
         if name.as_str() == BATCH {
             batch = true;
-            continue;
+        } else {
+            let text = fs::read_to_string(&rt, &name)?;
+            run_file(rt, rt.alloc(), &name, &text, batch)?;
         }
-        let text = fs::read_to_string(&rt, &name)?;
-        let rows = run_rows(rt, rt.alloc(), &name, &text, batch)?;
-        let word = if batch { " with --batch" } else { "" };
-        println!(rt; "{name}{word}: {rows} rows")?;
     }
+    Ok(())
+}
+
+/// Runs the rows of a file, and prints how many there are.
+fn run_file<R: Threads + Wait + Sync + Print + Clock + Copy + Send + 'static>(
+    rt: R,
+    alloc: Global,
+    name: &str,
+    text: &str,
+    batch: bool,
+) -> Result<()> {
+    let rows = run_rows(rt, alloc, name, text, batch)?;
+    let word = if batch { " with --batch" } else { "" };
+    println!(rt; "{name}{word}: {rows} rows")?;
     Ok(())
 }
 
@@ -48,32 +60,48 @@ fn run_rows<R: Threads + Wait + Sync + Print + Clock + Copy + Send + 'static>(
     let mut rows = 0u64;
     let mut row = Row::new(alloc);
     for (at, line) in text.lines().enumerate() {
-        if line.is_empty() || line.starts_with('#') {
-            continue;
-        }
         if let Some(status) = line.strip_prefix("= ") {
-            let status = status.parse::<u8>().context("a status")?;
-            let number = at.saturating_add(1);
-            let mut ended = std::mem::replace(&mut row, Row::new(alloc));
-            if batch && !ended.add_batch(alloc)? {
-                continue;
-            }
-            let difference = if ended.waits {
-                let Some(difference) = difference_in_time(rt, alloc, ended, status)? else {
-                    println!(rt; "{name} line {number}: it hasn't ended")?;
-                    return Err(anyhow!("a row doesn't end"));
-                };
-                difference
-            } else {
-                difference_of(&rt, alloc, &ended, status)?
-            };
-            if let Some(what) = difference {
-                println!(rt; "{name} line {number}: {what} is not as wanted")?;
-            }
-            rows = rows.saturating_add(1);
-        } else if !row.add_line(alloc, line)? {
-            return Err(anyhow!("a line of no row"));
+            let ended = std::mem::replace(&mut row, Row::new(alloc));
+            let (runs, difference) = run_row(rt, alloc, ended, status, batch)?;
+            tell(&rt, name, at.saturating_add(1), difference)?;
+            rows = rows.saturating_add(runs);
+        } else if !line.is_empty() && !line.starts_with('#') {
+            row.add_line(alloc, line)?;
         }
     }
     Ok(rows)
+}
+
+/// Runs a row, which is one or, where it can't get the word, none. What isn't as wanted, or None
+/// where it doesn't end.
+fn run_row<R: Threads + Wait + Sync + Clock + Copy + Send + 'static>(
+    rt: R,
+    alloc: Global,
+    mut row: Row,
+    status: &str,
+    batch: bool,
+) -> Result<(u64, Option<Difference>)> {
+    let status = status.parse::<u8>().context("a status")?;
+    if batch && !row.add_batch(alloc)? {
+        return Ok((0, Some(None)));
+    }
+    let difference = if row.how.waits {
+        difference_in_time(rt, alloc, row, status)?
+    } else {
+        Some(difference_of(&rt, alloc, &row, status)?)
+    };
+    Ok((1, difference))
+}
+
+/// Prints what isn't as wanted.
+fn tell<R: Print>(rt: &R, name: &str, line: usize, difference: Option<Difference>) -> Result<()> {
+    match difference {
+        Some(Some(what)) => println!(rt; "{name} line {line}: {what} is not as wanted")?,
+        Some(None) => {}
+        None => {
+            println!(rt; "{name} line {line}: it hasn't ended")?;
+            return Err(anyhow!("a row doesn't end"));
+        }
+    }
+    Ok(())
 }

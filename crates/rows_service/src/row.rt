@@ -23,8 +23,8 @@
 //! `rows_text` has what stands for bytes that aren't seen.
 
 use crate::files::{Cut, RowFile};
-use crate::gates::RowGate;
-use anyhow::{Context, Result};
+use crate::gates::Meeting;
+use anyhow::{Context, Result, anyhow};
 use rows_text::{add_line, word_of};
 use std::alloc::Global;
 
@@ -38,24 +38,114 @@ const ROOM: u64 = 1 << 17;
 pub struct Row {
     pub words: Vec<String>,
     pub files: Vec<RowFile>,
+    pub how: How,
+    pub wanted: Wanted,
+}
+
+/// How reads, writes and workers go.
+#[derive(Clone, Copy, Drop)]
+pub struct How {
     pub reads: Cut,
     pub writes: Cut,
     pub error_writes: Cut,
     pub room: u64,
+    /// Its workers wait in place of leaving early.
+    pub waits: bool,
+    /// Where its workers wait for one another.
+    pub meeting: Meeting,
+}
+
+/// What is to come of a row.
+#[derive(Drop)]
+pub struct Wanted {
     pub output: Vec<u8>,
     pub errors: Vec<u8>,
     /// The errors are a report of workers.
     pub reports: bool,
     /// It is a row of `run` to which the word `--batch` was added.
     pub batches: bool,
-    /// Its workers wait in place of leaving early.
-    pub waits: bool,
-    /// Where its workers wait for one another.
-    pub gate: RowGate,
     /// What all workers sent, took and found no buffer for, where it is compared.
     pub counts: Vec<u64>,
     /// What is left in each ring, where it is compared.
     pub left: Vec<u64>,
+}
+
+impl How {
+    const PLAIN: How = How {
+        reads: Cut::WHOLE,
+        writes: Cut::WHOLE,
+        error_writes: Cut::WHOLE,
+        room: ROOM,
+        waits: false,
+        meeting: Meeting::Nowhere,
+    };
+
+    /// With what a line says.
+    fn with(self, mark: &str, text: &str) -> Result<How> {
+        Ok(match mark {
+            "waits" => How {
+                waits: true,
+                ..self
+            },
+            "reads" => How {
+                reads: Cut::of(text)?,
+                ..self
+            },
+            "writes" => How {
+                writes: Cut::of(text)?,
+                ..self
+            },
+            "errors" => How {
+                error_writes: Cut::of(text)?,
+                ..self
+            },
+            "room" => How {
+                room: text.parse::<u32>()?.into(),
+                ..self
+            },
+            _ => How {
+                meeting: meeting_of(mark)?,
+                ..self
+            },
+        })
+    }
+}
+
+fn meeting_of(mark: &str) -> Result<Meeting> {
+    match mark {
+        "meets" => Ok(Meeting::AtPoints),
+        "hands" => Ok(Meeting::Handing),
+        "reads_meet" => Ok(Meeting::Reading),
+        "wakes" => Ok(Meeting::Waking),
+        _ => Err(anyhow!("a line of no row")),
+    }
+}
+
+impl Wanted {
+    fn new(alloc: Global) -> Wanted {
+        Wanted {
+            output: Vec::new(alloc),
+            errors: Vec::new(alloc),
+            reports: false,
+            batches: false,
+            counts: Vec::new(alloc),
+            left: Vec::new(alloc),
+        }
+    }
+
+    /// Adds what a line says; that of `?` is that the errors are a report.
+    fn add(&mut self, mark: &str, text: &str) -> Result<()> {
+        match mark {
+            ">" => add_line(&mut self.output, text),
+            "!" => add_line(&mut self.errors, text),
+            "left" => add_numbers(&mut self.left, text),
+            "counts" => add_numbers(&mut self.counts, text),
+            _ => {
+                self.reports = true;
+                Ok(())
+            }
+        }
+    }
 }
 
 impl Row {
@@ -64,81 +154,68 @@ impl Row {
         Row {
             words: Vec::new(alloc),
             files: Vec::new(alloc),
-            reads: Cut::WHOLE,
-            writes: Cut::WHOLE,
-            error_writes: Cut::WHOLE,
-            room: ROOM,
-            output: Vec::new(alloc),
-            errors: Vec::new(alloc),
-            reports: false,
-            batches: false,
-            waits: false,
-            gate: RowGate::Free,
-            counts: Vec::new(alloc),
-            left: Vec::new(alloc),
+            how: How::PLAIN,
+            wanted: Wanted::new(alloc),
         }
     }
 
-    /// Adds what a line says. Whether it says anything.
-    pub fn add_line(&mut self, alloc: Global, line: &str) -> Result<bool> {
+    /// Adds what a line says.
+    pub fn add_line(&mut self, alloc: Global, line: &str) -> Result<()> {
         let (mark, text) = line.split_once(' ').unwrap_or((line, ""));
         match mark {
-            "$" => {
-                for word in text.split(' ') {
-                    self.words.push(word_of(alloc, word)?)?;
-                }
+            "$" => add_words(alloc, &mut self.words, text),
+            "+" => add_to_word(alloc, &mut self.words, text),
+            "<" => add_file(alloc, &mut self.files, text),
+            "|" | "endless" | "cut" => add_to_file(&mut self.files, mark, text),
+            ">" | "!" | "?" | "left" | "counts" => self.wanted.add(mark, text),
+            _ => {
+                self.how = self.how.with(mark, text)?;
+                Ok(())
             }
-            "+" => {
-                let word = self.words.last_mut().context("more of no word")?;
-                word.push_str(word_of(alloc, text)?.as_str())?;
-            }
-            "<" => self.files.push(RowFile::new(alloc, word_of(alloc, text)?))?,
-            "|" => {
-                let file = self.files.last_mut().context("a line of no file")?;
-                add_line(&mut file.content, text)?;
-            }
-            ">" => add_line(&mut self.output, text)?,
-            "!" => add_line(&mut self.errors, text)?,
-            "?" => self.reports = true,
-            "waits" => self.waits = true,
-            "meets" => self.gate = RowGate::meeting(),
-            "hands" => self.gate = RowGate::handing(),
-            "reads_meet" => self.gate = RowGate::reading(),
-            "wakes" => self.gate = RowGate::waking(),
-            "endless" => {
-                let file = self.files.last_mut().context("lines of no file")?;
-                file.endless = true;
-            }
-            "cut" => {
-                let file = self.files.last_mut().context("a cut of no file")?;
-                file.reads = Some(Cut::of(text)?);
-            }
-            "left" => add_numbers(&mut self.left, text)?,
-            "counts" => add_numbers(&mut self.counts, text)?,
-            "reads" => self.reads = Cut::of(text)?,
-            "writes" => self.writes = Cut::of(text)?,
-            "errors" => self.error_writes = Cut::of(text)?,
-            "room" => self.room = text.parse::<u32>()?.into(),
-            _ => return Ok(false),
         }
-        Ok(true)
     }
 
     /// Adds the word by which short parts share a buffer to a row of `run` that hasn't got it.
     /// Whether it was added.
     pub fn add_batch(&mut self, alloc: Global) -> Result<bool> {
-        if self.words.iter().any(|word| word.as_str() == BATCH) {
+        if has_batch(&self.words) {
             return Ok(false);
         }
-        match self.words.as_slice() {
-            [command, ..] if command.as_str() == "run" => {
-                self.words.insert(1, word_of(alloc, BATCH)?)?;
-                self.batches = true;
-            }
-            _ => {}
+        if !self.words.is_empty() && self.words[0].as_str() == "run" {
+            self.words.insert(1, word_of(alloc, BATCH)?)?;
+            self.wanted.batches = true;
         }
-        Ok(self.batches)
+        Ok(self.wanted.batches)
     }
+}
+
+fn add_words(alloc: Global, words: &mut Vec<String>, text: &str) -> Result<()> {
+    for word in text.split(' ') {
+        words.push(word_of(alloc, word)?)?;
+    }
+    Ok(())
+}
+
+/// Adds to the last word.
+fn add_to_word(alloc: Global, words: &mut Vec<String>, text: &str) -> Result<()> {
+    let word = words.last_mut().context("more of no word")?;
+    word.push_str(&word_of(alloc, text)?)?;
+    Ok(())
+}
+
+/// Adds an empty file of this name.
+fn add_file(alloc: Global, files: &mut Vec<RowFile>, name: &str) -> Result<()> {
+    let first = files.is_empty();
+    files.push(RowFile::new(alloc, word_of(alloc, name)?, first))?;
+    Ok(())
+}
+
+/// Adds what a line says of the last file.
+fn add_to_file(files: &mut Vec<RowFile>, mark: &str, text: &str) -> Result<()> {
+    files
+        .last_mut()
+        .context("a line of no file")?
+        .add(mark, text)
 }
 
 /// Adds numbers with a space between them.
@@ -147,4 +224,13 @@ fn add_numbers(numbers: &mut Vec<u64>, text: &str) -> Result<()> {
         numbers.push(number.parse::<u64>()?)?;
     }
     Ok(())
+}
+
+fn has_batch(words: &[String]) -> bool {
+    for word in words {
+        if word.as_str() == BATCH {
+            return true;
+        }
+    }
+    false
 }
