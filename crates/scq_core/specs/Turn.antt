@@ -79,8 +79,8 @@ has_ended (Places r i w t laid) = false
 has_ended (Takes r h i w) = true
 
 -- a seat's part of these fields
-abbrev pub part_of : Phase → List ℕ → Option ℕ → List Ended → SeatPart
-part_of phase hand spent calls =
+abbrev pub seat_part : Phase → List ℕ → Option ℕ → List Ended → SeatPart
+seat_part phase hand spent calls =
     record { phase = phase; hand = hand; spent = spent; calls = calls }
 
 -- a seat's part afterwards
@@ -102,13 +102,13 @@ abbrev pub IsOfGet : Phase → Type 0
 IsOfGet turn = IsSome (get_ring (stance_of turn))
 
 -- a turn of a dequeue that has given its ticket up
-abbrev pub IsLeaving : Phase → Type 0
-IsLeaving (AtD6 r h) = Unit {0}
-IsLeaving (AtD7 r h from to) = Unit {0}
-IsLeaving (AtD8 r h from) = Unit {0}
-IsLeaving (AtD9 r h from to) = Unit {0}
-IsLeaving (AtD10 r h leaving) = Unit {0}
-IsLeaving turn = ⊥
+abbrev pub HasGivenUp : Phase → Type 0
+HasGivenUp (AtD6 r h) = Unit {0}
+HasGivenUp (AtD7 r h from to) = Unit {0}
+HasGivenUp (AtD8 r h from) = Unit {0}
+HasGivenUp (AtD9 r h from to) = Unit {0}
+HasGivenUp (AtD10 r h leaving) = Unit {0}
+HasGivenUp turn = ⊥
 
 -- what a turn's arithmetic stands on, where it found the word x: counters have room, tickets are
 -- below the limit, an entry has an index of the ring or none, and Threshold is not yet at the

@@ -8,7 +8,7 @@ ghost use Rattle.scq_word.specs.Entries.{IsIndexOrMark};
 ghost use Rattle.scq_core.specs.Machine.{SeatPart};
 ghost use Rattle.scq_core.specs.Table.{ring_slots, after, stores};
 ghost use Rattle.scq_core.specs.Turn.{copied, ends_call, has_ended, part_after, laid_by, IsOfGet};
-ghost use Rattle.scq_core.specs.Turn.{IsLeaving, IsReady};
+ghost use Rattle.scq_core.specs.Turn.{HasGivenUp, IsReady};
 
 use crate::ended::Ended;
 use crate::phase::Phase;
@@ -308,7 +308,7 @@ fn next_of_get(setup: &Setup, turn: Phase, found: u64, copy: Bytes) -> Next
 #[tactic(auto, unfolding(crate::specs::Table::zero_level))]
 fn next_of_leaving(setup: &Setup, turn: Phase, found: u64) -> Next
     requires ready { IsReady setup.now turn found }
-    requires leaving { IsLeaving turn }
+    requires leaving { HasGivenUp turn }
     ensures part { (beside : List ℕ) (p : SeatPart)
         → after setup.now turn found beside p ≡ part_after result p }
     ensures laid { (beside : List ℕ) → unwrap_or (laid_by result) beside ≡ stores turn found beside }

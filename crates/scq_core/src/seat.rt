@@ -5,7 +5,7 @@ ghost use Rattle.std.specs.Prelude.{◌-◌, length, slice_get, ◌≡◌, ℕ, 
 ghost use Rattle.std.specs.Prelude.{vec_capacity, is_some, unwrap_or, IfOk, OnOk, OnErr};
 ghost use Rattle.scq_core.specs.Table.{turn_of, after, stores, hand_without, holds_index};
 ghost use Rattle.scq_core.specs.Start.{idle_part};
-ghost use Rattle.scq_core.specs.Turn.{copied, ends_call, has_ended, part_of, part_after, laid_by};
+ghost use Rattle.scq_core.specs.Turn.{copied, ends_call, has_ended, seat_part, part_after, laid_by};
 ghost use Rattle.scq_core.specs.Turn.{IsReady};
 ghost use Rattle.scq_core.specs.declared.phase.Phase.{Phase as ThePhase};
 ghost use Rattle.scq_core.specs.declared.phase.Phase.TheVariants.{Idle};
@@ -188,8 +188,8 @@ fn settle(
     requires room { has_ended next ≡ true
         → (vec_len hand.old < vec_capacity hand.old) × (vec_len calls.old < vec_capacity calls.old) }
     ensures part { (before : ThePhase)
-        → part_of phase.new hand.new.items spent.new calls.new.items
-        ≡ part_after next (part_of before hand.old.items spent.old calls.old.items) }
+        → seat_part phase.new hand.new.items spent.new calls.new.items
+        ≡ part_after next (seat_part before hand.old.items spent.old calls.old.items) }
     ensures laid { result ≡ laid_by next }
 {
     match next {
