@@ -12,7 +12,7 @@
  *   4. After the run `scq_seat_write(&seat, "1.log")` for each seat, and `scq judge 1.log 2.log ..`.
  *
  * A queue that may hang or crash: `scq_seat_open` in place of `scq_seat_init`, and `scq_seat_close` at the end. Such a seat writes its
- * file whenever its room is full, and what is left at `exit`, at `abort`, and at a signal that ends the program.
+ * file whenever its room is full, and what is left at `exit`, at `abort`, and at nine signals (SIGINT and such).
  *
  * A queue that isn't empty at the start: it holds the values `scq_opening(0)`, `scq_opening(1)`, .. in this order, and
  * `scq_openings_write("0.log", count)` writes the file that stands first among those of `scq judge`.
@@ -21,7 +21,7 @@
  * `scq_puts_end`, `scq_gets_start`, `scq_gets_end` around the one call. Each lane is a seat of its own for the judge, so
  * that the numbers from `number` on are taken.
  *
- * Stamps. By the processor's clock, where it is constant and its readings on all processors agree; else, and where
+ * Stamps. By the processor's clock, where it is constant and no reading at the start ran backwards; else, and where
  * `scq_recorder_init_as(&recorder, SCQ_COUNTER)` asks for it, by a counter that all threads share. A reading of the clock waits for the
  * call's loads, and not until its stores are seen by others; of equal readings a Start comes before an End. A step of the counter is
  * a full barrier, which makes the call's stores seen before its End, and so hides what a missing barrier does. Stamp and store are
@@ -580,7 +580,7 @@ static inline void scq_watch_signal(int number) {
     sigaction(number, &action, NULL);
 }
 
-/* Once: what is done at the end of the program, however it comes. */
+/* Once: what is done at the end of the program, by `exit` or by these signals. */
 static inline void scq_watch(void) {
     static const int ending[] = {SIGABRT, SIGSEGV, SIGBUS, SIGFPE, SIGILL, SIGINT, SIGTERM, SIGHUP, SIGQUIT};
     if (__atomic_exchange_n(&scq_is_watching, 1, __ATOMIC_SEQ_CST)) return;
@@ -607,7 +607,7 @@ static inline void scq_list_log(scq_log *log, int is_open) {
 }
 
 /* A seat of so many lanes whose events go to this file: whenever its room is full, at the end of a call, and when it is closed or
- * the program ends by `exit`, `abort` or a signal. SIGKILL and `_exit` leave out what wasn't written yet. Whether there was memory and
+ * the program ends by `exit`, `abort` or one of nine signals. SIGKILL and `_exit` leave out what wasn't written yet. Whether there was memory and
  * the file could be made. */
 static inline int scq_lanes_open(scq_seat *seat, scq_recorder *recorder, uint32_t number, uint32_t lanes, size_t room, const char *name) {
     size_t least = 4 * (size_t)lanes;

@@ -11,8 +11,8 @@
 //! 4. After the run `seat.write("1.log")` for each seat, and `scq judge 1.log 2.log ..`.
 //!
 //! A queue that may hang or crash (on Linux): `Recorder::open` in place of `Recorder::seat`, and `seat.close()` at the end. Such a seat
-//! writes its file whenever its room is full, and what is left when it is dropped, at `exit`, at `abort`, and at a signal that ends
-//! the program.
+//! writes its file whenever its room is full, and what is left when it is dropped, at `exit`, at `abort`, and at nine signals (SIGINT
+//! and such).
 //!
 //! A queue that isn't empty at the start: it holds the values `opening(0)`, `opening(1)`, .. in this order, and
 //! `write_openings("0.log", count)` writes the file that stands first among those of `scq judge`.
@@ -21,8 +21,8 @@
 //! the one call. Each lane is a seat of its own for the judge, so that the numbers from `seat` on are taken.
 //!
 //! Stamps. `Recorder::new()` stamps by a counter that all threads share: a full barrier, which makes a call's stores seen before
-//! its End, and so hides what a missing barrier does. `Recorder::by_clock()` stamps by the processor's clock, where it is constant and its
-//! readings on all processors agree, and else by the counter. A reading waits for the call's loads, and not until its
+//! its End, and so hides what a missing barrier does. `Recorder::by_clock()` stamps by the processor's clock, where it is constant and no
+//! reading at the start ran backwards, and else by the counter. A reading waits for the call's loads, and not until its
 //! stores are seen by others; of equal readings a Start comes before an End.
 
 // A program takes the calls that its queue needs.
@@ -167,7 +167,7 @@ impl Recorder {
     }
 
     /// A seat whose events go to this file: whenever its room is full, at the end of a call, and when it is dropped or the program ends
-    /// by `exit`, `abort` or a signal. SIGKILL leaves out what wasn't written yet.
+    /// by `exit`, `abort` or one of nine signals. SIGKILL leaves out what wasn't written yet.
     #[cfg(target_os = "linux")]
     pub fn open(&self, seat: u32, lanes: u32, room: usize, name: impl AsRef<Path>) -> Result<Seat<'_>, Error> {
         let mut file = File::create(name)?;

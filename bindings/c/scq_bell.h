@@ -24,9 +24,9 @@
  * nobody it stands before W, and so C before L: the look sees the change, or another thread has it.
  * If M stands before T it is the same. If M stands behind T, either S finds another turn and is
  * refused, or S came first and K finds the sleeper, since the system compares and lies down in one.
- * K wakes one sleeper for each change, who looks before he sleeps again or goes; where he goes with
- * something of another line, or with nothing, he rings again. So as long as something is there for
- * a line and one sleeps for it, another is on his way to look.
+ * K wakes one sleeper for each change, who looks before he sleeps again or goes; where he goes
+ * without a look at some of his lines, he rings these. So as long as something is there for a line
+ * and one sleeps for it, another is on his way to look.
  */
 #ifndef SCQ_BELL_H
 #define SCQ_BELL_H
@@ -362,7 +362,7 @@ static inline uint32_t scq_bell_give_back(scq_bell *bell, scq_port *port, uint32
 }
 
 /* Says that nothing is sent on these topics any more, behind the last send on each; or with
- * SCQ_FREE that who waits for a buffer is to give up. Who waits for nothing but such lines is
+ * SCQ_LINE(SCQ_FREE) that who waits there is to give up. Who waits for nothing but such lines is
  * woken, and takes what is left before he is answered SCQ_ENDED. It can't be taken back. */
 static inline void scq_bell_finish(scq_bell *bell, uint32_t lines) {
     __atomic_or_fetch(&bell->ended, lines, __ATOMIC_SEQ_CST);

@@ -13,9 +13,9 @@
 //
 // Nothing of the library throws: a call that was refused says so in what it returns. Only
 // Queue::open and Ring::open take memory. What scq.h asks of a caller the owners see to: that a
-// port isn't copied, that a buffer is sent or given back once, that nobody reads what is no longer
-// held. A Lent and a Taken may be moved, as may their Port, in any order, and may outlive it: a
-// call that comes too late is answered, as in C. What is left to you:
+// port isn't copied, that a buffer is sent or given back once. A Lent and a Taken may be moved, as
+// may their Port, in any order, and may outlive it: a call that comes too late is answered, as in
+// C. What is left to you:
 //
 // - One thread at a time uses a port, the buffers that it holds and its batches: so a Batch, also
 //   one without buffers, ends before its port goes to another thread, or in that thread.
@@ -183,7 +183,8 @@ class Messages {
     scq_held held_;
 };
 
-// A buffer that a port holds, or none and why. Where it ends, the buffer is given back.
+// A buffer that a port holds, or none and why. Where it ends it is given back, or stays with the
+// port.
 class Held {
   public:
     Held(const Held &) = delete;
@@ -869,7 +870,7 @@ template <class T> class Ring {
     Ring &operator=(Ring &&) noexcept = default;
 
     // Makes a ring with room for 2^order values and so many handles: Ok; BadOrder, BadPorts or
-    // BadLimit where one is out of range; NoMemory; IsOpen where it was made before.
+    // BadLimit where one is out of range; BadVersion; NoMemory; IsOpen where it was made before.
     SCQ_NODISCARD Answer open(std::uint32_t order, std::size_t handles,
                               std::uint64_t limit = SCQ_MAX_LIMIT) noexcept {
         if (share_.get() != nullptr) return Answer::IsOpen;

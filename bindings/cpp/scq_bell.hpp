@@ -179,8 +179,8 @@ class Bell {
         return answer;
     }
 
-    // Says that nothing is sent on these topics any more; or with SCQ_FREE, that who waits for a
-    // buffer is to give up. Who waits is woken, and takes what is left before his wait ends.
+    // Says that nothing is sent on these topics any more; or with line(SCQ_FREE), that who waits
+    // there is to give up. Who waits is woken, and takes what is left before his wait ends.
     void finish(std::uint32_t lines) noexcept { scq_bell_finish(&bell_, lines); }
 
     // Retires a port, and ends all topics where all ports have retired.

@@ -59,7 +59,7 @@ impl Queue {
     ///
     /// # Errors
     ///
-    /// The first of the numbers that is out of range, or that no memory was found.
+    /// A number that is out of range, another version, or no memory.
     pub fn new(setup: Setup, ports: usize) -> Result<Queue, OpenError> {
         // SAFETY: it asks nothing of its caller.
         let found = unsafe { sys::scq_version() };

@@ -71,12 +71,12 @@ impl<T> Ring<T> {
     /// # Errors
     ///
     /// [`OpenError::Order`] and [`OpenError::Ports`] where these are out of range;
-    /// [`OpenError::NoMemory`].
+    /// [`OpenError::Version`]; [`OpenError::NoMemory`].
     pub fn new(order: u32, handles: usize) -> Result<Ring<T>, OpenError> {
         Ring::with_limit(order, handles, Setup::MAX_LIMIT)
     }
 
-    /// The same, with a [limit](Setup::limit) of tickets. A call that needs one past it does
+    /// The same, with a [limit](Setup::limit) of tickets. A call that needs one from it on does
     /// nothing: [`push`](Handle::push) gives the value back, [`pop`](Handle::pop) answers that
     /// there is none.
     ///

@@ -311,7 +311,8 @@ fn next_of_leaving(setup: &Setup, turn: Phase, found: u64) -> Next
     requires leaving { HasGivenUp turn }
     ensures part { (beside : List ℕ) (p : SeatPart)
         → after setup.now turn found beside p ≡ part_after result p }
-    ensures laid { (beside : List ℕ) → unwrap_or (laid_by result) beside ≡ stores turn found beside }
+    ensures laid { (beside : List ℕ)
+        → unwrap_or (laid_by result) beside ≡ stores turn found beside }
     ensures ends { has_ended result ≡ ends_call setup.now turn found }
 {
     match turn {

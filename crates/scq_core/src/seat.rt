@@ -186,7 +186,8 @@ fn settle(
 ) -> Option<Bytes>
     requires idle { phase.old ≡ Idle }
     requires room { has_ended next ≡ true
-        → (vec_len hand.old < vec_capacity hand.old) × (vec_len calls.old < vec_capacity calls.old) }
+        → (vec_len hand.old < vec_capacity hand.old)
+        × (vec_len calls.old < vec_capacity calls.old) }
     ensures part { (before : ThePhase)
         → seat_part phase.new hand.new.items spent.new calls.new.items
         ≡ part_after next (seat_part before hand.old.items spent.old calls.old.items) }

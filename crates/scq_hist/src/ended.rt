@@ -9,7 +9,7 @@ ghost use Rattle.scq_hist.specs.declared.events.Reply.TheVariants.{Nothing};
 use crate::calls::call_under_way;
 use crate::events::{Call, Event, Reply};
 
-/// A put that has ended: its seat, the position of its Start, its queue, and whether it was refused.
+/// A put that has ended: its seat, the position of its Start, its queue, whether it was refused.
 #[derive(Clone, Copy)]
 pub struct EndedPut {
     pub seat: u32,

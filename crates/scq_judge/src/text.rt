@@ -1,6 +1,7 @@
 //! A report as text.
 
-ghost use Rattle.std.specs.Prelude.{◌≡◌, ◌<◌, ◌^◌, ◌++◌, codes, decimal, length, Some, IfOk, IfSome, OnOk};
+ghost use Rattle.std.specs.Prelude.{◌≡◌, ◌<◌, ◌^◌, ◌++◌, codes, decimal, length, Some, IfOk};
+ghost use Rattle.std.specs.Prelude.{IfSome, OnOk};
 ghost use Rattle.scq_check.specs.Counterparts.{IsOriginWithin};
 ghost use Rattle.scq_check.specs.Verdicts.{AreWithin};
 ghost use Rattle.scq_check.specs.Waiting.{IsToldWithin};
