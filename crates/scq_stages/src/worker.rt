@@ -8,7 +8,6 @@ ghost use Rattle.scq_queue.specs.Passes.{caller_of, IsHeldBy, WasGivenBack, afte
 ghost use Rattle.scq_queue.specs.Passes.{after_spent_put, having_seen};
 ghost use Rattle.scq_passes.specs.Calls.{Suits};
 ghost use Rattle.scq_stages.specs.Stages.{redacted, squeezed, both as the_both};
-ghost use Rattle.scq_stages.specs.Handling.{after_stage};
 ghost use Rattle.scq_stages.specs.Members.{finished};
 ghost use Rattle.scq_stages.specs.Passing.{whole_of};
 

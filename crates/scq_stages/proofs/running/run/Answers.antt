@@ -5,7 +5,8 @@ use Rattle.scq_queue.specs.Passes.{PassStanding}
 use Rattle.scq_passes.specs.Calls.{after_retire}
 use Rattle.scq_passes.specs.Leaving.{HasSweptLast}
 use Rattle.scq_passes.specs.Records.{IsGivenBack}
-use Rattle.scq_files.specs.OwnFiles.{all_given}
+use Rattle.std.specs.Prelude.{All}
+use Rattle.scq_files.specs.OwnFiles.{IsNew, ids_of, all_given}
 use Rattle.scq_files.specs.declared.own_file.OwnFile.{OwnFile}
 use Rattle.scq_files.proofs.Lists.{written-back}
 use Rattle.scq_stages.specs.declared.worker.Worker.{Worker}
@@ -36,17 +37,38 @@ whole g c =
     let len : c.args.desk.now.files.len ≡ length old = sym (c.as_mut_slice-files.ensures.len) ∙ ap length is in
     written-back c.args.desk.now.files.len new old (omega (arith, long, len))
 
+-- as many, of the same numbers
+ids-kept : (g : _) (c : After-work g)
+    → ids_of (take c.args.desk.now.files.len (c.work.new.files ++ drop (length c.work.new.files) c.args.desk.now.files.items))
+    ≡ ids_of c.args.desk.now.files.items
+ids-kept g c =
+    let ids = λ (fs : List (OwnFile _)). ids_of fs in
+    ap ids (whole g c) ∙ c.work.ensures.same ∙ ap ids c.as_mut_slice-files.ensures.value
+
 -- of each is known what was read of it
 read : (g : _) (c : After-work g) → AllRead [] c.args.job.now.size g.S.Source c.work.new.files
 read g c =
     subst (λ topics. AllRead topics c.args.job.now.size g.S.Source c.work.new.files) c.none-topics.ensures
     c.work.ensures.read
 
+pub work-requires-clause-unread : goal.work-requires-clause-unread
+work-requires-clause-unread g c κs within =
+    subst (λ (fs : List (OwnFile _)). All IsNew fs) (sym c.as_mut_slice-files.ensures.value) c.requires.unread
+
 pub retire-requires-clause-pass : goal.retire-requires-clause-pass
 retire-requires-clause-pass g c κs = (c.in-Err.ensures.left (begun g (goal.at.retire-requires-clause-pass g c).After-work)).queue
 
 pub retire-requires-clause-stays : goal.retire-requires-clause-stays
 retire-requires-clause-stays g c κs = (c.in-Err.ensures.left (begun g (goal.at.retire-requires-clause-stays g c).After-work)).stays
+
+pub returns-in-Err-leave-clause-same : goal.returns-in-Err-leave-clause-same
+returns-in-Err-leave-clause-same g c = ids-kept g (goal.at.returns-in-Err-leave-clause-same g c).After-work
+
+pub returns-in_default-clause-same : goal.returns-in_default-clause-same
+returns-in_default-clause-same g c = ids-kept g (goal.at.returns-in_default-clause-same g c).After-work
+
+pub returns-in-Err-clause-same : goal.returns-in-Err-clause-same
+returns-in-Err-clause-same g c = ids-kept g (goal.at.returns-in-Err-clause-same g c).After-work
 
 -- it met Spent in a sweep
 pub returns-in-Err-leave-clause-run : goal.returns-in-Err-leave-clause-run
@@ -69,6 +91,13 @@ pub returns-in-Err-leave-clause-number : goal.returns-in-Err-leave-clause-number
 returns-in-Err-leave-clause-number g c =
     let left = c.in-Err-leave.ensures.left 0 in
     ap (λ (w : Worker _). w.pass.number) c.keep.ensures.same ∙ left.own.1 ∙ c.work.ensures.number
+
+pub returns-in_default-clause-number : goal.returns-in_default-clause-number
+returns-in_default-clause-number g c = ap (λ (p : PassStanding _). p.number) c.in_default.ensures.taken.pass ∙ c.work.ensures.number
+
+pub returns-in-Err-clause-number : goal.returns-in-Err-clause-number
+returns-in-Err-clause-number g c =
+    ap (λ (w : Worker _). w.pass.number) c.keep-in-Err.ensures.same ∙ ap (λ (p : PassStanding _). p.number) c.retire.ensures ∙ c.work.ensures.number
 
 -- it left
 pub returns-in_default-clause-run : goal.returns-in_default-clause-run
