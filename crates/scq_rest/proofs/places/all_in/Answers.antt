@@ -1,7 +1,8 @@
-use Rattle.std.proofs.Common.{◌≡◌, ◌∙◌, ap, sym, subst, List, ◌++◌, length, map, take, drop}
+use Rattle.std.proofs.Common.{arith, ◌≡◌, ◌∙◌, ap, sym, subst, List, ◌++◌, length, map, take, drop}
 use Rattle.std.specs.List.{All, AllZip}
-use Rattle.scq_rest.specs.Threads.{task, HasDone}
-use Rattle.scq_rest.specs.Places.{given_to, HasWork}
+use Rattle.std.proofs.lemmas.List.{length-map}
+use Rattle.scq_rest.specs.Threads.{task, HasBegun, HasDone}
+use Rattle.scq_rest.specs.Places.{given_to, HasWork, IsUntouched}
 use Rattle.scq_rest.specs.declared.places.Runner.{Runner}
 use Rattle.scq_rest.specs.declared.threads.Work.{Work}
 use Rattle.scq_files.proofs.Lists.{written-back}
@@ -9,6 +10,34 @@ use Rattle.scq_rest.proofs.places.all_in.Goals as goal
 
 pub finish-requires-clause-begun : goal.finish-requires-clause-begun
 finish-requires-clause-begun g c κs within = c.produce.ensures.begun
+
+pub begin_all-requires-clause-ready : goal.begin_all-requires-clause-ready
+begin_all-requires-clause-ready g c κs within = c.requires.begins.0
+
+pub begin_all-requires-clause-given : goal.begin_all-requires-clause-given
+begin_all-requires-clause-given g c κs within = c.requires.begins.2
+
+pub produce-requires-clause-given : goal.produce-requires-clause-given
+produce-requires-clause-given g c κs within = c.requires.begins.1
+
+pub produce_all-requires-clause-stands : goal.produce_all-requires-clause-stands
+produce_all-requires-clause-stands g c κs within =
+    subst (All (HasWork IsUntouched c.args.queue.now c.args.job.now c.args.crew.now g.S.Source)) (sym c.as_mut_slice.ensures.value) c.begin_all.ensures.stands
+
+pub finish_all-requires-clause-stands : goal.finish_all-requires-clause-stands
+finish_all-requires-clause-stands g c κs within =
+    let first : List (Runner g.row.S.Denot) = c.begin_all.new.places.items in
+    let second : List (Runner g.row.S.Denot) = c.produce_all.new.places in
+    let long : length second ≡ c.begin_all.new.places.len = c.produce_all.auto.places ∙ c.as_mut_slice.ensures.len in
+    subst (All (HasWork HasBegun c.args.queue.now c.args.job.now c.args.crew.now g.S.Source))
+    (sym (c.as_mut_slice-2.ensures.value ∙ written-back c.begin_all.new.places.len second first long)) c.produce_all.ensures.stands
+
+-- they are as many as were given
+pub end_all-requires-clause-room : goal.end_all-requires-clause-room
+end_all-requires-clause-room g c κs within =
+    let many : length c.begin_all.new.places.items ≡ length c.args.given.items =
+    sym (length-map c.begin_all.new.places.items given_to) ∙ ap length c.begin_all.ensures.given in
+    omega (arith, many, c.begin_all.new.places.ok.0, c.args.given.ok.0, c.requires.begins.7)
 
 -- what was written back is all of them
 pub end_all-requires-clause-stands : goal.end_all-requires-clause-stands
