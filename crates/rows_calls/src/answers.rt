@@ -1,60 +1,70 @@
 //! Answers merged and written.
-ghost use Rattle.std.specs.Prelude.{◌≡◌, ◌≤◌, All, IfOk, length};
+ghost use Rattle.std.specs.Prelude.{◌≡◌, ◌≤◌, All, length};
 ghost use Rattle.scq_collect.specs.Merging.{members_of};
 
-use crate::given::{bytes_of, long, number, topics_of};
-use anyhow::{Context, Result, ensure};
+use crate::row::Row;
 use rows_text::field;
 use scq_collect::{Answers, Given, PartView, Way, Whole, merge, output};
 use scq_topics::{ReplyBytes, Topics};
-use std::alloc::Global;
+use scq_word::NoMemory;
 
-/// The reply whose bytes a text says.
-fn reply_of(alloc: Global, text: &str) -> Result<ReplyBytes> {
-    Ok(ReplyBytes::copy_of(alloc, &bytes_of(alloc, text)?)?)
+/// The number of a topic in field 2 that is declared, or the number behind the last.
+fn topic_of(row: &mut Row, topics: &Topics, given: &str) -> u32
+    ensures { result ≤ length topics.now }
+{
+    let topic = row.number(given, 2);
+    if topic > topics.len() {
+        row.fail();
+        return 0;
+    }
+    topic
 }
 
-/// Adds an answer to a part, whose topic is declared or the number behind the last:
-/// `FILE LINE TOPIC PART PARTS BYTES WAY NUMBER TEXT`, where the way is `taken` or `direct`.
-fn push_part(alloc: Global, topics: &Topics, given: &str, to: &mut Answers) -> Result<()>
+/// Adds an answer to a part: `FILE LINE TOPIC PART PARTS BYTES WAY NUMBER TEXT`, where the way is
+/// `taken` or `direct`.
+fn push_part(row: &mut Row, topics: &Topics, given: &str, to: &mut Answers)
     requires { All (λ a. a.topic ≤ length topics.now) to.old }
     ensures { All (λ a. a.topic ≤ length topics.now) to.new }
 {
-    let text = bytes_of(alloc, field(given, 8))?;
+    let text = row.bytes(field(given, 8));
+    let place = row.long(given, 7);
     let answer = PartView {
-        file: number(given, 0)?,
-        line: number(given, 1)?,
-        topic: number(given, 2)?,
-        part: number(given, 3)?,
-        parts: number(given, 4)?,
-        bytes: long(given, 5)?,
+        file: row.number(given, 0),
+        line: row.number(given, 1),
+        topic: topic_of(row, topics, given),
+        part: row.number(given, 3),
+        parts: row.number(given, 4),
+        bytes: row.long(given, 5),
         text: &text,
     };
-    ensure!(answer.topic <= topics.len(), "a topic");
-    let place = long(given, 7)?;
-    let way = match field(given, 6) {
+    let way = way_of(field(given, 6), place);
+    if to.push(Given { answer, way }).is_err() {
+        row.fail();
+    }
+}
+
+fn way_of(way: &str, place: u64) -> Way {
+    match way {
         "taken" => Way::Taken { place, number: 0 },
         _ => Way::Direct { head: place },
-    };
-    to.push(Given { answer, way })?;
-    Ok(())
+    }
 }
 
 /// The answers to parts of a text that has `,` between them.
-fn list_of(alloc: Global, topics: &Topics, given: &str) -> Result<Answers>
-    ensures { IfOk result (λ list. All (λ a. a.topic ≤ length topics.now) list) }
+fn list_of(row: &mut Row, topics: &Topics, given: &str) -> Answers
+    ensures { All (λ a. a.topic ≤ length topics.now) result }
 {
-    let mut list = Answers::new(alloc);
+    let mut list = Answers::new(row.alloc);
     for text in given.split(',') {
         if !text.is_empty() {
-            push_part(alloc, topics, text, &mut list)?;
+            push_part(row, topics, text, &mut list);
         }
     }
-    Ok(list)
+    list
 }
 
 /// Adds a list behind the others.
-fn push_list(topics: &Topics, lists: &mut Vec<Answers>, list: Answers) -> Result<()>
+fn push_list(topics: &Topics, lists: &mut Vec<Answers>, list: Answers) -> Result<(), NoMemory>
     requires list { All (λ a. a.topic ≤ length topics.now) list }
     requires lists { All (λ a. a.topic ≤ length topics.now) (members_of lists.old.items) }
     ensures { All (λ a. a.topic ≤ length topics.now) (members_of lists.new.items) }
@@ -65,70 +75,75 @@ fn push_list(topics: &Topics, lists: &mut Vec<Answers>, list: Answers) -> Result
 
 /// `TABLE LISTS`, lists with `/` between them: the answers to the messages whose parts stand in
 /// them.
-pub fn merged(alloc: Global, given: &str) -> Result<String> {
-    let (table, given) = given.split_once(' ').context("a table and lists")?;
-    let topics = topics_of(table)?;
-    let mut lists = Vec::new(alloc);
+pub fn merged(row: &mut Row, given: &str) {
+    let (table, given) = given.split_once(' ').unwrap_or((given, ""));
+    let topics = row.topics(table);
+    let mut lists = Vec::new(row.alloc);
     for part in given.split('/') {
-        let list = list_of(alloc, &topics, part)?;
-        push_list(&topics, &mut lists, list)?;
+        let list = list_of(row, &topics, part);
+        if push_list(&topics, &mut lists, list).is_err() {
+            row.fail();
+        }
     }
-    let mut text = String::new(alloc);
-    for whole in &merge(alloc, &topics, lists.as_slice())? {
-        text.push_str(text_of(alloc, whole)?.as_str())?;
+    match merge(row.alloc, &topics, lists.as_slice()) {
+        Ok(wholes) => put_wholes(row, &wholes),
+        Err(_) => row.fail(),
     }
-    Ok(text)
 }
 
-/// An answer to a message, `FILE LINE TOPIC BYTES REPLY`, and a comma.
-fn text_of(alloc: Global, whole: &Whole) -> Result<String> {
-    let reply = String::from_utf8_lossy(alloc, whole.reply.bytes())?;
-    let (file, line, topic, bytes) = (whole.file, whole.line, whole.topic, whole.bytes);
-    Ok(format!(in alloc; "{file} {line} {topic} {bytes} {reply},")?)
+/// Adds answers to messages, each `FILE LINE TOPIC BYTES REPLY`, and a comma.
+fn put_wholes(row: &mut Row, wholes: &[Whole]) {
+    for whole in wholes {
+        row.put_numbers(&[whole.file.into(), whole.line.into(), whole.topic.into()]);
+        row.put(" ");
+        row.put_value(&whole.bytes);
+        row.put(" ");
+        row.put_bytes(whole.reply.bytes());
+        row.put(",");
+    }
 }
 
-/// An answer to a message of this topic: `FILE LINE TOPIC BYTES REPLY`.
-fn whole_of(alloc: Global, topic: u32, text: &str) -> Result<Whole>
-    ensures { IfOk result (λ whole. whole.topic ≡ topic) }
-{
-    Ok(Whole {
-        file: number(text, 0)?,
-        line: number(text, 1)?,
-        topic,
-        bytes: long(text, 3)?,
-        reply: reply_of(alloc, field(text, 4))?,
-    })
-}
-
-/// Adds an answer to a message, whose topic is declared or the number behind the last.
-fn push_whole(alloc: Global, topics: &Topics, text: &str, to: &mut Vec<Whole>) -> Result<()>
+/// Adds an answer to a message: `FILE LINE TOPIC BYTES REPLY`.
+fn push_whole(row: &mut Row, topics: &Topics, text: &str, to: &mut Vec<Whole>)
     requires { All (λ a. a.topic ≤ length topics.now) to.old.items }
     ensures { All (λ a. a.topic ≤ length topics.now) to.new.items }
 {
-    let topic = number(text, 2)?;
-    ensure!(topic <= topics.len(), "a topic");
-    to.push(whole_of(alloc, topic, text)?)?;
-    Ok(())
+    let reply = row.bytes(field(text, 4));
+    let Ok(reply) = ReplyBytes::copy_of(row.alloc, &reply) else {
+        return row.fail();
+    };
+    let whole = Whole {
+        file: row.number(text, 0),
+        line: row.number(text, 1),
+        topic: topic_of(row, topics, text),
+        bytes: row.long(text, 3),
+        reply,
+    };
+    if to.push(whole).is_err() {
+        row.fail();
+    }
 }
 
 /// The answers to messages of a text that has `,` behind each.
-fn wholes_of(alloc: Global, topics: &Topics, given: &str) -> Result<Vec<Whole>>
-    ensures { IfOk result (λ wholes. All (λ a. a.topic ≤ length topics.now) wholes.items) }
+fn wholes_of(row: &mut Row, topics: &Topics, given: &str) -> Vec<Whole>
+    ensures { All (λ a. a.topic ≤ length topics.now) result.items }
 {
-    let mut wholes = Vec::new(alloc);
+    let mut wholes = Vec::new(row.alloc);
     for text in given.split(',') {
         if !text.is_empty() {
-            push_whole(alloc, topics, text, &mut wholes)?;
+            push_whole(row, topics, text, &mut wholes);
         }
     }
-    Ok(wholes)
+    wholes
 }
 
 /// `TABLE ANSWERS`, of answers to messages that have `,` behind each: their text.
-pub fn written(alloc: Global, given: &str) -> Result<String> {
-    let (table, answers) = given.split_once(' ').context("a table and answers")?;
-    let topics = topics_of(table)?;
-    let wholes = wholes_of(alloc, &topics, answers)?;
-    let text = output(alloc, &topics, wholes.as_slice())?;
-    Ok(String::from_utf8_lossy(alloc, text.bytes())?)
+pub fn written(row: &mut Row, given: &str) {
+    let (table, answers) = given.split_once(' ').unwrap_or((given, ""));
+    let topics = row.topics(table);
+    let wholes = wholes_of(row, &topics, answers);
+    match output(row.alloc, &topics, wholes.as_slice()) {
+        Ok(text) => row.put_bytes(text.bytes()),
+        Err(_) => row.fail(),
+    }
 }

@@ -1,50 +1,11 @@
 //! Buffers written through the loan that their trait gives, the frames of a block, and bytes that
 //! are copied.
-ghost use Rattle.std.specs.Prelude.{◌≡◌, length, refl};
-ghost use Rattle.std.proofs.Common.{sym, ◌∙◌};
-ghost use Rattle.std.specs.Vec.{with_items};
-ghost use Rattle.scq_word.specs.Written.{rewritten};
+ghost use Rattle.std.specs.Prelude.{◌≡◌, length};
 
-use anyhow::{Result, ensure};
+use crate::row::Row;
 use scq_block::{Block, Frame};
+use scq_queue::HeapBuffer;
 use scq_word::{Buffer, BufferMut, Bytes};
-use std::alloc::Global;
-
-/// Bytes on the heap, as the smallest buffer.
-#[derive(Drop)]
-struct Heap {
-    bytes: Vec<u8>,
-}
-
-impl Buffer for Heap {
-    ghost contents = { λ heap. heap.bytes.items };
-
-    ghost IsSameBuffer = { λ a b. length a.bytes.items ≡ length b.bytes.items };
-
-    ghost same_as_itself = { λ a. refl };
-
-    ghost same_back = { λ a b same. sym same };
-
-    ghost same_along = { λ a b c first second. first ∙ second };
-
-    ghost same_length = { λ a b same. same };
-
-    fn bytes(&self) -> &[u8] {
-        self.bytes.as_slice()
-    }
-}
-
-impl BufferMut for Heap {
-    ghost written = { λ heap bytes. record { bytes = with_items heap.bytes bytes } };
-
-    ghost written_bytes = { λ a b same. rewritten a.bytes.items b a.bytes.len a.bytes.ok.0 same };
-
-    ghost written_same = { λ a bytes. sym a.bytes.ok.0 ∙ (with_items a.bytes bytes).ok.0 };
-
-    fn bytes_mut(&mut self) -> &mut [u8] {
-        self.bytes.as_mut_slice()
-    }
-}
 
 /// What generic code knows of a buffer after a write through the loan.
 fn fill<B: BufferMut>(buffer: &mut B, from: &[u8])
@@ -56,56 +17,67 @@ fn fill<B: BufferMut>(buffer: &mut B, from: &[u8])
 }
 
 /// `BYTES`, which are two: what a buffer has before and after they are written.
-pub fn filled(alloc: Global, given: &str) -> Result<String> {
+pub fn filled(row: &mut Row, given: &str) {
     let bytes = given.as_bytes();
-    ensure!(bytes.len() == 2, "two bytes");
-    let mut heap = Heap {
-        bytes: vec![in alloc; 0; 2]?,
+    let Ok(mut buffer) = HeapBuffer::new(row.alloc, 2) else {
+        return row.fail();
     };
-    let before = hex::encode(alloc, heap.bytes())?;
-    fill(&mut heap, bytes);
-    let after = hex::encode(alloc, heap.bytes())?;
-    Ok(format!(in alloc; "{before} {after}")?)
+    if bytes.len() != 2 {
+        return row.fail();
+    }
+    row.put_hex(buffer.bytes());
+    row.put(" ");
+    fill(&mut buffer, bytes);
+    row.put_hex(buffer.bytes());
 }
 
 /// `BYTES`: a copy of them, and how many a vector of them has.
-pub fn copied(alloc: Global, given: &str) -> Result<String> {
-    let copy = Bytes::copy_of(alloc, given.as_bytes())?;
-    let shown = hex::encode(alloc, copy.bytes())?;
-    let vec: Vec<u8> = copy.into();
-    let len = Bytes::from(vec).bytes().len();
-    Ok(format!(in alloc; "{shown} {len}")?)
+pub fn copied(row: &mut Row, given: &str) {
+    match Bytes::copy_of(row.alloc, given.as_bytes()) {
+        Ok(copy) => {
+            row.put_hex(copy.bytes());
+            row.put(" ");
+            let vec: Vec<u8> = copy.into();
+            row.put_value(&Bytes::from(vec).bytes().len());
+        }
+        Err(_) => row.fail(),
+    }
 }
 
 /// Adds each frame's number and bytes.
-fn list(into: &mut String, alloc: Global, frames: &[Frame]) -> Result<()> {
+fn put_frames(row: &mut Row, frames: &[Frame]) {
     for frame in frames {
-        let (number, bytes) = (frame.number(), hex::encode(alloc, frame.bytes())?);
-        write!(into, "{number} {bytes};")?;
+        row.put_value(&frame.number());
+        row.put(" ");
+        row.put_hex(frame.bytes());
+        row.put(";");
     }
-    Ok(())
 }
 
 /// `BYTES`, which are two: three frames of two bytes, once the bytes are written into the first.
-pub fn carved(alloc: Global, given: &str) -> Result<String> {
+pub fn carved(row: &mut Row, given: &str) {
     let bytes = given.as_bytes();
-    ensure!(bytes.len() == 2, "two bytes");
-    let mut text = String::new(alloc);
-    let (block, mut frames) = Block::carve(alloc, 3, 2)?;
-    fill(&mut frames[0], bytes);
-    let listed = list(&mut text, alloc, &frames);
-    block.merge(frames);
-    listed?;
-    Ok(text)
+    if bytes.len() != 2 {
+        return row.fail();
+    }
+    match Block::carve(row.alloc, 3, 2) {
+        Ok((block, mut frames)) => {
+            fill(&mut frames[0], bytes);
+            put_frames(row, &frames);
+            block.merge(frames);
+        }
+        Err(_) => row.fail(),
+    }
 }
 
 /// Three frames of one byte, in the order in which they are merged: from the last on.
-pub fn reversed(alloc: Global) -> Result<String> {
-    let mut text = String::new(alloc);
-    let (block, mut frames) = Block::carve(alloc, 3, 1)?;
-    frames.reverse();
-    let listed = list(&mut text, alloc, &frames);
-    block.merge(frames);
-    listed?;
-    Ok(text)
+pub fn reversed(row: &mut Row) {
+    match Block::carve(row.alloc, 3, 1) {
+        Ok((block, mut frames)) => {
+            frames.reverse();
+            put_frames(row, &frames);
+            block.merge(frames);
+        }
+        Err(_) => row.fail(),
+    }
 }

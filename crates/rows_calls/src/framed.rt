@@ -1,14 +1,12 @@
 //! Messages framed from a source that gives its bytes in pieces, and messages as bytes.
 ghost use Rattle.std.specs.Prelude.{◌^◌, ◌≤◌, None};
 
-use crate::given::{bytes_of, long, number, topics_of};
-use anyhow::{Result, ensure};
+use crate::row::Row;
 use rows_text::field;
 use scq_frames::{Framer, Message, decode, encode, parts_of};
 use scq_outside::{Failed, Source};
 use scq_topics::Topics;
 use scq_word::Bytes;
-use std::alloc::Global;
 
 /// Gives its bytes in pieces of at most one size; none are visible. After so many reads one fails.
 #[derive(Drop)]
@@ -54,87 +52,107 @@ struct Limits {
 
 /// `TOPICS SIZE MOST PIECE READS TEXT`, where 0 reads are as many as there are and `-` is no topic:
 /// each message with its file, its line, its topic and its payload, and then how the framer ended.
-pub fn framed(alloc: Global, given: &str) -> Result<String> {
-    let topics = topics_of(field(given, 0))?;
+pub fn framed(row: &mut Row, given: &str) {
+    let topics = row.topics(field(given, 0));
     let limits = Limits {
-        size: number(given, 1)?,
-        most: long(given, 2)?.min(1 << 30),
+        size: row.number(given, 1),
+        most: row.long(given, 2).min(1 << 30),
     };
-    let reads = long(given, 4)?;
-    let text = bytes_of(alloc, field(given, 5))?;
+    let reads = row.long(given, 4);
+    let text = row.bytes(field(given, 5));
     let source = Pieces {
         rest: text.as_slice(),
-        size: number(given, 3)? as usize,
+        size: row.number(given, 3) as usize,
         reads: if reads == 0 { u64::MAX } else { reads - 1 },
         faults: 0,
         ends: 0,
     };
-    listed(alloc, &topics, &limits, source)
+    put_framed(row, &topics, &limits, source);
 }
 
-fn listed(
-    alloc: Global,
-    topics: &Topics,
-    limits: &Limits,
-    mut source: Pieces<'_>,
-) -> Result<String> {
-    let mut framer = Framer::new(alloc, 7, limits.size, limits.most)?;
-    let mut out = String::new(alloc);
+/// Adds the messages that a framer gives, and how it ends.
+fn put_framed(row: &mut Row, topics: &Topics, limits: &Limits, mut source: Pieces<'_>) {
+    let Ok(mut framer) = Framer::new(row.alloc, 7, limits.size, limits.most) else {
+        return row.fail();
+    };
     for _ in 0..100u32 {
-        if framer.failed() {
+        if !put_next(row, &mut framer, topics, &mut source) {
             break;
         }
-        match framer.next(topics, &mut source) {
-            Ok(Some(message)) => out.push_str(&message_text(alloc, &message)?)?,
-            Ok(None) => {
-                out.push_str("end")?;
-                break;
-            }
-            Err(fault) => write!(out, "{fault:?}")?,
-        }
     }
-    Ok(out)
 }
 
-fn message_text(alloc: Global, message: &Message) -> Result<String> {
-    let (file, line, topic) = (message.file, message.line, message.topic);
-    let text = String::from_utf8_lossy(alloc, message.payload.bytes())?;
-    Ok(format!(in alloc; "{file}:{line} {topic} {text};")?)
+/// Adds the next message or fault, and tells whether more may come.
+fn put_next(row: &mut Row, framer: &mut Framer, topics: &Topics, source: &mut Pieces<'_>) -> bool {
+    if framer.failed() {
+        return false;
+    }
+    match framer.next(topics, source) {
+        Ok(Some(message)) => put_message(row, &message),
+        Ok(None) => {
+            row.put("end");
+            return false;
+        }
+        Err(fault) => row.put_debug(&fault),
+    }
+    true
+}
+
+fn put_message(row: &mut Row, message: &Message) {
+    row.put_value(&message.file);
+    row.put(":");
+    row.put_numbers(&[message.line.into(), message.topic.into()]);
+    row.put(" ");
+    row.put_bytes(message.payload.bytes());
+    row.put(";");
 }
 
 /// `FILE LINE TOPIC SIZE PART PAYLOAD`: the bytes of the message's part in a room of 32.
-pub fn encoded(alloc: Global, given: &str) -> Result<String> {
-    let size = number(given, 3)?;
-    let part = number(given, 4)?;
-    let payload = field(given, 5).as_bytes();
-    ensure!(payload.len() <= 8, "a short payload");
-    let message = Message {
-        file: number(given, 0)?,
-        line: number(given, 1)?,
-        topic: number(given, 2)?,
-        payload: Bytes::copy_of(alloc, payload)?,
-    };
-    ensure!(0 < size, "a size");
-    ensure!(
-        0 < part && part <= parts_of(&message, size),
-        "one of the parts"
+pub fn encoded(row: &mut Row, given: &str) {
+    let (file, line, topic) = (
+        row.number(given, 0),
+        row.number(given, 1),
+        row.number(given, 2),
     );
+    match Bytes::copy_of(row.alloc, field(given, 5).as_bytes()) {
+        Ok(payload) => put_encoded(
+            row,
+            given,
+            &Message {
+                file,
+                line,
+                topic,
+                payload,
+            },
+        ),
+        Err(_) => row.fail(),
+    }
+}
+
+fn put_encoded(row: &mut Row, given: &str, message: &Message) {
+    let (size, part) = (row.number(given, 3), row.number(given, 4));
+    if message.payload.bytes().len() > 8 || size == 0 {
+        return row.fail();
+    }
+    if part == 0 || part > parts_of(message, size) {
+        return row.fail();
+    }
     let mut bytes = [9u8; 32];
-    encode(&message, size, part, &mut bytes);
-    Ok(hex::encode(alloc, bytes)?)
+    encode(message, size, part, &mut bytes);
+    row.put_hex(&bytes);
 }
 
 /// `BYTES`: the part that they begin with.
-pub fn decoded(alloc: Global, given: &str) -> Result<String> {
-    let bytes = bytes_of(alloc, given)?;
-    let shown = match decode(bytes.as_slice()) {
+pub fn decoded(row: &mut Row, given: &str) {
+    let bytes = row.bytes(given);
+    match decode(bytes.as_slice()) {
         Some(view) => {
-            let payload = String::from_utf8_lossy(alloc, view.payload)?;
-            let (file, line, topic) = (view.file, view.line, view.topic);
-            let (part, parts) = (view.part, view.parts);
-            format!(in alloc; "{file} {line} {topic} {part} {parts} {payload}")
+            row.put_numbers(&[view.file.into(), view.line.into(), view.topic.into()]);
+            row.put(" ");
+            row.put_numbers(&[view.part.into(), view.parts.into()]);
+            row.put(" ");
+            row.put_bytes(view.payload);
         }
-        None => format!(in alloc; "none"),
-    };
-    Ok(shown?)
+        None => row.put("none"),
+    }
 }

@@ -1,12 +1,13 @@
 //! Histories as text, of queues whose contents are words: `opening X`, `start S put Q X`, `start S
 //! get Q`, `end S done`, `end S got o J X`, `end S got S2 N X`, `end S nothing`, `end S spent`,
 //! with a semicolon between them.
+ghost use Rattle.scq_hist.specs.Aspects.{IsLawful};
 
-use anyhow::{Context, Result};
+use crate::row::Row;
+use rows_text::field;
 use scq_check::first_unlawful;
 use scq_hist::{Call, Event, PutName, Reply, empty_right, fresh, in_order, lawful_calls, once};
-use scq_word::Bytes;
-use std::alloc::Global;
+use scq_word::{Bytes, NoMemory};
 
 /// The opening tokens of a text, and its events.
 #[derive(Drop)]
@@ -16,103 +17,111 @@ struct History {
 }
 
 impl History {
-    /// Each event is a copy, so that copies are judged too.
-    fn read(alloc: Global, text: &str) -> Result<History> {
-        let mut opening = Vec::new(alloc);
-        let mut events = Vec::new(alloc);
+    fn read(row: &mut Row, text: &str) -> History {
+        let mut history = History {
+            opening: Vec::new(row.alloc),
+            events: Vec::new(row.alloc),
+        };
         for part in text.split(';') {
-            let line = part.trim();
-            if let Some(token) = line.strip_prefix("opening ") {
-                opening.push(Bytes::copy_of(alloc, token.as_bytes())?)?;
-            } else if !line.is_empty() {
-                events.push(event_of(alloc, line)?.copy(alloc)?)?;
+            if history.add(row, part.trim()).is_err() {
+                row.fail();
             }
         }
-        Ok(History { opening, events })
+        history
+    }
+
+    /// Adds what a part says. Each event is a copy, so that copies are judged too.
+    fn add(&mut self, row: &mut Row, part: &str) -> Result<(), NoMemory> {
+        if let Some(token) = part.strip_prefix("opening ") {
+            let token = Bytes::copy_of(row.alloc, token.as_bytes())?;
+            self.opening.push(token)?;
+        } else if !part.is_empty() {
+            let event = event_of(row, part)?;
+            self.events.push(event.copy(row.alloc)?)?;
+        }
+        Ok(())
     }
 }
 
-/// A word of a line.
-fn word(line: &str, number: usize) -> Result<&str> {
-    Ok(line.split(' ').nth(number).context("a word of an event")?)
-}
-
-fn event_of(alloc: Global, line: &str) -> Result<Event> {
-    let seat = word(line, 1)?.parse::<u32>()?;
-    Ok(if word(line, 0)? == "start" {
-        let call = call_of(alloc, line)?;
+fn event_of(row: &mut Row, part: &str) -> Result<Event, NoMemory> {
+    let seat = row.number(part, 1);
+    Ok(if field(part, 0) == "start" {
+        let call = call_of(row, part)?;
         Event::Start { seat, call }
     } else {
-        let reply = reply_of(alloc, line)?;
+        let reply = reply_of(row, part)?;
         Event::End { seat, reply }
     })
 }
 
-fn call_of(alloc: Global, line: &str) -> Result<Call> {
-    let queue = word(line, 3)?.parse::<u32>()?;
-    Ok(if word(line, 2)? == "put" {
-        let content = Bytes::copy_of(alloc, word(line, 4)?.as_bytes())?;
+fn call_of(row: &mut Row, part: &str) -> Result<Call, NoMemory> {
+    let queue = row.number(part, 3);
+    Ok(if field(part, 2) == "put" {
+        let content = Bytes::copy_of(row.alloc, field(part, 4).as_bytes())?;
         Call::Put { queue, content }
     } else {
         Call::Get { queue }
     })
 }
 
-fn reply_of(alloc: Global, line: &str) -> Result<Reply> {
-    Ok(match word(line, 2)? {
+fn reply_of(row: &mut Row, part: &str) -> Result<Reply, NoMemory> {
+    Ok(match field(part, 2) {
         "done" => Reply::Done,
         "nothing" => Reply::Nothing,
         "spent" => Reply::Spent,
         _ => {
-            let name = name_of(word(line, 3)?, word(line, 4)?)?;
-            let content = Bytes::copy_of(alloc, word(line, 5)?.as_bytes())?;
+            let name = name_of(row, part);
+            let content = Bytes::copy_of(row.alloc, field(part, 5).as_bytes())?;
             Reply::Got { name, content }
         }
     })
 }
 
-fn name_of(seat: &str, number: &str) -> Result<PutName> {
-    Ok(if seat == "o" {
-        PutName::Opening {
-            number: number.parse::<u32>()?,
-        }
+fn name_of(row: &mut Row, part: &str) -> PutName {
+    if field(part, 3) == "o" {
+        let number = row.number(part, 4);
+        PutName::Opening { number }
     } else {
-        PutName::Of {
-            seat: seat.parse::<u32>()?,
-            number: number.parse::<u64>()?,
-        }
-    })
+        let seat = row.number(part, 3);
+        let number = row.long(part, 4);
+        PutName::Of { seat, number }
+    }
 }
 
 /// `EVENTS`: which of the aspects a history breaks; of one that isn't lawful the others are not
 /// judged.
-pub fn broken(alloc: Global, given: &str) -> Result<String> {
-    let History { opening, events } = History::read(alloc, given)?;
-    let mut text = String::new(alloc);
-    if !lawful_calls(&events) {
-        text.push_str(" lawful")?;
-        return Ok(text);
+pub fn broken(row: &mut Row, given: &str) {
+    let history = History::read(row, given);
+    if lawful_calls(&history.events) {
+        put_broken(row, &history.opening, &history.events);
+    } else {
+        row.put(" lawful");
     }
-    if !fresh(&opening, &events) {
-        text.push_str(" fresh")?;
+}
+
+/// Adds which of the aspects a lawful history breaks.
+fn put_broken(row: &mut Row, opening: &[Bytes], events: &[Event])
+    requires { IsLawful events.now }
+{
+    if !fresh(opening, events) {
+        row.put(" fresh");
     }
-    if !once(&events) {
-        text.push_str(" once")?;
+    if !once(events) {
+        row.put(" once");
     }
-    if !in_order(&opening, &events) {
-        text.push_str(" in_order")?;
+    if !in_order(opening, events) {
+        row.put(" in_order");
     }
-    if !empty_right(&opening, &events) {
-        text.push_str(" empty_right")?;
+    if !empty_right(opening, events) {
+        row.put(" empty_right");
     }
-    Ok(text)
 }
 
 /// `EVENTS`: the first event, counted from 0, that is out of place.
-pub fn first_out_of_place(alloc: Global, given: &str) -> Result<String> {
-    let History { opening: _, events } = History::read(alloc, given)?;
-    Ok(match first_unlawful(alloc, &events)? {
-        Some(event) => format!(in alloc; "{event}")?,
-        None => String::from_str(alloc, "none")?,
-    })
+pub fn first_out_of_place(row: &mut Row, given: &str) {
+    let history = History::read(row, given);
+    match first_unlawful(row.alloc, &history.events) {
+        Ok(event) => row.put_or_none(event),
+        Err(_) => row.fail(),
+    }
 }

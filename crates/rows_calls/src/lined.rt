@@ -1,68 +1,54 @@
 //! Lines of texts, fields of lines, and what fields say.
 
-use crate::given::{bytes_of, number};
-use anyhow::Result;
+use crate::row::Row;
 use rows_text::field;
-use scq_lines::{content, first_field, next_field, next_line, number as number_said, number_below};
-use std::alloc::Global;
+use scq_lines::{content, first_field, next_field, next_line, number, number_below};
 
 /// `TEXT`: the first line and what follows its LF.
-pub fn first_line(alloc: Global, given: &str) -> Result<String> {
-    let text = bytes_of(alloc, given)?;
-    let shown = match next_line(text.as_slice()) {
+pub fn first_line(row: &mut Row, given: &str) {
+    let text = row.bytes(given);
+    match next_line(text.as_slice()) {
         Some((line, rest)) => {
-            let line = hex::encode(alloc, line)?;
-            let rest = hex::encode(alloc, rest)?;
-            format!(in alloc; "{line}:{rest}")
+            row.put_hex(line);
+            row.put(":");
+            row.put_hex(rest);
         }
-        None => format!(in alloc; "none"),
-    };
-    Ok(shown?)
+        None => row.put("none"),
+    }
 }
 
 /// `LINE`: the first field and the second.
-pub fn fields(alloc: Global, given: &str) -> Result<String> {
-    let line = bytes_of(alloc, given)?;
+pub fn fields(row: &mut Row, given: &str) {
+    let line = row.bytes(given);
     let (first, rest) = first_field(line.as_slice());
-    let first = hex::encode(alloc, first)?;
-    let shown = match next_field(rest) {
-        Some((second, _)) => {
-            let second = hex::encode(alloc, second)?;
-            format!(in alloc; "{first}:{second}")
-        }
-        None => format!(in alloc; "{first}:none"),
-    };
-    Ok(shown?)
+    row.put_hex(first);
+    row.put(":");
+    match next_field(rest) {
+        Some((second, _)) => row.put_hex(second),
+        None => row.put("none"),
+    }
 }
 
 /// `FIELD`: the number that it says.
-pub fn number_in(alloc: Global, given: &str) -> Result<String> {
-    let text = bytes_of(alloc, given)?;
-    let shown = match number_said(text.as_slice()) {
-        Some(number) => format!(in alloc; "{number}"),
-        None => format!(in alloc; "none"),
-    };
-    Ok(shown?)
+pub fn number_in(row: &mut Row, given: &str) {
+    let text = row.bytes(given);
+    row.put_or_none(number(text.as_slice()));
 }
 
 /// `BOUND FIELD`: the number that it says below the bound.
-pub fn below(alloc: Global, given: &str) -> Result<String> {
-    let bound = number(given, 0)?;
-    let shown = match number_below(bound, field(given, 1).as_bytes()) {
-        Some(number) => format!(in alloc; "{number}"),
-        None => format!(in alloc; "none"),
-    };
-    Ok(shown?)
+pub fn below(row: &mut Row, given: &str) {
+    let bound = row.number(given, 0);
+    row.put_or_none(number_below(bound, field(given, 1).as_bytes()));
 }
 
 /// `FIELD`: the content of at most two bytes that it says.
-pub fn content_in(alloc: Global, given: &str) -> Result<String> {
-    let shown = match content(alloc, 2, given.as_bytes())? {
-        Some(content) => {
-            let bytes = hex::encode(alloc, content.bytes())?;
-            format!(in alloc; "x{bytes}")
+pub fn content_in(row: &mut Row, given: &str) {
+    match content(row.alloc, 2, given.as_bytes()) {
+        Ok(Some(content)) => {
+            row.put("x");
+            row.put_hex(content.bytes());
         }
-        None => format!(in alloc; "none"),
-    };
-    Ok(shown?)
+        Ok(None) => row.put("none"),
+        Err(_) => row.fail(),
+    }
 }

@@ -9,43 +9,62 @@ mod calls;
 mod entries;
 mod faults;
 mod framed;
-mod given;
 mod histories;
 mod lined;
 mod outside;
+mod row;
 mod runs;
 mod staged;
 mod topical;
 mod worded;
 
-use anyhow::Result;
+use anyhow::{Context, Result};
 use calls::Libraries;
-use outside::{on_disk, on_stream, whole_on_disk};
+use outside::{on_stream, put_file, put_whole};
+use row::Row;
 use rows_text::run_rows;
 use scq_outside::StdStream;
 use std::{env, fs};
 
 fn main(rt: HostRuntime) -> Result<()> {
     for name in env::args(&rt)?.skip(1) {
-        let text = fs::read_to_string(&rt, &name)?;
-        let rows = run_rows(&rt, rt.alloc(), &Libraries, &name, &text)?;
-        println!(rt; "{name}: {rows} rows")?;
+        run_file(&rt, &name)?;
     }
     // A name is taken as it stands, with the spaces at its ends.
-    for name in ["outside.txt", " outside "] {
-        let given = on_disk(&rt, rt.stdin(), rt.alloc(), name)?;
-        println!(rt; "file: {given:?}")?;
-    }
-    for bytes in [4096, 10_000] {
-        let given = whole_on_disk(&rt, rt.stdin(), rt.alloc(), bytes)?;
-        println!(rt; "file of {bytes} bytes: {given}")?;
-    }
-    for stream in [
-        StdStream::Output(rt.stdout()),
-        StdStream::Errors(rt.stderr()),
-    ] {
-        let taken = on_stream(&rt, rt.alloc(), stream)?;
-        println!(rt; "stream: {taken}")?;
-    }
+    read_file(&rt, "outside.txt")?;
+    read_file(&rt, " outside ")?;
+    read_whole(&rt, 4096)?;
+    read_whole(&rt, 10_000)?;
+    write_stream(&rt, StdStream::Output(rt.stdout()))?;
+    write_stream(&rt, StdStream::Errors(rt.stderr()))
+}
+
+/// Runs the rows of a file.
+fn run_file(rt: &HostRuntime, name: &str) -> Result<()> {
+    let text = fs::read_to_string(rt, name)?;
+    let rows = run_rows(rt, rt.alloc(), &Libraries, name, &text)?;
+    println!(rt; "{name}: {rows} rows")?;
+    Ok(())
+}
+
+fn read_file(rt: &HostRuntime, name: &str) -> Result<()> {
+    let mut row = Row::new(rt.alloc());
+    put_file(&mut row, rt, rt.stdin(), name);
+    let given = row.answer().context("a file of the system")?;
+    println!(rt; "file: {given:?}")?;
+    Ok(())
+}
+
+fn read_whole(rt: &HostRuntime, bytes: u32) -> Result<()> {
+    let mut row = Row::new(rt.alloc());
+    put_whole(&mut row, rt, rt.stdin(), bytes);
+    let given = row.answer().context("a file of the system")?;
+    println!(rt; "file of {bytes} bytes: {given}")?;
+    Ok(())
+}
+
+fn write_stream(rt: &HostRuntime, stream: StdStream) -> Result<()> {
+    let (taken, bytes) = on_stream(rt, stream);
+    println!(rt; "stream: {taken}, {bytes} bytes")?;
     Ok(())
 }

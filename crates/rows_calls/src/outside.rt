@@ -1,86 +1,106 @@
 //! Sources, sinks and files, in memory and of the system.
-ghost use Rattle.std.specs.Prelude.{◌≡◌, IfOk};
+ghost use Rattle.std.specs.Prelude.{◌≡◌, ◌<◌, IfOk, length};
 
-use crate::given::{bytes_of, number};
-use anyhow::{Context, Result, anyhow, ensure};
+use crate::row::Row;
 use rows_text::field;
 use scq_outside::{
     DiskFiles, Failed, Files, MemFiles, MemSink, MemSource, PlainSource, Sink, Source, StdSink,
     StdStream,
 };
+use scq_word::NoMemory;
 use sha2::{Digest, Sha256};
 use std::alloc::{AllocError, Global};
 use std::fs::{self, File};
 use std::io::{self, Write};
 use std::rt::{self, Stdin};
 
-/// What so many reads of at most so many bytes give, up to the end.
-fn read_of<S: Source>(alloc: Global, source: &mut S, most: usize, reads: u32) -> Result<String> {
-    ensure!(0 < most, "a piece");
-    let mut into = vec![in alloc; 0; most]?;
-    let mut text = String::new(alloc);
+/// Adds what so many reads of at most so many bytes give, up to the end.
+fn put_reads<S: Source>(row: &mut Row, source: &mut S, most: u32, reads: u32) {
+    let Ok(mut into) = vec![in row.alloc; 0; most as usize] else {
+        return row.fail();
+    };
     for _ in 0..reads {
-        match source.read(&mut into) {
-            Ok(0) => {
-                text.push_str("end")?;
-                break;
-            }
-            Ok(count) => text.push_str(&piece_of(alloc, &into, count)?)?,
-            Err(Failed) => text.push_str("failed;")?,
+        if !put_read(row, source, &mut into) {
+            break;
         }
     }
-    Ok(text)
 }
 
-/// The first so many bytes, and a semicolon.
-fn piece_of(alloc: Global, bytes: &[u8], count: usize) -> Result<String> {
-    let piece = bytes.get(..count).context("no more than was asked for")?;
-    let piece = String::from_utf8_lossy(alloc, piece)?;
-    Ok(format!(in alloc; "{piece};")?)
+/// Adds what a read gives, and tells whether it isn't the end.
+fn put_read<S: Source>(row: &mut Row, source: &mut S, into: &mut [u8]) -> bool {
+    if into.is_empty() {
+        row.fail();
+        return false;
+    }
+    match source.read(into) {
+        Ok(0) => {
+            row.put("end");
+            return false;
+        }
+        Ok(count) => put_piece(row, into, count),
+        Err(Failed) => row.put("failed;"),
+    }
+    true
+}
+
+/// Adds the first so many bytes, and a semicolon.
+fn put_piece(row: &mut Row, bytes: &[u8], count: usize) {
+    match bytes.get(..count) {
+        Some(piece) => row.put_bytes(piece),
+        None => row.fail(),
+    }
+    row.put(";");
 }
 
 /// `MOST TEXT`: the reads of a plain source.
-pub fn plain(alloc: Global, given: &str) -> Result<String> {
-    let most = number(given, 0)? as usize;
-    let text = bytes_of(alloc, field(given, 1))?;
-    read_of(alloc, &mut PlainSource::new(text), most, 9)
+pub fn plain(row: &mut Row, given: &str) {
+    let most = row.number(given, 0);
+    let text = row.bytes(field(given, 1));
+    put_reads(row, &mut PlainSource::new(text), most, 9);
 }
 
 /// `MOST TEXT`: the reads of a source that gives at most 2, 9, 1 and 4 bytes at first, and whose
 /// reads 2 and 5 fail.
-pub fn told(alloc: Global, given: &str) -> Result<String> {
-    let most = number(given, 0)? as usize;
-    let text = bytes_of(alloc, field(given, 1))?;
-    let pieces = vec![in alloc; 2, 9, 1, 4]?;
-    let fails = vec![in alloc; 5, 2]?;
-    read_of(alloc, &mut MemSource::new(text, pieces, fails), most, 9)
+pub fn told(row: &mut Row, given: &str) {
+    let most = row.number(given, 0);
+    let text = row.bytes(field(given, 1));
+    let (Ok(pieces), Ok(fails)) = (vec![in row.alloc; 2, 9, 1, 4], vec![in row.alloc; 5, 2]) else {
+        return row.fail();
+    };
+    put_reads(row, &mut MemSource::new(text, pieces, fails), most, 9);
 }
 
 /// Adds how many bytes of a piece a sink takes.
-fn put<S: Sink>(into: &mut String, sink: &mut S, piece: &str) -> Result<()> {
-    let piece = piece.as_bytes();
-    ensure!(!piece.is_empty(), "a piece");
-    match sink.write(piece) {
-        Ok(count) => write!(into, "{count};")?,
-        Err(Failed) => into.push_str("failed;")?,
+fn put_taken<S: Sink>(row: &mut Row, sink: &mut S, piece: &str) {
+    if piece.is_empty() {
+        return row.fail();
     }
-    Ok(())
+    match sink.write(piece.as_bytes()) {
+        Ok(count) => {
+            row.put_value(&count);
+            row.put(";");
+        }
+        Err(Failed) => row.put("failed;"),
+    }
+}
+
+/// A sink with so much room, whose first write takes at most 2 bytes and whose second fails.
+fn sink_of(alloc: Global, room: u32) -> Result<MemSink, NoMemory> {
+    let pieces = vec![in alloc; 2]?;
+    let fails = vec![in alloc; 2]?;
+    MemSink::new(alloc, u64::from(room), pieces, fails)
 }
 
 /// `ROOM PIECE ..`: how many bytes of each piece a sink takes whose first write takes at most 2 and
 /// whose second fails; and what it has.
-pub fn taken(alloc: Global, given: &str) -> Result<String> {
-    let room = number(given, 0)?;
-    let pieces = vec![in alloc; 2]?;
-    let fails = vec![in alloc; 2]?;
-    let mut sink = MemSink::new(alloc, u64::from(room), pieces, fails)?;
-    let mut text = String::new(alloc);
+pub fn taken(row: &mut Row, given: &str) {
+    let Ok(mut sink) = sink_of(row.alloc, row.number(given, 0)) else {
+        return row.fail();
+    };
     for piece in given.split(' ').skip(1) {
-        put(&mut text, &mut sink, piece)?;
+        put_taken(row, &mut sink, piece);
     }
-    let bytes = String::from_utf8_lossy(alloc, sink.bytes())?;
-    text.push_str(&bytes)?;
-    Ok(text)
+    row.put_bytes(sink.bytes());
 }
 
 fn source_of(alloc: Global, text: &str) -> Result<MemSource, AllocError>
@@ -90,27 +110,32 @@ fn source_of(alloc: Global, text: &str) -> Result<MemSource, AllocError>
     Ok(MemSource::new(bytes, Vec::new(alloc), Vec::new(alloc)))
 }
 
+/// Files in memory that are named `f` and `g` and have their names.
+fn files_of(alloc: Global) -> Result<MemFiles, NoMemory> {
+    let mut files = MemFiles::new(alloc);
+    files.add("f", source_of(alloc, "f")?)?;
+    files.add("g", source_of(alloc, "g")?)?;
+    Ok(files)
+}
+
 /// Adds what the source of a name gives, by reads of three bytes.
-fn open<F: Files>(alloc: Global, into: &mut String, files: &mut F, name: &str) -> Result<()> {
+fn open<F: Files>(row: &mut Row, files: &mut F, name: &str) {
     match files.source(name) {
-        Ok(mut source) => into.push_str(&read_of(alloc, &mut source, 3, 3)?)?,
-        Err(Failed) => into.push_str("none")?,
+        Ok(mut source) => put_reads(row, &mut source, 3, 3),
+        Err(Failed) => row.put("none"),
     }
-    into.push_str(" ")?;
-    Ok(())
+    row.put(" ");
 }
 
 /// `NAME ..`: what comes of each name, of files in memory that are named `f` and `g` and have their
 /// names.
-pub fn opened(alloc: Global, given: &str) -> Result<String> {
-    let mut files = MemFiles::new(alloc);
-    files.add("f", source_of(alloc, "f")?)?;
-    files.add("g", source_of(alloc, "g")?)?;
-    let mut text = String::new(alloc);
+pub fn opened(row: &mut Row, given: &str) {
+    let Ok(mut files) = files_of(row.alloc) else {
+        return row.fail();
+    };
     for name in given.split(' ') {
-        open(alloc, &mut text, &mut files, name)?;
+        open(row, &mut files, name);
     }
-    Ok(text)
 }
 
 /// A stream that takes at most so many bytes at a time, and fails where that is none.
@@ -133,70 +158,78 @@ impl Write for Narrow {
 }
 
 /// `MOST PIECE`: how many bytes of a piece a stream takes that takes at most so many.
-pub fn streamed(alloc: Global, given: &str) -> Result<String> {
-    let most = number(given, 0)? as usize;
-    let mut text = String::new(alloc);
-    put(
-        &mut text,
-        &mut StdSink::new(Narrow { most }),
-        field(given, 1),
-    )?;
-    Ok(text)
+pub fn streamed(row: &mut Row, given: &str) {
+    let most = row.number(given, 0) as usize;
+    put_taken(row, &mut StdSink::new(Narrow { most }), field(given, 1));
 }
 
-/// How many bytes each read gives, of at most 4,096 up to the end, and the digest of all.
-fn pieces_of<S: Source>(alloc: Global, source: &mut S) -> Result<String> {
-    let mut text = String::new(alloc);
-    let mut digest = Sha256::new();
-    let mut into = vec![in alloc; 0; 4096]?;
-    for _ in 0..9u32 {
-        let count = match source.read(&mut into) {
-            Ok(0) => break,
-            Ok(count) => count,
-            Err(Failed) => return Err(anyhow!("a read failed")),
-        };
-        write!(text, "{count};")?;
-        digest.update(into.get(..count).context("no more than was asked for")?);
-    }
-    text.push_str(&hex::encode(alloc, digest.finalize())?)?;
-    Ok(text)
-}
-
-/// What the reads of a file of the system give that has the numbers from 0 up, so many, modulo 251.
-pub fn whole_on_disk<R: rt::Files<File = File>>(
-    system: &R,
-    stdin: Stdin,
-    alloc: Global,
-    bytes: u32,
-) -> Result<String> {
-    let name = "whole.txt";
-    let mut content = Vec::new(alloc);
-    for number in 0..bytes {
-        content.push((number % 251) as u8)?;
-    }
-    fs::write(system, name, content.as_slice())?;
-    let said = match DiskFiles::new(system, stdin).source(name) {
-        Ok(mut source) => pieces_of(alloc, &mut source)?,
-        Err(Failed) => String::from_str(alloc, "none")?,
+/// Adds how many bytes each read gives, of at most 4,096 up to the end, and the digest of all.
+fn put_digest<S: Source>(row: &mut Row, source: &mut S) {
+    let Ok(mut into) = vec![in row.alloc; 0; 4096] else {
+        return row.fail();
     };
-    fs::remove_file(system, name)?;
-    Ok(said)
+    let mut digest = Sha256::new();
+    for _ in 0..9u32 {
+        match source.read(&mut into) {
+            Ok(0) => break,
+            Ok(count) => put_count(row, &mut digest, &into, count),
+            Err(Failed) => row.fail(),
+        }
+    }
+    row.put_hex(&digest.finalize());
+}
+
+/// Adds how many bytes a read gave, and to a digest these bytes.
+fn put_count(row: &mut Row, digest: &mut Sha256, bytes: &[u8], count: usize) {
+    row.put_value(&count);
+    row.put(";");
+    match bytes.get(..count) {
+        Some(piece) => digest.update(piece),
+        None => row.fail(),
+    }
+}
+
+/// The numbers from 0 up, so many, modulo 251.
+fn content_of(row: &mut Row, bytes: u32) -> Vec<u8> {
+    let mut content = Vec::new(row.alloc);
+    for number in 0..bytes {
+        if content.push((number % 251) as u8).is_err() {
+            row.fail();
+        }
+    }
+    content
+}
+
+/// Adds what the reads of a file of the system give that has the numbers from 0 up, so many, modulo
+/// 251.
+pub fn put_whole<R: rt::Files<File = File>>(row: &mut Row, system: &R, stdin: Stdin, bytes: u32) {
+    let name = "whole.txt";
+    let content = content_of(row, bytes);
+    if fs::write(system, name, content.as_slice()).is_err() {
+        row.fail();
+    }
+    match DiskFiles::new(system, stdin).source(name) {
+        Ok(mut source) => put_digest(row, &mut source),
+        Err(Failed) => row.put("none"),
+    }
+    if fs::remove_file(system, name).is_err() {
+        row.fail();
+    }
 }
 
 /// How many bytes the program has written to files and streams, where the system tells.
 fn written_so_far<R: rt::Files<File = File> + AllocGlobal>(system: &R) -> Option<u64> {
     let told = fs::read_to_string(system, "/proc/self/io").ok()?;
-    let line = told.lines().find(|line| line.starts_with("wchar: "))?;
-    line.strip_prefix("wchar: ")?.parse().ok()
+    let (_, written) = told.split_once("\nwchar: ")?;
+    written.lines().next()?.parse().ok()
 }
 
 /// Whether a stream of the system took a piece of six bytes; and how many were written, six also
 /// where the system doesn't tell.
 pub fn on_stream<R: rt::Files<File = File> + AllocGlobal>(
     system: &R,
-    alloc: Global,
     stream: StdStream,
-) -> Result<String> {
+) -> (bool, u64) {
     let before = written_so_far(system);
     let taken = StdSink::new(stream).write(b"taken\n").is_ok();
     let after = written_so_far(system);
@@ -204,24 +237,21 @@ pub fn on_stream<R: rt::Files<File = File> + AllocGlobal>(
         (Some(before), Some(after)) => after.saturating_sub(before),
         _ => 6,
     };
-    Ok(format!(in alloc; "{taken}, {written} bytes")?)
+    (taken, written)
 }
 
-/// What a file of the system of this name gives that has `a b` and an LF, and what comes of its
-/// name when it is gone.
-pub fn on_disk<R: rt::Files<File = File>>(
-    system: &R,
-    stdin: Stdin,
-    alloc: Global,
-    name: &str,
-) -> Result<String> {
+/// Adds what a file of the system of this name gives that has `a b` and an LF, and what comes of
+/// its name when it is gone.
+pub fn put_file<R: rt::Files<File = File>>(row: &mut Row, system: &R, stdin: Stdin, name: &str) {
     let mut files = DiskFiles::new(system, stdin);
-    let mut text = String::new(alloc);
-    fs::write(system, name, "a b\n")?;
-    open(alloc, &mut text, &mut files, name)?;
-    fs::remove_file(system, name)?;
-    open(alloc, &mut text, &mut files, name)?;
+    if fs::write(system, name, "a b\n").is_err() {
+        row.fail();
+    }
+    open(row, &mut files, name);
+    if fs::remove_file(system, name).is_err() {
+        row.fail();
+    }
+    open(row, &mut files, name);
     // A folder opens, and its reads fail.
-    open(alloc, &mut text, &mut files, ".")?;
-    Ok(text)
+    open(row, &mut files, ".");
 }
