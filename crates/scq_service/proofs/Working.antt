@@ -1,6 +1,6 @@
 -- How the reading of files ends, from what the workers left of the sources that had come.
-use Rattle.std.proofs.Common.{◌≡◌, ◌≢◌, ◌∙◌, refl, sym, ap, subst, arith, zero, ℕ, suc, ◌+◌, ◌-◌, ◌<◌, ◌≤◌, Bool, List, [], ◌∷◌, ◌++◌, length, take, Option, Some, None, IfSome, false, true}
-use Rattle.std.specs.Prelude.{IsSomeAnd, slice_get, slice_index_or}
+use Rattle.std.proofs.Common.{◌≡◌, ◌≢◌, ◌∙◌, refl, sym, ap, subst, arith, zero, ℕ, suc, ◌+◌, ◌-◌, ◌<◌, ◌≤◌, Bool, List, [], ◌∷◌, ◌++◌, length, take, Option, Some, None, Result, Ok, Err, IfSome, false, true}
+use Rattle.std.specs.Prelude.{IfErr, IfOk, IsSomeAnd, OnOk, slice_get, slice_index_or}
 use Rattle.std.specs.List.{All}
 use Rattle.std.specs.Option.{option_map, option_or}
 use Rattle.std.proofs.lemmas.List.{get_or-take, length-take-le}
@@ -20,6 +20,7 @@ use Rattle.scq_service.specs.Causes.{given_bytes, first_file_fault, HaveRest}
 use Rattle.scq_service.specs.Contents.{IfVisible, IsMissing, without_names}
 use Rattle.scq_service.specs.Ends.{Change, HasGotSources, HasMissed, IfTold, FileIsRefused, IsUnchanged, ReadsOver}
 use Rattle.scq_service.specs.Faults.{bytes_of_large, fault_of_work}
+use Rattle.scq_service.specs.declared.fault.Fault.{Fault}
 use Rattle.scq_service.specs.declared.fault.Fault.TheVariants.{OpenFault}
 use Rattle.scq_service.proofs.Files.{no-contents, parts}
 use Rattle.scq_service.proofs.OneFile.{fault_of_file, given-is, large-of, long-of, one-stopped, one-whole, rose-above, split-visible}
@@ -128,7 +129,7 @@ module _ {S : Type 0} (size : ℕ) (src : SourceOf S) where
     kept-of true came all = came.1
     kept-of false came all = absurd (omega (arith, came.0, all))
 
-    pub missed-of : (all : Bool) → HaveAllCome names (record { table = table; opens = opens; sources = olds; read = 0 }) all → length olds < length names
+    missed-of : (all : Bool) → HaveAllCome names (record { table = table; opens = opens; sources = olds; read = 0 }) all → length olds < length names
         → HasMissed names (record { table = table; opens = opens; sources = olds; read = 0 })
     missed-of true came less = absurd (omega (arith, came.0, less))
     missed-of false came less = came.1
@@ -151,7 +152,7 @@ module _ {S : Type 0} (size : ℕ) (src : SourceOf S) where
         }
 
     -- so it is of the sources that are told, which are these
-    pub got-so : (all : Bool) → HaveAllCome names (record { table = table; opens = opens; sources = olds; read = 0 }) all
+    got-so : (all : Bool) → HaveAllCome names (record { table = table; opens = opens; sources = olds; read = 0 }) all
         → ((k : ℕ) (d : S) → k < length olds → HasMoved src (slice_index_or olds k d) (slice_index_or news k d)) → (got sources : List S) (read : ℕ)
         → got ≡ olds → sources ≡ news → HasGotSources src names got (record { table = table; opens = opens; sources = sources; read = read })
     got-so all came moved got sources read same_got same_sources =
@@ -159,7 +160,7 @@ module _ {S : Type 0} (size : ℕ) (src : SourceOf S) where
         let N : List S → Type 0 = λ xs. HasGotSources src names olds (record { table = table; opens = opens; sources = xs; read = read }) in
         subst G (sym same_got) (subst N (sym same_sources) (has-got read moved (kept-of all came)))
 
-    pub ends-all : ((k : ℕ) (d : S) → k < length olds → reading.IsWhole size src (slice_index_or olds k d) (slice_index_or news k d))
+    ends-all : ((k : ℕ) (d : S) → k < length olds → reading.IsWhole size src (slice_index_or olds k d) (slice_index_or news k d))
         → length olds ≡ length names
         → ReadsOver size src names olds (record { table = table; opens = opens; sources = news; read = 0 }) None
     ends-all whole all = record {
@@ -171,7 +172,7 @@ module _ {S : Type 0} (size : ℕ) (src : SourceOf S) where
       read = refl;
     }
 
-    pub ends-stopped : ((k : ℕ) (d : S) → k < length olds → reading.IsWhole size src (slice_index_or olds k d) (slice_index_or news k d))
+    ends-stopped : ((k : ℕ) (d : S) → k < length olds → reading.IsWhole size src (slice_index_or olds k d) (slice_index_or news k d))
         → length olds < length names
         → HasMissed names (record { table = table; opens = opens; sources = olds; read = 0 })
         → ReadsOver size src names olds (record { table = table; opens = opens; sources = news; read = 0 })
@@ -227,7 +228,7 @@ module _ {S : Type 0} (size : ℕ) (src : SourceOf S) where
         each d,
       )
 
-    pub ends-met : (fault : EndFault) → HasCause size src olds news fault
+    ends-met : (fault : EndFault) → HasCause size src olds news fault
         → (length olds < length names → HasMissed names (record { table = table; opens = opens; sources = olds; read = 0 }))
         → ReadsOver size src names olds (record { table = table; opens = opens; sources = news; read = bytes_of_large fault })
         (Some (fault_of_work size fault))
@@ -262,3 +263,54 @@ module _ {S : Type 0} (size : ℕ) (src : SourceOf S) where
           )),
         )
     ends-met work.NoMemory stops missed = refl
+
+-- what is so of a result that went well, or that didn't
+pub at-ok : {X E : Type 0} (r : Result X E) {x : X} (P : X → Type 0) → r ≡ Ok x → IfOk r P → P x
+at-ok r P is p = let Q : Result _ _ → Type 0 = λ r. IfOk r P in subst Q is p
+
+pub on-ok : {X E : Type 0} (r : Result X E) {x : X} (P : Type 0) → r ≡ Ok x → OnOk r P → P
+on-ok r P is p = let Q : Result _ _ → Type 0 = λ r. OnOk r P in subst Q is p
+
+pub at-err : {X E : Type 0} (r : Result X E) {e : E} (P : E → Type 0) → r ≡ Err e → IfErr r P → P e
+at-err r P is p = let Q : Result _ _ → Type 0 = λ r. IfErr r P in subst Q is p
+
+-- what is so of two lists is so of lists that equal them
+instead : {X : Type 0} (P : List X → List X → Type 0) {us vs xs ys : List X} → xs ≡ us → ys ≡ vs → P us vs → P xs ys
+instead P {us = us} {ys = ys} first second p = subst (λ xs. P xs ys) (sym first) (subst (λ ys. P us ys) (sym second) p)
+
+-- where the workers of a run have left these sources of those that had come, of all names or not of all
+module _ {S : Type 0} (size : ℕ) {src : SourceOf S} {names : List (List ℕ)} {table : Change (Option Table)} {opens : Change ℕ} {olds news : List S}
+    (long : length news ≡ length olds) (come : HaveCome src names (record { table = table; opens = opens; sources = olds; read = 0 })) (all : Bool)
+    (came : HaveAllCome names (record { table = table; opens = opens; sources = olds; read = 0 }) all) {got sources : List S} {read : ℕ}
+    (same_got : got ≡ olds) (same_sources : sources ≡ news) where
+  -- sources were got
+  pub told-got : ((k : ℕ) (d : S) → k < length olds → HasMoved src (slice_index_or olds k d) (slice_index_or news k d))
+      → HasGotSources src names got (record { table = table; opens = opens; sources = sources; read = read })
+  told-got moved = got-so size src names table opens olds news long come all came moved got sources read same_got same_sources
+
+  -- each was read to its end, with those of all names or until the next was missed
+  pub told-whole : (fault : Option Fault) → all ≡ true → read ≡ 0 → fault ≡ None
+      → ((k : ℕ) (d : S) → k < length olds → reading.IsWhole size src (slice_index_or olds k d) (slice_index_or news k d))
+      → ReadsOver size src names got (record { table = table; opens = opens; sources = sources; read = read }) fault
+  told-whole fault true_ none_read none whole =
+      let A : Bool → Type 0 = λ all. HaveAllCome names (record { table = table; opens = opens; sources = olds; read = 0 }) all in
+      let every = subst A true_ came in
+      instead (λ xs ys. ReadsOver size src names xs (record { table = table; opens = opens; sources = ys; read = read }) fault) same_got same_sources
+      (rw (none_read, none) (ends-all size src names table opens olds news long come whole every.0))
+
+  pub told-stopped : (fault : Option Fault) → all ≡ false → read ≡ 0 → fault ≡ Some (OpenFault (length olds + 1))
+      → ((k : ℕ) (d : S) → k < length olds → reading.IsWhole size src (slice_index_or olds k d) (slice_index_or news k d))
+      → ReadsOver size src names got (record { table = table; opens = opens; sources = sources; read = read }) fault
+  told-stopped fault false_ none_read some whole =
+      let A : Bool → Type 0 = λ all. HaveAllCome names (record { table = table; opens = opens; sources = olds; read = 0 }) all in
+      let next = subst A false_ came in
+      instead (λ xs ys. ReadsOver size src names xs (record { table = table; opens = opens; sources = ys; read = read }) fault) same_got same_sources
+      (rw (none_read, some) (ends-stopped size src names table opens olds news long come whole next.0 next.1))
+
+  -- the workers met a fault
+  pub told-met : (met : EndFault) (fault : Option Fault) → read ≡ bytes_of_large met → fault ≡ Some (fault_of_work size met) → HasCause size src olds news met
+      → ReadsOver size src names got (record { table = table; opens = opens; sources = sources; read = read }) fault
+  told-met met fault some_read some cause =
+      instead (λ xs ys. ReadsOver size src names xs (record { table = table; opens = opens; sources = ys; read = read }) fault) same_got same_sources
+      (rw (some_read, some) (ends-met size src names table opens olds news long come met cause
+      (missed-of size src names table opens olds news long come all came)))
