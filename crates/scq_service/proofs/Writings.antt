@@ -1,10 +1,13 @@
 -- What a sink has after one writing and another.
-use Rattle.std.proofs.Common.{arith, min, take, length, sym, ◌∙◌, ◌+◌, ◌≡◌, refl, ap, List, ℕ, ◌++◌, Option, Some, None, append_assoc}
+use Rattle.std.proofs.Common.{arith, min, take, length, subst, sym, ◌∙◌, ◌+◌, ◌≡◌, refl, ap, List, ℕ, ◌++◌, Option, Some, None, append_assoc}
 use Rattle.std.specs.Prelude.{Result, Ok, Err, OnOk}
 use Rattle.std.proofs.Math.Seq.{take-append-add}
 use Rattle.std.proofs.lemmas.Grind.{common_steps}
 use Rattle.std.proofs.lemmas.List.{take-append-le}
+use Rattle.scq_outside.specs.Counts.{Rose}
+use Rattle.scq_service.specs.Members.{SinkOf}
 use Rattle.scq_service.specs.Writing.{written_with, WrotePart}
+use Rattle.scq_service.specs.Written.{HasWritten}
 
 -- bytes and then bytes are their sum
 pub written-then : (written : Option (List ℕ)) (a b : List ℕ) → written_with (written_with written a) b ≡ written_with written (a ++ b)
@@ -33,3 +36,30 @@ pub whole-then : {E : Type 0} (old between new : Option (List ℕ)) (result : Re
     → OnOk result (new ≡ written_with between b) → OnOk result (new ≡ written_with old (a ++ b))
 whole-then old between new (Ok done) a b first last = last ∙ ap (λ written. written_with written b) first ∙ written-then old a b
 whole-then old between new (Err fault) a b first last = tt
+
+both : {K E : Type 0} (sink : SinkOf K) (old mid new : K) (a b : List ℕ) (last : Result (Unit {0}) E) → sink.written mid ≡ written_with (sink.written old) a
+    → sink.faults mid ≡ sink.faults old → HasWritten sink mid new b last → HasWritten sink old new (a ++ b) last
+both sink old mid new a b (Ok done) whole kept more = record {
+  whole = more.whole ∙ ap (λ written. written_with written b) whole ∙ written-then (sink.written old) a b;
+  part = part-second _ _ _ a b whole more.part;
+  kept = more.kept ∙ kept;
+  rose = tt;
+}
+both sink old mid new a b (Err fault) whole kept more = record {
+  whole = tt;
+  part = part-second _ _ _ a b whole more.part;
+  kept = tt;
+  rose = subst (λ n. Rose n (sink.faults new)) kept more.rose;
+}
+
+-- the first bytes were written, and then the second as far as that came
+pub written-both : {K E : Type 0} {sink : SinkOf K} {old mid new : K} {a b : List ℕ} {done : Unit {0}} {last : Result (Unit {0}) E}
+    → HasWritten {K = K} {E = E} sink old mid a (Ok done) → HasWritten sink mid new b last → HasWritten sink old new (a ++ b) last
+written-both {sink = sink} {old = old} {mid = mid} {new = new} {a = a} {b = b} {last = last} first more =
+    both sink old mid new a b last first.whole first.kept more
+
+-- the line of what is known to be this
+pub same-line : {K E X : Type 0} {sink : SinkOf K} {old new : K} {result : Result (Unit {0}) E} {x y : X} (line : X → List ℕ) → x ≡ y
+    → HasWritten sink old new (line y) result → HasWritten sink old new (line x) result
+same-line {sink = sink} {old = old} {new = new} {result = result} line same has =
+    subst (λ x. HasWritten sink old new (line x) result) (sym same) has

@@ -5,6 +5,7 @@ pub mod Sources
 pub mod Ends
 pub mod Faults
 pub mod Writing
+pub mod Written
 pub mod Telling
 pub mod Answers
 pub mod Reports

@@ -1,15 +1,10 @@
-use Rattle.std.proofs.Common.{ℕ, ◌++◌, subst, codes, decimal}
-use Rattle.scq_service.specs.Faults.{file_line}
-use Rattle.scq_service.specs.Writing.{WrotePart}
-use Rattle.scq_service.proofs.Writings.{part-first, part-second}
+use Rattle.std.proofs.Common.{◌++◌, decimal, rules}
+use Rattle.scq_service.proofs.Writings.{part-first, written-both}
 use Rattle.scq_service.proofs.reporting.write_of_place.Goals as goal
 
-pub returns-in_err-write_about-clause-part : goal.returns-in_err-write_about-clause-part
-returns-in_err-write_about-clause-part g c =
-    part-first _ _ (file_line c.args.file (codes " line ")) (decimal c.args.line ++ c.args.what.now) c.write_about.ensures.part
+pub returns-in_err-write_about : goal.returns-in_err-write_about
+returns-in_err-write_about g c =
+    record { whole = search rules; part = part-first _ _ _ (decimal c.args.line ++ c.args.what.now) c.write_about.ensures.part; kept = search rules; rose = search rules }
 
-pub returns-clause-part : goal.returns-clause-part
-returns-clause-part g c =
-    let P : ℕ → Type 0 = λ n. WrotePart (g.K.Sink.written c.write_about.new.sink) (g.K.Sink.written c.write_count.new.sink) (decimal n ++ c.args.what.now) in
-    part-second _ _ _ (file_line c.args.file (codes " line ")) (decimal c.args.line ++ c.args.what.now) c.in_ok-write_about.ensures.whole
-    (subst P c.from.ensures c.write_count.ensures.part)
+pub returns : goal.returns
+returns g c = written-both c.in_ok-write_about.ensures c.write_number.ensures

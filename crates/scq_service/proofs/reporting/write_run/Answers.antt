@@ -1,13 +1,10 @@
-use Rattle.std.proofs.Common.{◌++◌, codes, decimal}
-use Rattle.scq_service.specs.Faults.{file_line}
-use Rattle.scq_service.proofs.Writings.{part-first, part-second}
+use Rattle.std.proofs.Common.{◌++◌, decimal, rules}
+use Rattle.scq_service.proofs.Writings.{part-first, written-both}
 use Rattle.scq_service.proofs.reporting.write_run.Goals as goal
 
-pub returns-in_err-write_about-clause-part : goal.returns-in_err-write_about-clause-part
-returns-in_err-write_about-clause-part g c =
-    part-first _ _ (file_line c.args.file (codes " is of run ")) (decimal c.args.run ++ c.args.what.now) c.write_about.ensures.part
+pub returns-in_err-write_about : goal.returns-in_err-write_about
+returns-in_err-write_about g c =
+    record { whole = search rules; part = part-first _ _ _ (decimal c.args.run ++ c.args.what.now) c.write_about.ensures.part; kept = search rules; rose = search rules }
 
-pub returns-clause-part : goal.returns-clause-part
-returns-clause-part g c =
-    part-second _ _ _ (file_line c.args.file (codes " is of run ")) (decimal c.args.run ++ c.args.what.now) c.in_ok-write_about.ensures.whole
-    c.write_count.ensures.part
+pub returns : goal.returns
+returns g c = written-both c.in_ok-write_about.ensures c.write_count.ensures

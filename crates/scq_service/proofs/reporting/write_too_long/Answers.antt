@@ -1,18 +1,11 @@
-use Rattle.std.proofs.Common.{codes}
-use Rattle.scq_service.specs.Faults.{file_line, payload_line}
-use Rattle.scq_service.proofs.Writings.{part-first, part-second, whole-then}
+use Rattle.std.proofs.Common.{rules}
+use Rattle.scq_service.specs.Faults.{payload_line}
+use Rattle.scq_service.proofs.Writings.{part-first, written-both}
 use Rattle.scq_service.proofs.reporting.write_too_long.Goals as goal
 
-pub returns-in_err-write_about-clause-part : goal.returns-in_err-write_about-clause-part
-returns-in_err-write_about-clause-part g c =
-    part-first _ _ (file_line c.args.file (codes " line ")) (payload_line c.args.line c.args.len c.args.limit) c.write_about.ensures.part
+pub returns-in_err-write_about : goal.returns-in_err-write_about
+returns-in_err-write_about g c =
+    record { whole = search rules; part = part-first _ _ _ (payload_line c.args.line c.args.len c.args.limit) c.write_about.ensures.part; kept = search rules; rose = search rules }
 
-pub returns-clause-part : goal.returns-clause-part
-returns-clause-part g c =
-    part-second _ _ _ (file_line c.args.file (codes " line ")) (payload_line c.args.line c.args.len c.args.limit) c.in_ok-write_about.ensures.whole
-    c.write_payload.ensures.part
-
-pub returns-clause-whole : goal.returns-clause-whole
-returns-clause-whole g c =
-    whole-then _ _ _ c.write_payload.result (file_line c.args.file (codes " line ")) (payload_line c.args.line c.args.len c.args.limit)
-    c.in_ok-write_about.ensures.whole c.write_payload.ensures.whole
+pub returns : goal.returns
+returns g c = written-both c.in_ok-write_about.ensures c.write_payload.ensures
