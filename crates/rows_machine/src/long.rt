@@ -27,15 +27,24 @@ fn often(alloc: Global, times: u32, round: &str) -> Result<Replayed> {
     Ok(replayed(alloc, 1 << 60, &steps)?)
 }
 
+/// Adds ring 0 as a copy of a state has it.
+fn show_copy(into: &mut String, state: &State) -> Result<()> {
+    let copy = state.copy()?;
+    show_ring(into, &copy, 0)
+}
+
+fn show_replayed(into: &mut String, replayed: &Replayed) -> Result<()> {
+    write!(into, "{} events; ", replayed.events.len())?;
+    show_copy(into, &replayed.state)?;
+    Ok(show_counts(into, replayed, 0)?)
+}
+
 /// `TIMES; STEPS`: seat 0 makes the steps so often, in one replay. How many events there are, and
 /// ring 0 as a copy of the state has it, with its resets and fails.
-pub fn repeated(alloc: Global, given: &str) -> Result<String> {
+pub fn repeated(alloc: Global, into: &mut String, given: &str) -> Result<()> {
     let (times, round) = times_of(given)?;
     let replayed = often(alloc, times, round)?;
-    let mut text = format!(in alloc; "{} events; ", replayed.events.len())?;
-    show_ring(&mut text, &replayed.state.copy()?, 0)?;
-    show_counts(&mut text, &replayed, 0)?;
-    Ok(text)
+    show_replayed(into, &replayed)
 }
 
 fn copy_often(state: &mut State, times: u32) -> Result<(), NoMemory> {
@@ -47,11 +56,9 @@ fn copy_often(state: &mut State, times: u32) -> Result<(), NoMemory> {
 
 /// `TIMES; STEPS`: ring 0 after the steps of seat 0, as a copy has it that is the last of so many,
 /// each made of the one before.
-pub fn copied(alloc: Global, given: &str) -> Result<String> {
+pub fn copied(alloc: Global, into: &mut String, given: &str) -> Result<()> {
     let (times, round) = times_of(given)?;
     let mut replayed = often(alloc, 1, round)?;
     copy_often(&mut replayed.state, times)?;
-    let mut text = String::new(alloc);
-    show_ring(&mut text, &replayed.state, 0)?;
-    Ok(text)
+    show_ring(into, &replayed.state, 0)
 }

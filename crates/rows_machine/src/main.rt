@@ -26,26 +26,41 @@ struct Machine;
 
 impl Calls for Machine {
     fn answer_to(&self, alloc: Global, call: &str, given: &str) -> Result<String> {
-        match call {
-            "steps" => stepped_through(alloc, given),
-            "replayed" => replayed_lines(alloc, given),
-            "ordered" => ordered(alloc, given),
-            "repeated" => repeated(alloc, given),
-            "copied" => copied(alloc, given),
-            _ => Err(anyhow!("no such call")),
-        }
+        let mut answer = String::new(alloc);
+        add_answer(alloc, &mut answer, call, given)?;
+        Ok(answer)
+    }
+}
+
+fn add_answer(alloc: Global, into: &mut String, call: &str, given: &str) -> Result<()> {
+    match call {
+        "steps" => stepped_through(alloc, into, given),
+        "replayed" => replayed_lines(alloc, into, given),
+        "ordered" => ordered(alloc, into, given),
+        "repeated" => repeated(alloc, into, given),
+        "copied" => copied(alloc, into, given),
+        _ => Err(anyhow!("no such call")),
     }
 }
 
 fn run_file(rt: HostRuntime, name: &str) -> Result<()> {
     let text = fs::read_to_string(&rt, name)?;
     if name.ends_with(".schedule") {
-        let window = longest_window(rt.alloc(), &text)?;
-        println!(rt; "{name}: {window}")?;
+        tell_window(rt, name, &text)
     } else {
-        let rows = run_rows(&rt, rt.alloc(), &Machine, name, &text)?;
-        println!(rt; "{name}: {rows} rows")?;
+        tell_rows(rt, name, &text)
     }
+}
+
+fn tell_window(rt: HostRuntime, name: &str, schedule: &str) -> Result<()> {
+    let window = longest_window(rt.alloc(), schedule)?;
+    println!(rt; "{name}: {window}")?;
+    Ok(())
+}
+
+fn tell_rows(rt: HostRuntime, name: &str, text: &str) -> Result<()> {
+    let rows = run_rows(&rt, rt.alloc(), &Machine, name, text)?;
+    println!(rt; "{name}: {rows} rows")?;
     Ok(())
 }
 

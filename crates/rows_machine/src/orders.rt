@@ -4,7 +4,7 @@ ghost use Rattle.std.specs.List.{All};
 ghost use Rattle.scq_core.specs.declared.step.Step.{Step as StepOf};
 
 use crate::schedules::{one_of_two, opening, push_steps, two_of_each};
-use anyhow::{Context, Result};
+use anyhow::Result;
 use scq_core::Step;
 use scq_law::{OrderFault, Ordered, one_order};
 use std::alloc::{AllocError, Global};
@@ -51,21 +51,19 @@ fn show_order(into: &mut String, order: &[Ordered]) -> Result<(), AllocError> {
     Ok(())
 }
 
-/// An order, or why there is none.
-fn shown(alloc: Global, order: Result<Vec<Ordered>, OrderFault>) -> Result<String, AllocError> {
-    let mut shown = String::new(alloc);
+/// Adds an order, or why there is none.
+fn show(into: &mut String, order: Result<Vec<Ordered>, OrderFault>) -> Result<(), AllocError> {
     match order {
-        Ok(order) => show_order(&mut shown, &order)?,
-        Err(fault) => write!(shown, "{fault}")?,
+        Ok(order) => show_order(into, &order),
+        Err(fault) => write!(into, "{fault}"),
     }
-    Ok(shown)
 }
 
 /// `RING; SEAT STEPS; ..`: the order of the ring's calls, or why there is none. `t0` is the first
 /// opening put, and `1.2` the second call of seat 1. The limit of tickets is 16.
-pub fn ordered(alloc: Global, given: &str) -> Result<String> {
-    let (ring, pieces) = given.split_once("; ").context("a ring and pieces")?;
+pub fn ordered(alloc: Global, into: &mut String, given: &str) -> Result<()> {
+    let (ring, pieces) = given.split_once("; ").unwrap_or((given, ""));
     let ring = one_of_two(ring)?;
     let steps = steps_of(alloc, pieces)?;
-    Ok(shown(alloc, order_of(alloc, &steps, ring))?)
+    Ok(show(into, order_of(alloc, &steps, ring))?)
 }

@@ -137,15 +137,35 @@ fn all_pass(alloc: Global, limit: u64, steps: &[(u32, Step)]) -> Result<bool>
     passes(alloc, limit, steps)
 }
 
-/// Adds what was replayed up to a line, with the events after those that were seen before.
-fn show_replayed(into: &mut String, line: &Part, seen: usize, replayed: &Replayed) -> Result<()>
+/// Adds the resets and fails of a line's ring, its seat's newest call, and events.
+fn show_calls(
+    into: &mut String,
+    line: &Part,
+    replayed: &Replayed,
+    events: &[Event],
+) -> Result<(), AllocError>
+    requires { line.now.seat < replayed.now.state.setup.seats }
+{
+    show_counts(into, replayed, line.ring)?;
+    show_call(into, &replayed.state, line.seat)?;
+    show_events(into, events)
+}
+
+/// Adds what was replayed up to a line, with the events after those that were seen before, and
+/// tells how many events there are.
+fn show_replayed(into: &mut String, line: &Part, seen: usize, replayed: &Replayed) -> Result<usize>
     requires { line.now.seat < replayed.now.state.setup.seats }
 {
     show_ring(into, &replayed.state, line.ring)?;
-    show_counts(into, replayed, line.ring)?;
-    show_call(into, &replayed.state, line.seat)?;
-    show_events(into, replayed.events.get(seen..).context("no events")?)?;
-    Ok(())
+    let events = replayed.events.get(seen..).context("no events")?;
+    show_calls(into, line, replayed, events)?;
+    Ok(replayed.events.len())
+}
+
+/// Adds where the steps stop.
+fn show_stop(into: &mut String, line: &Part, seen: usize, at: u64) -> Result<usize> {
+    write!(into, "{} stops at {at}:", line.ring)?;
+    Ok(seen)
 }
 
 /// Adds what a line has to say of the steps up to it, and tells how many events there are then. A
@@ -163,14 +183,8 @@ fn show_line(
     requires limit { (16 ≤ limit) × (limit ≤ 2 ^ 60) }
 {
     match replayed(alloc, limit, steps) {
-        Ok(replayed) => {
-            show_replayed(into, line, seen, &replayed)?;
-            Ok(replayed.events.len())
-        }
-        Err(ReplayFault::NotEnabled { at }) => {
-            write!(into, "{} stops at {at}:", line.ring)?;
-            Ok(seen)
-        }
+        Ok(replayed) => show_replayed(into, line, seen, &replayed),
+        Err(ReplayFault::NotEnabled { at }) => show_stop(into, line, seen, at),
         Err(ReplayFault::NoMemory) => Err(anyhow!("memory")),
     }
 }
@@ -214,14 +228,12 @@ fn add_lines(alloc: Global, into: &mut String, limit: u64, lines: &str) -> Resul
 /// the ring and the position of that step stand there. The put `1.2` is the second of seat 1, and
 /// `token 0` the first opening put. Behind all lines stands whether the history of each cut passes
 /// the tests of histories.
-pub fn replayed_lines(alloc: Global, given: &str) -> Result<String> {
-    let (limit, lines) = given.split_once("; ").context("a limit and lines")?;
+pub fn replayed_lines(alloc: Global, into: &mut String, given: &str) -> Result<()> {
+    let (limit, lines) = given.split_once("; ").unwrap_or((given, ""));
     let limit = limit.parse::<u64>()?;
     ensure!(16 <= limit && limit <= 1 << 60, "a limit");
-    let mut text = String::new(alloc);
-    let steps = add_lines(alloc, &mut text, limit, lines)?;
-    if all_pass(alloc, limit, &steps)? {
-        text.push_str(" passes")?;
-    }
-    Ok(text)
+    let steps = add_lines(alloc, into, limit, lines)?;
+    let passes = all_pass(alloc, limit, &steps)?;
+    into.push_str(if passes { " passes" } else { "" })?;
+    Ok(())
 }

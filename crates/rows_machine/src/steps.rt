@@ -84,13 +84,19 @@ fn is_made(state: &mut State, seat: u32, step: &Step) -> Result<bool, NoMemory> 
     }
 }
 
+/// Whether the machine makes a copy of a step.
+fn is_made_by_copy(alloc: Global, state: &mut State, seat: u32, word: &str) -> Result<bool> {
+    let step = step_of(alloc, word)?;
+    let copy = step.copy(alloc)?;
+    Ok(is_made(state, seat, &copy)?)
+}
+
 /// The state after a step, made by a copy of the step on a copy of the state: so a state is copied
 /// at each phase and after each kind of call. A step behind `!` has to be refused.
 fn stepped(alloc: Global, state: &State, seat: u32, word: &str) -> Result<State> {
     let refused = word.strip_prefix("!");
-    let step = step_of(alloc, refused.unwrap_or(word))?;
     let mut copy = state.copy()?;
-    let made = is_made(&mut copy, seat, &step.copy(alloc)?)?;
+    let made = is_made_by_copy(alloc, &mut copy, seat, refused.unwrap_or(word))?;
     ensure!(
         made == refused.is_none(),
         "a step is made that is not enabled, or is refused"
@@ -223,16 +229,25 @@ fn contents(alloc: Global, n: u32) -> Result<Vec<Bytes>, NoMemory> {
     Ok(contents)
 }
 
-/// The start of a setup with two rings and two seats, and the opening contents a, b and so on, for
-/// an order and a limit.
-fn started(alloc: Global, given: &str) -> Result<State> {
+/// A setup with two rings and two seats, of an order and a limit.
+fn setup_of(given: &str) -> Result<Setup> {
     let limit = field(given, 1).parse::<u64>()?;
-    let setup = Setup::new(number(field(given, 0)), 2, 2, limit)?;
-    let n = setup.shape().n() as usize;
-    let opening = contents(alloc, setup.shape().n())?;
-    ensure!(opening.len() == n, "not as many contents as indices");
+    Ok(Setup::new(number(field(given, 0)), 2, 2, limit)?)
+}
+
+/// The start of a setup, and the opening contents a, b and so on.
+fn started(alloc: Global, setup: Setup) -> Result<State> {
+    let n = setup.shape().n();
+    let opening = contents(alloc, n)?;
+    ensure!(
+        opening.len() == n as usize,
+        "not as many contents as indices"
+    );
     let state = State::start(alloc, setup, opening)?;
-    ensure!(state.opening().len() == n, "opening contents are lost");
+    ensure!(
+        state.opening().len() == n as usize,
+        "opening contents are lost"
+    );
     Ok(state)
 }
 
@@ -269,12 +284,11 @@ fn show_part(alloc: Global, into: &mut String, state: &mut State, text: &str) ->
 /// entries, and behind `|` the indices in the seat's hand, or `-`, and its newest call, or the step
 /// that it makes next. `E1/1/0/x` is E1 on ring 1 of index 0 with content x, `D1/1` is D1 on ring
 /// 1, and a step behind `!` must not be enabled.
-pub fn stepped_through(alloc: Global, given: &str) -> Result<String> {
-    let (setup, parts) = given.split_once("; ").context("a setup and parts")?;
-    let mut state = started(alloc, setup)?;
-    let mut shown = String::new(alloc);
+pub fn stepped_through(alloc: Global, into: &mut String, given: &str) -> Result<()> {
+    let (setup, parts) = given.split_once("; ").unwrap_or((given, ""));
+    let mut state = started(alloc, setup_of(setup)?)?;
     for text in parts.split("; ") {
-        show_part(alloc, &mut shown, &mut state, text)?;
+        show_part(alloc, into, &mut state, text)?;
     }
-    Ok(shown)
+    Ok(())
 }

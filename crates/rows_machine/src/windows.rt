@@ -46,12 +46,15 @@ fn window_of(text: &str) -> Window {
     window
 }
 
+fn told(alloc: Global, text: &str) -> Result<String> {
+    let Window { steps, longest, .. } = window_of(text);
+    let last = text.lines().last().context("no step")?;
+    Ok(format!(in alloc; "{steps} steps, {longest} in a row without an end, the last: {last}")?)
+}
+
 /// How many steps a schedule makes, how many of them at most follow one another of which none ends
 /// a call, and the line of the last step.
 pub fn longest_window(alloc: Global, schedule: &str) -> Result<String> {
     let printed = schedule_text(alloc, schedule.as_bytes())?;
-    let text = std::str::from_utf8(printed.bytes())?;
-    let Window { steps, longest, .. } = window_of(text);
-    let last = text.lines().last().context("no step")?;
-    Ok(format!(in alloc; "{steps} steps, {longest} in a row without an end, the last: {last}")?)
+    told(alloc, std::str::from_utf8(printed.bytes())?)
 }
