@@ -82,9 +82,14 @@ fn carried(
 }
 
 /// What the one seat of a new band carries.
-pub fn lifted(alloc: Global) -> Result<String> {
+fn carried_by_one(alloc: Global) -> Result<Option<(u64, u32, Option<u8>, u64)>> {
     let setup = Setup::new(1, 2, 1, 16)?;
     let (band, mut seats) = made(alloc, setup)?;
-    let (place, index, byte, put) = carried(&band, &mut seats[0]).context("nothing was carried")?;
-    Ok(format!(in alloc; "{place} {index} {byte:?} {put}")?)
+    Ok(carried(&band, &mut seats[0]))
+}
+
+/// Adds what the one seat of a new band carries.
+pub fn lifted(alloc: Global, into: &mut String) -> Result<()> {
+    let (place, index, byte, put) = carried_by_one(alloc)?.context("nothing was carried")?;
+    Ok(write!(into, "{place} {index} {byte:?} {put}")?)
 }

@@ -108,28 +108,7 @@ fn write(bytes: &mut [u8], text: &[u8]) {
     }
 }
 
-/// The reply to a call that gets a value, for which there has to be room.
-fn got<B: BufferMut>(
-    queue: &Queue<B>,
-    pass: &mut Pass<B>,
-    values: &mut Vec<Held<B>>,
-    call: &str,
-) -> Reply
-    requires stack { HoldsJust queue.now pass.old values.old.items }
-    requires rings { 2 ≤ queue.now.setup.rings }
-    ensures stack { HoldsJust queue.now pass.new values.new.items }
-{
-    if values.len() >= values.capacity() {
-        return Reply::Odd;
-    }
-    match call {
-        "lend" => lent(queue, pass, values),
-        "take 0" => took(queue, pass, 0, values),
-        _ => Reply::Odd,
-    }
-}
-
-/// The reply to one call.
+/// The reply to one call. One that gets a value is odd where there is no room for it.
 fn reply_to<B: BufferMut>(
     queue: &Queue<B>,
     pass: &mut Pass<B>,
@@ -147,7 +126,9 @@ fn reply_to<B: BufferMut>(
     match call {
         "give" => gave(queue, pass, values),
         "send 0" => sent(queue, pass, 0, values),
-        _ => got(queue, pass, values, call),
+        "lend" if values.len() < values.capacity() => lent(queue, pass, values),
+        "take 0" if values.len() < values.capacity() => took(queue, pass, 0, values),
+        _ => Reply::Odd,
     }
 }
 
@@ -157,25 +138,6 @@ fn read<B: BufferMut>(into: &mut String, values: &Vec<Held<B>>) -> Result<(), Al
         show(into, held.bytes())?;
     }
     into.push_str(";")
-}
-
-/// Makes a call, and adds the reply to it.
-fn make<B: BufferMut>(
-    into: &mut String,
-    queue: &Queue<B>,
-    pass: &mut Pass<B>,
-    values: &mut Vec<Held<B>>,
-    call: &str,
-) -> Result<(), AllocError>
-    requires stack { HoldsJust queue.now pass.old values.old.items }
-    requires rings { 2 ≤ queue.now.setup.rings }
-    ensures stack { HoldsJust queue.now pass.new values.new.items }
-{
-    if call == "read" {
-        read(into, values)
-    } else {
-        tell(into, reply_to(queue, pass, values, call))
-    }
 }
 
 /// Makes calls, and adds the replies to them.
@@ -191,7 +153,12 @@ fn replies<B: BufferMut>(
     ensures stack { HoldsJust queue.now pass.new values.new.items }
 {
     for text in calls.split("; ") {
-        make(into, queue, pass, values, text)?;
+        let added = if text == "read" {
+            read(into, values)
+        } else {
+            tell(into, reply_to(queue, pass, values, text))
+        };
+        added?;
     }
     Ok(())
 }
@@ -217,6 +184,16 @@ fn run<B: BufferMut>(
     (got, closed)
 }
 
+/// Two buffers of two zero bytes.
+fn two_buffers(alloc: Global) -> Result<Vec<HeapBuffer>>
+    ensures { IfOk result (λ buffers. vec_len buffers ≡ 2) }
+{
+    let mut buffers = Vec::with_capacity(alloc, 2)?;
+    buffers.push(HeapBuffer::new(alloc, 2)?)?;
+    buffers.push(HeapBuffer::new(alloc, 2)?)?;
+    Ok(buffers)
+}
+
 /// A queue with two rings and so many passes over two buffers of two zero bytes.
 pub fn made(
     alloc: Global,
@@ -227,10 +204,7 @@ pub fn made(
     ensures passes { IfOk result (λ made. made.1.items ≡ first_passes made.0 passes) }
 {
     let setup = Setup::new(1, 2, passes, limit)?;
-    let mut buffers = Vec::with_capacity(alloc, 2)?;
-    buffers.push(HeapBuffer::new(alloc, 2)?)?;
-    buffers.push(HeapBuffer::new(alloc, 2)?)?;
-    match Queue::make(alloc, setup, buffers) {
+    match Queue::make(alloc, setup, two_buffers(alloc)?) {
         Ok(made) => Ok(made),
         Err(_) => Err(anyhow!("no memory")),
     }
@@ -261,13 +235,11 @@ fn called_of(
 
 /// `PASSES LIMIT; CALL; ..`, of the last pass on two rings over two buffers of two bytes: the reply
 /// to each call, the bytes on top for `read`; and what the queue closed with.
-pub fn called(alloc: Global, given: &str) -> Result<String> {
+pub fn called(alloc: Global, into: &mut String, given: &str) -> Result<()> {
     let (setup, calls) = given.split_once("; ").context("a setup and calls")?;
     let seats = field(setup, 0).parse::<u32>()?;
     let limit = field(setup, 1).parse::<u64>()?;
     ensure!(1 <= seats, "a pass");
-    let mut text = String::new(alloc);
-    let closed = called_of(alloc, &mut text, seats, limit, calls)?;
-    show_closed(&mut text, &closed)?;
-    Ok(text)
+    let closed = called_of(alloc, into, seats, limit, calls)?;
+    Ok(show_closed(into, &closed)?)
 }

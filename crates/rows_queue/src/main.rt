@@ -34,14 +34,20 @@ struct Queues;
 
 impl Calls for Queues {
     fn answer_to(&self, alloc: Global, call: &str, given: &str) -> Result<String> {
-        match call {
-            "moves" => moves(alloc, given),
-            "lifted" => lifted(alloc),
-            "called" => called(alloc, given),
-            "told" => told(alloc, given),
-            "ported" => ported(alloc, given),
-            _ => Err(anyhow!("no such call")),
-        }
+        let mut answer = String::new(alloc);
+        add_answer(alloc, &mut answer, call, given)?;
+        Ok(answer)
+    }
+}
+
+fn add_answer(alloc: Global, into: &mut String, call: &str, given: &str) -> Result<()> {
+    match call {
+        "moves" => moves(alloc, into, given),
+        "lifted" => lifted(alloc, into),
+        "called" => called(alloc, into, given),
+        "told" => told(alloc, into, given),
+        "ported" => ported(alloc, into, given),
+        _ => Err(anyhow!("no such call")),
     }
 }
 

@@ -8,7 +8,7 @@ use crate::threads::{Outcome, moved};
 use crate::ways::{tell_last, way_of};
 use anyhow::{Result, ensure};
 use rows_text::field;
-use scq_band::{Band, DeqRefusal, Seat};
+use scq_band::{Band, BandClosed, DeqRefusal, Seat};
 use scq_queue::HeapBuffer;
 use scq_word::Setup;
 use std::alloc::{AllocError, Global};
@@ -45,51 +45,7 @@ fn setup_in(text: &str) -> Result<Setup> {
     Ok(setup)
 }
 
-/// Adds the reply to a move of a seat between two rings.
-fn add_move(
-    into: &mut String,
-    band: &Band<HeapBuffer>,
-    seats: &mut Vec<Seat<HeapBuffer>>,
-    rings: u32,
-    text: &str,
-) -> Result<()>
-    requires rings { band.now.setup.rings ≡ rings }
-    requires own { All (λ s. s.band ≡ band.now) seats.old.items }
-    requires laid { All (λ s. lifted_of s.hand ≡ []) seats.old.items }
-    ensures own { All (λ s. s.band ≡ band.now) seats.new.items }
-    ensures laid { All (λ s. lifted_of s.hand ≡ []) seats.new.items }
-    ensures count { vec_len seats.new ≡ vec_len seats.old }
-{
-    let (seat, from, to) = (number(text, 0) as usize, number(text, 1), number(text, 2));
-    ensure!(
-        seat < seats.len() && from < rings && to < rings,
-        "no such seat or ring"
-    );
-    Ok(tell(into, moved(band, &mut seats[seat], from, to))?)
-}
-
-/// Adds the reply to a move. Or the last seat is told by another, as in `mark from 0`.
-fn add_reply(
-    into: &mut String,
-    band: &Band<HeapBuffer>,
-    seats: &mut Vec<Seat<HeapBuffer>>,
-    rings: u32,
-    text: &str,
-) -> Result<()>
-    requires rings { band.now.setup.rings ≡ rings }
-    requires own { All (λ s. s.band ≡ band.now) seats.old.items }
-    requires laid { All (λ s. lifted_of s.hand ≡ []) seats.old.items }
-    ensures own { All (λ s. s.band ≡ band.now) seats.new.items }
-    ensures laid { All (λ s. lifted_of s.hand ≡ []) seats.new.items }
-    ensures count { vec_len seats.new ≡ vec_len seats.old }
-{
-    match text.split_once(" from ") {
-        Some((way, seat)) => tell_last(band, seats, number(seat, 0) as usize, way_of(way)?),
-        None => add_move(into, band, seats, rings, text),
-    }
-}
-
-/// Adds the replies to moves.
+/// Adds the replies to moves. The last seat is told by another between them, as in `mark from 0`.
 fn replies(
     into: &mut String,
     band: &Band<HeapBuffer>,
@@ -104,24 +60,43 @@ fn replies(
     ensures laid { All (λ s. lifted_of s.hand ≡ []) seats.new.items }
     ensures count { vec_len seats.new ≡ vec_len seats.old }
 {
+    if moves.is_empty() {
+        return Ok(());
+    }
     for text in moves.split("; ") {
-        add_reply(into, band, seats, rings, text)?;
+        if let Some((way, seat)) = text.split_once(" from ") {
+            tell_last(band, seats, number(seat, 0) as usize, way_of(way)?)?;
+        } else {
+            let (seat, from, to) = (number(text, 0) as usize, number(text, 1), number(text, 2));
+            ensure!(
+                seat < seats.len() && from < rings && to < rings,
+                "no such seat or ring"
+            );
+            tell(into, moved(band, &mut seats[seat], from, to))?;
+        }
     }
     Ok(())
+}
+
+/// Adds the replies to moves in a new band, and closes it.
+fn closed_after(
+    alloc: Global,
+    into: &mut String,
+    setup: Setup,
+    moves: &str,
+) -> Result<BandClosed<HeapBuffer>> {
+    let (band, mut seats) = made(alloc, setup)?;
+    let said = replies(into, &band, &mut seats, setup.rings(), moves);
+    let ended = closed(alloc, band, seats);
+    said?;
+    Ok(ended)
 }
 
 /// `ORDER RINGS SEATS LIMIT; SEAT FROM TO; WAY from SEAT; ..`: for each move the place that the
 /// index was got at, the index, and the place at which it was put; or the head of an Empty, or the
 /// ticket of a Spent; and what the band closed with.
-pub fn moves(alloc: Global, given: &str) -> Result<String> {
+pub fn moves(alloc: Global, into: &mut String, given: &str) -> Result<()> {
     let (setup, moves) = given.split_once("; ").unwrap_or((given, ""));
-    let setup = setup_in(setup)?;
-    let (band, mut seats) = made(alloc, setup)?;
-    let mut text = String::new(alloc);
-    if !moves.is_empty() {
-        replies(&mut text, &band, &mut seats, setup.rings(), moves)?;
-    }
-    let ended = closed(alloc, band, seats);
-    show_rest(&mut text, &ended.left, &ended.buffers)?;
-    Ok(text)
+    let ended = closed_after(alloc, into, setup_in(setup)?, moves)?;
+    Ok(show_rest(into, &ended.left, &ended.buffers)?)
 }

@@ -132,6 +132,15 @@ fn show_answers(into: &mut String, answers: Answers) -> Result<(), AllocError> {
     show_gates(into, answers.gates)
 }
 
+fn show_told(
+    into: &mut String,
+    answers: Answers,
+    closed: &Closed<HeapBuffer>,
+) -> Result<(), AllocError> {
+    show_answers(into, answers)?;
+    show_closed(into, closed)
+}
+
 /// What two passes of a new queue are answered, and what it closes with.
 fn answers_in(alloc: Global, way: Way) -> Result<(Answers, Closed<HeapBuffer>)> {
     let sender = Vec::with_capacity(alloc, 1)?;
@@ -153,10 +162,7 @@ fn answers_in(alloc: Global, way: Way) -> Result<(Answers, Closed<HeapBuffer>)> 
 
 /// `WAY`: what the passes were answered, of which each tells the other in this way, and what the
 /// queue closed with.
-pub fn told(alloc: Global, given: &str) -> Result<String> {
+pub fn told(alloc: Global, into: &mut String, given: &str) -> Result<()> {
     let (answers, closed) = answers_in(alloc, way_of(given)?)?;
-    let mut text = String::new(alloc);
-    show_answers(&mut text, answers)?;
-    show_closed(&mut text, &closed)?;
-    Ok(text)
+    Ok(show_told(into, answers, &closed)?)
 }

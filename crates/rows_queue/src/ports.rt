@@ -46,9 +46,13 @@ fn tell(into: &mut String, port: &Port) -> Result<(), AllocError> {
     write!(into, "sent {sent} taken {taken} full {full} {spent:?};")
 }
 
-/// A number of a call, which is 0 where there is none.
+/// A number of a call, which is 0 where there is none. What is no number is the greatest, and no
+/// port, topic or index has that.
 fn number(call: &str, at: usize) -> u32 {
-    field(call, at).parse().unwrap_or(0)
+    match field(call, at) {
+        "" => 0,
+        text => text.parse().unwrap_or(u32::MAX),
+    }
 }
 
 /// Adds what a call of the port is answered.
@@ -97,12 +101,11 @@ fn opened(alloc: Global, given: &str) -> Result<Vec<Port>> {
 
 /// `LIMIT HOLD; PORT CALL ..; ..`, of two ports with one topic over two buffers, each of which may
 /// hold so many: what each call is answered. `drop` and `close` are of the last port.
-pub fn ported(alloc: Global, given: &str) -> Result<String> {
+pub fn ported(alloc: Global, into: &mut String, given: &str) -> Result<()> {
     let (setup, calls) = given.split_once("; ").context("a setup and calls")?;
     let mut ports = opened(alloc, setup)?;
-    let mut text = String::new(alloc);
     for call in calls.split("; ") {
-        make(&mut text, &mut ports, call)?;
+        make(into, &mut ports, call)?;
     }
-    Ok(text)
+    Ok(())
 }
