@@ -26,12 +26,12 @@ struct Ending {
 }
 
 /// What of an outcome is compared: the status, what all workers together sent, took and found no
-/// buffer for, and what is left in each ring.
-#[derive(Drop)]
+/// buffer for, and whether as much is left in each ring as the row wants.
+#[derive(Clone, Copy, Drop)]
 struct Told {
     status: u8,
     counts: Option<[u64; 3]>,
-    left: Option<Vec<u64>>,
+    has_left: bool,
 }
 
 /// Runs a row, and tells the first thing that isn't as it and its status want it.
@@ -75,18 +75,27 @@ fn told_by<R: Threads + Wait + Sync>(
     gate: &RowGate,
 ) -> Told {
     let words = row.words.as_slice();
-    if row.how.waits {
-        told_of(serve_waiting(rt, alloc, words, files, out, err, gate))
+    let outcome = if row.how.waits {
+        serve_waiting(rt, alloc, words, files, out, err, gate)
     } else {
-        told_of(serve(rt, alloc, words, files, out, err, gate))
-    }
+        serve(rt, alloc, words, files, out, err, gate)
+    };
+    told_of(&outcome, row.wanted.left.as_slice())
 }
 
-fn told_of(outcome: Outcome<RowSource>) -> Told {
+fn told_of(outcome: &Outcome<RowSource>, left: &[u64]) -> Told {
     Told {
         status: outcome.status,
         counts: counts_of(&outcome.worked, &outcome.staged),
-        left: outcome.left,
+        has_left: has_left(&outcome.left, left),
+    }
+}
+
+/// Whether so many buffers are left in each ring of the workers' queue.
+fn has_left(own: &Option<Vec<u64>>, rings: &[u64]) -> bool {
+    match own {
+        Some(own) => own.as_slice() == rings,
+        None => false,
     }
 }
 
@@ -126,7 +135,7 @@ impl Told {
     fn difference(&self, wanted: &Wanted) -> Difference {
         if !wanted.counts.is_empty() && !self.has_counts(wanted.counts.as_slice()) {
             Some("what workers sent, took and found no buffer for")
-        } else if !wanted.left.is_empty() && !self.has_left(wanted.left.as_slice()) {
+        } else if !wanted.left.is_empty() && !self.has_left {
             Some("what is left in the queue")
         } else {
             None
@@ -137,14 +146,6 @@ impl Told {
     fn has_counts(&self, counts: &[u64]) -> bool {
         match &self.counts {
             Some(own) => own.as_slice() == counts,
-            None => false,
-        }
-    }
-
-    /// Whether so many buffers are left in each ring of the workers' queue.
-    fn has_left(&self, rings: &[u64]) -> bool {
-        match &self.left {
-            Some(left) => left.as_slice() == rings,
             None => false,
         }
     }
