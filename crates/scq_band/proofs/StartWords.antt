@@ -43,42 +43,6 @@ opens_next c words r o i x l before here ring offset at_l is =
           ];
     })
 
--- a ring whose words all stand there
-pub opens_ring : (c : Setup) (words : List ℕ) (r o : ℕ) → o ≡ 3 + ring_slots c → WordsAreOpened c words r o → WordsAreOpened c words (r + 1) 0
-opens_ring c words r o all before =
-    record {
-      count = before.count;
-      gate = before.gate;
-      shows =
-          λ k there past.
-          before.shows k there (elim past [
-            | inl lower ↦
-                elim (cases_lt (ring_at k) r) [
-                  | inl low ↦ inl low
-                  | inr high ↦
-                      inr (
-                        (omega (arith, lower, high)),
-                        (let low = offset_low 1 c k (omega arith) there.1 in omega (arith, low, all)),
-                      )
-                ]
-            | inr near ↦ absurd (let never = near.1 in omega (arith, never))
-          ]);
-    }
-
--- a table in which none but the gate stands there yet
-pub opens_gate : (c : Setup) (words : List ℕ) (i x : ℕ) → length words ≡ word_count c → i ≡ gate_word → x ≡ c.seats → WordsAreOpened c (slice_set words i x) 0 0
-opens_gate c words i x count at_gate is =
-    rw at_gate (record {
-      count = length-set words gate_word x ∙ count;
-      gate = get_or-set_same words gate_word x 0 (omega (arith, count)) ∙ is;
-      shows =
-          λ k there past.
-          elim past [
-            | inl lower ↦ absurd (omega (arith, lower))
-            | inr near ↦ absurd (let never = near.1 in omega (arith, never))
-          ];
-    })
-
 module _ {B : Type 0} where
   pub all_laid : (bs : List B) → AllLaid (map full_slot bs)
   all_laid [] = tt

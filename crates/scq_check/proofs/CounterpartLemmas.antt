@@ -55,10 +55,6 @@ pub origin_there : (opening : List (List ℕ)) (events : List Event) (e : ℕ) (
     → got_name event ≡ Some name → IsOrigin opening events name origin → IsOfOrigin opening events e origin
 origin_there opening events e event name origin at named is = record { name = name; named = names_there events e event name at named; is = is }
 
--- no get ends there with Nothing
-pub no_empty : (opening : List (List ℕ)) (events : List Event) (e : ℕ) → NoEmptyAt events e → IsEmptyRightAt opening events e
-no_empty opening events e none s seat queue call = absurd (none.none s seat queue call)
-
 -- a Got that names a put, and where that was refused
 pub refused_there : (events : List Event) (e seat number : ℕ) (event : Event) (names : ByName) (told : Option ℕ) → told ≡ place_in names seat number
     → slice_get events e ≡ Some event → got_name event ≡ Some (Of seat number) → IsRefusals events (length events) names → (¬ IsAcceptedAt events e)

@@ -170,9 +170,6 @@ all_start room opening events all none = record {
   });
 }
 
-pub none_kept : (all : AllPlaces) → IsEmpty all.known → (q : ℕ) → places_in all q ≡ untouched
-none_kept all empty q = ap (λ o. unwrap_or o untouched) (ap (λ es. lookup (is_at (nat_cmp q)) es) empty)
-
 -- whether no place was free since position s
 pub full_since : (room : ℕ) (opening : List (List ℕ)) (events : List Event) (queue s e : ℕ) (places : Places) (b : Bool) → s < e
     → ArePlacesOf room opening events queue e places → (IsTrue b ↔ (IsUsedUp room opening queue places ⊎ (s < places.full_till)))

@@ -70,11 +70,6 @@ no_put sought events queue m e d none (Of k n) lt ends = absurd (none.none k n e
 pub puts_past : (sought : Sought) (events : List Event) (queue m e d : ℕ) → m ≤ d → IsPutLeftOut sought events queue m e d
 puts_past sought events queue m e d past name lt ends = absurd (omega arith)
 
--- and of an opening token
-pub token_left_out : (sought : Sought) (opening : List (List ℕ)) (events : List Event) (queue e number : ℕ) (b : Bool) → number < length opening → queue ≡ 0
-    → number < 2 ^ 32 → (IsTrue b ↔ IsLeftOut sought events e (Opening number)) → IsTrue b ↔ IsTokenLeftOut sought opening events queue e number
-token_left_out sought opening events queue e number b within zero small test = (λ t _ _. test.0 t, λ h. test.1 (h small (zero, within)))
-
 pub tokens_past : (sought : Sought) (opening : List (List ℕ)) (events : List Event) (queue e number : ℕ) → length opening ≤ number
     → IsTokenLeftOut sought opening events queue e number
 tokens_past sought opening events queue e number past small there = let lt = there.1 in absurd (omega arith)

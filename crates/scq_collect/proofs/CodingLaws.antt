@@ -55,10 +55,6 @@ unfolding short_from
 short-again n rest fits =
     ap (option_and_then _) (number-again n rest (omega arith)) ∙ cond-true (nat_lt n (2 ^ 32)) (Some (n, rest)) None (lt-ltb n (2 ^ 32) fits)
 
--- the code of a topic, by whether the part is alone
-code-is : (b : Bool) (a : PartAnswer) → is_alone a ≡ b → topic_code a ≡ 2 * a.topic + (cond b 0 1)
-code-is b a e = ap (λ (c : Bool). 2 * a.topic + (cond c 0 1)) e
-
 half : (b : Bool) (t : ℕ) → (2 * t + (cond b 0 1)) / 2 ≡ t
 half true t = mul-add-div (omega arith) t 0 ∙ omega arith
 half false t = mul-add-div (omega arith) t 1 ∙ omega arith

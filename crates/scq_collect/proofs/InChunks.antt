@@ -11,10 +11,6 @@ chunk-more xs size n =
     let next : (n + 1) * size ≡ n * size + size = omega arith in
     sym (ap (λ k. take k xs) next ∙ take-add (n * size) size xs)
 
-pub chunk-small : {A : Type 0} (xs : List A) (size n : ℕ) → length (take (n * size) xs) + length (take size (drop (n * size) xs)) ≤ length xs
-chunk-small xs size n =
-    omega (arith, length-append (take (n * size) xs) (take size (drop (n * size) xs)), ap length (chunk-more xs size n), length-take ((n + 1) * size) xs)
-
 -- what stands behind a front of a list
 pub behind-front : {A : Type 0} (ys zs : List A) (x d : A) → get_or (ys ++ x ∷ zs) (length ys) d ≡ x
 behind-front [] zs x d = refl

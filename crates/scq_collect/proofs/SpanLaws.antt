@@ -206,9 +206,3 @@ wider was now x done place is least most held =
     ∙ has-first was.least was.most place) (All-nil (λ (a : PartAnswer). is_in now a ≡ true))) where
       ends : (p : ℕ) → (nat_le now.least p && nat_le p now.most) ≡ (nat_le (min was.least place) p && nat_le p (max was.most place))
       ends p = ap (λ (n : ℕ). nat_le n p && nat_le p now.most) least ∙ ap (λ (n : ℕ). nat_le (min was.least place) p && nat_le p n) most
-
--- a span more
-pub next-push : (spans now : List Span) (span : Span) (least : ℕ) → now ≡ spans ++ span ∷ [] → span.least ≡ least → span.least ≤ span.most + 1
-    → ((rest : List Span) → AreNext least rest → AreNext 0 (spans ++ rest)) → (rest : List Span) → AreNext (span.most + 1) rest → AreNext 0 (now ++ rest)
-next-push spans now span least pushed first some next rest more =
-    subst (AreNext 0) (sym (ap (λ (l : List Span). l ++ rest) pushed ∙ append_assoc spans (span ∷ []) rest)) (next (span ∷ rest) (first, some, more))

@@ -115,8 +115,3 @@ body_from place bytes =
     )
     else None)
     (number_from count.1)) (number_from parts.1)) (parts_from code.0 code.1)) (number_from bytes)
-
--- the answer whose bytes come first, behind one to this file and line, and the bytes behind it
-abbrev pub answer_from : ℕ × ℕ → List ℕ → Option (PartAnswer × List ℕ)
-answer_from before bytes =
-    option_and_then (λ place. body_from place.0 place.1) (place_from before bytes)

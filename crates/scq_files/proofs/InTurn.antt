@@ -131,23 +131,6 @@ module _ {S : Type 0} (workers size : ℕ) (src : SourceOf S) (was : List S) whe
               (λ j low apart. t.rest j d low) k (omega (arith, less, length-set files slot front));
         }
 
-  -- where none was read
-  pub in-turn-none : StopsAtFaults workers size src was was
-  in-turn-none =
-      let unread : S → FileEnd = λ _. Unread in
-      let each : (k : ℕ) (e : FileEnd) (d : S) → k < length was → slice_index_or (map unread was) k e ≡ Unread =
-      λ k e d less. get_or_default (map unread was) k e Unread (omega (arith, less, length-map was unread)) ∙ get_or-map unread was k d Unread less in
-      record {
-        end_of = map unread was;
-        count = length-map was unread;
-        ends = λ k d e less. subst (EndsSo size src (slice_index_or was k d) (slice_index_or was k d)) (sym (each k e d less)) refl;
-        stops = λ i j e fault before less same is. each j e (first was (omega (arith, less))) less;
-      }
-    where
-      first : (xs : List S) → 0 < length xs → S
-      first [] some = absurd (omega (arith, some))
-      first (x ∷ xs) some = x
-
   -- once all are gathered
   pub in-turn-last : (at : ℕ) (sources : List S) (files : List (List (OwnFile S))) → at ≡ length was → InTurn at sources files
       → StopsAtFaults workers size src was sources

@@ -33,19 +33,6 @@ above_iff merged i a b one within = (
   λ above. lt-ltb _ _ (rw (get_or_default merged i a b within) at (above a)),
 )
 
-pub place_there : (merged : List Stamped) (i : ℕ) (a : Stamped) → i < length merged → a ≡ get_or merged i a → IsPlaceAt merged i a.place
-place_there merged i a within at_a d = ap (λ (s : Stamped). s.place) (get_or_default merged i d a within ∙ sym at_a)
-
--- an event that is parted from the others
-pub parts_more : {A : Type 0} (f : Stamped → A) (done pushed total : List A) (old new : List Stamped) (s : Stamped) → old ≡ s ∷ new → pushed ≡ done ++ f s ∷ []
-    → done ++ map f old ≡ total → pushed ++ map f new ≡ total
-parts_more {A} f done pushed total old new s is push all =
-    ap (λ xs. xs ++ map f new) push ∙ append_assoc done (f s ∷ []) (map f new) ∙ ap (λ xs. done ++ map f xs) (sym is) ∙ all
-
-pub parts_none : {A : Type 0} (f : Stamped → A) (done total : List A) (old : List Stamped) → length old ≡ 0 → done ++ map f old ≡ total → done ≡ total
-parts_none {A} f done total [] none all = sym (append-nil done) ∙ all
-parts_none {A} f done total (s ∷ old) none all = absurd (omega arith)
-
 -- the stamp isn't above that of the one before it, and none falls
 not_above : (merged : List Stamped) (i : ℕ) (d : Stamped) → 1 ≤ i → i < length merged → ¬ StampIsAbove merged i
     → (get_or merged i d).stamp ≤ (get_or merged (i - 1) d).stamp

@@ -84,12 +84,6 @@ module _ {A : Type 0} (f g : List ℕ → A) (first after : Option (List ℕ)) (
     go (Some content) None e = absurd cc
     go (Some content) (Some rest) e = (let here : f content ≡ g rest = cc in here ∙ is rest)
 
-pub is_large : (first after : Option (List ℕ)) (n most : ℕ) → option_map length first ≡ option_map (λ rest. n + length rest) after → most < n
-    → IfSome first (λ content. most < length content)
-is_large None after n most same large = tt
-is_large (Some content) None n most same large = absurd cc
-is_large (Some content) (Some rest) n most same large = (let here : length content ≡ n + length rest = cc in omega arith)
-
 -- nothing is left behind the front, of whose lines this is so
 pub ended : (file : ℕ) (lone : Bool) (begun now : Recording) (lines : ℕ) (front : List ℕ) (first before : Option (List ℕ)) (y : Result Recording ℕ)
     → BytesAreTaken file lone begun now lines front first before → IfSome before (λ rest. rest ≡ []) → after_lines file lone lines now (lines_of front) ≡ y

@@ -16,21 +16,6 @@ use Rattle.scq_judge.proofs.JudgeLemmas.{sound_before}
 use Rattle.scq_judge.proofs.ReadLemmas.{next_bad, next_read}
 use Rattle.scq_judge.proofs.SourceLemmas.{HaveLast, each_front, each_last, each_more, have_last}
 
--- before the first file
-pub none_read : {S : Type 0} (faults end_count : S → ℕ) (left : S → Option (List ℕ)) (lone : Bool)
-    → HaveBeenRead faults end_count left [] [] (record { lone = lone; files = 0; recorded = nothing })
-none_read {S} faults end_count left lone = record {
-  count = refl;
-  many = refl;
-  told = λ contents have. none contents have;
-  files = record { runs = λ k d lt. absurd (omega arith); events = λ k d lt. absurd (omega arith) };
-  whole = λ k d lt. absurd (omega arith);
-  given = λ k d lt. absurd (omega arith);
-} where
-  none : (contents : List (List ℕ)) → HaveContents left [] contents → NoneIsLarge contents × (recording_of lone contents ≡ Ok nothing)
-  none [] have = ((λ k d lt. absurd (omega arith)), refl)
-  none (c ∷ cs) have = absurd (let many = have.many in omega arith)
-
 -- of one of so many files, or of one more
 wider : (count : ℕ) (r : Recording) → AllAreOfFiles count r → AllAreOfFiles (count + 1) r
 wider count r all = record {

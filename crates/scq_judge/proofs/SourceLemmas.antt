@@ -19,10 +19,6 @@ pub record HasGivenSoFar {S : Type 0} (faults end_count : S → ℕ) (left : S �
   pub quiet : faults now ≡ faults old
   pub none : end_count now ≡ end_count old
 
-took_nothing : (o : Option (List ℕ)) → Took [] o o
-took_nothing None = refl
-took_nothing (Some bytes) = refl
-
 took_more : (first before after : Option (List ℕ)) (bytes piece : List ℕ) → Took bytes first before → Took piece before after → Took (bytes ++ piece) first after
 took_more first before None bytes piece had took = had ∙ ap (option_map (λ rest. bytes ++ rest)) took
 took_more first before (Some rest) bytes piece had took =
@@ -33,39 +29,6 @@ pub not_end : {E : Type 0} (x y : Result ℕ E) (count : ℕ) → x ≡ Ok count
 not_end {E} x y count some end more is =
     let none : count ≡ 0 = cc in
     omega arith
-
--- of nothing more the end is the same
-pub nothing_left : (before after : Option (List ℕ)) (piece : List ℕ) (k : ℕ) → before ≡ option_map (λ rest. take k piece ++ rest) after → k ≡ 0
-    → IfSome before (λ rest. rest ≡ []) → IfSome after (λ rest. rest ≡ [])
-nothing_left before None piece k moved is none = tt
-nothing_left before (Some rest) piece k moved is none =
-    let all : before ≡ Some rest = moved ∙ ap (λ n. Some (take n piece ++ rest)) is in
-    subst (λ o. IfSome o (λ rest. rest ≡ [])) all none
-
--- at the end all bytes were counted
-pub few_in_all : (first before : Option (List ℕ)) (size : ℕ) → option_map length first ≡ option_map (λ rest. size + length rest) before → size ≤ most_bytes
-    → IfSome before (λ rest. rest ≡ []) → IfSome first (λ content. length content ≤ most_bytes)
-few_in_all None before size same small none = tt
-few_in_all (Some content) None size same small none = absurd cc
-few_in_all (Some content) (Some rest) size same small none =
-    let here : length content ≡ size + length rest = cc in
-    let nothing : length rest ≡ 0 = ap length none in
-    omega arith
-
--- a fault of a line isn't one of reading
-counts_none : (file : ℕ) (IsBad : ℕ → Type 0) (fault : JudgeFault) (old new : ℕ) → IsLineFault file IsBad fault → new ≡ old → CountsFault fault old new
-counts_none file IsBad (BadLine f l) old new h same = same
-counts_none file IsBad (Shared what f l g m) old new h same = same
-counts_none file IsBad (TwoRuns f r g s) old new h same = same
-counts_none file IsBad (Unlawful f l) old new h same = same
-counts_none file IsBad (ReadFault f) old new h same = absurd h
-counts_none file IsBad (TooLarge f) old new h same = same
-counts_none file IsBad NoMemory old new h same = same
-
-pub counts_none_of : {T : Type 0} (file : ℕ) (IsBad : ℕ → Type 0) (r : Result T JudgeFault) (old new : ℕ) → IfErr r (IsLineFault file IsBad) → new ≡ old
-    → IfErr r (λ fault. CountsFault fault old new)
-counts_none_of file IsBad (Ok x) old new h same = tt
-counts_none_of file IsBad (Err fault) old new h same = counts_none file IsBad fault old new h same
 
 -- what is so of the number of a line
 pub line_fault : (file : ℕ) (IsBad Is : ℕ → Type 0) (fault : JudgeFault) → ((l : ℕ) → IsBad l → Is l) → IsLineFault file IsBad fault → IsLineFault file Is fault
@@ -89,9 +52,6 @@ file_fault file lone before content (TooLarge f) h = absurd h
 file_fault file lone before content NoMemory h = h
 
 module _ {S : Type 0} (faults end_count : S → ℕ) (left : S → Option (List ℕ)) where
-  -- before the first read
-  pub taken_nothing : (source : S) → HasGivenSoFar faults end_count left source source
-  taken_nothing source = record { bytes = []; took = took_nothing (left source); quiet = refl; none = refl }
 
   -- a read more
   pub taken_more : (old mid new : S) (piece : List ℕ) → HasGivenSoFar faults end_count left old mid → Took piece (left mid) (left new) → faults new ≡ faults mid
@@ -103,9 +63,6 @@ module _ {S : Type 0} (faults end_count : S → ℕ) (left : S → Option (List 
     none = none ∙ had.none;
   }
 
-  pub given_so : (old new : S) → HasGivenSoFar faults end_count left old new → HasGiven faults left old new
-  given_so old new had = record { bytes = had.bytes; took = had.took; counted = inl had.quiet }
-
   -- the last read
   pub given_last : (old mid new : S) (piece : List ℕ) → HasGivenSoFar faults end_count left old mid → Took piece (left mid) (left new) → faults new ≡ faults mid
       → HasGiven faults left old new
@@ -113,15 +70,6 @@ module _ {S : Type 0} (faults end_count : S → ℕ) (left : S → Option (List 
     bytes = had.bytes ++ piece;
     took = took_more (left old) (left mid) (left new) had.bytes piece had.took took;
     counted = inl (quiet ∙ had.quiet);
-  }
-
-  -- a read that failed
-  pub given_failing : (old mid new : S) → HasGivenSoFar faults end_count left old mid → left new ≡ left mid → Rose (faults mid) (faults new)
-      → HasGiven faults left old new
-  given_failing old mid new had unmoved rose = record {
-    bytes = had.bytes;
-    took = had.took ∙ ap (option_map (λ rest. had.bytes ++ rest)) (sym unmoved);
-    counted = inr (subst (λ n. Rose n (faults new)) had.quiet rose);
   }
 
 -- a source with its content in front of others

@@ -8,14 +8,6 @@ use Rattle.std.proofs.lemmas.List.Sorted.{IsPermutation-refl, IsPermutation-tran
 use Rattle.scq_passes.specs.PassedOn.{ArePassedOn, none, and_sent, and_made}
 
 module _ {P S D : Type 0} {Sends : P → S → Type 0} {Makes : P → D → Type 0} where
-  -- as many were sent and made directly
-  pub passed-length : (ps : List P) (sends : List S) (directs : List D) → ArePassedOn Sends Makes ps sends directs
-      → length ps ≡ length sends + length directs
-  passed-length ps sends directs none = refl
-  passed-length ps sends directs (and_sent {ps = qs} {sends = before} {directs = ds} p send more is) =
-      omega (arith, length-append qs (p ∷ []), length-append before (send ∷ []), passed-length qs before directs more)
-  passed-length ps sends directs (and_made {ps = qs} {sends = before} {directs = ds} p d more is) =
-      omega (arith, length-append qs (p ∷ []), length-append ds (d ∷ []), passed-length qs sends ds more)
 
   -- what each send is of
   pub passed-send : (ps : List P) (sends : List S) (directs : List D) → ArePassedOn Sends Makes ps sends directs → (s : S) → Contains sends s

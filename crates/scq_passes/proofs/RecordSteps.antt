@@ -116,11 +116,6 @@ alone-more xs ys alone inside before after is =
 abbrev TakesOnce : ℕ → List Ended → Type 0
 TakesOnce topics calls = (topic : ℕ) → topic < topics → count_by (is_take topic) calls ≡ 1
 
--- a lend and a send: no Full
-pub helps-sent : (topics : ℕ) (xs : List Ended) (from ring place : ℕ) (over bytes : List ℕ) → HelpsOnceAfterEachFull topics xs
-    → HelpsOnceAfterEachFull topics ((xs ++ Got 0 from over ∷ []) ++ Done ring place bytes ∷ [])
-helps-sent topics xs from ring place over bytes once = after-sent (TakesOnce topics) xs from ring place over bytes once
-
 -- the same with takes behind it
 pub helps-behind : {By : Puts} (topics : ℕ) (xs block : List Ended) (from ring place : ℕ) (over bytes : List ℕ) → AreTakesFollowed By block
     → HelpsOnceAfterEachFull topics xs
@@ -174,10 +169,6 @@ alone-helped xs block are even alone =
 
 pub even-full : (xs : List Ended) → count_by is_got xs ≡ count_by is_put xs → count_by is_got (xs ++ Nothing 0 ∷ []) ≡ count_by is_put (xs ++ Nothing 0 ∷ [])
 even-full xs even = sum_by-append _ xs (Nothing 0 ∷ []) ∙ ap (λ n. n + 0) even ∙ sym (sum_by-append _ xs (Nothing 0 ∷ []))
-
-pub even-helped : {By : Puts} (xs block : List Ended) → AreTakesFollowed By block → count_by is_got xs ≡ count_by is_put xs
-    → count_by is_got ((xs ++ Nothing 0 ∷ []) ++ block) ≡ count_by is_put ((xs ++ Nothing 0 ∷ []) ++ block)
-even-helped xs block are even = even-taken (xs ++ Nothing 0 ∷ []) block are (even-full xs even)
 
 -- a Full alone
 pub alone-full : (xs : List Ended) → count_by is_got xs ≡ count_by is_put xs → HoldsNothingAtEachFull xs → HoldsNothingAtEachFull (xs ++ Nothing 0 ∷ [])

@@ -39,9 +39,6 @@ same_laid i e = let same = e in ap (λ (x : Laid). record { at = Some i; pass = 
 some_same : (i k : ℕ) → Some i ≡ Some k → k ≡ i
 some_same i k e = let same : i ≡ k = cc in sym same
 
-some_is : {q p : PassStanding PortBuffer} → Some q ≡ Some p → q ≡ p
-some_is {q} {p} e = let both = e in cc
-
 -- the table at the start
 pub opens : (queue : PortQueue) (n : ℕ) (words : List ℕ) (slots : List Laid) → words ≡ replicate n 0 → length words ≡ length slots
     → EndsHold queue (table.opening words slots no_claim)

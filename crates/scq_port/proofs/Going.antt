@@ -107,19 +107,6 @@ leaves queue old new slots before is =
       past = λ i at. ap (times i) is.held ∙ before.past i at;
     }
 
--- one that holds nothing has no values at any places
-pub holds_none : (p : PassStanding PortBuffer) → p.held ≡ [] → LetsGo p.queue p []
-holds_none p none =
-    record {
-      own = refl;
-      here = λ i h at. absurd (let no : None ≡ Some (Some h) = at in cc);
-      free = λ i at. absurd (none_some at);
-      past = λ i at. ap (times i) none;
-    }
-  where
-    none_some : {x : Option Value} → None ≡ Some x → ⊥
-    none_some {x} e = let no = e in cc
-
 -- all are given back
 pub ends : (queue : PortQueue) (p : PassStanding PortBuffer) (slots : List (Option Value)) → LetsGo queue p slots → length slots ≡ 0 → p.held ≡ []
 ends queue p [] before empty = none_at_all p.held (λ i. before.past i refl)

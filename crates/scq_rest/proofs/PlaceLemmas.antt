@@ -14,15 +14,6 @@ use Rattle.scq_rest.specs.declared.threads.WorksOn.{WorksOn}
 use Rattle.scq_passes.proofs.Parting.{turned}
 use Rattle.scq_files.specs.Reading.{SourceOf}
 
--- a started worker's end, as its place tells it
-pub ends-here : {S : Type 0} (q : Identity Frame) (j : Job) (crew : List TableId) (src : SourceOf S) (w : WorksOn S)
-    (end : HandedBack S) → IsReadyToBegin q j crew src w → HandsBack (task w.queue.value w.job.value w.crew.value src) w.work.value end
-    → HandsBack (task q j crew src) w.work.value end
-ends-here q j crew src w end was so =
-    let same : task w.queue.value w.job.value w.crew.value src ≡ task q j crew src =
-    λ i. task (was.queue i) (was.job i) (was.of i) src in
-    subst (λ (t : Task _). HandsBack t w.work.value end) same so
-
 -- lists in which one element after the other is replaced by one that f can't tell from what it was
 pub record Replaced {X Y : Type 0} (P Q : X → Type 0) (f : X → Y) (all : List Y) (xs : List X) (i : ℕ) : Type 0 where
   pub same : map f xs ≡ all

@@ -31,12 +31,6 @@ part-second old between new a b whole part = record {
       ∙ ap (written_with old) (sym (take-append-add a b part.count));
 }
 
--- the first bytes and then all of the second
-pub whole-then : {E : Type 0} (old between new : Option (List ℕ)) (result : Result (Unit {0}) E) (a b : List ℕ) → between ≡ written_with old a
-    → OnOk result (new ≡ written_with between b) → OnOk result (new ≡ written_with old (a ++ b))
-whole-then old between new (Ok done) a b first last = last ∙ ap (λ written. written_with written b) first ∙ written-then old a b
-whole-then old between new (Err fault) a b first last = tt
-
 both : {K E : Type 0} (sink : SinkOf K) (old mid new : K) (a b : List ℕ) (last : Result (Unit {0}) E) → sink.written mid ≡ written_with (sink.written old) a
     → sink.faults mid ≡ sink.faults old → HasWritten sink mid new b last → HasWritten sink old new (a ++ b) last
 both sink old mid new a b (Ok done) whole kept more = record {

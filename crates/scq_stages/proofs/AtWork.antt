@@ -243,15 +243,3 @@ module _ {B : Type 0} where
   work-stopped shared messages m p q members starved kept was queue stays left =
       subst (λ n. HasStopped shared n q kept) (sym (length-append messages (m ∷ [])))
       (work-left shared messages (length messages + 1) p q members starved kept was queue stays left)
-
-  -- so it is with more messages
-  pub stopped-more : (shared : Identity B) (few many : ℕ) (p : PassStanding B) (kept : Option (HeldStanding B)) → few ≤ many
-      → HasStopped shared few p kept → HasStopped shared many p kept
-  stopped-more shared few many p kept low was = record {
-    spent = was.spent;
-    few_calls = few_calls-more 1 few many p low was.few_calls;
-    queue = was.queue;
-    stays = was.stays;
-    held = was.held;
-    its = was.its;
-  }

@@ -36,11 +36,6 @@ AllRead topics size src files =
     All (λ f. IsRead topics size src f.number f.was.value f.source (given_in f.given.value) f.end) files
 
 module _ {B : Type 0} where
-  -- a new pass suits, and nothing is passed on yet
-  pub suits-first : (shared : Identity B) (number : ℕ) (p : PassStanding B) → shared.setup.rings ≡ 3 → p ≡ first_pass shared number → Suits shared 1 p
-  suits-first shared number p rings is =
-      subst (Suits shared 1) (sym is)
-      (record { queue = refl; rings = rings; numbers = numbers_length shared.setup shared.setup.rings ∙ rings; spent = refl })
 
   pub work-first : (shared : Identity B) (number : ℕ) (p : PassStanding B) (members : List Finished) (starved : Bool) → p ≡ first_pass shared number
       → members ≡ [] → IsAtWork [] p members starved

@@ -16,9 +16,6 @@ sums-map f g (x ∷ xs) =
 abbrev pub Positioned : Type 0
 Positioned = ℕ × ℕ × Bor Finished
 
-abbrev result : Positioned → Handled
-result m = without_way m.2.now
-
 pub text-of : (members : List Positioned) (text lines : List ℕ) (count bytes : ℕ)
     → text ≡ lines ++ (codes "total " ++ decimal count ++ codes " " ++ decimal bytes ++ codes "\n")
     → lines ≡ flat_map (λ m. handled_line (without_way m.2.now)) members → count ≡ length members

@@ -131,15 +131,6 @@ cycle_in_fits order over w sum small =
     let all : w < 2 ^ (over + (order + 1 + 1)) = rw bits small in
     rw (top, shl-shr (2 ^ over) order, slots_of-pow order, shr-shr w (order + 1) 1) (shr_below w over (order + 1 + 1) all)
 
--- the quotients and the rest that make an entry
-pub read_parts : (order w slots : ℕ) (i : Option ℕ) → slots ≡ slots_of order
-    → i ≡ cond (w % slots == mark_of (slots_of order)) None (Some (w % slots))
-    → (let read : Entry = record { cycle = w / slots / 2; safe = w / slots % 2 == 1; index = i } in read) ≡ entry_in order w
-unfolding cycle_in safe_in index_in
-read_parts order w slots i slots_is index_is =
-    same_entry (record { cycle = w / slots / 2; safe = w / slots % 2 == 1; index = i }) (entry_in order w)
-    (rw slots_is refl) (rw slots_is refl) (index_is ∙ rw slots_is refl)
-
 rank_read : (order : ℕ) (i : Option ℕ) (s : Bool) → ForSome i (λ index. index < n_of order)
     → cond (index_bits order i == mark_of (slots_of order)) 2 (cond (safe_bit s == 1) 0 1) ≡ rank_within i s
 rank_read order None s own = rw (eq-eqb (mark_of (slots_of order)) (mark_of (slots_of order)) refl) refl

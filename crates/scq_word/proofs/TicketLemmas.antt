@@ -26,22 +26,6 @@ slot_of_small order t =
       | inr low ↦ rw low rest
     ]
 
--- the slot in a ring with columns, and in one without
-pub slot_of-columns : (order t : ℕ) → 3 < order + 1 → in_columns (slots_of order / 8) (t % slots_of order) ≡ slot_of order t
-unfolding slot_of
-slot_of-columns order t high =
-    let columns = columns_of order high in
-    let width : slots_of order / 8 ≡ 2 ^ (order + 1 - 3) = omega arith in
-    rw (width, lt-ltb 3 (order + 1) high) refl
-
-pub slot_of-rest : (order t : ℕ) → order + 1 ≤ 3 → t % slots_of order ≡ slot_of order t
-unfolding slot_of
-slot_of-rest order t low =
-    elim (cases_Bool (nat_lt 3 (order + 1))) [
-      | inl high ↦ let above = ltb-true 3 (order + 1) high in absurd (omega arith)
-      | inr is ↦ rw is refl
-    ]
-
 -- tickets of one slot agree modulo the number of slots
 pub same_rest : (order t u : ℕ) → slot_of order t ≡ slot_of order u → t % slots_of order ≡ u % slots_of order
 unfolding slot_of

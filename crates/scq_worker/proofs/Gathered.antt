@@ -85,11 +85,6 @@ open-none most topics opens is =
     subst (AreOpen most topics) (sym is)
     (record { few = omega arith; each = λ u. subst (IsOpen most u) (sym (nil-at u)) (open-nothing most u) })
 
--- as much is open on each topic
-pub open-same : (most topics : ℕ) (opens news : List (List Part)) → AreOpen most topics opens → length news ≤ topics
-    → ((u : ℕ) → open_on u news ≡ open_on u opens) → AreOpen most topics news
-open-same most topics opens news was few now = record { few = few; each = λ u. subst (IsOpen most u) (sym (now u)) (was.each u) }
-
 -- but for one, on which it isn't
 pub open-closed : (most topics t : ℕ) (opens news : List (List Part)) → AreOpen most topics opens → length news ≤ topics
     → ((u : ℕ) → open_on u news ≡ if u == t then [] else open_on u opens) → AreOpen most topics news
@@ -333,12 +328,6 @@ set-closed opens t mid b within none u =
 
 pub set-few : (opens : List (List Part)) (t n : ℕ) (mid b : List Part) → length opens ≤ n → length (set (set opens t mid) t b) ≤ n
 set-few opens t n mid b few = omega (arith, few, length-set (set opens t mid) t b, length-set opens t mid)
-
--- past all that are begun nothing is open
-pub none-past : (opens : List (List Part)) (t : ℕ) → length opens ≤ t → open_on t opens ≡ []
-none-past [] t past = nil-at t
-none-past (b ∷ opens) zero past = absurd (omega (arith, past))
-none-past (b ∷ opens) (suc t) past = none-past opens t (omega (arith, past))
 
 -- as much is open in these, each beyond those that were, and the parts of a topic are put among them
 module _ (opens begun : List (List Part)) (t : ℕ) (own : List Part) (begins : (u : ℕ) → open_on u begun ≡ open_on u opens)

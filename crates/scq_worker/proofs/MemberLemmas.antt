@@ -42,12 +42,6 @@ module _ (topics : List (List ℕ × Kind)) where
   pub directs-taken : (place first : ℕ) (parts : List Part) → filter is_direct (answers_by topics (Taken place first) parts) ≡ []
   directs-taken place first parts = none-pass is_direct (Taken place first) 0 parts (λ n p. refl)
 
-  pub directs-direct : (head : ℕ) (parts : List Part) → filter is_direct (answers_by topics (Direct head) parts) ≡ answers_by topics (Direct head) parts
-  directs-direct head parts = all-pass is_direct (Direct head) 0 parts (λ n p. refl)
-
-  pub takens-direct : (head : ℕ) (parts : List Part) → filter is_taken (answers_by topics (Direct head) parts) ≡ []
-  takens-direct head parts = none-pass is_taken (Direct head) 0 parts (λ n p. refl)
-
   each-direct : (head number : ℕ) (parts : List Part) → AllByRecursion (λ p. p.topic ≤ length topics) parts
       → answers_from topics (Direct head) number parts ≡ map (answered topics (Direct head)) parts
   each-direct head number [] known = refl
