@@ -2,10 +2,9 @@
 //! second heeds a mark of the first before it takes; then the two meet.
 ghost use Rattle.std.specs.Prelude.{◌≡◌, ◌≤◌, [], ◌∷◌, None, IfOk, IfErr, vec_capacity};
 ghost use Rattle.std.specs.Option.{option_to_list};
-ghost use Rattle.scq_band.specs.Buffers.{opening_of};
+ghost use Rattle.scq_band.specs.Exports.{opening_of, IsCallInRun, both_seen};
 ghost use Rattle.scq_queue.specs.HoldsJust.{HoldsJust};
-ghost use Rattle.scq_band.specs.RunSeen.{IsCallInRun, both_seen};
-ghost use Rattle.scq_queue.specs.Passes.{first_passes, having_seen, caller_of};
+ghost use Rattle.scq_queue.specs.Exports.{first_passes, having_seen, caller_of};
 
 use crate::{give_in, sent};
 use scq_queue::{HeapBuffer, Held, Mark, Pass, Queue, TakeRefusal};

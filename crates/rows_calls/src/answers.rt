@@ -1,6 +1,6 @@
 //! Answers merged and written.
 ghost use Rattle.std.specs.Prelude.{◌≡◌, ◌≤◌, All, length};
-ghost use Rattle.scq_collect.specs.Merging.{members_of};
+ghost use Rattle.scq_collect.specs.Exports.{members_of};
 
 use crate::row::Row;
 use rows_text::field;

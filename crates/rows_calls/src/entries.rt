@@ -1,7 +1,7 @@
 //! Entry words, tickets and setups.
 ghost use Rattle.std.specs.Prelude.{◌<◌, IfSome};
 ghost use Rattle.std.specs.Option.{ForSome};
-ghost use Rattle.scq_word.specs.Sizes.{n_of};
+ghost use Rattle.scq_word.specs.Exports.{n_of};
 
 use crate::row::Row;
 use rows_text::field;

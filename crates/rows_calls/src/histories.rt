@@ -1,7 +1,7 @@
 //! Histories as text, of queues whose contents are words: `opening X`, `start S put Q X`, `start S
 //! get Q`, `end S done`, `end S got o J X`, `end S got S2 N X`, `end S nothing`, `end S spent`,
 //! with a semicolon between them.
-ghost use Rattle.scq_hist.specs.Aspects.{IsLawful};
+ghost use Rattle.scq_hist.specs.Exports.{IsLawful};
 
 use crate::row::Row;
 use rows_text::field;

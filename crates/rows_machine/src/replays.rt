@@ -2,7 +2,7 @@
 ghost use Rattle.std.specs.Prelude.{◌≡◌, ℕ, ◌^◌, ◌<◌, ◌≤◌, IfOk};
 ghost use Rattle.std.specs.List.{All};
 ghost use Rattle.scq_core.specs.declared.step.Step.{Step as StepOf};
-ghost use Rattle.scq_hist.specs.Aspects.{IsLawful};
+ghost use Rattle.scq_hist.specs.Exports.{IsLawful};
 
 use crate::schedules::{opening, push_steps, two_of_each};
 use crate::steps::{Part, part_of, show_ring, text_of};

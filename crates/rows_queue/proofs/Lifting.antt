@@ -1,7 +1,8 @@
 -- A hand in which the buffer of an index was lifted, or laid.
 use Rattle.std.proofs.Common.{◌≡◌, ℕ, ◌∙◌, ap}
 use Rattle.std.specs.Prelude.{Some, Option}
-use Rattle.scq_band.specs.Standing.{Standing, in_hand, with_buffer}
+use Rattle.scq_band.specs.Exports.{in_hand, with_buffer}
+use Rattle.scq_band.specs.Standing.{Standing}
 use Rattle.scq_band.proofs.Putting.{laid_there}
 
 pub now_there : {B : Type 0} (i : ℕ) (old new : Option B) (s u : Standing B) → in_hand s.hand i ≡ Some old

@@ -3,8 +3,8 @@ use Rattle.std.proofs.Common.{◌≡◌, ℕ, zero, suc, [], ◌∷◌, length, 
 use Rattle.std.specs.Prelude.{All}
 use Rattle.std.proofs.lemmas.List.{length-append}
 use Rattle.std.proofs.lemmas.List.Elements.{All-nil, All-push}
-use Rattle.scq_band.specs.Standing.{Identity, Standing, first_standing, first_standings}
-use Rattle.scq_band.specs.Closing.{lifted_of}
+use Rattle.scq_band.specs.Exports.{Identity, first_standing, first_standings, lifted_of}
+use Rattle.scq_band.specs.Standing.{Standing}
 
 module _ {B : Type 0} where
   pub how_many : (band : Identity B) (k : ℕ) → length (first_standings band k) ≡ k

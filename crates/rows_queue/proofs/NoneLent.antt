@@ -3,11 +3,11 @@ use Rattle.std.proofs.Common.{◌≡◌, ℕ, arith, List, [], ◌∷◌, ◌++�
 use Rattle.std.specs.Prelude.{Some, None, Option, All, sum_by}
 use Rattle.std.proofs.lemmas.List.Elements.{All-head, All-tail}
 use Rattle.std.proofs.lemmas.List.Sums.{sum_by-cons}
-use Rattle.scq_law.specs.Hands.{times}
+use Rattle.scq_law.specs.Exports.{times}
 use Rattle.scq_law.proofs.Base.SeatSums.{contains_none}
 use Rattle.std.proofs.lemmas.Bool.{cases_eq}
-use Rattle.scq_band.specs.Standing.{Identity, Standing, without_index, having_seen, seat_after_put, SeatHasTaken, SeatFoundEmpty}
-use Rattle.scq_band.specs.Closing.{lifted_of, AreTheLifted}
+use Rattle.scq_band.specs.Exports.{Identity, without_index, having_seen, seat_after_put, SeatHasTaken, SeatFoundEmpty, lifted_of, AreTheLifted}
+use Rattle.scq_band.specs.Standing.{Standing}
 
 module _ {B : Type 0} where
   lifted-come : (xs : List (ℕ × Option B)) (i : ℕ) (b : B) → lifted_of (xs ++ (i, Some b) ∷ []) ≡ lifted_of xs

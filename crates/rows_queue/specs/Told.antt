@@ -1,7 +1,7 @@
 -- What stays as it was where one pass or seat tells another what it has seen.
 use Rattle.std.specs.Prelude.{◌≡◌}
 use Rattle.scq_band.specs.Standing.{Standing}
-use Rattle.scq_queue.specs.Passes.{PassStanding}
+use Rattle.scq_queue.specs.Exports.{PassStanding}
 
 module _ {B : Type 0} where
   -- all of a pass but what it knows and what it has seen

@@ -1,6 +1,6 @@
 //! Bands that are made and closed, and a buffer that is lifted, laid and put.
 ghost use Rattle.std.specs.Prelude.{◌≡◌, ◌≤◌, [], All, IfOk, vec_len};
-ghost use Rattle.scq_band.specs.Closing.{lifted_of};
+ghost use Rattle.scq_band.specs.Exports.{lifted_of};
 
 use anyhow::{Context, Result, anyhow, ensure};
 use scq_band::{Band, BandClosed, Seat};

@@ -1,7 +1,7 @@
 //! Calls of one pass of a queue. A value that was got goes on top of those that are held, and the
 //! one on top is sent or given back.
 ghost use Rattle.std.specs.Prelude.{◌≡◌, ◌+◌, ◌<◌, ◌≤◌, [], IfOk, vec_len, vec_capacity};
-ghost use Rattle.scq_queue.specs.Passes.{first_passes};
+ghost use Rattle.scq_queue.specs.Exports.{first_passes};
 ghost use Rattle.scq_queue.specs.HoldsJust.{HoldsJust};
 
 use crate::replies::{Reply, of_lend, of_take, show, show_closed, tell};

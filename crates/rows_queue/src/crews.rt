@@ -1,7 +1,7 @@
 //! Crews of two workers: what their calls do on one thread, and that two threads that rest in turn
 //! wake each other.
 ghost use Rattle.std.specs.Prelude.{◌≡◌, ◌<◌, ◌≤◌, [], length, vec_capacity};
-ghost use Rattle.scq_park.specs.Crews.{first_post, first_posts};
+ghost use Rattle.scq_park.specs.Exports.{first_post, first_posts};
 
 use anyhow::Result;
 use scq_park::{Crew, Rested, Stand};

@@ -1,6 +1,6 @@
 //! Moves of indices between the rings of a band.
 ghost use Rattle.std.specs.Prelude.{◌≡◌, [], All, vec_len};
-ghost use Rattle.scq_band.specs.Closing.{lifted_of};
+ghost use Rattle.scq_band.specs.Exports.{lifted_of};
 
 use crate::bands::{closed, made};
 use crate::replies::show_rest;

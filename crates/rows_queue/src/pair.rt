@@ -1,7 +1,7 @@
 //! Two passes of a queue in turn: one tells the other what it sent, in one of the ways, and the
 //! gate closes once both have retired.
 ghost use Rattle.std.specs.Prelude.{◌≡◌, ◌≤◌, [], None, vec_capacity};
-ghost use Rattle.scq_queue.specs.Passes.{first_passes};
+ghost use Rattle.scq_queue.specs.Exports.{first_passes};
 
 use crate::calls::{lent, made, sent, took};
 use crate::replies;

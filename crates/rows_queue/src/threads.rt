@@ -1,7 +1,7 @@
 //! Two threads at one time on one band: whatever their steps were, each index is accounted for when
 //! the band closes.
 ghost use Rattle.std.specs.Prelude.{◌≡◌, ◌<◌, ◌≤◌, [], All, IfOk, vec_len};
-ghost use Rattle.scq_band.specs.Closing.{lifted_of};
+ghost use Rattle.scq_band.specs.Exports.{lifted_of};
 
 use crate::bands::{closed, made};
 use crate::replies::show_buffers;

@@ -1,7 +1,7 @@
 //! The ways in which one pass of a queue tells another what it has seen, and one seat of a band
 //! another.
 ghost use Rattle.std.specs.Prelude.{◌≡◌, ◌≤◌, [], All, vec_len};
-ghost use Rattle.scq_band.specs.Closing.{lifted_of};
+ghost use Rattle.scq_band.specs.Exports.{lifted_of};
 ghost use Rattle.rows_queue.specs.Told.{SeatStays, PassStays};
 
 use anyhow::{Result, anyhow};

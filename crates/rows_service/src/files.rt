@@ -1,6 +1,6 @@
 //! Files of a row, and how reads and writes are cut.
 ghost use Rattle.std.specs.Prelude.{◌≡◌, if◌then◌else◌, IsTrue, IfOk, IfSome, None, Some};
-ghost use Rattle.scq_outside.specs.Calls.{are_pieces};
+ghost use Rattle.scq_outside.specs.Exports.{are_pieces};
 
 use crate::gates::RowGate;
 use anyhow::{Context, Result};

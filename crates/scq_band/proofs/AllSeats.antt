@@ -7,12 +7,11 @@ use Rattle.std.proofs.lemmas.List.Sums.{sum_by-cons}
 use mathlib.Core.Option as maybe
 use Rattle.scq_word.specs.declared.setup.Setup.{Setup}
 use Rattle.scq_word.proofs.Counting.{IsApart, meets_all}
-use Rattle.scq_core.specs.Machine.{SeatPart, Machine}
-use Rattle.scq_core.specs.Laws.{total}
-use Rattle.scq_law.specs.Sums.{sum_to}
+use Rattle.scq_core.specs.Exports.{SeatPart, total}
+use Rattle.scq_core.specs.Machine.{Machine}
+use Rattle.scq_law.specs.Exports.{sum_to}
 use Rattle.scq_law.proofs.Balance.Sums.{sum_same, sum_change}
-use Rattle.scq_band.specs.Known.{Member}
-use Rattle.scq_band.specs.Shown.{Scene, IsMember, Owns}
+use Rattle.scq_band.specs.Exports.{Member, Scene, IsMember, Owns}
 
 -- these members are all the seats of the machine, each once
 pub record AreAllSeats (c : Setup) (m : Machine) (xs : List Member) : Type 0 where

@@ -12,17 +12,14 @@ use Rattle.atomic_table.specs.Table.{State, Me, Allows, gives, rest}
 use Rattle.atomic_table.proofs.Lists.{at_set, set_here}
 use Rattle.scq_word.specs.declared.setup.Setup.{Setup}
 use Rattle.scq_core.specs.declared.step.Step.{Step}
-use Rattle.scq_word.specs.Sizes.{n_of}
-use Rattle.scq_word.specs.Words.{index_in}
-use Rattle.scq_core.specs.Table.{ring_slots}
-use Rattle.scq_law.specs.Hands.{times, OneHand}
+use Rattle.scq_word.specs.Exports.{n_of, index_in}
+use Rattle.scq_core.specs.Exports.{ring_slots}
+use Rattle.scq_law.specs.Exports.{times, OneHand}
 use Rattle.scq_law.proofs.Places.HandLaws.{one_hand}
 use Rattle.scq_band.proofs.RunEnds.{reaches}
-use Rattle.scq_band.specs.Known.{Member, Known}
-use Rattle.scq_band.specs.Shown.{Scene, Has, Owns, IsView, Shown, StandsAmong}
-use Rattle.scq_band.specs.Steps.{my, front_index}
-use Rattle.scq_band.specs.Closing.{indices_of}
-use Rattle.scq_band.specs.Homes.{at_home, MayBring}
+use Rattle.scq_band.specs.Exports.{Member, Scene, Has, Owns, IsView, StandsAmong, my, front_index, indices_of, at_home, MayBring}
+use Rattle.scq_band.specs.Known.{Known}
+use Rattle.scq_band.specs.Shown.{Shown}
 use Rattle.scq_band.proofs.GoingHome.{contained_cases}
 use Rattle.scq_band.proofs.StandingSeats.{seat_apart, set_stands}
 use Rattle.scq_band.proofs.Handles.{has_else, in_hand_alone, hand_or_entry}

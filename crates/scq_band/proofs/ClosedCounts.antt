@@ -5,23 +5,19 @@ use Rattle.std.specs.Prelude.{Option, Some, slice_get, slice_index, sum, sum_by}
 use Rattle.std.proofs.lemmas.Bool.{cases_lt}
 use Rattle.std.proofs.lemmas.List.Sums.{sum_by-cons}
 use Rattle.scq_word.specs.declared.setup.Setup.{Setup}
-use Rattle.scq_word.specs.Sizes.{n_of}
+use Rattle.scq_word.specs.Exports.{n_of}
 use Rattle.scq_core.specs.declared.ended.Ended.{Ended}
 use Rattle.scq_core.specs.declared.ended.Ended.TheVariants.{Spent}
 use Rattle.scq_core.specs.declared.phase.Phase.{Phase}
 use Rattle.scq_core.specs.declared.phase.Phase.TheVariants.{Idle}
-use Rattle.scq_core.specs.Machine.{SeatPart, Machine}
-use Rattle.scq_core.specs.Laws.{total}
-use Rattle.scq_core.specs.Reach.{IsReachable}
-use Rattle.scq_law.specs.Bounds.{tally, was_put, is_putting, enqueues}
-use Rattle.scq_law.specs.Hands.{times, Home, hand_of, in_slot, IsHome}
-use Rattle.scq_law.specs.Sums.{sum_to}
-use Rattle.scq_law.specs.Kept.{was_done, was_got, has_placed, gets_of, puts_of, left_in, left_below}
+use Rattle.scq_core.specs.Exports.{SeatPart, total, IsReachable}
+use Rattle.scq_core.specs.Machine.{Machine}
+use Rattle.scq_law.specs.Exports.{tally, was_put, is_putting, enqueues, times, Home, hand_of, in_slot, IsHome, sum_to, was_done, was_got, has_placed}
+use Rattle.scq_law.specs.Exports.{gets_of, puts_of, left_in, left_below}
 use Rattle.scq_law.proofs.Balance.KeptLaws.{balanced, all_kept}
 use Rattle.scq_law.proofs.Places.HandLaws.{one_hand}
 use Rattle.scq_law.proofs.Tickets.SpentLaws.{spent_kept}
-use Rattle.scq_band.specs.Known.{Member}
-use Rattle.scq_band.specs.Closing.{gets_on, begun_on, IsBalance, IsAllThere, EachSpentIsPastTheBound, EachIsInOneHand}
+use Rattle.scq_band.specs.Exports.{Member, gets_on, begun_on, IsBalance, IsAllThere, EachSpentIsPastTheBound, EachIsInOneHand}
 use Rattle.scq_band.proofs.AllSeats.{AreAllSeats, total_all}
 use Rattle.scq_band.proofs.ClosedRecords.{map_back, map_on, member_records, AllRest}
 

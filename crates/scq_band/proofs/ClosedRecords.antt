@@ -4,23 +4,20 @@ use Rattle.std.proofs.Common.{◌≡◌, ℕ, zero, suc, ◌-◌, ◌<◌, ◌�
 use Rattle.std.specs.Prelude.{Some, slice_get, slice_index_or}
 use Rattle.std.proofs.lemmas.Bool.{cases_lt}
 use Rattle.scq_word.specs.declared.setup.Setup.{Setup}
-use Rattle.scq_word.specs.Sizes.{n_of}
+use Rattle.scq_word.specs.Exports.{n_of}
 use Rattle.scq_core.specs.declared.ended.Ended.{Ended}
 use Rattle.scq_core.specs.declared.ended.Ended.TheVariants.{Done, Got}
 use Rattle.scq_core.specs.declared.phase.Phase.{Phase}
 use Rattle.scq_core.specs.declared.phase.Phase.TheVariants.{Idle}
-use Rattle.scq_core.specs.Machine.{SeatPart, Machine}
-use Rattle.scq_core.specs.Table.{ring_slots}
-use Rattle.scq_core.specs.Start.{idle_part}
-use Rattle.scq_core.specs.Reach.{IsReachable}
-use Rattle.scq_law.specs.Places.{Maker, opening_put, call_of, HasLanded, IsPlacedBy, at_opening, in_record, under_way, AllIdle}
+use Rattle.scq_core.specs.Exports.{SeatPart, ring_slots, idle_part, IsReachable}
+use Rattle.scq_core.specs.Machine.{Machine}
+use Rattle.scq_law.specs.Exports.{Maker, opening_put, call_of, HasLanded, IsPlacedBy, at_opening, in_record, under_way, AllIdle}
 use Rattle.scq_law.proofs.Base.Traces.{has_trace}
 use Rattle.scq_law.proofs.Places.Throughout.{reached}
 use Rattle.scq_law.proofs.Places.PlaceLaws.{places_once, got_below}
 use Rattle.scq_band.specs.declared.numbers.Numbers.{Numbers}
-use Rattle.scq_band.specs.Known.{Member}
-use Rattle.scq_band.specs.Numbers.{known_of}
-use Rattle.scq_band.specs.Closing.{CallEndedSo, SomeCallEndedSo, WasPut, EachGetHasItsPut, NoneIsPutTwice, NoneIsGotTwice, EachPutPassedIsGot}
+use Rattle.scq_band.specs.Exports.{Member, known_of, CallEndedSo, SomeCallEndedSo, WasPut, EachGetHasItsPut, NoneIsPutTwice, NoneIsGotTwice}
+use Rattle.scq_band.specs.Exports.{EachPutPassedIsGot}
 use Rattle.scq_band.proofs.AllSeats.{AreAllSeats, seat_at}
 
 -- what is read in a list of images

@@ -10,14 +10,14 @@ use lib.ListN.{get_elem?}
 use Rattle.atomic_table.specs.Seated.{TableId}
 use Rattle.atomic_table.specs.Table.{State, Final, Seen as OfView}
 use Rattle.scq_word.specs.declared.setup.Setup.{Setup}
-use Rattle.scq_word.specs.Sizes.{n_of}
+use Rattle.scq_word.specs.Exports.{n_of}
 use Rattle.scq_core.specs.declared.ended.Ended.{Ended}
 use Rattle.scq_core.specs.declared.phase.Phase.TheVariants.{Idle}
 use Rattle.scq_core.specs.declared.step.Step.{Step}
-use Rattle.scq_core.specs.Machine.{Cells, SeatPart, Machine}
+use Rattle.scq_core.specs.Exports.{Cells, SeatPart}
+use Rattle.scq_core.specs.Machine.{Machine}
 use Rattle.scq_core.proofs.Indices.{HasIndices, has_indices}
-use Rattle.scq_law.specs.Kept.{left_in}
-use Rattle.scq_law.specs.RunSteps.{run_of, IsFinishedRun}
+use Rattle.scq_law.specs.Exports.{left_in, run_of, IsFinishedRun, AllPrefixes}
 use Rattle.scq_law.proofs.Aspects.EmptyRight.{has_aspects}
 use Rattle.scq_law.proofs.Aspects.CoupledRuns.{tied_run}
 use Rattle.scq_law.proofs.Aspects.RecordsShown.{records_shown}
@@ -28,20 +28,19 @@ use Rattle.scq_law.proofs.Progress.WholeCalls.{delayed_by_ends}
 use Rattle.scq_law.proofs.Progress.AloneCalls.{ends_alone}
 use Rattle.scq_band.specs.declared.numbers.Numbers.{Numbers}
 use Rattle.scq_band.specs.declared.slot.Slot.{Slot}
-use Rattle.scq_band.specs.Buffers.{LiesIn, opening_of}
-use Rattle.scq_law.specs.Prefixes.{AllPrefixes}
-use Rattle.scq_band.specs.RunSeen.{Seen, Caller}
-use Rattle.scq_band.specs.Known.{Member, Known}
-use Rattle.scq_band.specs.Sights.{Sight, known_state, ShowsRun}
+use Rattle.scq_band.specs.Exports.{LiesIn, opening_of, Seen, Caller, Member, Sight, known_state, ShowsRun, ShowsWords, Has, Owns, awake, Identity}
+use Rattle.scq_band.specs.Exports.{caller_of, identity_of, full_slot, IsBrought, OutOrHome, IsMemberOf, AreMembersOf, HeadsKnown, GatesKnown, HasAll}
+use Rattle.scq_band.specs.Exports.{all_seen, indices_of, IsOneRun, EachGetHasItsPut, NoneIsPutTwice, NoneIsGotTwice, EachPutPassedIsGot, IsBalance}
+use Rattle.scq_band.specs.Exports.{IsAllThere, EachIsInOneHand, EachSpentIsPastTheBound, EachLeftIsItsPut, StandsAtItsPut, IsOneRunToTheEnd, IsLeft}
+use Rattle.scq_band.specs.Exports.{AreTheSame, ComesBackAsItWas, with_laid, laid_of, held_buffers, AllRetiredWhereClosed, EachSeenRetiredHas}
+use Rattle.scq_band.specs.Exports.{all_calls, all_hands, all_known, all_spent, callers_of}
+use Rattle.scq_band.specs.Known.{Known}
 use Rattle.scq_band.proofs.Gates.{none_awake}
 use Rattle.scq_band.proofs.RunEnds.{reaches, opens_with}
 use Rattle.scq_band.proofs.RunShown.{known_at}
-use Rattle.scq_band.specs.Shown.{ShowsWords, Has, Owns, Shown, awake}
+use Rattle.scq_band.specs.Shown.{Shown}
 use Rattle.scq_band.specs.declared.rule.Key.{Key}
-use Rattle.scq_band.specs.Standing.{Identity, Standing, caller_of}
-use Rattle.scq_band.specs.Kept.{identity_of}
-use Rattle.scq_band.specs.Homes.{full_slot, IsBrought, OutOrHome, IsMemberOf, AreMembersOf, HeadsKnown, GatesKnown, HasAll, all_seen}
-use Rattle.scq_band.specs.Closing.{indices_of, IsOneRun, EachGetHasItsPut, NoneIsPutTwice, NoneIsGotTwice, EachPutPassedIsGot, IsBalance, IsAllThere, EachIsInOneHand, EachSpentIsPastTheBound, EachLeftIsItsPut, StandsAtItsPut, IsOneRunToTheEnd, IsLeft, AreTheSame, ComesBackAsItWas, with_laid, laid_of, held_buffers, AllRetiredWhereClosed, EachSeenRetiredHas, all_calls, all_hands, all_known, all_spent, callers_of}
+use Rattle.scq_band.specs.Standing.{Standing}
 use Rattle.scq_band.proofs.AllSeats.{AreAllSeats, are_all, member_at, seat_at}
 use Rattle.scq_band.proofs.ClosedRecords.{map_back, map_on, member_records, AllRest, gets_have_puts, none_put_twice, none_twice, passed_is_got}
 use Rattle.scq_band.proofs.ClosedCounts.{hands_of, kept_by, IsLeftOf, is_balance, all_there, spent_past, each_in_one_hand}

@@ -2,8 +2,8 @@
 use Rattle.std.proofs.Common.{◌≡◌, ℕ, List, [], ◌∷◌, ◌++◌, refl, sym, ◌∙◌, ap, inl, inr}
 use Rattle.std.specs.Prelude.{drop}
 use Rattle.scq_core.specs.declared.step.Step.{Step}
-use Rattle.scq_law.specs.Prefixes.{AllPrefixes}
-use Rattle.scq_band.specs.RunSeen.{Seen, AreComparable, EachTwoPrefixesAreComparable, HaveSeenOneRun}
+use Rattle.scq_law.specs.Exports.{AllPrefixes}
+use Rattle.scq_band.specs.Exports.{Seen, AreComparable, EachTwoPrefixesAreComparable, HaveSeenOneRun}
 use Rattle.scq_band.proofs.SeenCalls.{among}
 
 -- of a longer prefix by the same step the others are comparable

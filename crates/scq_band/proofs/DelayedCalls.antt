@@ -7,8 +7,7 @@ use Rattle.std.proofs.lemmas.List.Elements.{All-head, All-drop}
 use Rattle.scq_word.specs.declared.setup.Setup.{Setup}
 use Rattle.scq_core.specs.declared.ended.Ended.{Ended}
 use Rattle.scq_core.specs.declared.step.Step.{Step}
-use Rattle.scq_law.specs.Prefixes.{IsPrefix, IsRecordAfter}
-use Rattle.scq_law.specs.Progress.{WholeCallIsDelayedByEnds}
+use Rattle.scq_law.specs.Exports.{IsPrefix, IsRecordAfter, WholeCallIsDelayedByEnds}
 use Rattle.scq_law.proofs.Progress.WholeCalls.{whole_calls_delayed}
 use Rattle.scq_law.proofs.Replays.RunPrefixes.{prefix_trans, prefix_shorter}
 

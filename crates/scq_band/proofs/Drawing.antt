@@ -4,21 +4,17 @@ use Rattle.std.specs.Prelude.{Some, None, Option, slice_get}
 use Rattle.std.proofs.lemmas.Bool.{lt-leb}
 use Rattle.atomic_table.specs.Table.{Me}
 use Rattle.scq_word.specs.declared.setup.Setup.{Setup}
-use Rattle.scq_word.specs.Sizes.{n_of}
+use Rattle.scq_word.specs.Exports.{n_of}
 use Rattle.scq_core.specs.declared.phase.Phase.{Phase}
 use Rattle.scq_core.specs.declared.phase.Phase.TheVariants.{Idle, AtE1, AtE2}
 use Rattle.scq_core.specs.declared.step.Step.TheVariants.{E1, E1Again}
-use Rattle.scq_core.specs.Table.{holds_index, turn_at, goes_on, spends}
-use Rattle.scq_core.specs.Machine.{tail_of}
+use Rattle.scq_core.specs.Exports.{holds_index, turn_at, goes_on, spends, tail_of}
 use Rattle.scq_band.specs.declared.numbers.Numbers.{Numbers}
 use Rattle.scq_band.specs.declared.ring.Ring.{Ring}
 use Rattle.scq_band.specs.declared.slot.Slot.{Slot}
-use Rattle.scq_band.specs.Layout.{ring_of_word}
+use Rattle.scq_band.specs.Exports.{ring_of_word, MayTurn, Turned, my, my_phase, front_index, front_bytes, drawing, draw_turn, IsAlone, IsLooking}
+use Rattle.scq_band.specs.Exports.{IsToDraw, goes_to, spent_at, put_index, content_of, least_of, IsRing}
 use Rattle.scq_band.specs.Known.{Known}
-use Rattle.scq_band.specs.Turns.{MayTurn, Turned}
-use Rattle.scq_band.specs.Steps.{my, my_phase, front_index, front_bytes, drawing, draw_turn}
-use Rattle.scq_band.specs.Seats.{IsAlone, IsLooking, IsToDraw, goes_to, spent_at, put_index, content_of, least_of}
-use Rattle.scq_band.specs.Rings.{IsRing}
 use Rattle.scq_band.proofs.Layouts.{ring_of_word-at}
 use Rattle.scq_band.proofs.Outcomes.{goes_as, turned_as, alone_at, may_go}
 

@@ -9,14 +9,11 @@ use Rattle.scq_core.specs.declared.ended.Ended.TheVariants.{Nothing}
 use Rattle.scq_core.specs.declared.phase.Phase.{Phase}
 use Rattle.scq_core.specs.declared.phase.Phase.TheVariants.{Idle, AtD1, AtD2, AtD3}
 use Rattle.scq_core.specs.declared.step.Step.TheVariants.{D1}
-use Rattle.scq_core.specs.Table.{zero_level, turn_at, goes_on, ends, spends}
+use Rattle.scq_core.specs.Exports.{zero_level, turn_at, goes_on, ends, spends}
 use Rattle.scq_band.specs.declared.numbers.Numbers.{Numbers}
-use Rattle.scq_band.specs.Numbers.{changed, passes}
-use Rattle.scq_band.specs.Layout.{ring_of_word}
+use Rattle.scq_band.specs.Exports.{changed, passes, ring_of_word, MayTurn, Takes, Turned, my, my_phase, loading, load_turn, IsAlone, with_part}
+use Rattle.scq_band.specs.Exports.{at_phase, seated, goes_to, nothing_at, got_at, SeatHasGot, drew_head, drawn_spent, to_draw}
 use Rattle.scq_band.specs.Known.{Known}
-use Rattle.scq_band.specs.Turns.{MayTurn, Takes, Turned}
-use Rattle.scq_band.specs.Steps.{my, my_phase, loading, load_turn}
-use Rattle.scq_band.specs.Seats.{IsAlone, with_part, at_phase, seated, goes_to, nothing_at, got_at, SeatHasGot, drew_head, drawn_spent, to_draw}
 use Rattle.scq_band.proofs.Outcomes.{goes_as, turned_as}
 
 -- to know that Head is at least 0 is to know nothing

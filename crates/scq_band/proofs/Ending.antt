@@ -5,12 +5,10 @@ use Rattle.scq_word.specs.declared.setup.Setup.{Setup}
 use Rattle.scq_core.specs.declared.phase.Phase.{Phase}
 use Rattle.scq_core.specs.declared.phase.Phase.TheVariants.{AtE5, AtE6}
 use Rattle.scq_core.specs.declared.ended.Ended.TheVariants.{Done}
-use Rattle.scq_core.specs.Table.{goes_on, ends, reset_level}
+use Rattle.scq_core.specs.Exports.{goes_on, ends, reset_level}
 use Rattle.scq_band.specs.declared.numbers.Numbers.{Numbers}
 use Rattle.scq_band.specs.Known.{Known}
-use Rattle.scq_band.specs.Turns.{Turned}
-use Rattle.scq_band.specs.Steps.{my}
-use Rattle.scq_band.specs.Seats.{IsAlone, with_part, seated, goes_to, done_at}
+use Rattle.scq_band.specs.Exports.{Turned, my, IsAlone, with_part, seated, goes_to, done_at}
 use Rattle.scq_band.proofs.Outcomes.{goes_as}
 
 module _ {S : Type 0} (Lies : ℕ → S → List ℕ → Type 0) (c : Setup) (me later : Me S Known) (turn : Phase) (x r i : ℕ) (w : List ℕ) (t : ℕ) where

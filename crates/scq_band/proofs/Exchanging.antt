@@ -3,16 +3,14 @@ use Rattle.std.proofs.Common.{◌≡◌, ℕ, ◌<◌, List, [], ◌∷◌, leng
 use Rattle.std.specs.Prelude.{Some, Option}
 use Rattle.atomic_table.specs.Seated.{TableId}
 use Rattle.atomic_table.specs.Table.{Me, rest}
-use Rattle.scq_law.specs.Hands.{times}
-use Rattle.scq_band.specs.RunSeen.{Seen}
+use Rattle.scq_law.specs.Exports.{times}
+use Rattle.scq_band.specs.Exports.{Seen, changed, my, front_index, in_hand, with_buffer, IsAsGiven, in_order, buffer_in, hand_of, standing_from}
+use Rattle.scq_band.specs.Exports.{AllGiven, IsKept, IsRotation}
 use Rattle.scq_band.specs.declared.numbers.Numbers.{Numbers}
 use Rattle.scq_band.specs.declared.slot.Slot.{Slot}
 use Rattle.scq_band.specs.declared.rule.Key.{Key}
-use Rattle.scq_band.specs.Numbers.{changed}
 use Rattle.scq_band.specs.Known.{Known}
-use Rattle.scq_band.specs.Steps.{my, front_index}
-use Rattle.scq_band.specs.Standing.{Standing, in_hand, with_buffer, IsAsGiven}
-use Rattle.scq_band.specs.Kept.{in_order, buffer_in, hand_of, standing_from, AllGiven, IsKept, IsRotation}
+use Rattle.scq_band.specs.Standing.{Standing}
 use Rattle.scq_band.proofs.Slots.{fronted, held_times, times-rotated, length-rotated, buffer-rotated, given-rotated, exchanged_hand}
 
 module _ {B : Type 0} (IsSame : B → B → Type 0) where

@@ -3,7 +3,7 @@ use Rattle.std.proofs.Common.{◌≡◌, ◌≢◌, ◌⊎◌, ℕ, zero, suc, �
 use Rattle.std.specs.Prelude.{Some, None, Option, is_none, unwrap_or, if◌then◌else◌, slice_set, slice_index, slice_index_or}
 use Rattle.std.specs.List.{Contains}
 use Rattle.std.proofs.lemmas.List.Elements.{Contains-append_left, Contains-append_right, Contains-append_cases}
-use Rattle.scq_band.specs.Sights.{retired_ones}
+use Rattle.scq_band.specs.Exports.{retired_ones, Member, Scene, Owns, IsView, StandsAmong, awake, IsReading, my, my_of, IsAlone, looked, retired_at}
 use Rattle.std.proofs.lemmas.Bool.{cases_eq}
 use Rattle.std.proofs.lemmas.List.{set-get_or, get_or-set_same}
 use mathlib.Core.Option.{some}
@@ -13,14 +13,10 @@ use Rattle.atomic_table.specs.Table.{Me, State, Allows, stepped, keeps}
 use Rattle.atomic_table.proofs.Lists.{at_set}
 use Rattle.scq_word.specs.declared.setup.Setup.{Setup}
 use Rattle.scq_core.specs.declared.step.Step.{Step}
-use Rattle.scq_core.specs.Machine.{SeatPart}
-use Rattle.scq_core.specs.Updated.{updated}
+use Rattle.scq_core.specs.Exports.{SeatPart, updated}
 use Rattle.scq_core.proofs.UpdatedLemmas.{updated_here, updated_else}
-use Rattle.scq_band.specs.Known.{Member, Known}
-use Rattle.scq_band.specs.Shown.{Scene, Owns, IsView, Shown, StandsAmong, awake}
-use Rattle.scq_band.specs.Standing.{IsReading}
-use Rattle.scq_band.specs.Steps.{my, my_of}
-use Rattle.scq_band.specs.Seats.{IsAlone, looked, retired_at}
+use Rattle.scq_band.specs.Known.{Known}
+use Rattle.scq_band.specs.Shown.{Shown}
 use Rattle.scq_band.proofs.WordLemmas.{gate_shown}
 use Rattle.scq_band.proofs.Operations.{less_one}
 use Rattle.scq_band.proofs.StandingSeats.{seat_apart, set_stands}

@@ -3,13 +3,11 @@ use Rattle.std.proofs.Common.{◌≡◌, ℕ, zero, suc, ◌+◌, ◌≤◌, Lis
 use Rattle.std.specs.Prelude.{Some, slice_get, sum_by}
 use Rattle.std.specs.List.{Contains}
 use Rattle.std.proofs.lemmas.List.Sums.{sum_by_push}
-use Rattle.scq_law.specs.Hands.{times}
-use Rattle.scq_band.specs.RunSeen.{Seen, both_seen}
-use Rattle.scq_band.specs.Known.{Member, Known, both_of}
-use Rattle.scq_band.specs.Steps.{my}
+use Rattle.scq_law.specs.Exports.{times}
+use Rattle.scq_band.specs.Exports.{Seen, both_seen, Member, both_of, my, indices_of, lifted_of, IsMemberOf, OutOrHome, HasAll, SeatsAreGathered}
+use Rattle.scq_band.specs.Exports.{all_seen}
+use Rattle.scq_band.specs.Known.{Known}
 use Rattle.scq_band.specs.Standing.{Standing}
-use Rattle.scq_band.specs.Closing.{indices_of, lifted_of}
-use Rattle.scq_band.specs.Homes.{IsMemberOf, OutOrHome, HasAll, SeatsAreGathered, all_seen}
 use Rattle.scq_band.proofs.SeatsHome.{has_one, has_more}
 
 module _ {B : Type 0} where

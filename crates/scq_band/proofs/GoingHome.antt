@@ -8,15 +8,11 @@ use Rattle.std.proofs.lemmas.List.Elements.{Contains-append_left, Contains-appen
 use Rattle.std.proofs.lemmas.List.Sums.{sum_by-cons}
 use Rattle.std.proofs.lemmas.List.Sorted.{IsPermutation-sym, Contains-permutation, sum_by-IsPermutation}
 use Rattle.atomic_table.specs.Table.{Me, rest}
-use Rattle.scq_law.specs.Hands.{times}
+use Rattle.scq_law.specs.Exports.{times}
 use Rattle.scq_band.specs.declared.slot.Slot.{Slot}
-use Rattle.scq_band.specs.Buffers.{LiesIn}
+use Rattle.scq_band.specs.Exports.{LiesIn, my, front_index, front_bytes, IsAsGiven, in_order, indices_of, at_home, full_slot, MayBring, times_lifted}
+use Rattle.scq_band.specs.Exports.{IsLaidBack, AreHome, WentHome, AllOutGiven, MayLeave}
 use Rattle.scq_band.specs.Known.{Known}
-use Rattle.scq_band.specs.Steps.{my, front_index, front_bytes}
-use Rattle.scq_band.specs.Standing.{IsAsGiven}
-use Rattle.scq_band.specs.Kept.{in_order}
-use Rattle.scq_band.specs.Closing.{indices_of}
-use Rattle.scq_band.specs.Homes.{at_home, full_slot, MayBring, times_lifted, IsLaidBack, AreHome, WentHome, AllOutGiven, MayLeave}
 
 -- how often an index stands, as a sum
 times-sum : {A : Type 0} (i : ℕ) (xs : List (ℕ × A)) → times i (indices_of xs) ≡ sum_by (λ (o : ℕ × A). if o.0 == i then 1 else 0) xs

@@ -3,15 +3,13 @@ use Rattle.std.proofs.Common.{◌≡◌, ℕ, ◌<◌, ◌≤◌, false, refl, s
 use Rattle.std.specs.Prelude.{Some}
 use Rattle.std.specs.Option.{option_map}
 use Rattle.scq_word.specs.declared.setup.Setup.{Setup}
-use Rattle.scq_word.specs.Words.{is_none_in}
+use Rattle.scq_word.specs.Exports.{is_none_in}
 use Rattle.scq_word.proofs.TicketLemmas.{slot_of_small}
 use Rattle.scq_core.specs.declared.phase.Phase.{Phase}
 use Rattle.scq_core.specs.declared.phase.Phase.TheVariants.{Idle, AtE2, AtE4, AtD3, AtD4, AtD5}
 use Rattle.scq_core.specs.declared.step.Step.{Step}
-use Rattle.scq_core.specs.Machine.{Machine, tail_of, head_of, threshold_of}
-use Rattle.scq_core.specs.Table.{ring_slots, ring_of, turn_of, location_of, moved}
-use Rattle.scq_core.specs.Reach.{IsReachable, by_step}
-use Rattle.scq_core.specs.Laws.{word_at}
+use Rattle.scq_core.specs.Exports.{tail_of, head_of, threshold_of, ring_slots, ring_of, turn_of, location_of, moved, IsReachable, by_step, word_at}
+use Rattle.scq_core.specs.Machine.{Machine}
 use Rattle.scq_core.proofs.Turns.{awake}
 use Rattle.scq_core.proofs.Steady.{has, steady}
 use Rattle.scq_core.proofs.Ranks.{counters_rise}
@@ -20,7 +18,7 @@ use Rattle.scq_core.proofs.Indices.{has_indices}
 use Rattle.scq_core.proofs.Readiness.{ring_low, ready_turn}
 use Rattle.scq_law.specs.Later as later
 use Rattle.scq_law.proofs.Places.HandLaws.{one_hand}
-use Rattle.scq_law.specs.Hands.{times, Home, hand_of, in_slot, IsHome, IsSeen, OneHand}
+use Rattle.scq_law.specs.Exports.{times, Home, hand_of, in_slot, IsHome, IsSeen, OneHand}
 use Rattle.std.proofs.lemmas.Bool.{cases_eq}
 use Rattle.scq_law.proofs.Places.PlaceLaws.{places_once}
 use Rattle.scq_law.proofs.Places.EntryLaws.{takes_phase, stands_at_turn}
@@ -28,7 +26,7 @@ use Rattle.scq_law.proofs.Places.LaterLaws.{finished_stays}
 use Rattle.scq_law.proofs.Tickets.TicketLaws.{threshold_covers}
 use Rattle.scq_law.proofs.Balance.KeptLaws.{hand_fits}
 use Rattle.scq_law.proofs.Retries.RetryLaws.{retries_rise}
-use Rattle.scq_band.specs.Layout.{ring_at, IsSlotAt, IsLocation, entry_at}
+use Rattle.scq_band.specs.Exports.{ring_at, IsSlotAt, IsLocation, entry_at}
 use Rattle.scq_band.proofs.Moves.{Ground}
 
 -- the location of a turn is on the turn's ring

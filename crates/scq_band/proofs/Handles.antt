@@ -9,21 +9,19 @@ use mathlib.Core.Option as maybe
 use Rattle.atomic_table.specs.Table.{Act, keeps, takes, gives, Valid, carried_after, homes_after}
 use Rattle.atomic_table.proofs.Lists.{set_here, set_else}
 use Rattle.scq_word.specs.declared.setup.Setup.{Setup}
-use Rattle.scq_word.specs.Sizes.{n_of}
-use Rattle.scq_word.specs.Words.{packed, index_in, cycle_in, safe_in, is_none_in}
+use Rattle.scq_word.specs.Exports.{n_of, packed, index_in, cycle_in, safe_in, is_none_in}
 use Rattle.scq_word.proofs.TicketLemmas.{slot_of_small}
 use Rattle.scq_word.proofs.WordLemmas.{index_in-packed, index_in_small}
 use Rattle.scq_core.specs.declared.phase.Phase.{Phase}
 use Rattle.scq_core.specs.declared.phase.Phase.TheVariants.{AtE2, AtE4, AtD3, AtD4, AtD5}
-use Rattle.scq_core.specs.Machine.{Cells, Entries, Machine, entry_of, read, beside, written}
-use Rattle.scq_core.specs.Table.{ring_slots, cycle, slot, passed, location_of, writes, stores, cells_after}
-use Rattle.scq_core.specs.Laws.{Busy, word_at}
+use Rattle.scq_core.specs.Exports.{Cells, Entries, entry_of, read, beside, written, ring_slots, cycle, slot, passed, location_of, writes, stores}
+use Rattle.scq_core.specs.Exports.{cells_after, Busy, word_at}
+use Rattle.scq_core.specs.Machine.{Machine}
 use Rattle.scq_core.proofs.UpdatedLemmas.{written_same, updated_entry_or}
 use Rattle.scq_core.proofs.Entries.{some_slots, none_in-marked}
-use Rattle.scq_law.specs.Hands.{times, hand_of, in_slot, OneHand}
+use Rattle.scq_law.specs.Exports.{times, hand_of, in_slot, OneHand}
 use Rattle.scq_law.proofs.Places.HandLemmas.{seen_times}
-use Rattle.scq_band.specs.Shown.{Has, Stored}
-use Rattle.scq_band.specs.Turns.{Carries, SlotsAfter}
+use Rattle.scq_band.specs.Exports.{Has, Stored, Carries, SlotsAfter}
 
 -- an entry that is written, told from all others
 entry_either : (m : Cells) (r s x : ℕ) (y : List ℕ) (q z : ℕ)

@@ -1,10 +1,9 @@
 -- Numbers that are joined ring by ring, and a list of them copied into a longer one.
 use Rattle.std.proofs.Common.{◌≡◌, ℕ, zero, suc, ◌+◌, ◌<◌, ◌≤◌, List, [], ◌∷◌, length, take, refl, ◌∙◌, ap, arith}
 use Rattle.std.specs.Prelude.{Option, Some, None, slice_set, slice_index_or}
-use Rattle.scq_band.specs.Known.{Known, nobody, lower_gate, both_of}
+use Rattle.scq_band.specs.Exports.{nobody, lower_gate, both_of, known_of, larger, raised_by, AreSmall}
+use Rattle.scq_band.specs.Known.{Known}
 use Rattle.scq_band.specs.declared.numbers.Numbers.{Numbers}
-use Rattle.scq_band.specs.Numbers.{known_of, larger, raised_by}
-use Rattle.scq_band.specs.Kept.{AreSmall}
 use Rattle.scq_band.proofs.Keeping.{max_small, max_order}
 
 -- the first list, where the numbers of the rings below n are raised

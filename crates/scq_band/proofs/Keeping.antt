@@ -7,29 +7,26 @@ use Rattle.std.proofs.Math.Nat.{max-eq_left, max-eq_right}
 use Rattle.std.proofs.lemmas.List.{length-append, length-set}
 use Rattle.atomic_table.specs.Seated.{TableId}
 use Rattle.atomic_table.specs.Table.{Me, rest}
-use Rattle.scq_core.specs.Machine.{SeatPart, Location}
-use Rattle.scq_core.specs.Table.{hand_without, ends}
+use Rattle.scq_core.specs.Exports.{SeatPart, Location, hand_without, ends}
 use Rattle.scq_word.specs.declared.setup.Setup.{Setup}
 use Rattle.scq_core.specs.declared.ended.Ended.{Ended}
 use Rattle.scq_core.specs.declared.ended.Ended.TheVariants.{Nothing}
 use Rattle.scq_core.specs.declared.phase.Phase.TheVariants.{Idle}
 use Rattle.scq_core.specs.declared.step.Step.{Step}
-use Rattle.scq_law.specs.Hands.{times}
+use Rattle.scq_law.specs.Exports.{times, IsRecordAfter}
 use Rattle.scq_band.specs.declared.numbers.Numbers.{Numbers}
 use Rattle.scq_band.specs.declared.slot.Slot.{Slot}
 use Rattle.scq_band.specs.declared.rule.Key.{Key}
-use Rattle.scq_band.specs.Numbers.{known_of, changed, finishes, sees, passes, drew, empties, RisesInHead}
-use Rattle.scq_band.specs.Known.{Member, Known}
-use Rattle.scq_band.specs.Layout.{at, IsLocation}
-use Rattle.scq_band.specs.Sights.{Sight, StandsAfter, Went, Looked, retired_ones, WasShownRun, HasFound}
-use Rattle.scq_law.specs.Prefixes.{IsRecordAfter}
-use Rattle.scq_band.specs.RunSeen.{Seen, Caller, EndsWith, IsCallInRun, WasEmptyInRun, IsReadingInRun, IsMomentInRun, WasFoundInRun, AllWereSeenRetired}
-use Rattle.scq_band.specs.Steps.{my, bytes_in, front_bytes}
-use Rattle.scq_band.specs.Seats.{IsAlone, looked, HasGotAfter, with_part, seated, put_at, got_at, nothing_at, none_at, drew_head, drawn_spent, spent_at, HasFoundNone, HasSpentGet}
-use Rattle.scq_band.specs.Turns.{Fronts}
-use Rattle.scq_band.specs.Buffers.{LiesIn, opening_of}
-use Rattle.scq_band.specs.Standing.{Identity, Standing, in_hand, laid_bytes, bytes_in_hand, having_seen, caller_of, seat_after_put, seat_after_get, seat_after_nothing, seat_after_spent_put, seat_after_spent_get, SeatHasTaken}
-use Rattle.scq_band.specs.Kept.{in_order, buffer_in, hand_of, identity_of, standing_from, standing_of, AllGiven, IsSmall, AreSmall, IsKept}
+use Rattle.scq_band.specs.Exports.{known_of, changed, finishes, sees, passes, drew, empties, RisesInHead, Member, at, IsLocation, Sight, StandsAfter}
+use Rattle.scq_band.specs.Exports.{Went, Looked, retired_ones, WasShownRun, HasFound, Seen, Caller, EndsWith, IsCallInRun, WasEmptyInRun}
+use Rattle.scq_band.specs.Exports.{IsReadingInRun, IsMomentInRun, WasFoundInRun, AllWereSeenRetired, my, bytes_in, front_bytes, IsAlone, looked}
+use Rattle.scq_band.specs.Exports.{HasGotAfter, with_part, seated, put_at, got_at, nothing_at, none_at, drew_head, drawn_spent, spent_at}
+use Rattle.scq_band.specs.Exports.{HasFoundNone, HasSpentGet, Fronts, LiesIn, opening_of, Identity, in_hand, laid_bytes, bytes_in_hand, having_seen}
+use Rattle.scq_band.specs.Exports.{caller_of, seat_after_put, seat_after_get, seat_after_nothing, seat_after_spent_put, seat_after_spent_get}
+use Rattle.scq_band.specs.Exports.{SeatHasTaken, in_order, buffer_in, hand_of, identity_of, standing_from, standing_of, AllGiven, IsSmall, AreSmall}
+use Rattle.scq_band.specs.Exports.{IsKept}
+use Rattle.scq_band.specs.Known.{Known}
+use Rattle.scq_band.specs.Standing.{Standing}
 use Rattle.scq_band.proofs.Slots.{times-append, times-without, length-without, put_hand}
 use Rattle.scq_law.proofs.Aspects.EmptyCalls.{empty_at_call}
 use Rattle.scq_band.proofs.DelayedCalls.{call_delayed}

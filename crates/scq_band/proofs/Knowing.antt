@@ -1,8 +1,8 @@
 -- What each view knows is true of the words: the rule says it of the state, and the words show the state.
 use Rattle.std.proofs.Common.{ℕ, ◌<◌, ◌≤◌, List, sym, subst}
 use Rattle.scq_word.specs.declared.setup.Setup.{Setup}
-use Rattle.scq_core.specs.Machine.{tail_of, head_of}
-use Rattle.scq_band.specs.Knowing.{EachViewKnowsTruth}
+use Rattle.scq_core.specs.Exports.{tail_of, head_of}
+use Rattle.scq_band.specs.Exports.{EachViewKnowsTruth}
 
 pub each_knows : {S : Type 0} (Lies : ℕ → S → List ℕ → Type 0) (opening : List (List ℕ)) (c : Setup) → EachViewKnowsTruth Lies opening c
 each_knows Lies opening c gone run s shown id v here =

@@ -6,10 +6,10 @@ use Rattle.std.proofs.lemmas.Bool.{cases_lt}
 use Rattle.std.proofs.Math.Nat.{max-eq_left, max-eq_right}
 use Rattle.scq_word.specs.declared.setup.Setup.{Setup}
 use Rattle.scq_core.specs.Machine.{Machine}
-use Rattle.scq_core.specs.Laws.{CountersRise}
-use Rattle.scq_law.specs.Bounds.{IsFinished}
+use Rattle.scq_core.specs.Exports.{CountersRise}
+use Rattle.scq_law.specs.Exports.{IsFinished}
 use Rattle.scq_band.specs.declared.numbers.Numbers.{Numbers}
-use Rattle.scq_band.specs.Numbers.{before_places, IsTrue, known_of, changed, finishes, sees, passes}
+use Rattle.scq_band.specs.Exports.{before_places, IsTrue, known_of, changed, finishes, sees, passes}
 
 -- all that a list of numbers says of the rings is true
 abbrev pub AllTrue : Setup → Machine → List Numbers → Type 0

@@ -4,23 +4,19 @@ use Rattle.std.specs.Prelude.{Some, None, Option, slice_get}
 use Rattle.atomic_table.specs.Seated.{TableId}
 use Rattle.atomic_table.specs.Table.{Me, rest}
 use Rattle.scq_word.specs.declared.setup.Setup.{Setup}
-use Rattle.scq_word.specs.Sizes.{n_of}
+use Rattle.scq_word.specs.Exports.{n_of}
 use Rattle.scq_core.specs.declared.phase.Phase.TheVariants.{Idle}
-use Rattle.scq_core.specs.Table.{holds_index}
-use Rattle.scq_law.specs.Hands.{times}
+use Rattle.scq_core.specs.Exports.{holds_index}
+use Rattle.scq_law.specs.Exports.{times}
 use Rattle.scq_band.specs.declared.numbers.Numbers.{Numbers}
 use Rattle.scq_band.specs.declared.slot.Slot.{Slot}
 use Rattle.scq_band.specs.declared.rule.Key.{Key}
-use Rattle.scq_band.specs.Buffers.{LiesIn, opening_of}
-use Rattle.scq_band.specs.Numbers.{known_of, changed, finishes}
+use Rattle.scq_band.specs.Exports.{LiesIn, opening_of, known_of, changed, finishes, IsCallInRun, Sight, Went, known_in, known_me, my, front_index}
+use Rattle.scq_band.specs.Exports.{front_bytes, put_at, spent_at, HasPut, HasSpentPut, Fronts, Identity, in_hand, bytes_in_hand, with_buffer}
+use Rattle.scq_band.specs.Exports.{having_seen, caller_of, seat_after_put, seat_after_spent_put, IsAsGiven, in_order, identity_of, standing_from}
+use Rattle.scq_band.specs.Exports.{standing_of, IsKept, IsRotation}
 use Rattle.scq_band.specs.Known.{Known}
-use Rattle.scq_band.specs.RunSeen.{IsCallInRun}
-use Rattle.scq_band.specs.Sights.{Sight, Went, known_in, known_me}
-use Rattle.scq_band.specs.Steps.{my, front_index, front_bytes}
-use Rattle.scq_band.specs.Seats.{put_at, spent_at, HasPut, HasSpentPut}
-use Rattle.scq_band.specs.Turns.{Fronts}
-use Rattle.scq_band.specs.Standing.{Identity, Standing, in_hand, bytes_in_hand, with_buffer, having_seen, caller_of, seat_after_put, seat_after_spent_put, IsAsGiven}
-use Rattle.scq_band.specs.Kept.{in_order, identity_of, standing_from, standing_of, IsKept, IsRotation}
+use Rattle.scq_band.specs.Standing.{Standing}
 use Rattle.scq_band.proofs.Slots.{holds_times, some_in_order}
 use Rattle.scq_band.proofs.Exchanging.{held, brought, Brought, kept_turned, kept_lent, lent_standing}
 use Rattle.scq_band.proofs.Keeping.{kept_put, kept_still, put_standing, spent_standing, turned_hand, seen, call_seen, known_there}

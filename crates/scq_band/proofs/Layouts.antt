@@ -4,8 +4,9 @@ use Rattle.std.proofs.Common.{◌≡◌, ◌≢◌, ℕ, ◌+◌, ◌-◌, ◌*�
 use Rattle.std.proofs.lemmas.Bool.{cases_lt}
 use Rattle.std.proofs.lemmas.Nat.{mul-add-lt, div-mul-add, same_from_place}
 use Rattle.scq_word.specs.declared.setup.Setup.{Setup}
-use Rattle.scq_core.specs.Machine.{Location, tail_of, head_of, threshold_of, entry_of}
-use Rattle.scq_band.specs.Layout.{ring_at, IsSlotAt, IsLocation, offset_of, ring_words, count_by, word_by, ring_by, gate_word, distance, word_count, at, ring_of_word, IsHot, StandApart, HotWordsAreApart}
+use Rattle.scq_core.specs.Exports.{Location, tail_of, head_of, threshold_of, entry_of}
+use Rattle.scq_band.specs.Exports.{ring_at, IsSlotAt, IsLocation, offset_of, ring_words, count_by, word_by, ring_by, gate_word, distance, word_count}
+use Rattle.scq_band.specs.Exports.{at, ring_of_word, IsHot, StandApart, HotWordsAreApart}
 
 pub offset_low : (d : ℕ) (c : Setup) (l : Location) → 1 ≤ d → IsSlotAt c l → offset_of d l < ring_words d c
 offset_low d c (tail_of r) some slot = omega arith

@@ -4,7 +4,7 @@ use Rattle.std.proofs.Common.{◌≡◌, ℕ, ◌+◌, ◌<◌, ◌≤◌, false
 use Rattle.std.specs.Prelude.{nat_lt, nat_le}
 use Rattle.std.specs.List.{Contains}
 use Rattle.std.proofs.lemmas.Bool.{cases_Bool, cases_eq, cases_lt}
-use Rattle.scq_word.specs.Sizes.{n_of}
+use Rattle.scq_word.specs.Exports.{n_of}
 use Rattle.scq_core.proofs.Entries.{some_indices, some_slots}
 use Rattle.std.proofs.lemmas.List.Elements.{Contains-append_right}
 use Rattle.std.proofs.Common.{leb-true}
@@ -13,16 +13,14 @@ use Rattle.scq_core.specs.declared.ended.Ended.{Ended}
 use Rattle.scq_core.specs.declared.ended.Ended.TheVariants.{Done}
 use Rattle.scq_core.specs.declared.phase.Phase.{Phase}
 use Rattle.scq_core.specs.declared.phase.Phase.TheVariants.{AtE5, AtE6, AtD1, AtD2, AtD4, AtD6, AtD10}
-use Rattle.scq_core.specs.Machine.{Machine, read}
-use Rattle.scq_core.specs.Table.{ring_slots, zero_level, reset_level, location_of, moved}
-use Rattle.scq_core.specs.Laws.{CountersRise, Busy}
+use Rattle.scq_core.specs.Exports.{read, ring_slots, zero_level, reset_level, location_of, moved, CountersRise, Busy}
+use Rattle.scq_core.specs.Machine.{Machine}
 use Rattle.scq_core.proofs.UpdatedLemmas.{updated_here}
 use Rattle.scq_core.proofs.Steady.{either_way}
 use Rattle.std.proofs.lemmas.List.{length-set}
-use Rattle.scq_law.specs.Bounds.{IsFinished, ThresholdCovers}
+use Rattle.scq_law.specs.Exports.{IsFinished, ThresholdCovers}
 use Rattle.scq_band.specs.declared.numbers.Numbers.{Numbers}
-use Rattle.scq_band.specs.Numbers.{IsTrue, changed, finishes, sees, passes, empties}
-use Rattle.scq_band.specs.Turns.{learned}
+use Rattle.scq_band.specs.Exports.{IsTrue, changed, finishes, sees, passes, empties, learned}
 use Rattle.scq_band.proofs.Knowledge.{AllTrue, FinishedStay, all_stay, changed_true, finishes_true, sees_true, passes_true}
 
 module _ (c : Setup) (m : Machine) (k : ℕ) where

@@ -6,13 +6,10 @@ use Rattle.scq_word.specs.declared.setup.Setup.{Setup}
 use Rattle.scq_core.specs.declared.ended.Ended.TheVariants.{Nothing}
 use Rattle.scq_core.specs.declared.phase.Phase.{Phase}
 use Rattle.scq_core.specs.declared.phase.Phase.TheVariants.{AtD2, AtD6, AtD7, AtD8, AtD9, AtD10}
-use Rattle.scq_core.specs.Table.{zero_level, goes_on, ends}
+use Rattle.scq_core.specs.Exports.{zero_level, goes_on, ends}
 use Rattle.scq_band.specs.declared.numbers.Numbers.{Numbers}
-use Rattle.scq_band.specs.Numbers.{changed, empties}
+use Rattle.scq_band.specs.Exports.{changed, empties, Turned, my, IsAlone, with_part, at_phase, seated, goes_to, nothing_at}
 use Rattle.scq_band.specs.Known.{Known}
-use Rattle.scq_band.specs.Turns.{Turned}
-use Rattle.scq_band.specs.Steps.{my}
-use Rattle.scq_band.specs.Seats.{IsAlone, with_part, at_phase, seated, goes_to, nothing_at}
 use Rattle.scq_band.proofs.Outcomes.{goes_as}
 
 module _ {S : Type 0} (Lies : ℕ → S → List ℕ → Type 0) (c : Setup) (me later : Me S Known) (turn : Phase) (x r h : ℕ) where

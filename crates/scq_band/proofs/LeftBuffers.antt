@@ -5,22 +5,16 @@ use Rattle.std.specs.Prelude.{Some, slice_get, slice_index_or, sum_by}
 use Rattle.std.specs.List.{Contains}
 use mathlib.Core.Option as maybe
 use Rattle.scq_word.specs.declared.setup.Setup.{Setup}
-use Rattle.scq_word.specs.Sizes.{n_of}
-use Rattle.scq_word.specs.Words.{index_in, cycle_in, is_none_in, mark_of}
+use Rattle.scq_word.specs.Exports.{n_of, index_in, cycle_in, is_none_in, mark_of}
 use Rattle.scq_core.specs.declared.ended.Ended.TheVariants.{Got}
-use Rattle.scq_core.specs.Machine.{SeatPart, Machine}
-use Rattle.scq_core.specs.Laws.{total}
-use Rattle.scq_core.specs.Table.{ring_slots, slot}
-use Rattle.scq_core.specs.Reach.{IsReachable}
+use Rattle.scq_core.specs.Exports.{SeatPart, total, ring_slots, slot, IsReachable}
+use Rattle.scq_core.specs.Machine.{Machine}
 use Rattle.scq_core.proofs.Counts.{total_one}
 use Rattle.scq_core.proofs.Entries.{below_mark}
-use Rattle.scq_law.specs.Hands.{times, Home, hand_of, in_slot, IsHome}
-use Rattle.scq_law.specs.Standing.{StandsFor}
+use Rattle.scq_law.specs.Exports.{times, Home, hand_of, in_slot, IsHome, StandsFor}
 use Rattle.scq_law.proofs.Places.HandLaws.{one_hand}
 use Rattle.scq_law.proofs.Places.EntryLaws.{stands_placed}
-use Rattle.scq_band.specs.Known.{Member}
-use Rattle.scq_band.specs.Shown.{Scene, Has, Owns, Stored}
-use Rattle.scq_band.specs.Closing.{IsLeft, EachLeftIsItsPut, StandsAtItsPut}
+use Rattle.scq_band.specs.Exports.{Member, Scene, Has, Owns, Stored, IsLeft, EachLeftIsItsPut, StandsAtItsPut}
 use Rattle.scq_band.proofs.AllSeats.{AreAllSeats, seat_at, total_all, member_at}
 use Rattle.scq_band.proofs.ClosedRecords.{member_records, AllRest, was_put_by, call_ended}
 use Rattle.scq_band.proofs.ClosedCounts.{sum_by-map, hands_of}

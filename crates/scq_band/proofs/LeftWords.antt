@@ -5,16 +5,12 @@ use Rattle.std.proofs.lemmas.Bool.{cases_Bool}
 use mathlib.Core.Option.{some}
 use lib.ListN.{get_elem?}
 use Rattle.scq_word.specs.declared.setup.Setup.{Setup}
-use Rattle.scq_word.specs.Words.{is_none_in}
-use Rattle.scq_word.specs.Entries.{index_unless_mark, IsIndexOrMark}
-use Rattle.scq_core.specs.Machine.{Cells, entry_of}
-use Rattle.scq_core.specs.Table.{ring_slots}
+use Rattle.scq_word.specs.Exports.{is_none_in, index_unless_mark, IsIndexOrMark}
+use Rattle.scq_core.specs.Exports.{Cells, entry_of, ring_slots}
 use Rattle.scq_core.proofs.Indices.{HasIndices}
-use Rattle.scq_law.specs.Kept.{has_index, left_in}
-use Rattle.scq_law.specs.Sums.{sum_to}
+use Rattle.scq_law.specs.Exports.{has_index, left_in, sum_to}
 use Rattle.scq_law.proofs.Balance.Sums.{sum_same}
-use Rattle.scq_band.specs.Layout.{at}
-use Rattle.scq_band.specs.Shown.{ShowsWords}
+use Rattle.scq_band.specs.Exports.{at, ShowsWords}
 use Rattle.scq_band.proofs.Layouts.{at_low}
 use Rattle.scq_band.proofs.Unloading.{read_word}
 

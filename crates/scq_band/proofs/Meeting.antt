@@ -5,8 +5,8 @@ use Rattle.std.proofs.lemmas.List.Elements.{Contains-append_right}
 use Rattle.scq_word.specs.declared.setup.Setup.{Setup}
 use Rattle.scq_core.specs.declared.ended.Ended.{Ended}
 use Rattle.scq_core.specs.declared.step.Step.{Step}
-use Rattle.scq_law.specs.Prefixes.{AllPrefixes, IsRecordAfter}
-use Rattle.scq_band.specs.RunSeen.{Seen, both_seen, Caller, IsMomentInRun, HaveMet, HaveSeenOneRun}
+use Rattle.scq_law.specs.Exports.{AllPrefixes, IsRecordAfter}
+use Rattle.scq_band.specs.Exports.{Seen, both_seen, Caller, IsMomentInRun, HaveMet, HaveSeenOneRun}
 use Rattle.scq_band.proofs.ComparablePrefixes.{seen_of_one}
 
 pub first_of : (xs ys : List (List (ℕ × Step))) (steps : List (ℕ × Step)) → AllPrefixes (xs ++ ys) steps → AllPrefixes xs steps

@@ -11,34 +11,27 @@ use lib.ListN.{get_elem?}
 use Rattle.atomic_table.specs.Table.{State, Me, Act, Valid, stepped, carried_after, homes_after}
 use Rattle.atomic_table.proofs.Lists.{at_set}
 use Rattle.scq_word.specs.declared.setup.Setup.{Setup}
-use Rattle.scq_word.specs.Sizes.{n_of}
-use Rattle.scq_word.specs.Words.{is_none_in}
+use Rattle.scq_word.specs.Exports.{n_of, is_none_in}
 use Rattle.scq_core.specs.declared.phase.Phase.{Phase}
 use Rattle.scq_core.specs.declared.phase.Phase.TheVariants.{AtE1, AtD2, AtD4}
 use Rattle.scq_core.specs.declared.step.Step.{Step}
-use Rattle.scq_core.specs.Machine.{SeatPart, Machine, read, beside}
-use Rattle.scq_core.specs.Table.{ring_slots, turn_of, location_of, writes, stores, after, moved}
-use Rattle.scq_core.specs.Turn.{IsReady}
-use Rattle.scq_core.specs.Reach.{IsReachable}
-use Rattle.scq_core.specs.Laws.{CountersRise, Busy, word_at}
+use Rattle.scq_core.specs.Exports.{SeatPart, read, beside, ring_slots, turn_of, location_of, writes, stores, after, moved, IsReady, IsReachable}
+use Rattle.scq_core.specs.Exports.{CountersRise, Busy, word_at}
+use Rattle.scq_core.specs.Machine.{Machine}
 use Rattle.scq_core.proofs.UpdatedLemmas.{updated_here, updated_else}
-use Rattle.scq_law.specs.Hands.{times, OneHand}
-use Rattle.scq_law.specs.Bounds.{ThresholdCovers}
+use Rattle.scq_law.specs.Exports.{times, OneHand, ThresholdCovers, FindsAtLeast, recorded_after}
 use Rattle.scq_band.specs.declared.numbers.Numbers.{Numbers}
-use Rattle.scq_band.specs.Layout.{at, IsLocation}
-use Rattle.scq_band.specs.Known.{Member, Known}
-use Rattle.scq_band.specs.Shown.{Scene, LeadsTo, Has, IsMember, Owns, IsView, Shown}
-use Rattle.scq_law.specs.Retries.{FindsAtLeast}
-use Rattle.scq_law.specs.Run.{recorded_after}
+use Rattle.scq_band.specs.Exports.{at, IsLocation, Member, Scene, LeadsTo, Has, IsMember, Owns, IsView, learned, turned_member, made, FindsIndex}
+use Rattle.scq_band.specs.Exports.{Draws, MayTurn, Carries, Turned, my, my_of}
+use Rattle.scq_band.specs.Known.{Known}
+use Rattle.scq_band.specs.Shown.{Shown}
 use Rattle.scq_law.proofs.Replays.LongerRuns.{run_last}
-use Rattle.scq_band.specs.Turns.{learned, turned_member, made, FindsIndex, Draws, MayTurn, Carries, Turned}
 use Rattle.scq_band.proofs.RunEnds.{reaches}
 use Rattle.scq_band.proofs.WordLemmas.{written_shown, gate_kept}
 use Rattle.scq_band.proofs.Handles.{Handles, handles}
 use Rattle.scq_band.proofs.Knowledge.{AllTrue, FinishedStay, all_stay}
 use Rattle.scq_core.proofs.Records.{calls_after}
 use Rattle.std.proofs.lemmas.List.{length-append}
-use Rattle.scq_band.specs.Steps.{my, my_of}
 use Rattle.scq_band.proofs.Learning.{learned_true, learned_length}
 use Rattle.scq_band.proofs.StandingSeats.{set_stands, turned_stands}
 

@@ -9,23 +9,19 @@ use mathlib.Core.Option as maybe
 use lib.ListN.{get_elem?}
 use Rattle.atomic_table.specs.Table.{opening}
 use Rattle.scq_word.specs.declared.setup.Setup.{Setup}
-use Rattle.scq_word.specs.Sizes.{n_of}
-use Rattle.scq_word.specs.Words.{index_in, is_none_in}
+use Rattle.scq_word.specs.Exports.{n_of, index_in, is_none_in}
 use Rattle.scq_word.proofs.WordLemmas.{index_in-packed}
-use Rattle.scq_core.specs.Machine.{Location, tail_of, head_of, threshold_of, entry_of, read}
-use Rattle.scq_core.specs.Table.{ring_slots}
-use Rattle.scq_core.specs.Start.{unused, idle_part, start_cells, start_of}
+use Rattle.scq_core.specs.Exports.{Location, tail_of, head_of, threshold_of, entry_of, read, ring_slots, unused, idle_part, start_cells, start_of}
 use Rattle.scq_core.proofs.Entries.{some_indices, some_slots, none_in-marked}
 use Rattle.scq_core.proofs.Starts.{fills}
-use Rattle.scq_law.specs.Run.{recorded_first}
+use Rattle.scq_law.specs.Exports.{recorded_first}
 use Rattle.scq_law.proofs.Replays.LongerRuns.{run_first}
 use Rattle.scq_band.specs.declared.numbers.Numbers.{Numbers}
-use Rattle.scq_band.specs.Layout.{gate_word}
-use Rattle.scq_band.specs.Making.{WordsAreOpened}
-use Rattle.scq_band.specs.Numbers.{first_numbers_of, first_numbers, IsTrue}
+use Rattle.scq_band.specs.Exports.{gate_word, WordsAreOpened, first_numbers_of, first_numbers, IsTrue, Scene, Has, Owns, IsView, awake, first_members}
+use Rattle.scq_band.specs.Exports.{first_view}
 use Rattle.scq_band.specs.Known.{Known}
 use Rattle.scq_band.proofs.StandingSeats.{opened_stands}
-use Rattle.scq_band.specs.Shown.{Scene, Has, Owns, IsView, Shown, awake, first_members, first_view}
+use Rattle.scq_band.specs.Shown.{Shown}
 
 -- the words of the start are those of any opening contents
 same_words : (c : Setup) (contents : List (List ℕ)) (l : Location) → read (start_cells c []) l ≡ read (start_cells c contents) l

@@ -5,20 +5,16 @@ use Rattle.std.proofs.Math.Nat.{mod-eq_of_lt, add-mul-mod_self_right}
 use prog.Atomic.{either}
 use Rattle.atomic_table.specs.Table.{State, Me, Allows}
 use Rattle.scq_word.specs.declared.setup.Setup.{Setup}
-use Rattle.scq_word.specs.Words.{packed, mark_of}
+use Rattle.scq_word.specs.Exports.{packed, mark_of}
 use Rattle.scq_word.proofs.EntryLemmas.{bit_or-mark_of}
 use Rattle.scq_core.specs.declared.phase.Phase.{Phase}
 use Rattle.scq_core.specs.declared.phase.Phase.TheVariants.{AtE1, AtE2, AtE3, AtE4, AtE5, AtE6, AtD1, AtD2, AtD3, AtD4, AtD5, AtD6, AtD7, AtD8, AtD9, AtD10}
-use Rattle.scq_core.specs.Machine.{Cells, read}
-use Rattle.scq_core.specs.Table.{ring_slots, cycle, reset_level, passed, location_of, writes}
-use Rattle.scq_core.specs.Laws.{WordsFit}
+use Rattle.scq_core.specs.Exports.{Cells, read, ring_slots, cycle, reset_level, passed, location_of, writes, WordsFit}
 use Rattle.scq_band.specs.declared.rule.Key.{Key}
 use Rattle.scq_band.specs.declared.slot.Slot.{Slot}
-use Rattle.scq_band.specs.Buffers.{LiesIn, opening_of}
+use Rattle.scq_band.specs.Exports.{LiesIn, opening_of, Sight, Went, known_me, Carries, Turned, my_phase, OnlyReads, IsDraw, Exchanges, IsReset}
+use Rattle.scq_band.specs.Exports.{IsTakingTurn, IsCountDown}
 use Rattle.scq_band.specs.Known.{Known}
-use Rattle.scq_band.specs.Sights.{Sight, Went, known_me}
-use Rattle.scq_band.specs.Turns.{Carries, Turned}
-use Rattle.scq_band.specs.Steps.{my_phase, OnlyReads, IsDraw, Exchanges, IsReset, IsTakingTurn, IsCountDown}
 
 -- what a step tells of the seat that made it, where its turn is this, or the seat's phase
 abbrev pub Tells : {B : Type 0} → (B → List ℕ) → (B → B → Type 0) → Key B → Phase → Me (Slot B) Sight → ℕ → Me (Slot B) Sight → Type 0

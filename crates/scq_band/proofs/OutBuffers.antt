@@ -8,8 +8,8 @@ use Rattle.std.proofs.lemmas.Bool.{cases_eq}
 use Rattle.std.proofs.lemmas.List.{get_or_default}
 use Rattle.std.proofs.lemmas.List.Sorted.{IsPermutation-map, IsPermutation-swap_remove}
 use Rattle.std.proofs.lemmas.Option.{slice_get-get_or}
-use Rattle.scq_law.specs.Hands.{times}
-use Rattle.scq_band.specs.Closing.{indices_of}
+use Rattle.scq_law.specs.Exports.{times}
+use Rattle.scq_band.specs.Exports.{indices_of}
 
 module _ {B T : Type 0} (pair : T → ℕ × B) where
   -- the buffer at a place was taken

@@ -3,15 +3,12 @@ use Rattle.std.proofs.Common.{◌≡◌, ℕ, List, [], ◌∷◌, map, refl, sy
 use Rattle.atomic_table.specs.Table.{Me}
 use Rattle.scq_word.specs.declared.setup.Setup.{Setup}
 use Rattle.scq_core.specs.declared.phase.Phase.{Phase}
-use Rattle.scq_core.specs.Machine.{SeatPart}
+use Rattle.scq_core.specs.Exports.{SeatPart, after, turn_at, location_of}
 use Rattle.scq_core.specs.declared.step.Step.{Step}
-use Rattle.scq_core.specs.Table.{after, turn_at, location_of}
-use Rattle.scq_band.specs.Layout.{at, ring_of_word}
+use Rattle.scq_band.specs.Exports.{at, ring_of_word, Member, my, my_phase, loading, load_turn, OnlyReads, MayTurn, Turned, made, learned}
+use Rattle.scq_band.specs.Exports.{turned_member, IsAlone, with_part, at_phase, goes_to, seated}
 use Rattle.scq_band.specs.declared.numbers.Numbers.{Numbers}
-use Rattle.scq_band.specs.Known.{Member, Known}
-use Rattle.scq_band.specs.Steps.{my, my_phase, loading, load_turn, OnlyReads}
-use Rattle.scq_band.specs.Turns.{MayTurn, Turned, made, learned, turned_member}
-use Rattle.scq_band.specs.Seats.{IsAlone, with_part, at_phase, goes_to, seated}
+use Rattle.scq_band.specs.Known.{Known}
 
 -- the view of a seat that stands alone after a turn
 pub made_alone : (c : Setup) (t : Phase) (x : ℕ) (y : List ℕ) (v : Known) → v.seats ≡ my v ∷ []

@@ -3,17 +3,14 @@ use Rattle.std.proofs.Common.{◌≡◌, ◌≢◌, ◌⊎◌, ℕ, ◌+◌, ◌
 use Rattle.std.proofs.Math.Nat.{div-le_self}
 use Rattle.atomic_table.specs.Table.{Me, rest}
 use Rattle.scq_word.specs.declared.setup.Setup.{Setup}
-use Rattle.scq_word.specs.Sizes.{n_of}
-use Rattle.scq_word.specs.Words.{rank_in}
+use Rattle.scq_word.specs.Exports.{n_of, rank_in}
 use Rattle.scq_word.proofs.WordLemmas.{rank_in_range}
 use Rattle.scq_word.proofs.EntryLemmas.{cycle_in_fits}
 use Rattle.scq_core.specs.declared.phase.Phase.{Phase}
 use Rattle.scq_core.specs.declared.phase.Phase.TheVariants.{AtE1, AtE2, AtE4, AtE5}
-use Rattle.scq_core.specs.Table.{ring_slots, goes_on, hand_without}
+use Rattle.scq_core.specs.Exports.{ring_slots, goes_on, hand_without}
 use Rattle.scq_band.specs.Known.{Known}
-use Rattle.scq_band.specs.Turns.{Turned}
-use Rattle.scq_band.specs.Steps.{my, my_phase}
-use Rattle.scq_band.specs.Seats.{IsAlone, goes_to, placed_to, put_index, content_of}
+use Rattle.scq_band.specs.Exports.{Turned, my, my_phase, IsAlone, goes_to, placed_to, put_index, content_of}
 use Rattle.scq_band.proofs.Outcomes.{goes_as, turned_as}
 
 module _ {S : Type 0} (Lies : ℕ → S → List ℕ → Type 0) (c : Setup) (me later : Me S Known) (turn : Phase) (x r i : ℕ) (w : List ℕ) (t e : ℕ) where

@@ -4,20 +4,14 @@ use Rattle.std.specs.Prelude.{nat_lt, is_some}
 use Rattle.std.specs.Cmp.Derive.{both_true}
 use Rattle.std.proofs.lemmas.Bool.{cases_Bool, lt-ltb, lt-leb}
 use Rattle.scq_word.specs.declared.entry.Entry.{Entry}
-use Rattle.scq_word.specs.Sizes.{slots_of}
-use Rattle.scq_word.specs.Tickets.{cycle_of}
-use Rattle.scq_word.specs.Entries.{entry_in, index_unless_mark as index_of_word}
+use Rattle.scq_word.specs.Exports.{slots_of, cycle_of, entry_in, index_unless_mark as index_of_word, safe_in, cycle_in, is_none_in}
 use Rattle.atomic_table.specs.Table.{Me}
 use Rattle.scq_word.specs.declared.setup.Setup.{Setup}
-use Rattle.scq_word.specs.Words.{safe_in, cycle_in, is_none_in}
 use Rattle.scq_core.specs.declared.phase.Phase.{Phase}
 use Rattle.scq_core.specs.declared.phase.Phase.TheVariants.{AtE1, AtE2, AtE3, AtE4}
-use Rattle.scq_core.specs.Table.{ring_slots, cycle, goes_on}
+use Rattle.scq_core.specs.Exports.{ring_slots, cycle, goes_on}
 use Rattle.scq_band.specs.Known.{Known}
-use Rattle.scq_band.specs.Turns.{Turned}
-use Rattle.scq_band.specs.Steps.{my}
-use Rattle.scq_band.specs.Seats.{IsAlone, goes_to}
-use Rattle.scq_band.specs.Rings.{IsPlainlyVacant}
+use Rattle.scq_band.specs.Exports.{Turned, my, IsAlone, goes_to, IsPlainlyVacant}
 use Rattle.scq_band.proofs.Outcomes.{goes_as}
 
 -- what E2 tests

@@ -3,10 +3,10 @@ use Rattle.std.proofs.Common.{◌≡◌, ℕ, List, [], ◌∷◌, refl, sym, �
 use Rattle.std.specs.Prelude.{Some, None, Option}
 use Rattle.std.proofs.lemmas.Bool.{cases_eq}
 use Rattle.atomic_table.specs.Table.{Me, rest}
-use Rattle.scq_band.specs.RunSeen.{Seen}
+use Rattle.scq_band.specs.Exports.{Seen, in_hand, laid_bytes, bytes_in_hand, with_buffer, without_index, having_seen, seat_after_put, IsAsGiven}
 use Rattle.scq_band.specs.declared.slot.Slot.{Slot}
 use Rattle.scq_band.specs.Known.{Known}
-use Rattle.scq_band.specs.Standing.{Standing, in_hand, laid_bytes, bytes_in_hand, with_buffer, without_index, having_seen, seat_after_put, IsAsGiven}
+use Rattle.scq_band.specs.Standing.{Standing}
 use Rattle.scq_band.proofs.Exchanging.{Brought}
 
 module _ {B : Type 0} where

@@ -2,11 +2,10 @@
 use Rattle.std.proofs.Common.{◌≡◌, ℕ, ◌*◌, ◌^◌, ◌<◌, ◌≤◌, arith}
 use Rattle.std.proofs.Math.Nat.{mul-le-mul_right}
 use Rattle.scq_word.specs.declared.setup.Setup.{Setup}
-use Rattle.scq_core.specs.Machine.{Location, tail_of, head_of, threshold_of}
+use Rattle.scq_core.specs.Exports.{Location, tail_of, head_of, threshold_of}
 use Rattle.scq_core.proofs.Entries.{few_indices}
 use Rattle.scq_band.specs.declared.ring.Ring.{Ring}
-use Rattle.scq_band.specs.Layout.{ring_words, distance, word_count, at, entry_at, IsLocation}
-use Rattle.scq_band.specs.Rings.{IsRing}
+use Rattle.scq_band.specs.Exports.{ring_words, distance, word_count, at, entry_at, IsLocation, IsRing}
 use Rattle.scq_band.proofs.Layouts.{at_low}
 use Rattle.scq_band.proofs.Grounds.{tail_location, head_location, threshold_location, entry_location}
 

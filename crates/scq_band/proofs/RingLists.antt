@@ -4,7 +4,7 @@ use Rattle.std.specs.Prelude.{slice_index_or}
 use Rattle.std.proofs.lemmas.List.{length-append}
 use Rattle.scq_word.specs.declared.setup.Setup.{Setup}
 use Rattle.scq_band.specs.declared.ring.Ring.{Ring}
-use Rattle.scq_band.specs.Rings.{IsRing, RingsFrom, AreRings}
+use Rattle.scq_band.specs.Exports.{IsRing, RingsFrom, AreRings}
 
 -- what is read at a number is the ring of that number
 pub ring_read : (c : Setup) (k : ℕ) (xs : List Ring) (i : ℕ) (x : Ring) → RingsFrom c k xs → i < length xs → x ≡ slice_index_or xs i x

@@ -5,13 +5,11 @@ use Rattle.std.proofs.lemmas.Nat.{div-add-mod', mod_below, xor_shr, and_le_l, an
 use Rattle.std.proofs.lemmas.Bool.{cases_lt}
 use Rattle.std.proofs.Math.Nat.{mul-le-mul_right, div-div-eq-div-mul, div-eq_of_lt}
 use Rattle.scq_word.specs.declared.setup.Setup.{Setup}
-use Rattle.scq_word.specs.Sizes.{slots_of}
-use Rattle.scq_word.specs.Tickets.{cycle_of}
-use Rattle.scq_word.specs.Words.{mark_of, packed, cycle_in, safe_in, index_in}
+use Rattle.scq_word.specs.Exports.{slots_of, cycle_of, mark_of, packed, cycle_in, safe_in, index_in}
 use Rattle.scq_word.proofs.WordLemmas.{cycle_in-packed, safe_in-packed, index_in-packed}
 use Rattle.scq_word.proofs.EntryLemmas.{n_of_some, slots_of-pow, masked}
-use Rattle.scq_core.specs.Table.{ring_slots, cycle}
-use Rattle.scq_band.specs.Rings.{IsFilled, IsPlainlyVacant}
+use Rattle.scq_core.specs.Exports.{ring_slots, cycle}
+use Rattle.scq_band.specs.Exports.{IsFilled, IsPlainlyVacant}
 
 -- a word whose safe bit and index bits are set is packed of them
 all_set : (m x : ℕ) → 0 < m → x % (2 * m) ≡ 2 * m - 1 → x ≡ packed m (x / (2 * m)) 1 (m - 1)

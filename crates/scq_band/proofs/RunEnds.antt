@@ -3,11 +3,11 @@ use Rattle.std.proofs.Common.{◌≡◌, ℕ, List, refl, sym, ◌∙◌, ap, su
 use Rattle.scq_word.specs.declared.setup.Setup.{Setup}
 use Rattle.scq_core.specs.declared.step.Step.{Step}
 use Rattle.scq_core.specs.Machine.{Machine}
-use Rattle.scq_core.specs.Reach.{IsReachable}
-use Rattle.scq_law.specs.Run.{recorded_first}
+use Rattle.scq_core.specs.Exports.{IsReachable}
+use Rattle.scq_law.specs.Exports.{recorded_first}
 use Rattle.scq_law.proofs.Replays.RecordedRuns.{all_along}
 use Rattle.scq_law.proofs.Replays.RunLaws.{run_reaches}
-use Rattle.scq_band.specs.Shown.{LeadsTo}
+use Rattle.scq_band.specs.Exports.{LeadsTo}
 
 pub reaches : {c : Setup} {opening : List (List ℕ)} {run : List (ℕ × Step)} {m : Machine} → LeadsTo c opening run m → IsReachable c m
 reaches {c} {opening} {run} {m} leads =

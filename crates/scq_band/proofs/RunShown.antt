@@ -5,7 +5,7 @@ use Rattle.std.proofs.Common.{◌≡◌, ◌≢◌, ℕ, zero, suc, ◌+◌, ◌
 use Rattle.std.specs.Prelude.{Option, Some, None, slice_index, slice_index_or, slice_set}
 use Rattle.std.specs.List.{Contains}
 use Rattle.std.proofs.lemmas.List.Elements.{Contains-append_cases}
-use Rattle.scq_core.specs.Updated.{updated}
+use Rattle.scq_core.specs.Exports.{updated, Busy, read, IsReachable, turn_of, location_of, writes}
 use Rattle.scq_core.proofs.UpdatedLemmas.{updated_here, updated_else}
 use mathlib.Core.Option.{some, some-injective, some-ne-none}
 use lib.ListN.{get_elem?}
@@ -16,22 +16,14 @@ use Rattle.std.proofs.lemmas.List.{set-get_or}
 use Rattle.scq_word.specs.declared.setup.Setup.{Setup}
 use Rattle.scq_core.specs.declared.phase.Phase.{Phase}
 use Rattle.scq_core.specs.declared.step.Step.{Step}
-use Rattle.scq_core.specs.Laws.{Busy}
-use Rattle.scq_core.specs.Machine.{Machine, read}
-use Rattle.scq_core.specs.Reach.{IsReachable}
-use Rattle.scq_core.specs.Table.{turn_of, location_of, writes}
+use Rattle.scq_core.specs.Machine.{Machine}
 use Rattle.scq_law.proofs.Replays.RunPrefixes.{prefix_whole, prefix_trans, all_prefixes, both_prefixes}
-use Rattle.scq_law.specs.Prefixes.{IsPrefix, AllPrefixes}
-use Rattle.scq_band.specs.Layout.{at}
-use Rattle.scq_band.specs.RunSeen.{Seen, nothing_seen, with_run, both_seen, with_retiree}
-use Rattle.scq_band.specs.Numbers.{IsTrue}
-use Rattle.scq_band.specs.Known.{Member, Known}
-use Rattle.scq_band.specs.Shown.{Owns, Shown, awake, first_view}
-use Rattle.scq_band.specs.Standing.{IsReading}
-use Rattle.scq_band.specs.Seats.{IsAlone, looked, retired_at}
-use Rattle.scq_band.specs.Sights.{Sight, known_in, known_me, known_state, StandsAfter, Went, GoesOn, Looked, WasShownRun, HasFound, retired_ones, first_sight, ShowsRun}
-use Rattle.scq_band.specs.Steps.{my, my_of}
-use Rattle.scq_band.specs.Turns.{turned_member, MayTurn, Carries, Turned}
+use Rattle.scq_law.specs.Exports.{IsPrefix, AllPrefixes}
+use Rattle.scq_band.specs.Exports.{at, Seen, nothing_seen, with_run, both_seen, with_retiree, IsTrue, Member, Owns, awake, first_view, IsReading}
+use Rattle.scq_band.specs.Exports.{IsAlone, looked, retired_at, Sight, known_in, known_me, known_state, StandsAfter, Went, GoesOn, Looked}
+use Rattle.scq_band.specs.Exports.{WasShownRun, HasFound, retired_ones, first_sight, ShowsRun, my, my_of, turned_member, MayTurn, Carries, Turned}
+use Rattle.scq_band.specs.Known.{Known}
+use Rattle.scq_band.specs.Shown.{Shown}
 use Rattle.scq_band.proofs.Moves.{Ground, moves_by}
 use Rattle.scq_band.proofs.Gates.{looks, retires, ones_gone, ones_low}
 

@@ -5,18 +5,15 @@ use Rattle.std.specs.List.{Contains}
 use Rattle.std.proofs.lemmas.Bool.{cases_eq, cases_Bool}
 use Rattle.atomic_table.specs.Seated.{TableId}
 use Rattle.atomic_table.specs.Table.{Me}
-use Rattle.scq_law.specs.Hands.{times}
-use Rattle.scq_band.specs.RunSeen.{Seen}
+use Rattle.scq_law.specs.Exports.{times}
+use Rattle.scq_band.specs.Exports.{Seen, raised_by, larger, Member, lower_gate, both_of, my, in_order, buffer_in, hand_of, standing_from, AllGiven}
+use Rattle.scq_band.specs.Exports.{IsKept, indices_of, lifted_of, full_slot, times_lifted, WentHome, OutOrHome, AllOutGiven, MayLeave, IsMemberOf}
+use Rattle.scq_band.specs.Exports.{AreMembersOf, HeadsKnown, GatesKnown, HasAll}
 use Rattle.scq_band.specs.declared.numbers.Numbers.{Numbers}
 use Rattle.scq_band.specs.declared.rule.Key.{Key}
 use Rattle.scq_band.specs.declared.slot.Slot.{Slot}
-use Rattle.scq_band.specs.Numbers.{raised_by, larger}
-use Rattle.scq_band.specs.Known.{Member, Known, lower_gate, both_of}
-use Rattle.scq_band.specs.Steps.{my}
+use Rattle.scq_band.specs.Known.{Known}
 use Rattle.scq_band.specs.Standing.{Standing}
-use Rattle.scq_band.specs.Kept.{in_order, buffer_in, hand_of, standing_from, AllGiven, IsKept}
-use Rattle.scq_band.specs.Closing.{indices_of, lifted_of}
-use Rattle.scq_band.specs.Homes.{full_slot, times_lifted, WentHome, OutOrHome, AllOutGiven, MayLeave, IsMemberOf, AreMembersOf, HeadsKnown, GatesKnown, HasAll}
 use Rattle.scq_band.proofs.GoingHome.{times-append, contains_behind, contained_cases, contains_none}
 use Rattle.scq_band.proofs.Views.{joined_length}
 

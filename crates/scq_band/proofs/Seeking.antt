@@ -2,19 +2,14 @@
 use Rattle.std.proofs.Common.{◌≡◌, ◌≢◌, ◌⊎◌, ℕ, ◌<◌, ◌≤◌, false, List, refl, sym, ◌∙◌, ap, subst, inl, inr, arith, eq-eqb, ne_eqb, lt-ltb, le-ltb}
 use Rattle.std.proofs.lemmas.Bool.{cases_eq, true≢false}
 use Rattle.scq_word.specs.declared.entry.Entry.{Entry}
-use Rattle.scq_word.specs.Sizes.{n_of, slots_of}
-use Rattle.scq_word.specs.Tickets.{cycle_of}
-use Rattle.scq_word.specs.Entries.{entry_in, IsIndexOrMark}
+use Rattle.scq_word.specs.Exports.{n_of, slots_of, cycle_of, entry_in, IsIndexOrMark, cycle_in, rank_in, index_in, is_none_in}
 use Rattle.atomic_table.specs.Table.{Me}
 use Rattle.scq_word.specs.declared.setup.Setup.{Setup}
-use Rattle.scq_word.specs.Words.{cycle_in, rank_in, index_in, is_none_in}
 use Rattle.scq_core.specs.declared.phase.Phase.{Phase}
 use Rattle.scq_core.specs.declared.phase.Phase.TheVariants.{AtD3, AtD4, AtD5, AtD6}
-use Rattle.scq_core.specs.Table.{ring_slots, cycle, goes_on}
+use Rattle.scq_core.specs.Exports.{ring_slots, cycle, goes_on}
 use Rattle.scq_band.specs.Known.{Known}
-use Rattle.scq_band.specs.Turns.{Turned, Takes}
-use Rattle.scq_band.specs.Steps.{my}
-use Rattle.scq_band.specs.Seats.{IsAlone, SeatHasGot, goes_to, got_at}
+use Rattle.scq_band.specs.Exports.{Turned, Takes, my, IsAlone, SeatHasGot, goes_to, got_at}
 use Rattle.scq_band.proofs.Outcomes.{goes_as, turned_as, made_alone}
 
 apart_low : {a b : ℕ} → a < b → a ≢ b

@@ -4,17 +4,14 @@ use Rattle.std.specs.Prelude.{Option, Some, slice_index_or, unwrap_or}
 use Rattle.std.proofs.Math.Seq.{take-append_seam}
 use Rattle.std.proofs.lemmas.List.{length-append}
 use Rattle.std.proofs.lemmas.Bool.{cases_lt}
-use Rattle.scq_law.specs.Run.{Recorded, recorded_of, recorded_first, IsRun}
-use Rattle.scq_law.specs.Order.{EndedBefore}
-use Rattle.scq_law.specs.RunSteps.{Run, IsStepOf, recorded_before}
+use Rattle.scq_law.specs.Exports.{Recorded, recorded_of, recorded_first, IsRun, EndedBefore, IsStepOf, recorded_before, IsPrefix, AllPrefixes, run_of}
+use Rattle.scq_law.specs.RunSteps.{Run}
 use Rattle.scq_law.proofs.Order.CallEnds.{calls_grow}
 use Rattle.std.specs.List.{Contains}
 use Rattle.scq_core.specs.declared.step.Step.{Step}
-use Rattle.scq_law.specs.Prefixes.{IsPrefix, AllPrefixes}
-use Rattle.scq_law.specs.RunSteps.{run_of}
 use Rattle.scq_law.proofs.Order.CallSpans.{seen_first, calls_apart, rested_at}
 use Rattle.scq_law.proofs.Replays.RunPrefixes.{prefix_trans}
-use Rattle.scq_band.specs.SeenCalls.{EachSeenCallComesFirst, EachCallInARunSeenComesFirst}
+use Rattle.scq_band.specs.Exports.{EachSeenCallComesFirst, EachCallInARunSeenComesFirst}
 
 -- each of these lists is a prefix
 pub among : (ps : List (List (ℕ × Step))) (p steps : List (ℕ × Step)) → AllPrefixes ps steps → Contains ps p → IsPrefix p steps

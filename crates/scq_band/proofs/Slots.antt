@@ -5,12 +5,10 @@ use Rattle.std.specs.Prelude.{Some, None, Option, if◌then◌else◌, slice_ind
 use Rattle.std.proofs.lemmas.Bool.{cases_eq}
 use Rattle.std.proofs.lemmas.List.{length-append, append_assoc, append-nil}
 use Rattle.atomic_table.specs.Table.{turned}
-use Rattle.scq_core.specs.Table.{hand_without, holds_index}
-use Rattle.scq_law.specs.Hands.{times}
+use Rattle.scq_core.specs.Exports.{hand_without, holds_index}
+use Rattle.scq_law.specs.Exports.{times}
 use Rattle.scq_band.specs.declared.slot.Slot.{Slot}
-use Rattle.scq_band.specs.Steps.{front_index}
-use Rattle.scq_band.specs.Standing.{in_hand, without_index, with_buffer}
-use Rattle.scq_band.specs.Kept.{in_order, buffer_in, hand_of, AllGiven, IsRotation}
+use Rattle.scq_band.specs.Exports.{front_index, in_hand, without_index, with_buffer, in_order, buffer_in, hand_of, AllGiven, IsRotation}
 
 pub times-append : (i : ℕ) (xs ys : List ℕ) → times i (xs ++ ys) ≡ times i xs + times i ys
 times-append i [] ys = omega arith

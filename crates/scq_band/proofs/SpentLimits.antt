@@ -6,10 +6,9 @@ use Rattle.std.proofs.Math.Nat.{mul-le-mul_right}
 use Rattle.std.proofs.lemmas.Option.{slice_get-get_or}
 use Rattle.scq_core.specs.declared.ended.Ended.{Ended}
 use Rattle.scq_word.specs.declared.setup.Setup.{Setup}
-use Rattle.scq_word.specs.Sizes.{n_of}
-use Rattle.scq_word.specs.Bounds.{reset_value, ticket_bound}
-use Rattle.scq_law.specs.Bounds.{openings}
-use Rattle.scq_band.specs.Closing.{begun_on, EachSpentIsPastTheBound, NoneIsSpentWithinTheLimit}
+use Rattle.scq_word.specs.Exports.{n_of, reset_value, ticket_bound}
+use Rattle.scq_law.specs.Exports.{openings}
+use Rattle.scq_band.specs.Exports.{begun_on, EachSpentIsPastTheBound, NoneIsSpentWithinTheLimit}
 
 -- more puts use up more tickets
 bound_rises : (order seats a b : ℕ) → a ≤ b → ticket_bound order seats a ≤ ticket_bound order seats b

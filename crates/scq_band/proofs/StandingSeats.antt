@@ -7,9 +7,9 @@ use lib.ListN.{get_elem?}
 use Rattle.atomic_table.proofs.Lists.{at_last, at_longer, set_else, set_here}
 use Rattle.scq_word.specs.declared.setup.Setup.{Setup}
 use Rattle.scq_core.specs.declared.phase.Phase.{Phase}
-use Rattle.scq_band.specs.Known.{Member, Known, nobody, behind_first, first_alone, others_of, first_of, both_of}
-use Rattle.scq_band.specs.Shown.{StandsAmong, StandsInAView, first_members, first_view}
-use Rattle.scq_band.specs.Turns.{turned_member}
+use Rattle.scq_band.specs.Exports.{Member, nobody, behind_first, first_alone, others_of, first_of, both_of, StandsAmong, StandsInAView, first_members}
+use Rattle.scq_band.specs.Exports.{first_view, turned_member}
+use Rattle.scq_band.specs.Known.{Known}
 
 at_low : (views : List Known) (id : ℕ) (v : Known) → get_elem? views id ≡ some v → id < length views
 at_low [] id v e = absurd (some-ne-none v (sym e))

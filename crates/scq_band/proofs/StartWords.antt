@@ -4,13 +4,9 @@ use Rattle.std.specs.Prelude.{Some, None, Option, slice_set}
 use Rattle.std.proofs.lemmas.Bool.{cases_eq, cases_lt}
 use Rattle.std.proofs.lemmas.List.{length-set, get_or-set_same, get_or-set_other}
 use Rattle.scq_word.specs.declared.setup.Setup.{Setup}
-use Rattle.scq_core.specs.Machine.{Location, read}
-use Rattle.scq_core.specs.Start.{start_cells}
-use Rattle.scq_core.specs.Table.{ring_slots}
+use Rattle.scq_core.specs.Exports.{Location, read, start_cells, ring_slots}
 use Rattle.scq_band.specs.declared.slot.Slot.{Slot}
-use Rattle.scq_band.specs.Layout.{ring_at, IsLocation, offset_of, gate_word, word_count, at}
-use Rattle.scq_band.specs.Homes.{full_slot}
-use Rattle.scq_band.specs.Making.{lifted, AllLaid, WordsAreOpened}
+use Rattle.scq_band.specs.Exports.{ring_at, IsLocation, offset_of, gate_word, word_count, at, full_slot, lifted, AllLaid, WordsAreOpened}
 use Rattle.scq_band.proofs.Layouts.{offset_low, same_offset, at_low, at_some, at_apart}
 
 -- one word more is put where it stands

@@ -6,18 +6,13 @@ use Rattle.std.proofs.lemmas.Bool.{cases_eq, cases_lt}
 use mathlib.Core.Option.{some}
 use lib.ListN.{get_elem?}
 use Rattle.scq_word.specs.declared.setup.Setup.{Setup}
-use Rattle.scq_law.specs.Hands.{times}
+use Rattle.scq_law.specs.Exports.{times}
 use Rattle.scq_band.specs.declared.numbers.Numbers.{Numbers}
 use Rattle.scq_band.specs.declared.rule.Key.{Key}
 use Rattle.scq_band.specs.declared.making.Room.{Room}
-use Rattle.scq_band.specs.Numbers.{known_of, before_places, first_numbers_of, first_numbers}
-use Rattle.scq_band.specs.Known.{first_of}
-use Rattle.scq_band.specs.Buffers.{LiesIn}
-use Rattle.scq_band.specs.Shown.{Has}
-use Rattle.scq_band.specs.Standing.{Identity, Standing, in_hand, first_standing, first_standings}
-use Rattle.scq_band.specs.Kept.{IsKept, AreSmall}
-use Rattle.scq_band.specs.Homes.{full_slot}
-use Rattle.scq_band.specs.Making.{IsRoom, first_below}
+use Rattle.scq_band.specs.Exports.{known_of, before_places, first_numbers_of, first_numbers, first_of, LiesIn, Has, Identity, in_hand, first_standing}
+use Rattle.scq_band.specs.Exports.{first_standings, IsKept, AreSmall, full_slot, IsRoom, first_below}
+use Rattle.scq_band.specs.Standing.{Standing}
 use Rattle.scq_band.proofs.Opening.{numbers_length}
 
 -- the places known at the start are below every limit

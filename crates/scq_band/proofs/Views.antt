@@ -11,14 +11,15 @@ use Rattle.atomic_table.specs.Table.{State, Splits, Joins}
 use Rattle.atomic_table.proofs.Lists.{at_set, at_snoc, set_again, set_else}
 use Rattle.scq_word.specs.declared.setup.Setup.{Setup}
 use Rattle.scq_core.specs.declared.step.Step.{Step}
-use Rattle.scq_core.specs.Updated.{updated}
+use Rattle.scq_core.specs.Exports.{updated}
 use Rattle.scq_core.specs.Machine.{Machine}
 use Rattle.scq_core.proofs.UpdatedLemmas.{updated_here, updated_else}
-use Rattle.scq_law.specs.Bounds.{IsFinished}
+use Rattle.scq_law.specs.Exports.{IsFinished}
 use Rattle.scq_band.specs.declared.numbers.Numbers.{Numbers}
-use Rattle.scq_band.specs.Numbers.{before_places, IsTrue, larger, raised_by}
-use Rattle.scq_band.specs.Known.{Member, Known, nobody, note_of_view, behind_first, first_alone, others_of, first_of, lower_gate, both_of}
-use Rattle.scq_band.specs.Shown.{Scene, Owns, IsView, Shown, StandsInAView}
+use Rattle.scq_band.specs.Exports.{before_places, IsTrue, larger, raised_by, Member, nobody, note_of_view, behind_first, first_alone, others_of}
+use Rattle.scq_band.specs.Exports.{first_of, lower_gate, both_of, Scene, Owns, IsView, StandsInAView}
+use Rattle.scq_band.specs.Known.{Known}
+use Rattle.scq_band.specs.Shown.{Shown}
 use Rattle.scq_band.proofs.Knowledge.{AllTrue}
 use Rattle.scq_band.proofs.StandingSeats.{set_stands, longer_stands, peeled_stands, joined_stands}
 

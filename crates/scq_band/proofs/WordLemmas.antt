@@ -4,10 +4,9 @@ use Rattle.std.specs.Prelude.{slice_index, slice_set}
 use Rattle.std.proofs.lemmas.List.{length-set, get_or-set_same, get_or-set_other}
 use Rattle.std.proofs.lemmas.Bool.{cases_eq}
 use Rattle.scq_word.specs.declared.setup.Setup.{Setup}
-use Rattle.scq_core.specs.Machine.{Cells, Location, tail_of, head_of, threshold_of, entry_of, read, written}
+use Rattle.scq_core.specs.Exports.{Cells, Location, tail_of, head_of, threshold_of, entry_of, read, written}
 use Rattle.scq_core.proofs.UpdatedLemmas.{updated_here, updated_else, updated_entry_here, updated_entry_or}
-use Rattle.scq_band.specs.Layout.{at, IsLocation}
-use Rattle.scq_band.specs.Shown.{ShowsWords}
+use Rattle.scq_band.specs.Exports.{at, IsLocation, ShowsWords}
 use Rattle.scq_band.proofs.Layouts.{at_low, at_some, at_apart}
 
 -- what was written is read

@@ -6,24 +6,17 @@ use Rattle.std.specs.Prelude.{◌∷◌, ◌++◌, map, length, Option, Some, sl
 use Rattle.std.specs.Prelude.{slice_index_or, sum, sum_by, All, None}
 use Rattle.std.specs.List.{Contains}
 use Rattle.scq_word.specs.declared.setup.Setup.{Setup}
-use Rattle.scq_word.specs.Sizes.{n_of}
-use Rattle.scq_word.specs.Bounds.{ticket_bound, limit_for}
-use Rattle.scq_word.specs.Words.{index_in, cycle_in}
+use Rattle.scq_word.specs.Exports.{n_of, ticket_bound, limit_for, index_in, cycle_in}
 use Rattle.scq_core.specs.declared.ended.Ended.{Ended}
 use Rattle.scq_core.specs.declared.ended.Ended.TheVariants.{Done, Got, Spent}
 use Rattle.scq_core.specs.declared.step.Step.{Step}
 use Rattle.scq_core.specs.Machine.{Machine}
-use Rattle.scq_core.specs.Table.{ring_slots, slot, cycle}
-use Rattle.scq_law.specs.Hands.{times}
-use Rattle.scq_law.specs.Bounds.{tally, was_put, openings}
-use Rattle.scq_law.specs.Kept.{was_done, was_got}
-use Rattle.scq_law.specs.RunSteps.{run_of, IsFinishedRun}
-use Rattle.scq_law.specs.History.{HistoryHasAspects}
-use Rattle.scq_law.specs.ShownCalls.{HistoryShowsRecords}
-use Rattle.scq_law.specs.Order.{IsLinearization, IsOneOrder}
+use Rattle.scq_core.specs.Exports.{ring_slots, slot, cycle}
+use Rattle.scq_law.specs.Exports.{times, tally, was_put, openings, was_done, was_got, run_of}
+use Rattle.scq_law.specs.Exports.{IsFinishedRun, HistoryHasAspects, HistoryShowsRecords}
+use Rattle.scq_law.specs.Exports.{IsLinearization, IsOneOrder, AllPrefixes, HasProgress}
+use Rattle.scq_law.specs.Exports.{DelayedByEnds, EndsAlone}
 use Rattle.scq_law.specs.declared.ordered.Ordered.{Ordered}
-use Rattle.scq_law.specs.Prefixes.{AllPrefixes}
-use Rattle.scq_law.specs.Progress.{HasProgress, DelayedByEnds, EndsAlone}
 use Rattle.scq_band.specs.RunSeen.{Caller}
 use Rattle.scq_band.specs.Buffers.{opening_of}
 use Rattle.scq_band.specs.declared.numbers.Numbers.{Numbers}

@@ -6,7 +6,7 @@ use Rattle.std.specs.List.Sorted.{IsPermutation}
 use Rattle.atomic_table.specs.Table.{Me}
 use Rattle.scq_core.specs.declared.phase.Phase.TheVariants.{Idle}
 use Rattle.scq_band.specs.RunSeen.{Seen, nothing_seen, both_seen}
-use Rattle.scq_law.specs.Hands.{times}
+use Rattle.scq_law.specs.Exports.{times}
 use Rattle.scq_band.specs.declared.slot.Slot.{Slot}
 use Rattle.scq_band.specs.declared.numbers.Numbers.{Numbers}
 use Rattle.scq_band.specs.Known.{Member, Known}

@@ -5,9 +5,9 @@ use Rattle.std.specs.Prelude.{length, take, Option, Some, None}
 use Rattle.atomic_table.specs.Seated.{TableId}
 use Rattle.atomic_table.specs.Table.{Me}
 use Rattle.scq_word.specs.declared.setup.Setup.{Setup}
-use Rattle.scq_word.specs.Sizes.{n_of}
+use Rattle.scq_word.specs.Exports.{n_of}
 use Rattle.scq_core.specs.declared.phase.Phase.TheVariants.{Idle}
-use Rattle.scq_law.specs.Hands.{times}
+use Rattle.scq_law.specs.Exports.{times}
 use Rattle.scq_band.specs.declared.numbers.Numbers.{Numbers}
 use Rattle.scq_band.specs.declared.slot.Slot.{Slot}
 use Rattle.scq_band.specs.declared.rule.Key.{Key}

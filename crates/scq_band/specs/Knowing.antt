@@ -6,8 +6,9 @@ use lib.ListN.{get_elem?}
 use Rattle.atomic_table.specs.Table.{State}
 use Rattle.scq_word.specs.declared.setup.Setup.{Setup}
 use Rattle.scq_core.specs.declared.step.Step.{Step}
-use Rattle.scq_core.specs.Machine.{Machine, tail_of, head_of}
-use Rattle.scq_law.specs.Bounds.{IsFinished}
+use Rattle.scq_core.specs.Exports.{tail_of, head_of}
+use Rattle.scq_core.specs.Machine.{Machine}
+use Rattle.scq_law.specs.Exports.{IsFinished}
 use Rattle.scq_band.specs.declared.numbers.Numbers.{Numbers}
 use Rattle.scq_band.specs.Numbers.{before_places}
 use Rattle.scq_band.specs.Layout.{gate_word, at}

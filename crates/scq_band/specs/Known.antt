@@ -3,7 +3,7 @@
 -- stand in it with their parts, a lower bound of each ring's counters, and what it read at the
 -- gate. A note is a view in which no seat stands.
 use Rattle.std.specs.Prelude.{ℕ, List, [], ◌∷◌, ◌++◌, Option, Some, None, min}
-use Rattle.scq_core.specs.Machine.{SeatPart}
+use Rattle.scq_core.specs.Exports.{SeatPart}
 use Rattle.scq_band.specs.declared.numbers.Numbers.{Numbers}
 use Rattle.scq_band.specs.Numbers.{raised_by}
 

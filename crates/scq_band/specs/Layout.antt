@@ -7,8 +7,8 @@
 -- the code asks `layout.rt`, and proofs cite the facts of `Layouts`, which are proved for each d.
 use Rattle.std.specs.Prelude.{◌≢◌, ◌⊎◌, ℕ, ◌+◌, ◌-◌, ◌*◌, ◌/◌, ◌<◌, ◌≤◌}
 use Rattle.scq_word.specs.declared.setup.Setup.{Setup}
-use Rattle.scq_core.specs.Machine.{Location, tail_of, head_of, threshold_of, entry_of}
-use Rattle.scq_core.specs.Table.{ring_slots, slot}
+use Rattle.scq_core.specs.Exports.{Location, tail_of, head_of, threshold_of, entry_of, ring_slots}
+use Rattle.scq_core.specs.Exports.{slot}
 
 -- where the entry of a ticket's slot stands
 abbrev pub entry_at : Setup → ℕ → ℕ → Location

@@ -16,3 +16,4 @@ pub mod Homes
 pub mod Closing
 pub mod SeenCalls
 pub mod Making
+pub mod Exports

@@ -2,10 +2,9 @@
 use Rattle.std.specs.Prelude.{◌≡◌, ◌⊎◌, ℕ, ◌<◌, ◌≤◌, List, [], ◌∷◌, length, All, slice_index}
 use Rattle.std.specs.Prelude.{Option, Some, None, vec_capacity}
 use Rattle.scq_word.specs.declared.setup.Setup.{Setup}
-use Rattle.scq_word.specs.Sizes.{n_of}
-use Rattle.scq_core.specs.Machine.{Location, read}
-use Rattle.scq_core.specs.Start.{start_cells, start_of}
-use Rattle.scq_core.specs.StateLists.{StateLists, machine_of}
+use Rattle.scq_word.specs.Exports.{n_of}
+use Rattle.scq_core.specs.Exports.{Location, read, start_cells, start_of, machine_of}
+use Rattle.scq_core.specs.StateLists.{StateLists}
 use Rattle.scq_band.specs.declared.slot.Slot.{Slot}
 use Rattle.scq_band.specs.declared.making.Room.{Room}
 use Rattle.scq_band.specs.declared.making.Memory.{Memory}

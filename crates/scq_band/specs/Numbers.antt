@@ -3,10 +3,10 @@
 use Rattle.std.specs.Prelude.{◌≡◌, ℕ, zero, suc, ◌+◌, ◌-◌, ◌<◌, ◌≤◌, ◌⊎◌, ◌==◌, if◌then◌else◌, max}
 use Rattle.std.specs.Prelude.{Option, Some, None, List, [], ◌∷◌, ◌++◌, slice_index_or, slice_set}
 use Rattle.scq_word.specs.declared.setup.Setup.{Setup}
-use Rattle.scq_word.specs.Sizes.{n_of}
+use Rattle.scq_word.specs.Exports.{n_of}
 use Rattle.scq_core.specs.Machine.{Machine}
-use Rattle.scq_core.specs.Table.{ring_slots}
-use Rattle.scq_law.specs.Bounds.{IsFinished}
+use Rattle.scq_core.specs.Exports.{ring_slots}
+use Rattle.scq_law.specs.Exports.{IsFinished}
 use Rattle.scq_band.specs.declared.numbers.Numbers.{Numbers}
 
 -- the number before the first place at which a call can place on a ring; on ring 0 the opening puts

@@ -1,10 +1,8 @@
 -- For private calls: what the running code keeps of a ring.
 use Rattle.std.specs.Prelude.{◌≡◌, ℕ, suc, ◌<◌, true, List, [], ◌∷◌, length}
 use Rattle.scq_word.specs.declared.setup.Setup.{Setup}
-use Rattle.scq_core.specs.Machine.{tail_of}
-use Rattle.scq_core.specs.Table.{ring_slots, cycle, reset_level}
-use Rattle.scq_word.specs.Sizes.{n_of}
-use Rattle.scq_word.specs.Words.{mark_of, packed, cycle_in, safe_in, is_none_in}
+use Rattle.scq_core.specs.Exports.{tail_of, ring_slots, cycle, reset_level}
+use Rattle.scq_word.specs.Exports.{n_of, mark_of, packed, cycle_in, safe_in, is_none_in}
 use Rattle.scq_band.specs.declared.ring.Ring.{Ring}
 use Rattle.scq_band.specs.Layout.{at}
 

@@ -5,14 +5,12 @@ use Rattle.std.specs.Prelude.{◌≡◌, ◌⊎◌, ℕ, ◌-◌, ◌<◌, ◌�
 use Rattle.std.specs.Prelude.{Some, None}
 use Rattle.std.specs.List.{Contains}
 use Rattle.scq_word.specs.declared.setup.Setup.{Setup}
-use Rattle.scq_word.specs.Sizes.{n_of}
+use Rattle.scq_word.specs.Exports.{n_of}
 use Rattle.scq_core.specs.declared.ended.Ended.{Ended}
 use Rattle.scq_core.specs.declared.step.Step.{Step}
-use Rattle.scq_core.specs.Machine.{Location, head_of, tail_of, read}
-use Rattle.scq_law.specs.EmptyCalls.{IsEmptyAtCall}
-use Rattle.scq_law.specs.Prefixes.{IsPrefix, AllPrefixes, IsRecordAfter}
-use Rattle.scq_law.specs.Run.{Recorded, IsRun}
-use Rattle.scq_law.specs.Progress.{WholeCallIsDelayedByEnds}
+use Rattle.scq_core.specs.Exports.{Location, head_of, tail_of, read}
+use Rattle.scq_law.specs.Exports.{IsEmptyAtCall, IsPrefix, AllPrefixes, IsRecordAfter, Recorded}
+use Rattle.scq_law.specs.Exports.{IsRun, WholeCallIsDelayedByEnds}
 
 -- the last of these steps is this one
 pub record EndsWith (step : ℕ × Step) (steps : List (ℕ × Step)) : Type 0 where

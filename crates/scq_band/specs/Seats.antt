@@ -2,13 +2,12 @@
 use Rattle.std.specs.Prelude.{◌≡◌, ◌⊎◌, ◌+◌, ◌^◌, ◌<◌, ◌≤◌, ℕ, Bool, true, false, List, [], ◌∷◌}
 use Rattle.std.specs.Prelude.{◌++◌, length, Option, Some, None, slice_get}
 use Rattle.scq_word.specs.declared.setup.Setup.{Setup}
-use Rattle.scq_word.specs.Sizes.{n_of}
-use Rattle.scq_law.specs.Hands.{times}
+use Rattle.scq_word.specs.Exports.{n_of}
+use Rattle.scq_law.specs.Exports.{times}
 use Rattle.scq_core.specs.declared.phase.Phase.{Phase}
 use Rattle.scq_core.specs.declared.phase.Phase.TheVariants.{Idle, AtE1, AtE2, AtE3, AtE4, AtE5}
 use Rattle.scq_core.specs.declared.phase.Phase.TheVariants.{AtE6, AtD2, AtD3, AtD7}
-use Rattle.scq_core.specs.Machine.{SeatPart}
-use Rattle.scq_core.specs.Table.{hand_without, ends, spends}
+use Rattle.scq_core.specs.Exports.{SeatPart, hand_without, ends, spends}
 use Rattle.scq_core.specs.declared.ended.Ended.TheVariants.{Done, Got, Nothing}
 use Rattle.scq_band.specs.Numbers.{changed, finishes, sees, passes, drew, empties}
 use Rattle.scq_band.specs.declared.numbers.Numbers.{Numbers}

@@ -2,9 +2,8 @@
 use Rattle.std.specs.Prelude.{◌≡◌, ℕ, ◌+◌, ◌<◌, List, length, Some, slice_get}
 use Rattle.std.specs.List.{Contains}
 use Rattle.scq_word.specs.declared.setup.Setup.{Setup}
-use Rattle.scq_law.specs.Order.{EndedBefore, IsOneOrder}
-use Rattle.scq_law.specs.RunSteps.{Run, run_of}
-use Rattle.scq_law.specs.Prefixes.{IsPrefix}
+use Rattle.scq_law.specs.Exports.{EndedBefore, IsOneOrder, run_of, IsPrefix}
+use Rattle.scq_law.specs.RunSteps.{Run}
 use Rattle.scq_law.specs.declared.ordered.Ordered.{Ordered}
 use Rattle.scq_law.specs.declared.ordered.Ordered.TheVariants.{Call}
 use Rattle.scq_band.specs.RunSeen.{Caller, IsCallInRun, HasSeenCalls}

@@ -11,14 +11,11 @@ use mathlib.Core.Option as maybe
 use lib.ListN.{get_elem?}
 use Rattle.atomic_table.specs.Table.{State}
 use Rattle.scq_word.specs.declared.setup.Setup.{Setup}
-use Rattle.scq_word.specs.Sizes.{n_of}
-use Rattle.scq_word.specs.Words.{index_in, is_none_in}
-use Rattle.scq_core.specs.Machine.{Entries, Cells, Machine, Location, read}
-use Rattle.scq_core.specs.Table.{ring_slots}
-use Rattle.scq_core.specs.Start.{idle_part}
+use Rattle.scq_word.specs.Exports.{n_of, index_in, is_none_in}
+use Rattle.scq_core.specs.Exports.{Entries, Cells, Location, read, ring_slots, idle_part}
+use Rattle.scq_core.specs.Machine.{Machine}
 use Rattle.scq_core.specs.declared.step.Step.{Step}
-use Rattle.scq_law.specs.Run.{Recorded, IsRun}
-use Rattle.scq_law.specs.Hands.{times}
+use Rattle.scq_law.specs.Exports.{Recorded, IsRun, times}
 use Rattle.scq_band.specs.declared.numbers.Numbers.{Numbers}
 use Rattle.scq_band.specs.Layout.{gate_word, at, word_count, IsLocation}
 use Rattle.scq_band.specs.Known.{Member, Known}

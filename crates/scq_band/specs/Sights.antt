@@ -8,9 +8,8 @@ use lib.ListN.{get_elem?}
 use Rattle.atomic_table.specs.Table.{State, Me}
 use Rattle.scq_word.specs.declared.setup.Setup.{Setup}
 use Rattle.scq_core.specs.declared.step.Step.{Step}
-use Rattle.scq_core.specs.Machine.{Location, read}
-use Rattle.scq_law.specs.Run.{Recorded, IsRun}
-use Rattle.scq_law.specs.Prefixes.{IsPrefix, AllPrefixes}
+use Rattle.scq_core.specs.Exports.{Location, read}
+use Rattle.scq_law.specs.Exports.{Recorded, IsRun, IsPrefix, AllPrefixes}
 use Rattle.scq_band.specs.RunSeen.{Seen, nothing_seen, with_run, both_seen, EndsWith, HasSeenCalls}
 use Rattle.scq_band.specs.declared.numbers.Numbers.{Numbers}
 use Rattle.scq_band.specs.Numbers.{IsTrue}

@@ -7,9 +7,8 @@ use Rattle.scq_core.specs.declared.phase.Phase.{Phase}
 use Rattle.scq_core.specs.declared.phase.Phase.TheVariants.{Idle, AtE1, AtE2, AtE3, AtE4, AtE5}
 use Rattle.scq_core.specs.declared.phase.Phase.TheVariants.{AtE6, AtD1, AtD2, AtD3, AtD4, AtD5}
 use Rattle.scq_core.specs.declared.phase.Phase.TheVariants.{AtD6, AtD7, AtD8, AtD9, AtD10}
-use Rattle.scq_core.specs.Table.{ring_slots, cycle, passed}
-use Rattle.scq_core.specs.Start.{idle_part}
-use Rattle.scq_word.specs.Words.{packed}
+use Rattle.scq_core.specs.Exports.{ring_slots, cycle, passed, idle_part}
+use Rattle.scq_word.specs.Exports.{packed}
 use Rattle.scq_band.specs.declared.slot.Slot.{Slot}
 use Rattle.atomic_table.specs.Table.{Me}
 use Rattle.scq_band.specs.Layout.{ring_of_word}

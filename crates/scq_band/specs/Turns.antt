@@ -3,16 +3,13 @@ use Rattle.std.specs.Prelude.{◌≡◌, ℕ, ◌+◌, ◌<◌, ◌≤◌, false
 use Rattle.std.specs.Prelude.{List, [], ◌∷◌, length, map, Some, slice_get}
 use Rattle.atomic_table.specs.Table.{Me, rest}
 use Rattle.scq_word.specs.declared.setup.Setup.{Setup}
-use Rattle.scq_word.specs.Sizes.{n_of}
-use Rattle.scq_word.specs.Words.{index_in, is_none_in}
+use Rattle.scq_word.specs.Exports.{n_of, index_in, is_none_in}
 use Rattle.scq_core.specs.declared.phase.Phase.{Phase}
 use Rattle.scq_core.specs.declared.phase.Phase.TheVariants.{AtE1, AtE4, AtE5, AtE6, AtD1, AtD2}
 use Rattle.scq_core.specs.declared.phase.Phase.TheVariants.{AtD4, AtD6, AtD10}
 use Rattle.scq_core.specs.declared.step.Step.{Step}
-use Rattle.scq_core.specs.Table.{ring_slots, zero_level, reset_level, turn_of, after}
-use Rattle.scq_core.specs.Turn.{IsReady}
-use Rattle.scq_law.specs.Hands.{times}
-use Rattle.scq_law.specs.Retries.{FindsAtLeast}
+use Rattle.scq_core.specs.Exports.{ring_slots, zero_level, reset_level, turn_of, after, IsReady}
+use Rattle.scq_law.specs.Exports.{times, FindsAtLeast}
 use Rattle.scq_band.specs.declared.numbers.Numbers.{Numbers}
 use Rattle.scq_band.specs.Known.{Member, Known}
 use Rattle.scq_band.specs.Steps.{my}

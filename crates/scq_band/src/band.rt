@@ -1,7 +1,7 @@
 //! A band: the running rings, with their seats.
 ghost use Rattle.std.specs.Prelude.{◌≡◌, ℕ, ◌<◌, ◌≤◌, ◌==◌, true, length, Some, None, All, IfOk};
 ghost use Rattle.std.specs.Prelude.{IfErr, vec_len};
-ghost use Rattle.scq_word.specs.Sizes.{n_of};
+ghost use Rattle.scq_word.specs.Exports.{n_of};
 ghost use Rattle.scq_band.specs.Rings.{IsRing};
 ghost use Rattle.scq_band.specs.Buffers.{opening_of};
 ghost use Rattle.scq_band.specs.RunSeen.{IsReadingInRun, with_retiree, AllWereSeenRetired};

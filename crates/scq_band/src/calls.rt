@@ -8,7 +8,7 @@
 //! enqueue's point, whichever is later, and of an Empty the step that decided it.
 ghost use Rattle.std.specs.Prelude.{◌≡◌, ℕ, ◌<◌, ◌≤◌, List, [], ◌∷◌, ◌++◌, Some, None, Err, IfOk};
 ghost use Rattle.std.specs.Prelude.{IfErr, length, vec_capacity, slice_set};
-ghost use Rattle.scq_word.specs.Sizes.{n_of};
+ghost use Rattle.scq_word.specs.Exports.{n_of};
 ghost use Rattle.scq_band.specs.Buffers.{opening_of};
 ghost use Rattle.scq_band.specs.Numbers.{known_of, changed, finishes, RisesInHead};
 ghost use Rattle.scq_band.specs.RunSeen.{IsCallInRun, WasEmptyInRun};

@@ -1,7 +1,7 @@
 //! About how many indices stand in a ring.
 ghost use Rattle.std.specs.Prelude.{◌≡◌, ◌<◌, ◌≤◌};
-ghost use Rattle.scq_word.specs.Sizes.{n_of};
-ghost use Rattle.scq_core.specs.Machine.{Location};
+ghost use Rattle.scq_word.specs.Exports.{n_of};
+ghost use Rattle.scq_core.specs.Exports.{Location};
 ghost use Rattle.scq_band.specs.Buffers.{opening_of};
 ghost use Rattle.scq_band.specs.Layout.{at, IsLocation, word_count};
 ghost use Rattle.scq_band.specs.RunSeen.{WasFoundInRun, WasCountedInRun};

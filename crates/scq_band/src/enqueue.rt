@@ -2,18 +2,14 @@
 ghost use Rattle.std.specs.Prelude.{◌≡◌, ◌+◌, ◌<◌, ◌≤◌, if◌then◌else◌, IfSome, IfNone, IfOk, IfErr};
 ghost use Rattle.std.specs.Prelude.{IsTrue, IsFalse, Some, None, true};
 ghost use Rattle.atomic_table.specs.Table.{rest};
-ghost use Rattle.scq_band.specs.Buffers.{LiesIn, opening_of};
-ghost use Rattle.scq_band.specs.Turns.{Fronts};
+ghost use Rattle.scq_band.specs.Exports.{LiesIn, opening_of, Fronts, word_count, at, entry_at};
+ghost use Rattle.scq_band.specs.Exports.{IsRing, IsFilled, known_me, Went, my, my_phase};
+ghost use Rattle.scq_band.specs.Exports.{front_index, front_bytes, IsAlone, IsLooking, IsEnding};
+ghost use Rattle.scq_band.specs.Exports.{goes_to, placed_to, done_at, HasPut, HasSpentPut};
+ghost use Rattle.scq_band.specs.Exports.{put_index, content_of, least_of};
 ghost use Rattle.scq_core.specs.declared.phase.Phase.TheVariants.{Idle, AtE1, AtE4};
-ghost use Rattle.scq_word.specs.Sizes.{n_of};
-ghost use Rattle.scq_word.specs.Words.{rank_in};
-ghost use Rattle.scq_core.specs.Table.{ring_slots, holds_index};
-ghost use Rattle.scq_band.specs.Layout.{word_count, at, entry_at};
-ghost use Rattle.scq_band.specs.Rings.{IsRing, IsFilled};
-ghost use Rattle.scq_band.specs.Sights.{known_me, Went};
-ghost use Rattle.scq_band.specs.Steps.{my, my_phase, front_index, front_bytes};
-ghost use Rattle.scq_band.specs.Seats.{IsAlone, IsLooking, IsEnding, goes_to, placed_to, done_at};
-ghost use Rattle.scq_band.specs.Seats.{HasPut, HasSpentPut, put_index, content_of, least_of};
+ghost use Rattle.scq_word.specs.Exports.{n_of, rank_in};
+ghost use Rattle.scq_core.specs.Exports.{ring_slots, holds_index};
 
 use crate::ring::Ring;
 use crate::rule::{Token, Words};

@@ -1,11 +1,7 @@
 //! The gate: how many seats have not retired.
 ghost use Rattle.std.specs.Prelude.{◌≡◌, ◌<◌, length, None};
-ghost use Rattle.scq_band.specs.RunSeen.{with_retiree};
-ghost use Rattle.scq_band.specs.Standing.{IsReading};
-ghost use Rattle.scq_band.specs.Buffers.{opening_of};
-ghost use Rattle.scq_band.specs.Sights.{Looked};
-ghost use Rattle.scq_band.specs.Steps.{my};
-ghost use Rattle.scq_band.specs.Seats.{IsAlone, looked, retired_at};
+ghost use Rattle.scq_band.specs.Exports.{with_retiree, IsReading, opening_of, Looked, my, IsAlone};
+ghost use Rattle.scq_band.specs.Exports.{looked, retired_at};
 
 use crate::layout::GATE;
 use crate::rule::{Token, Words};

@@ -1,9 +1,8 @@
 //! The slots that a seat holds stand in a row in its token, and only the first can be used. The
 //! seat keeps their indices in the same row, but backwards: that of the first slot is the last.
 ghost use Rattle.std.specs.Prelude.{◌≡◌, ◌<◌, vec_capacity};
-ghost use Rattle.scq_law.specs.Hands.{times};
-ghost use Rattle.scq_band.specs.Steps.{front_index};
-ghost use Rattle.scq_band.specs.Kept.{in_order, IsRotation};
+ghost use Rattle.scq_law.specs.Exports.{times};
+ghost use Rattle.scq_band.specs.Exports.{front_index, in_order, IsRotation};
 
 use crate::rule::Token;
 use scq_word::Buffer;

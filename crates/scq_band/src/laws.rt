@@ -2,11 +2,9 @@
 //! where the words stand. The functions do nothing: each stands for its contract.
 ghost use Rattle.std.specs.Prelude.{List};
 ghost use Rattle.scq_word.specs.declared.setup.Setup.{Setup};
-ghost use Rattle.scq_band.specs.Buffers.{LiesIn, opening_of};
-ghost use Rattle.scq_band.specs.Knowing.{EachViewKnowsTruth};
-ghost use Rattle.scq_band.specs.Layout.{HotWordsAreApart};
-ghost use Rattle.scq_band.specs.RunSeen.{EachTwoPrefixesAreComparable};
-ghost use Rattle.scq_band.specs.SeenCalls.{EachSeenCallComesFirst, EachCallInARunSeenComesFirst};
+ghost use Rattle.scq_band.specs.Exports.{LiesIn, opening_of, EachViewKnowsTruth, HotWordsAreApart};
+ghost use Rattle.scq_band.specs.Exports.{EachTwoPrefixesAreComparable, EachSeenCallComesFirst};
+ghost use Rattle.scq_band.specs.Exports.{EachCallInARunSeenComesFirst};
 
 use scq_word::Buffer;
 

@@ -1,7 +1,7 @@
 //! Where each word of the table stands: no other file knows the number of a word.
 ghost use Rattle.std.specs.Prelude.{◌≡◌, ℕ, ◌^◌, ◌<◌};
 ghost use Rattle.scq_word.specs.declared.setup.Setup.{Setup};
-ghost use Rattle.scq_core.specs.Machine.{tail_of, head_of, threshold_of, entry_of};
+ghost use Rattle.scq_core.specs.Exports.{tail_of, head_of, threshold_of, entry_of};
 ghost use Rattle.scq_band.specs.Layout.{at, word_count, ring_words, distance};
 
 use scq_word::Setup;

@@ -3,12 +3,10 @@
 ghost use Rattle.std.specs.Prelude.{◌≡◌, ℕ, ◌<◌, ◌≤◌, false, [], map, length, Some, slice_get};
 ghost use Rattle.std.specs.Prelude.{slice_index, slice_index_or, vec_capacity};
 ghost use Rattle.std.specs.Mem.Slots.{slots_items, slots_filled, slots_len, IsFull};
-ghost use Rattle.scq_core.specs.Machine.{Cells};
+ghost use Rattle.scq_core.specs.Exports.{Cells};
 ghost use Rattle.scq_core.proofs.Indices.{HasIndices};
-ghost use Rattle.scq_law.specs.Kept.{left_in};
-ghost use Rattle.scq_band.specs.Layout.{word_count};
-ghost use Rattle.scq_band.specs.Shown.{ShowsWords};
-ghost use Rattle.scq_band.specs.Homes.{full_slot};
+ghost use Rattle.scq_law.specs.Exports.{left_in};
+ghost use Rattle.scq_band.specs.Exports.{word_count, ShowsWords, full_slot};
 
 use crate::layout::{entry_word, tail_word};
 use crate::slot::Slot;

@@ -1,8 +1,7 @@
 //! The memory and the words that a band is made with.
 ghost use Rattle.std.specs.Prelude.{◌≡◌, ◌+◌, ◌<◌, ◌≤◌, [], map, All, IfOk, vec_len, vec_capacity};
-ghost use Rattle.scq_word.specs.Sizes.{n_of};
-ghost use Rattle.scq_core.specs.Machine.{read, threshold_of};
-ghost use Rattle.scq_core.specs.Start.{start_cells};
+ghost use Rattle.scq_word.specs.Exports.{n_of};
+ghost use Rattle.scq_core.specs.Exports.{read, threshold_of, start_cells};
 ghost use Rattle.scq_band.specs.Numbers.{first_numbers};
 ghost use Rattle.scq_band.specs.Homes.{full_slot};
 ghost use Rattle.scq_band.specs.Rings.{AreRings};

@@ -1,11 +1,10 @@
 //! A ring of the table: where its words are, and the numbers that a call needs of the setup.
 ghost use Rattle.std.specs.Prelude.{◌≡◌, ◌≢◌, ℕ, ◌^◌, ◌<◌, IsTrue, IsFalse};
-ghost use Rattle.scq_core.specs.Machine.{head_of, threshold_of};
+ghost use Rattle.scq_core.specs.Exports.{head_of, threshold_of, ring_slots, cycle};
 ghost use Rattle.scq_word.specs.declared.setup.Setup.{Setup};
 ghost use Rattle.scq_band.specs.Layout.{at, entry_at};
 ghost use Rattle.scq_band.specs.Rings.{IsRing, IsFilled, IsPlainlyVacant};
-ghost use Rattle.scq_core.specs.Table.{ring_slots, cycle};
-ghost use Rattle.scq_word.specs.Words.{packed, cycle_in, index_in};
+ghost use Rattle.scq_word.specs.Exports.{packed, cycle_in, index_in};
 
 use crate::layout::{entry_word, head_word, tail_word, threshold_word};
 use scq_core::reset_level;

@@ -1,15 +1,11 @@
 //! The six atomic operations that the machine's sixteen steps are made of. Each makes one step of
 //! the seat: the one that its call is at, or the first of a call.
 ghost use Rattle.std.specs.Prelude.{◌≡◌, ◌<◌};
-ghost use Rattle.scq_word.specs.Words.{mark_of};
-ghost use Rattle.scq_core.specs.Table.{ring_slots, reset_level, location_of};
-ghost use Rattle.scq_band.specs.Layout.{at};
-ghost use Rattle.scq_band.specs.Buffers.{LiesIn, opening_of};
-ghost use Rattle.scq_band.specs.Turns.{MayTurn, Carries, Turned};
-ghost use Rattle.scq_band.specs.Sights.{known_me, Went};
-ghost use Rattle.scq_band.specs.Steps.{my_phase, load_turn, draw_turn, OnlyReads, IsDraw};
-ghost use Rattle.scq_band.specs.Steps.{Exchanges};
-ghost use Rattle.scq_band.specs.Steps.{IsReset, IsTakingTurn, IsCountDown};
+ghost use Rattle.scq_word.specs.Exports.{mark_of};
+ghost use Rattle.scq_core.specs.Exports.{ring_slots, reset_level, location_of};
+ghost use Rattle.scq_band.specs.Exports.{at, LiesIn, opening_of, MayTurn, Carries, Turned};
+ghost use Rattle.scq_band.specs.Exports.{known_me, Went, my_phase, load_turn, draw_turn, OnlyReads};
+ghost use Rattle.scq_band.specs.Exports.{IsDraw, Exchanges, IsReset, IsTakingTurn, IsCountDown};
 
 use crate::rule::{Token, Words};
 use scq_word::Buffer;

@@ -9,10 +9,9 @@ use Rattle.std.specs.List.Sorted.{IsPermutation}
 use denote.RawPtr.{Ptr, block_ptr, null_ptr, count_of, ◌+ₚ◌}
 use Rattle.scq_block.specs.declared.block.Block.{Block}
 use Rattle.scq_block.specs.declared.frame.Frame.{Frame}
-use Rattle.scq_block.specs.Blocks.{IsFrameOf, AreAllOf, IsCarved}
+use Rattle.scq_block.specs.Exports.{IsFrameOf, AreAllOf, IsCarved, frame_start, bytes_of, IsSame, IsPlaced, AreInOrder, AreFramesFrom}
 use Rattle.scq_block.proofs.FrameLists.{past_both}
 use Rattle.scq_block.proofs.Sorting.{first}
-use Rattle.scq_block.specs.Frames.{frame_start, bytes_of, IsSame, IsPlaced, AreInOrder, AreFramesFrom}
 
 numbers_in_order : (fs : List Frame) → AreInOrder fs → map (λ f. f.number) fs ≡ range_with_len 0 (length fs)
 numbers_in_order fs ordered =

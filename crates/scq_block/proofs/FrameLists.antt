@@ -6,7 +6,7 @@ use Rattle.std.proofs.lemmas.List.Elements.{All-push}
 use denote.RawPtr.{Ptr, block_ptr, null_ptr, ◌+ₚ◌}
 use Rattle.scq_block.specs.declared.frame.Frame.{Frame}
 use Rattle.scq_block.specs.declared.span.Span.{Span}
-use Rattle.scq_block.specs.Frames.{frame_start, bytes_of, IsPlaced, AreInOrder, AreFramesFrom}
+use Rattle.scq_block.specs.Exports.{frame_start, bytes_of, IsPlaced, AreInOrder, AreFramesFrom}
 
 -- past a place and past the next is past both
 pub past_both : (p : Ptr) (m n : ℕ) → p +ₚ m +ₚ n ≡ p +ₚ (m + n)

@@ -1,7 +1,7 @@
 //! Frames: numbered pieces of a block, each of which is a buffer.
 ghost use Rattle.std.specs.Prelude.{◌≡◌, ◌*◌, ◌^◌, ◌<◌, length};
 ghost use Rattle.std.specs.Vec.{with_items};
-ghost use Rattle.scq_word.specs.Written.{rewritten};
+ghost use Rattle.scq_word.specs.Exports.{rewritten};
 ghost use Rattle.scq_block.specs.Frames.{bytes_of, IsSame, same_as_itself, same_back, same_along};
 ghost use Rattle.scq_block.specs.Frames.{written_same};
 ghost use denote.RawPtr.{InBlock, ◌+ₚ◌};

@@ -4,8 +4,7 @@ ghost use Rattle.std.specs.List.Sorted.{IsPermutation};
 ghost use denote.RawPtr.{◌+ₚ◌};
 ghost use Rattle.scq_block.specs.declared.frame.Frame.{Frame};
 ghost use Rattle.scq_block.specs.declared.block.Block.{Block};
-ghost use Rattle.scq_block.specs.Frames.{IsSame, bytes_of, frame_start};
-ghost use Rattle.scq_block.specs.Blocks.{IsFrameOf, AreAllOf};
+ghost use Rattle.scq_block.specs.Exports.{IsSame, bytes_of, frame_start, IsFrameOf, AreAllOf};
 
 /// Two frames of one block are the same exactly where they have one number.
 pub fn numbers_tell_frames()

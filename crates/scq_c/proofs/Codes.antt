@@ -1,9 +1,9 @@
 -- What each call answers, one lemma for each of its numbers.
 use Rattle.std.proofs.Common.{◌≡◌, None, ℕ, suc, refl, inl, inr, arith}
-use Rattle.scq_port.specs.Ports.{PortStanding}
-use Rattle.scq_port.specs.Calls.{IsLent, ValueIsTaken, IsSent, ValueIsGivenBack, WasFull, WasEmpty, IsSpentGet, IsSpentPut, HasNoRoom, HasTopic, HasNoTopic, HoldsNoSuch, PortHasRetired}
+use Rattle.scq_port.specs.Exports.{PortStanding, IsLent, ValueIsTaken, IsSent, ValueIsGivenBack, WasFull, WasEmpty, IsSpentGet, IsSpentPut, HasNoRoom}
+use Rattle.scq_port.specs.Exports.{HasTopic, HasNoTopic, HoldsNoSuch, PortHasRetired}
 use Rattle.scq_c.specs.declared.exports.Held.{Held}
-use Rattle.scq_c.specs.Answers.{OfLend, OfTake, OfSend, OfGiveBack, shown_at, with_place}
+use Rattle.scq_c.specs.Exports.{OfLend, OfTake, OfSend, OfGiveBack, shown_at, with_place}
 
 pub lend_lent : (index : ℕ) (before : Held) (old new : PortStanding) → IsLent index old new → OfLend 0 before (shown_at 0 index before) old new
 lend_lent index before old new is =

@@ -6,12 +6,11 @@ use Rattle.std.proofs.lemmas.Option.{slice_get_read}
 use Rattle.std.proofs.Common.{Box, Global}
 use Rattle.scq_port.specs.declared.port.Port.{Port}
 use Rattle.scq_word.specs.declared.setup.Setup.{Setup}
-use Rattle.scq_queue.specs.Passes.{first_pass, first_passes}
-use Rattle.scq_port.specs.Calls.{AreOpened, new_port}
-use Rattle.scq_port.specs.Ports.{PortStanding, PortQueue}
+use Rattle.scq_queue.specs.Exports.{first_pass, first_passes}
+use Rattle.scq_port.specs.Exports.{AreOpened, new_port, PortStanding, PortQueue}
 use Rattle.scq_c.specs.declared.c_port.CPort.{CPort}
 use Rattle.scq_c.specs.declared.c_port.Memory.{Memory}
-use Rattle.scq_c.specs.Answers.{IsClosed, ports_of, memories_of}
+use Rattle.scq_c.specs.Exports.{IsClosed, ports_of, memories_of}
 
 -- the port of the handle at a place
 pub port_at : (hs : List CPort) (k : ℕ) (h : CPort) → slice_get hs k ≡ Some h → slice_get (ports_of hs) k ≡ Some h.handle.port

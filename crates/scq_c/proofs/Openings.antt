@@ -2,7 +2,7 @@
 use Rattle.std.proofs.Common.{ℕ, List, refl, inl, arith}
 use Rattle.scq_c.specs.declared.c_port.CPort.{CPort}
 use Rattle.scq_c.specs.declared.c_port.Memory.{Memory}
-use Rattle.scq_c.specs.Answers.{OfOpen, HaveOpened}
+use Rattle.scq_c.specs.Exports.{OfOpen, HaveOpened}
 
 module _ (order topics hold limit : ℕ) (memory : Memory) (before after : List CPort) where
   pub open_opened : HaveOpened order topics hold limit memory before after → OfOpen order topics hold limit memory 0 before after

@@ -2,10 +2,10 @@
 -- is written leaves the others.
 use Rattle.std.proofs.Common.{◌≡◌, ◌≢◌, ℕ, zero, suc, ◌+◌, ◌<◌, ◌≤◌, List, [], ◌∷◌, length, refl, sym, ◌∙◌, subst, arith, length-set}
 use Rattle.std.specs.Prelude.{Some, slice_get, slice_set, slice_index_or}
-use Rattle.scq_port.specs.Ports.{PortStanding}
+use Rattle.scq_port.specs.Exports.{PortStanding}
 use Rattle.scq_port.proofs.Lists.{set_here, set_other}
 use Rattle.scq_c.specs.declared.exports.Held.{Held}
-use Rattle.scq_c.specs.Many.{InARow, none_yet, one_more, SlotCall, WentAt, OfMany}
+use Rattle.scq_c.specs.Exports.{InARow, none_yet, one_more, SlotCall, WentAt, OfMany}
 
 -- so many calls went, and wrote no slot behind theirs
 pub record WentBelow (Of : SlotCall) (k : ℕ) (before now : List Held) (old at : PortStanding) : Type 0 where

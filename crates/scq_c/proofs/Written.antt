@@ -5,7 +5,7 @@ use Rattle.std.proofs.lemmas.Bool.{cases_eq}
 use Rattle.scq_queue.specs.declared.counts.Counts.{Counts}
 use Rattle.scq_port.proofs.Lists.{set_here, set_other}
 use Rattle.scq_c.specs.declared.tally.Tally.{Tally}
-use Rattle.scq_c.specs.Tallies.{AreWritten, tally_of}
+use Rattle.scq_c.specs.Exports.{AreWritten, tally_of}
 
 -- the counts below a number are written, and nothing behind them
 pub record AreWrittenBelow (k : ℕ) (counts : List Counts) (before after : List Tally) : Type 0 where

@@ -4,17 +4,13 @@
 use Rattle.std.specs.Prelude.{◌≡◌, ℕ, suc, ◌+◌, ◌*◌, ◌^◌, ◌<◌, ◌≤◌, ◌⊎◌, List, map, length, Option}
 use Rattle.std.specs.Prelude.{Some, None, All}
 use Rattle.scq_word.specs.declared.setup.Setup.{Setup}
-use Rattle.scq_word.specs.Sizes.{n_of}
-use Rattle.scq_word.specs.Ranges.{IsOutside}
-use Rattle.scq_queue.specs.Lists.{counts_of}
-use Rattle.scq_port.specs.Ports.{PortStanding}
-use Rattle.scq_port.specs.Calls.{IsLent, ValueIsTaken, IsSent, ValueIsGivenBack, WasFull, WasEmpty}
-use Rattle.scq_port.specs.Calls.{IsSpentGet, IsSpentPut, HasNoRoom, HasTopic, HasNoTopic}
-use Rattle.scq_port.specs.Calls.{HoldsNoSuch, PortHasRetired, HasAsked, HasCounted, retired_port}
-use Rattle.scq_port.specs.Calls.{AreOpened, HasPassEnded}
-use Rattle.scq_queue.specs.Passes.{PassStanding, lists_of}
+use Rattle.scq_word.specs.Exports.{n_of, IsOutside}
+use Rattle.scq_queue.specs.Exports.{counts_of, PassStanding, lists_of}
+use Rattle.scq_port.specs.Exports.{PortStanding, IsLent, ValueIsTaken, IsSent, ValueIsGivenBack}
+use Rattle.scq_port.specs.Exports.{WasFull, WasEmpty, IsSpentGet, IsSpentPut, HasNoRoom, HasTopic}
+use Rattle.scq_port.specs.Exports.{HasNoTopic, HoldsNoSuch, PortHasRetired, HasAsked, HasCounted}
+use Rattle.scq_port.specs.Exports.{retired_port, AreOpened, HasPassEnded, HasClosedPorts}
 use Rattle.scq_port.specs.declared.port_buffer.PortBuffer.{PortBuffer}
-use Rattle.scq_port.specs.Closed.{HasClosedPorts}
 use Rattle.scq_c.specs.declared.exports.End.{End}
 use Rattle.scq_c.specs.declared.exports.Held.{Held}
 use Rattle.scq_c.specs.declared.tally.Tally.{Tally}

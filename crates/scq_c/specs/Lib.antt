@@ -3,3 +3,4 @@ pub mod Tallies
 pub mod Codes
 pub mod Answers
 pub mod Many
+pub mod Exports

@@ -1,6 +1,6 @@
 -- Several calls of C in one: what is answered is that of the first that was refused, or ok.
 use Rattle.std.specs.Prelude.{◌≡◌, ℕ, suc, ◌≤◌, List, length, Some, slice_get}
-use Rattle.scq_port.specs.Ports.{PortStanding}
+use Rattle.scq_port.specs.Exports.{PortStanding}
 use Rattle.scq_c.specs.declared.exports.Held.{Held}
 use Rattle.scq_c.specs.Codes.{scq_ok}
 use Rattle.scq_c.specs.Answers.{OfSend, OfGiveBack, with_place}

@@ -1,10 +1,8 @@
 //! What C calls.
 ghost use Rattle.std.specs.Prelude.{◌≡◌, ℕ, Some, None};
-ghost use Rattle.scq_word.specs.Sizes.{n_of};
-ghost use Rattle.scq_queue.specs.Lists.{counts_of};
-ghost use Rattle.scq_queue.specs.Passes.{lists_of};
-ghost use Rattle.scq_port.specs.Ports.{PortStanding};
-ghost use Rattle.scq_port.specs.Calls.{retired_port};
+ghost use Rattle.scq_word.specs.Exports.{n_of};
+ghost use Rattle.scq_queue.specs.Exports.{counts_of, lists_of};
+ghost use Rattle.scq_port.specs.Exports.{PortStanding, retired_port};
 ghost use Rattle.scq_c.specs.Answers.{OfLend, OfTake, OfSend, OfGiveBack, OfOpen, OfEnd, OfRetired};
 ghost use Rattle.scq_c.specs.Answers.{OfCount, shown_at};
 ghost use Rattle.scq_c.specs.Codes.{scq_ok, scq_spent, scq_closed};

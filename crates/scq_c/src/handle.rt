@@ -3,7 +3,7 @@ ghost use Rattle.std.specs.Prelude.{◌≡◌, ◌≢◌, true, false, Some, Non
 ghost use Rattle.std.specs.Coded.{coded_option};
 ghost use Rattle.std.specs.Option.{MatchOption};
 ghost use Rattle.std.specs.declared.option.Option.{Option};
-ghost use Rattle.scq_port.specs.Ports.{PortStanding};
+ghost use Rattle.scq_port.specs.Exports.{PortStanding};
 ghost use Rattle.scq_port.specs.contracts.port.Port.{the_row as port_row};
 ghost use Rattle.scq_c.specs.Handles.{port_kept};
 

@@ -1,10 +1,8 @@
 //! What C calls with several buffers: the calls of one buffer, in the order of the slots, until one
 //! is refused.
 ghost use Rattle.std.specs.Prelude.{◌≡◌, Some, None};
-ghost use Rattle.scq_port.specs.Ports.{PortStanding};
-ghost use Rattle.scq_c.specs.Answers.{OfLend, OfTake};
-ghost use Rattle.scq_c.specs.Many.{OfMany, OfSends, OfGiveBacks};
-ghost use Rattle.scq_c.specs.Codes.{scq_closed};
+ghost use Rattle.scq_port.specs.Exports.{PortStanding};
+ghost use Rattle.scq_c.specs.Exports.{OfLend, OfTake, OfMany, OfSends, OfGiveBacks, scq_closed};
 
 use crate::answers::{CLOSED, OK};
 use crate::exports::{Held, give_back_into, lend_into, send_into, take_into};

@@ -1,9 +1,8 @@
 //! How C opens a queue.
 ghost use Rattle.std.specs.Prelude.{◌≡◌, ℕ, ◌+◌, ◌*◌, ◌^◌, ◌≤◌, map, length, true, false, Some};
 ghost use Rattle.std.specs.Prelude.{None, Err, IfOk, IfSome, All, vec_len};
-ghost use Rattle.scq_word.specs.Ranges.{IsOutside};
-ghost use Rattle.scq_word.specs.Sizes.{n_of};
-ghost use Rattle.scq_port.specs.Calls.{AreOpened};
+ghost use Rattle.scq_word.specs.Exports.{IsOutside, n_of};
+ghost use Rattle.scq_port.specs.Exports.{AreOpened};
 ghost use Rattle.scq_c.specs.Answers.{OfOpen, IsClosed, ports_of, memories_of};
 
 use crate::answers::{

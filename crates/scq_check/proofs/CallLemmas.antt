@@ -2,16 +2,14 @@
 use Rattle.std.proofs.Common.{◌≡◌, ℕ, ◌+◌, ◌<◌, List, [], ◌∷◌, ◌++◌, Option, Some, None, length, length-append, slice_get, get_or, unwrap_or, refl, sym, subst, ◌∙◌, ap, arith, add-one}
 use Rattle.std.specs.Ordering.{nat_cmp}
 use Rattle.std.specs.BTreeMap.{get}
-use Rattle.scq_hist.specs.Aspects.{IsLawful, IsLawfulAt}
-use Rattle.scq_hist.specs.Calls.{under_way, under_way_after}
+use Rattle.scq_hist.specs.Exports.{IsLawful, IsLawfulAt, under_way, under_way_after}
 use Rattle.scq_hist.specs.declared.events.Call.{Call}
 use Rattle.scq_hist.specs.declared.events.Event.{Event}
 use Rattle.scq_hist.specs.declared.events.Event.TheVariants.{Start, End}
 use Rattle.scq_hist.specs.declared.events.Reply.{Reply}
 use Rattle.scq_hist.proofs.NamesLemmas.{read}
 use Rattle.scq_hist.proofs.UnderWay.{started_within}
-use Rattle.scq_check.specs.Calls.{own_start, IsCalls}
-use Rattle.scq_check.specs.Tables.{IsOf, IsCallOf}
+use Rattle.scq_check.specs.Exports.{own_start, IsCalls, IsOf, IsCallOf}
 use Rattle.scq_check.specs.declared.calls.Calls.{Calls}
 use Rattle.scq_check.proofs.Rows.{row_more}
 

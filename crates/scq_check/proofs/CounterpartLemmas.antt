@@ -2,18 +2,13 @@
 use Rattle.std.proofs.Common.{◌≡◌, ℕ, ◌<◌, List, Option, Some, None, length, slice_get, sym, subst, refl}
 use Rattle.std.specs.Prelude.{IfSome, MatchOption}
 use Rattle.std.proofs.lemmas.Option.{slice_get_within}
-use Rattle.scq_hist.specs.Aspects.{IsFreshAt, IsOnceAt, IsInOrderAt, IsEmptyRightAt}
-use Rattle.scq_hist.specs.Calls.{IsGot}
-use Rattle.scq_hist.specs.First.{IsFirstFailing}
-use Rattle.scq_hist.specs.Lookups.{got_name, IsFirstNamed}
-use Rattle.scq_hist.specs.Tallies.{NoEmptyAt}
+use Rattle.scq_hist.specs.Exports.{IsFreshAt, IsOnceAt, IsInOrderAt, IsEmptyRightAt, IsGot, IsFirstFailing, got_name, IsFirstNamed, NoEmptyAt}
 use Rattle.scq_hist.specs.declared.events.Event.{Event}
 use Rattle.scq_hist.specs.declared.events.PutName.{PutName}
 use Rattle.scq_hist.specs.declared.events.PutName.TheVariants.{Of}
 use Rattle.scq_hist.proofs.NamesLemmas.{names_there, named_there}
-use Rattle.scq_check.specs.ByName.{place_in}
-use Rattle.scq_check.specs.Counterparts.{AtFirst, IsOrigin, IsOfOrigin, IsRepeatOf, IsOfRefused, NamesNone}
-use Rattle.scq_check.specs.Refused.{IsAcceptedAt, IsRefusals, NotSpentBefore, IsSpentAt}
+use Rattle.scq_check.specs.Exports.{place_in, AtFirst, IsOrigin, IsOfOrigin, IsRepeatOf, IsOfRefused, NamesNone, IsAcceptedAt, IsRefusals}
+use Rattle.scq_check.specs.Exports.{NotSpentBefore, IsSpentAt}
 use Rattle.scq_check.specs.declared.by_name.ByName.{ByName}
 use Rattle.scq_check.specs.declared.counterparts.Origin.{Origin}
 use Rattle.scq_check.proofs.RefusedLemmas.{accepted_there}

@@ -1,7 +1,6 @@
 -- The puts that end, by the tables
 use Rattle.std.proofs.Common.{◌≡◌, ℕ, suc, List, true, false, not, Some, slice_get, ap, ◌∙◌, subst}
-use Rattle.scq_hist.specs.Calls.{under_way, puts_before, IsCall, IsPut}
-use Rattle.scq_hist.specs.Ended.{put_reply, EndsPut, NoneEnds}
+use Rattle.scq_hist.specs.Exports.{under_way, puts_before, IsCall, IsPut, put_reply, EndsPut, NoneEnds}
 use Rattle.scq_hist.specs.declared.ended.EndedPut.{EndedPut}
 use Rattle.scq_hist.specs.declared.events.Call.{Call}
 use Rattle.scq_hist.specs.declared.events.Call.TheVariants.{Put}
@@ -9,10 +8,7 @@ use Rattle.scq_hist.specs.declared.events.Event.{Event}
 use Rattle.scq_hist.specs.declared.events.Event.TheVariants.{End}
 use Rattle.scq_hist.specs.declared.events.Reply.{Reply}
 use Rattle.scq_hist.proofs.EndedLemmas.{spent_call}
-use Rattle.scq_check.specs.Full.{IsRefusalAt, NoRefusalAt}
-use Rattle.scq_check.specs.Puts.{put_number}
-use Rattle.scq_check.specs.Refused.{IsSpentAt, NoneSpentAt}
-use Rattle.scq_check.specs.Tables.{IsOf, IsCallOf}
+use Rattle.scq_check.specs.Exports.{IsRefusalAt, NoRefusalAt, put_number, IsSpentAt, NoneSpentAt, IsOf, IsCallOf}
 
 -- the call of an End
 pub own_call : (events : List Event) (e s seat : ℕ) (call : Call) (reply : Reply) → IsCallOf events e s call → slice_get events e ≡ Some (End seat reply)

@@ -1,11 +1,10 @@
 -- The failures of an aspect, event by event
 use Rattle.std.proofs.Common.{◌≡◌, ℕ, ◌+◌, ◌<◌, ◌≤◌, ◌↔◌, Bool, true, false, IsTrue, inl, inr, Option, Some, None, refl, sym, subst, arith, below_more}
 use Rattle.std.specs.Option.{option_or}
-use Rattle.scq_hist.specs.First.{IsFirstFailing}
+use Rattle.scq_hist.specs.Exports.{IsFirstFailing, IsCount}
 use Rattle.std.proofs.lemmas.Bool.{cases_lt, cases_eq, iff_false}
-use Rattle.scq_hist.specs.Counts.{IsCount}
 use Rattle.scq_hist.proofs.Counting.{count_none, count_more, count_same}
-use Rattle.scq_check.specs.Failures.{AreFailures, AreFailuresBefore, IsFirstBefore, failures_with}
+use Rattle.scq_check.specs.Exports.{AreFailures, AreFailuresBefore, IsFirstBefore, failures_with}
 use Rattle.scq_check.specs.declared.failures.Failures.{Failures}
 
 -- before any event

@@ -7,9 +7,7 @@ use Rattle.std.specs.Map.{lookup}
 use Rattle.std.proofs.lemmas.Bool.{cases_eq, cases_lt}
 use Rattle.std.proofs.lemmas.Bool.Decides.{eqb_tells}
 use Rattle.std.proofs.lemmas.Option.{slice_get_within}
-use Rattle.scq_hist.specs.Calls.{puts_before, IsCall, IsPut, IsGetOf}
-use Rattle.scq_hist.specs.Counts.{IsCount}
-use Rattle.scq_hist.specs.Lookups.{EndsNoGet}
+use Rattle.scq_hist.specs.Exports.{puts_before, IsCall, IsPut, IsGetOf, IsCount, EndsNoGet}
 use Rattle.scq_hist.specs.declared.events.Call.TheVariants.{Put, Get}
 use Rattle.scq_hist.specs.declared.events.Event.{Event}
 use Rattle.scq_hist.specs.declared.events.Event.TheVariants.{Start, End}
@@ -18,12 +16,9 @@ use Rattle.scq_hist.specs.declared.events.PutName.TheVariants.{Of}
 use Rattle.scq_hist.specs.declared.events.Reply.TheVariants.{Got, Spent}
 use Rattle.scq_hist.proofs.Counting.{count_none, count_more, count_same, count_unique}
 use Rattle.scq_hist.proofs.UnderWay.{same_call}
-use Rattle.scq_check.specs.ByName.{place_in}
-use Rattle.scq_check.specs.Full.{IsTaking, IsFreeing, HoldsBefore, held_at_start, IsFullAt, IsFullWithin, IsFullRightAt, IsRefusalAt, IsUsedUp, one_more_if}
-use Rattle.scq_check.specs.Full.{NoPutAt, untouched, places_in, IsFullBy, ArePlacesOf, ArePlacesAt}
-use Rattle.scq_check.specs.Puts.{put_number}
-use Rattle.scq_check.specs.Refused.{IsRefused, IsRefusals}
-use Rattle.scq_check.specs.Tables.{IsQueueOf}
+use Rattle.scq_check.specs.Exports.{place_in, IsTaking, IsFreeing, HoldsBefore, held_at_start, IsFullAt, IsFullWithin, IsFullRightAt, IsRefusalAt}
+use Rattle.scq_check.specs.Exports.{IsUsedUp, one_more_if, NoPutAt, untouched, places_in, IsFullBy, ArePlacesOf, ArePlacesAt, put_number, IsRefused}
+use Rattle.scq_check.specs.Exports.{IsRefusals, IsQueueOf}
 use Rattle.scq_check.specs.declared.by_name.ByName.{ByName}
 use Rattle.scq_check.specs.declared.full.Places.{Places}
 use Rattle.scq_check.specs.declared.full.AllPlaces.{AllPlaces}

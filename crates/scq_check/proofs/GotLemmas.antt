@@ -4,15 +4,14 @@ use Rattle.std.proofs.Common.{sym, subst, ap, refl, arith}
 use Rattle.std.proofs.lemmas.Bool.{cases_eq}
 use Rattle.std.proofs.lemmas.Bool.Decides.{eqb_tells}
 use Rattle.std.proofs.lemmas.Option.{slice_get_within}
-use Rattle.scq_hist.specs.Calls.{Names, IsGot}
-use Rattle.scq_hist.specs.Lookups.{got_name, IsFirstNamed}
+use Rattle.scq_hist.specs.Exports.{Names, IsGot, got_name, IsFirstNamed}
 use Rattle.scq_hist.specs.declared.events.Event.{Event}
 use Rattle.scq_hist.specs.declared.events.Event.TheVariants.{End}
 use Rattle.scq_hist.specs.declared.events.PutName.{PutName}
 use Rattle.scq_hist.specs.declared.events.PutName.TheVariants.{Opening, Of}
 use Rattle.scq_hist.specs.declared.events.Reply.TheVariants.{Got}
 use Rattle.scq_hist.proofs.NamesLemmas.{names_there, named_there, same_name as one_name}
-use Rattle.scq_check.specs.Gots.{found_in, is_same_put, NotNamed, IsGots}
+use Rattle.scq_check.specs.Exports.{found_in, is_same_put, NotNamed, IsGots}
 use Rattle.scq_check.specs.declared.gots.Gots.{Gots}
 
 -- the test of names tells

@@ -1,6 +1,6 @@
 -- No event is the first that breaks an aspect exactly where the aspect holds.
 use Rattle.std.proofs.Common.{◌≡◌, ℕ, ◌↔◌, Option, Some, None, is_some, refl}
-use Rattle.scq_hist.specs.First.{IsFirstFailing}
+use Rattle.scq_hist.specs.Exports.{IsFirstFailing}
 
 pub none_iff_each : (Holds : ℕ → Type 0) (first number : Option ℕ) → is_some number ≡ is_some first → IsFirstFailing Holds first
     → (number ≡ None) ↔ ((e : ℕ) → Holds e)

@@ -5,7 +5,7 @@ use Rattle.std.specs.declared.cmp.Ordering.TheVariants.{Less, Equal, Greater}
 use Rattle.std.specs.Ordering.{nat_cmp, is_eq, ordering_then}
 use Rattle.std.specs.Cmp.{unsigned_tied}
 use Rattle.std.specs.BTreeMap.{is_at}
-use Rattle.scq_check.specs.ByName.{name_order, same_name}
+use Rattle.scq_check.specs.Exports.{name_order, same_name}
 
 -- two numbers are equal where their order says so
 pub same_number : (x y : ℕ) → is_eq (nat_cmp x y) ≡ nat_eq x y

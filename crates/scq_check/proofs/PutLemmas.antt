@@ -5,13 +5,11 @@ use Rattle.std.proofs.lemmas.Bool.{cases_eq}
 use Rattle.std.proofs.lemmas.Bool.Decides.{eqb_tells}
 use Rattle.std.specs.Ordering.{nat_cmp}
 use Rattle.std.specs.BTreeMap.{get}
-use Rattle.scq_hist.specs.Calls.{puts_before, put_start, IsPut}
-use Rattle.scq_hist.specs.Lookups.{NoPutBefore}
+use Rattle.scq_hist.specs.Exports.{puts_before, put_start, IsPut, NoPutBefore}
 use Rattle.scq_hist.specs.declared.events.Call.TheVariants.{Put, Get}
 use Rattle.scq_hist.specs.declared.events.Event.{Event}
 use Rattle.scq_hist.specs.declared.events.Event.TheVariants.{Start, End}
-use Rattle.scq_check.specs.ByName.{same_name, place_in}
-use Rattle.scq_check.specs.Puts.{put_number, IsPutStart, StartsNoPut, StartsPut, IsPuts}
+use Rattle.scq_check.specs.Exports.{same_name, place_in, put_number, IsPutStart, StartsNoPut, StartsPut, IsPuts}
 use Rattle.scq_check.specs.declared.puts.Puts.{Puts}
 use Rattle.scq_check.proofs.Rows.{row_more}
 

@@ -6,11 +6,7 @@ use Rattle.std.specs.BTreeMap.{get, is_at, IsEmpty}
 use Rattle.std.specs.Map.{lookup}
 use Rattle.std.proofs.lemmas.Bool.{cases_eq, cases_lt}
 use Rattle.std.proofs.lemmas.Bool.Decides.{eqb_tells}
-use Rattle.scq_hist.specs.Calls.{IsFinishedAt, IsPending, IsGot}
-use Rattle.scq_hist.specs.Aspects.{IsLawful, IsRightWithin}
-use Rattle.scq_hist.specs.Counts.{IsCount}
-use Rattle.scq_hist.specs.Lookups.{NoDoneAt}
-use Rattle.scq_hist.specs.Tallies.{IsTally}
+use Rattle.scq_hist.specs.Exports.{IsFinishedAt, IsPending, IsGot, IsLawful, IsRightWithin, IsCount, NoDoneAt, IsTally}
 use Rattle.scq_hist.specs.declared.events.Event.{Event}
 use Rattle.scq_hist.specs.declared.events.PutName.{PutName}
 use Rattle.scq_hist.specs.declared.events.PutName.TheVariants.{Opening, Of}
@@ -18,8 +14,7 @@ use Rattle.scq_hist.proofs.Claims.{claims_iff}
 use Rattle.scq_hist.proofs.Counting.{count_none}
 use Rattle.scq_hist.proofs.Pending.{pending_same}
 use Rattle.scq_hist.proofs.TallyLemmas.{finished_same}
-use Rattle.scq_check.specs.Tables.{IsQueueOf}
-use Rattle.scq_check.specs.Queues.{AreClaimed, unseen, queue_in, IsRightAt, IsRightBy, IsQueueAt, AreQueuesAt, CountsAreSmall}
+use Rattle.scq_check.specs.Exports.{IsQueueOf, AreClaimed, unseen, queue_in, IsRightAt, IsRightBy, IsQueueAt, AreQueuesAt, CountsAreSmall}
 use Rattle.scq_check.specs.declared.queues.Tally.{Tally}
 use Rattle.scq_check.specs.declared.queues.Queue.{Queue}
 use Rattle.scq_check.specs.declared.queues.Queues.{Queues}

@@ -2,12 +2,12 @@
 use Rattle.std.proofs.Common.{◌≡◌, ℕ, ◌+◌, ◌≤◌, true, List, [], ◌∷◌, ◌++◌, length, length-append, append_assoc, Option, Some, None, refl, sym, ◌∙◌, ap, subst, arith}
 use Rattle.std.proofs.lemmas.Bool.Decides.{nat_tests}
 use Rattle.std.proofs.lemmas.List.Elements.{filter_map-append}
-use Rattle.scq_hist.specs.Aspects.{IsLawful}
+use Rattle.scq_hist.specs.Exports.{IsLawful}
 use Rattle.scq_hist.specs.declared.events.Event.{Event}
-use Rattle.scq_check.specs.Line.{line_of}
+use Rattle.scq_check.specs.Exports.{line_of, token_of, said_event, tokens_in, events_in, may_follow, may_stand_next, IsHistory, empty, one_more}
+use Rattle.scq_check.specs.Exports.{IsUnlawfulLine}
 use Rattle.scq_check.specs.declared.line.Line.{Line}
 use Rattle.scq_check.specs.declared.line.Line.TheVariants.{Opening, Happens}
-use Rattle.scq_check.specs.HistoryText.{token_of, said_event, tokens_in, events_in, may_follow, may_stand_next, IsHistory, empty, one_more, IsUnlawfulLine}
 
 -- so many lines were read, which say these tokens and events, and the rest follows
 pub record LinesAreRead (lines rest : List (List ℕ)) (tokens : List (List ℕ)) (events : List Event) (number : ℕ) : Type 0 where

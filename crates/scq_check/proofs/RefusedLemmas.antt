@@ -4,15 +4,13 @@ use Rattle.std.proofs.Common.{◌≤◌, sym, subst, ap, refl, arith, ◌∙◌}
 use Rattle.std.proofs.lemmas.Bool.{cases_eq}
 use Rattle.std.proofs.lemmas.Bool.Decides.{eqb_tells}
 use Rattle.std.proofs.lemmas.Option.{slice_get_within}
-use Rattle.scq_hist.specs.Calls.{puts_before}
-use Rattle.scq_hist.specs.Lookups.{got_name}
+use Rattle.scq_hist.specs.Exports.{puts_before, got_name}
 use Rattle.scq_hist.specs.declared.events.Event.{Event}
 use Rattle.scq_hist.specs.declared.events.Event.TheVariants.{End}
 use Rattle.scq_hist.specs.declared.events.PutName.TheVariants.{Opening, Of}
 use Rattle.scq_hist.specs.declared.events.Reply.TheVariants.{Spent}
 use Rattle.scq_hist.proofs.NamesLemmas.{names_there, named_there, same_name as one_name}
-use Rattle.scq_check.specs.ByName.{same_name, place_in}
-use Rattle.scq_check.specs.Refused.{IsSpentAt, IsRefused, IsAcceptedAt, NoneSpentAt, NotSpentBefore, NamesNoPut, IsRefusals}
+use Rattle.scq_check.specs.Exports.{same_name, place_in, IsSpentAt, IsRefused, IsAcceptedAt, NoneSpentAt, NotSpentBefore, NamesNoPut, IsRefusals}
 use Rattle.scq_check.specs.declared.by_name.ByName.{ByName}
 
 -- before any event

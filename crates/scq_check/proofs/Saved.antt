@@ -3,14 +3,11 @@ use Rattle.std.proofs.Common.{◌≡◌, ℕ, zero, suc, ◌+◌, ◌<◌, ◌�
 use Rattle.std.proofs.Common.{subst, ap, arith}
 use Rattle.std.proofs.lemmas.Bool.{cases_eq}
 use Rattle.std.proofs.lemmas.Option.{slice_get_within}
-use Rattle.scq_hist.specs.Calls.{IsFinishedAt}
-use Rattle.scq_hist.specs.Tallies.{IsTally}
+use Rattle.scq_hist.specs.Exports.{IsFinishedAt, IsTally}
 use Rattle.scq_hist.specs.declared.events.Call.TheVariants.{Put}
 use Rattle.scq_hist.specs.declared.events.Event.{Event}
 use Rattle.scq_hist.specs.declared.events.Event.TheVariants.{Start}
-use Rattle.scq_check.specs.Failures.{AreFailuresBefore, failures_with}
-use Rattle.scq_check.specs.Tables.{IsQueueOf}
-use Rattle.scq_check.specs.Queues.{queue_in, AreQueuesAt, CountsAreSmall, AreTallies}
+use Rattle.scq_check.specs.Exports.{AreFailuresBefore, failures_with, IsQueueOf, queue_in, AreQueuesAt, CountsAreSmall, AreTallies}
 use Rattle.scq_check.specs.declared.failures.Failures.{Failures}
 use Rattle.scq_check.specs.declared.queues.Tally.{Tally}
 use Rattle.scq_check.specs.declared.queues.Queues.{Queues}

@@ -1,13 +1,11 @@
 -- The get of a put, by what the tables say of it
 use Rattle.std.proofs.Common.{◌≡◌, ℕ, List, Some, slice_get, unwrap_or, sym, ◌∙◌, subst, ap}
-use Rattle.scq_hist.specs.Calls.{IsGetOf}
-use Rattle.scq_hist.specs.Aspects.{IsLawful, IsLawfulAt, IsAnswer}
-use Rattle.scq_hist.specs.Lookups.{call_start, IsFirstNamed}
+use Rattle.scq_hist.specs.Exports.{IsGetOf, IsLawful, IsLawfulAt, IsAnswer, call_start, IsFirstNamed}
 use Rattle.scq_hist.specs.declared.events.Event.{Event}
 use Rattle.scq_hist.specs.declared.events.PutName.{PutName}
 use Rattle.scq_hist.specs.declared.events.Reply.TheVariants.{Got}
 use Rattle.scq_hist.proofs.NamesLemmas.{get_from_first}
-use Rattle.scq_check.specs.Calls.{own_start}
+use Rattle.scq_check.specs.Exports.{own_start}
 
 -- the get that has got the put, where the first Got that names it stands at position e
 pub get_there : (events : List Event) (name : PutName) (s e : ℕ) → IsLawful events → IsFirstNamed events name e → s ≡ own_start events e (slice_get events e)

@@ -3,14 +3,12 @@ use Rattle.std.proofs.Common.{◌≡◌, ℕ, suc, ◌<◌, ◌≤◌, ◌↔◌
 use Rattle.std.specs.Prelude.{IfSome, MatchOption}
 use Rattle.std.proofs.lemmas.Bool.{cases_lt}
 use Rattle.std.proofs.lemmas.Option.{slice_get_within}
-use Rattle.scq_hist.specs.Calls.{puts_before, IsGot, IsGetOf, IsGotBefore}
-use Rattle.scq_hist.specs.First.{IsFirstFailing}
-use Rattle.scq_hist.specs.Lookups.{EndsDone, NoDoneAt, IsFirstNamed}
+use Rattle.scq_hist.specs.Exports.{puts_before, IsGot, IsGetOf, IsGotBefore, IsFirstFailing, EndsDone, NoDoneAt, IsFirstNamed}
 use Rattle.scq_hist.specs.declared.events.Event.{Event}
 use Rattle.scq_hist.specs.declared.events.PutName.{PutName}
 use Rattle.scq_hist.specs.declared.events.PutName.TheVariants.{Opening, Of}
 use Rattle.scq_hist.proofs.TallyLemmas.{names_from_get, one_get}
-use Rattle.scq_check.specs.Waiting.{IsLeftOut, IsTokenLeftOut, IsPutLeftOut, IsToldPut, told_of}
+use Rattle.scq_check.specs.Exports.{IsLeftOut, IsTokenLeftOut, IsPutLeftOut, IsToldPut, told_of}
 use Rattle.scq_check.specs.declared.waiting.Sought.{Sought}
 use Rattle.scq_check.specs.declared.waiting.Sought.TheVariants.{Every, GotLater}
 

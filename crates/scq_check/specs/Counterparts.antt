@@ -1,8 +1,6 @@
 -- What the first event that breaks an aspect stands against
 use Rattle.std.specs.Prelude.{◌≡◌, ℕ, ◌<◌, ◌≤◌, ◌^◌, List, Option, Some, None, length}
-use Rattle.scq_hist.specs.Calls.{Names}
-use Rattle.scq_hist.specs.Lookups.{IsFirstNamed, NoPutBefore}
-use Rattle.scq_hist.specs.Tallies.{IsPutGotAt, IsEmptyAt}
+use Rattle.scq_hist.specs.Exports.{Names, IsFirstNamed, NoPutBefore, IsPutGotAt, IsEmptyAt}
 use Rattle.scq_hist.specs.declared.events.Event.{Event}
 use Rattle.scq_hist.specs.declared.events.PutName.{PutName}
 use Rattle.scq_hist.specs.declared.events.PutName.TheVariants.{Opening, Of}

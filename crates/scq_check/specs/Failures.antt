@@ -2,8 +2,7 @@
 -- they are
 use Rattle.std.specs.Prelude.{ℕ, ◌+◌, ◌<◌, ◌≤◌, Bool, true, false, Option, Some, None}
 use Rattle.std.specs.Option.{option_or}
-use Rattle.scq_hist.specs.Counts.{IsCount}
-use Rattle.scq_hist.specs.First.{IsFirstFailing}
+use Rattle.scq_hist.specs.Exports.{IsCount, IsFirstFailing}
 use Rattle.scq_check.specs.declared.failures.Failures.{Failures}
 
 -- the first event that breaks the aspect, and how many do

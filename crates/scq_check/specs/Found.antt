@@ -1,6 +1,6 @@
 -- For private calls: what is found of the four aspects
 use Rattle.std.specs.Prelude.{ℕ, ◌<◌, List, IfSome, length}
-use Rattle.scq_hist.specs.Aspects.{IsFreshAt, IsOnceAt, IsInOrderAt, IsEmptyRightAt}
+use Rattle.scq_hist.specs.Exports.{IsFreshAt, IsOnceAt, IsInOrderAt, IsEmptyRightAt}
 use Rattle.scq_hist.specs.declared.events.Event.{Event}
 use Rattle.scq_check.specs.Failures.{AreFailures}
 use Rattle.scq_check.specs.declared.failures.Failures.{Failures}

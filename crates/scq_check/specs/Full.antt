@@ -6,8 +6,7 @@ use Rattle.std.specs.Prelude.{◌≡◌, ℕ, ◌+◌, ◌<◌, ◌≤◌, ◌�
 use Rattle.std.specs.Prelude.{slice_get, unwrap_or, true, false, Bool}
 use Rattle.std.specs.Ordering.{nat_cmp}
 use Rattle.std.specs.BTreeMap.{get}
-use Rattle.scq_hist.specs.Calls.{IsCall, IsPut, Names}
-use Rattle.scq_hist.specs.Counts.{IsCount}
+use Rattle.scq_hist.specs.Exports.{IsCall, IsPut, Names, IsCount}
 use Rattle.scq_hist.specs.declared.events.Call.TheVariants.{Put, Get}
 use Rattle.scq_hist.specs.declared.events.Event.{Event}
 use Rattle.scq_hist.specs.declared.events.Event.TheVariants.{Start}

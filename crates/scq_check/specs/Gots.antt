@@ -2,8 +2,7 @@
 use Rattle.std.specs.Prelude.{◌≡◌, ℕ, ◌<◌, Bool, false, ◌==◌, List, Option, MatchOption}
 use Rattle.std.specs.Ordering.{nat_cmp}
 use Rattle.std.specs.BTreeMap.{get}
-use Rattle.scq_hist.specs.Calls.{Names}
-use Rattle.scq_hist.specs.Lookups.{IsFirstNamed}
+use Rattle.scq_hist.specs.Exports.{Names, IsFirstNamed}
 use Rattle.scq_hist.specs.declared.events.Event.{Event}
 use Rattle.scq_hist.specs.declared.events.Event.TheVariants.{End}
 use Rattle.scq_hist.specs.declared.events.PutName.{PutName}

@@ -2,7 +2,7 @@
 use Rattle.std.specs.Prelude.{◌≡◌, ℕ, ◌+◌, Bool, true, false, ◌&&◌, ◌==◌, nat_lt, List, [], ◌∷◌}
 use Rattle.std.specs.Prelude.{◌++◌, Option, Some, None, length}
 use Rattle.std.specs.List.{filter_map}
-use Rattle.scq_hist.specs.Aspects.{IsLawful}
+use Rattle.scq_hist.specs.Exports.{IsLawful}
 use Rattle.scq_hist.specs.declared.events.Event.{Event}
 use Rattle.scq_check.specs.Line.{line_of}
 use Rattle.scq_check.specs.declared.line.Line.{Line}

@@ -13,3 +13,4 @@ pub mod Waiting
 pub mod Counterparts
 pub mod Full
 pub mod Found
+pub mod Exports

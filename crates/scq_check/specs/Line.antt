@@ -10,7 +10,7 @@ use Rattle.scq_hist.specs.declared.events.PutName.{PutName}
 use Rattle.scq_hist.specs.declared.events.PutName.TheVariants as name
 use Rattle.scq_hist.specs.declared.events.Reply.{Reply}
 use Rattle.scq_hist.specs.declared.events.Reply.TheVariants.{Done, Got, Nothing, Spent}
-use Rattle.scq_lines.specs.Lines.{fields_of, number_of, number_below, field_content}
+use Rattle.scq_lines.specs.Exports.{fields_of, number_of, number_below, field_content}
 use Rattle.scq_check.specs.declared.line.Bounds.{Bounds}
 use Rattle.scq_check.specs.declared.line.Line.{Line}
 use Rattle.scq_check.specs.declared.line.Line.TheVariants.{Opening, Happens}

@@ -3,8 +3,7 @@ use Rattle.std.specs.Prelude.{◌≡◌, ℕ, suc, ◌<◌, List, Option, Some, 
 use Rattle.std.specs.Prelude.{unwrap_or, MatchOption}
 use Rattle.std.specs.Ordering.{nat_cmp}
 use Rattle.std.specs.BTreeMap.{get}
-use Rattle.scq_hist.specs.Calls.{puts_before, IsPut}
-use Rattle.scq_hist.specs.Lookups.{NoPutBefore}
+use Rattle.scq_hist.specs.Exports.{puts_before, IsPut, NoPutBefore}
 use Rattle.scq_hist.specs.declared.events.Call.TheVariants.{Put}
 use Rattle.scq_hist.specs.declared.events.Event.{Event}
 use Rattle.scq_hist.specs.declared.events.Event.TheVariants.{Start}

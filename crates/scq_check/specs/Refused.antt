@@ -1,7 +1,6 @@
 -- A fifth verdict beside the four aspects: no Got names a put that its queue refused
 use Rattle.std.specs.Prelude.{◌≡◌, ℕ, ◌<◌, List, Some, MatchOption}
-use Rattle.scq_hist.specs.Calls.{IsCall, IsPut, Names}
-use Rattle.scq_hist.specs.Lookups.{got_name}
+use Rattle.scq_hist.specs.Exports.{IsCall, IsPut, Names, got_name}
 use Rattle.scq_hist.specs.declared.events.Call.TheVariants.{Put}
 use Rattle.scq_hist.specs.declared.events.Event.{Event}
 use Rattle.scq_hist.specs.declared.events.PutName.{PutName}

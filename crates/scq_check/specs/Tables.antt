@@ -1,8 +1,6 @@
 -- For private calls: what the tables of a history answer
 use Rattle.std.specs.Prelude.{◌≡◌, ◌<◌, ℕ, suc, List, Option, Some, None, length, slice_get}
-use Rattle.scq_hist.specs.Aspects.{IsLawful}
-use Rattle.scq_hist.specs.Calls.{under_way, IsCall, IsPending}
-use Rattle.scq_hist.specs.Lookups.{NoDoneAt}
+use Rattle.scq_hist.specs.Exports.{IsLawful, under_way, IsCall, IsPending, NoDoneAt}
 use Rattle.scq_hist.specs.declared.events.Call.{Call}
 use Rattle.scq_hist.specs.declared.events.Call.TheVariants.{Put, Get}
 use Rattle.scq_hist.specs.declared.events.Event.{Event}

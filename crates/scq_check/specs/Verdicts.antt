@@ -2,9 +2,8 @@
 use Rattle.std.specs.Prelude.{◌≡◌, ◌↔◌, ℕ, ◌+◌, ◌<◌, List, ◌++◌, Option, Some, None, IfSome}
 use Rattle.std.specs.Prelude.{codes, decimal}
 use Rattle.std.specs.Option.{option_map}
-use Rattle.scq_hist.specs.Aspects.{IsFreshAt, IsFresh, IsOnceAt, IsOnce}
-use Rattle.scq_hist.specs.Aspects.{IsInOrderAt, IsInOrder, IsEmptyRightAt, IsEmptyRight}
-use Rattle.scq_hist.specs.First.{IsFirstFailing}
+use Rattle.scq_hist.specs.Exports.{IsFreshAt, IsFresh, IsOnceAt, IsOnce, IsInOrderAt, IsInOrder}
+use Rattle.scq_hist.specs.Exports.{IsEmptyRightAt, IsEmptyRight, IsFirstFailing}
 use Rattle.scq_hist.specs.declared.events.Event.{Event}
 use Rattle.scq_check.specs.Counterparts.{AtFirst, IsOfOrigin, IsOriginWithin, IsRepeatOf}
 use Rattle.scq_check.specs.Counterparts.{IsOvertaking, IsEmptyBeside, IsOfRefused}

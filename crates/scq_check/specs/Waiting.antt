@@ -1,8 +1,7 @@
 -- Puts that wait: they were finished, and no get that had started by then has got them
 use Rattle.std.specs.Prelude.{◌≡◌, ℕ, ◌+◌, ◌<◌, ◌^◌, List, Option, Some, None, IfSome, MatchOption}
-use Rattle.scq_hist.specs.Calls.{IsFinishedAt, IsGot, IsGotBefore}
-use Rattle.scq_hist.specs.First.{IsFirstFailing}
-use Rattle.scq_hist.specs.Lookups.{EndsDone, IsFirstNamed}
+use Rattle.scq_hist.specs.Exports.{IsFinishedAt, IsGot, IsGotBefore, IsFirstFailing, EndsDone}
+use Rattle.scq_hist.specs.Exports.{IsFirstNamed}
 use Rattle.scq_hist.specs.declared.events.Event.{Event}
 use Rattle.scq_hist.specs.declared.events.PutName.{PutName}
 use Rattle.scq_hist.specs.declared.events.PutName.TheVariants.{Opening}

@@ -2,7 +2,7 @@
 
 ghost use Rattle.std.specs.Prelude.{◌≡◌, ◌+◌, ◌<◌, length, slice_get, None, IfOk, OnOk};
 ghost use Rattle.std.specs.Prelude.{MatchOption};
-ghost use Rattle.scq_hist.specs.Calls.{under_way};
+ghost use Rattle.scq_hist.specs.Exports.{under_way};
 ghost use Rattle.scq_check.specs.Calls.{own_start, IsCalls, IsCallUnderWay};
 
 use scq_hist::{Call, Event, call_started};

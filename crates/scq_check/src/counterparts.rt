@@ -1,7 +1,7 @@
 //! What the first event that breaks an aspect stands against.
 
 ghost use Rattle.std.specs.Prelude.{◌<◌, length, IfOk, IfSome};
-ghost use Rattle.scq_hist.specs.Aspects.{IsOnceAt, IsInOrderAt, IsEmptyRightAt};
+ghost use Rattle.scq_hist.specs.Exports.{IsOnceAt, IsInOrderAt, IsEmptyRightAt};
 ghost use Rattle.scq_check.specs.Counterparts.{IsOrigin, IsOfOrigin, IsOriginWithin, IsRepeatOf};
 ghost use Rattle.scq_check.specs.Counterparts.{IsOvertaking, IsEmptyBeside, IsOfRefused, AtFirst};
 ghost use Rattle.scq_check.specs.Counterparts.{NamesNone};

@@ -2,11 +2,9 @@
 
 ghost use Rattle.std.specs.Prelude.{◌<◌, ◌↔◌, ℕ, IsTrue, length, IfSome};
 ghost use Rattle.std.specs.Prelude.{MatchOption};
-ghost use Rattle.scq_hist.specs.Calls.{IsPut};
-ghost use Rattle.scq_hist.specs.Aspects.{IsBegun, IsFreshAt, IsOnceAt};
-ghost use Rattle.scq_check.specs.Tables.{AreOfLawful, HasEvent, IsTables};
-ghost use Rattle.scq_check.specs.Gots.{IsGotOf, IsNoGot};
-ghost use Rattle.scq_check.specs.Failures.{AreFailures};
+ghost use Rattle.scq_hist.specs.Exports.{IsPut, IsBegun, IsFreshAt, IsOnceAt};
+ghost use Rattle.scq_check.specs.Exports.{AreOfLawful, HasEvent, IsTables, IsGotOf, IsNoGot};
+ghost use Rattle.scq_check.specs.Exports.{AreFailures};
 
 use crate::failures::Failures;
 use crate::tables::Tables;

@@ -3,7 +3,7 @@
 
 ghost use Rattle.std.specs.Prelude.{◌≡◌, ◌+◌, ◌<◌, ◌≤◌, ◌^◌, ◌↔◌, ◌⊎◌, ℕ, IsTrue, MatchOption};
 ghost use Rattle.std.specs.Prelude.{length, IfOk, IfSome, OnOk};
-ghost use Rattle.scq_hist.specs.Aspects.{IsLawful};
+ghost use Rattle.scq_hist.specs.Exports.{IsLawful};
 ghost use Rattle.scq_check.specs.Failures.{AreFailures};
 ghost use Rattle.scq_check.specs.Full.{IsTaking, IsFreeing, IsPutAt, NoPutAt, IsRefusalAt};
 ghost use Rattle.scq_check.specs.Full.{NoRefusalAt, IsUsedUp, one_more_if, held_at_start};

@@ -2,8 +2,7 @@
 
 ghost use Rattle.std.specs.Prelude.{◌≡◌, ◌+◌, ◌<◌, ℕ, None, Some, length, IfOk, OnOk, MatchOption};
 ghost use Rattle.std.specs.Prelude.{if◌then◌else◌, is_some};
-ghost use Rattle.scq_hist.specs.Calls.{IsGot};
-ghost use Rattle.scq_hist.specs.Lookups.{IsFirstNamed};
+ghost use Rattle.scq_hist.specs.Exports.{IsGot, IsFirstNamed};
 ghost use Rattle.scq_hist.specs.declared.events.PutName.{PutName};
 ghost use Rattle.scq_check.specs.Gots.{found_in, is_same_put, IsGots};
 

@@ -1,8 +1,8 @@
 //! The text of a history, read line by line.
 
 ghost use Rattle.std.specs.Prelude.{◌≡◌, ℕ, [], ◌∷◌, ◌++◌, true, false, Some, Err, IfOk, OnOk};
-ghost use Rattle.scq_hist.specs.Aspects.{IsLawful};
-ghost use Rattle.scq_lines.specs.Lines.{lines_of};
+ghost use Rattle.scq_hist.specs.Exports.{IsLawful};
+ghost use Rattle.scq_lines.specs.Exports.{lines_of};
 ghost use Rattle.scq_check.specs.Line.{line_of};
 ghost use Rattle.scq_check.specs.HistoryText.{tokens_in, events_in, may_follow, IsHistory};
 ghost use Rattle.scq_check.specs.HistoryText.{IsBadLine, IsUnlawfulLine};

@@ -1,9 +1,8 @@
 //! The first event out of place in a list of any length.
 
 ghost use Rattle.std.specs.Prelude.{◌↔◌, ◌<◌, IsTrue, IfOk, IfSome, length, slice_get};
-ghost use Rattle.scq_hist.specs.Aspects.{SuitsCall, IsLawfulAt};
-ghost use Rattle.scq_hist.specs.First.{IsFirstFailing};
-ghost use Rattle.scq_check.specs.Calls.{IsCalls};
+ghost use Rattle.scq_hist.specs.Exports.{SuitsCall, IsLawfulAt, IsFirstFailing};
+ghost use Rattle.scq_check.specs.Exports.{IsCalls};
 
 use crate::calls::Calls;
 use scq_hist::{Call, Event, Reply};

@@ -2,7 +2,7 @@
 
 ghost use Rattle.std.specs.Prelude.{◌≡◌, [], ◌∷◌, IfOk};
 ghost use Rattle.std.specs.Str.{bytes_eq};
-ghost use Rattle.scq_lines.specs.Lines.{fields_of, fields_after};
+ghost use Rattle.scq_lines.specs.Exports.{fields_of, fields_after};
 ghost use Rattle.scq_check.specs.Line.{seat_in, said_content, said_name, call_of, bare_reply};
 ghost use Rattle.scq_check.specs.Line.{said_reply};
 ghost use Rattle.scq_check.specs.Line.{opened, said_start, said_end, said};

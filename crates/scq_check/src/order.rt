@@ -2,11 +2,10 @@
 
 ghost use Rattle.std.specs.Prelude.{◌≡◌, ◌+◌, ◌<◌, ◌≤◌, ◌^◌, ◌↔◌, ℕ, List, IsTrue, MatchOption};
 ghost use Rattle.std.specs.Prelude.{length, IfOk, IfSome};
-ghost use Rattle.scq_hist.specs.Aspects.{IsInOrderAt, IsEmptyRightAt};
-ghost use Rattle.scq_hist.specs.Tallies.{IsPutGotAt, NoPutGotAt, IsEmptyAt, NoEmptyAt};
-ghost use Rattle.scq_check.specs.Failures.{AreFailures};
-ghost use Rattle.scq_check.specs.Queues.{AreQueuesAt, AreTallies};
-ghost use Rattle.scq_check.specs.Tables.{AreOfLawful, HasEvent};
+ghost use Rattle.scq_hist.specs.Exports.{IsInOrderAt, IsEmptyRightAt, IsPutGotAt, NoPutGotAt};
+ghost use Rattle.scq_hist.specs.Exports.{IsEmptyAt, NoEmptyAt};
+ghost use Rattle.scq_check.specs.Exports.{AreFailures, AreQueuesAt, AreTallies, AreOfLawful};
+ghost use Rattle.scq_check.specs.Exports.{HasEvent};
 
 use crate::failures::Failures;
 use crate::queues::{Queue, Queues, Tally};

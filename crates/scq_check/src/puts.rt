@@ -1,7 +1,7 @@
 //! The puts of a history: the number of each, and where the put of a name starts.
 
 ghost use Rattle.std.specs.Prelude.{◌≡◌, ◌+◌, ◌<◌, length, slice_get, IfOk, OnOk, MatchOption};
-ghost use Rattle.scq_hist.specs.Lookups.{NoPutBefore};
+ghost use Rattle.scq_hist.specs.Exports.{NoPutBefore};
 ghost use Rattle.scq_check.specs.Puts.{put_number, IsPutStart, StartsNoPut, StartsPut, IsPuts};
 
 use crate::by_name::ByName;

@@ -2,9 +2,8 @@
 
 ghost use Rattle.std.specs.Prelude.{◌≡◌, ◌+◌, ◌<◌, ◌≤◌, ◌^◌, ◌↔◌, ◌⊎◌, ℕ, List, IsTrue};
 ghost use Rattle.std.specs.Prelude.{MatchOption, length, OnOk};
-ghost use Rattle.scq_hist.specs.Calls.{IsFinishedAt, IsPending};
-ghost use Rattle.scq_hist.specs.Counts.{IsCount};
-ghost use Rattle.scq_hist.specs.Tallies.{IsTally, AddsPut, IsTokenGotAt, NoTokenGotAt};
+ghost use Rattle.scq_hist.specs.Exports.{IsFinishedAt, IsPending, IsCount, IsTally, AddsPut};
+ghost use Rattle.scq_hist.specs.Exports.{IsTokenGotAt, NoTokenGotAt};
 ghost use Rattle.scq_check.specs.Tables.{AreOfLawful, HasEvent, IsTables};
 ghost use Rattle.scq_check.specs.Queues.{AreClaimed, IsQueueAt, AreQueuesAt, CountsAreSmall};
 ghost use Rattle.scq_check.specs.Queues.{queue_in};

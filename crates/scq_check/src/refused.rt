@@ -2,13 +2,11 @@
 
 ghost use Rattle.std.specs.Prelude.{◌≡◌, ◌+◌, ◌<◌, ◌↔◌, IsTrue, Some, IfOk, IfSome, OnOk, length};
 ghost use Rattle.std.specs.Prelude.{MatchOption, is_some};
-ghost use Rattle.scq_hist.specs.Lookups.{got_name};
+ghost use Rattle.scq_hist.specs.Exports.{got_name};
 ghost use Rattle.scq_hist.specs.declared.events.PutName.TheVariants.{Of};
-ghost use Rattle.scq_check.specs.ByName.{place_in};
-ghost use Rattle.scq_check.specs.Failures.{AreFailures};
-ghost use Rattle.scq_check.specs.Refused.{IsSpentAt, NoneSpentAt, NamesNoPut, IsRefusals};
-ghost use Rattle.scq_check.specs.Refused.{IsAcceptedAt};
-ghost use Rattle.scq_check.specs.Tables.{AreOfLawful, HasEvent};
+ghost use Rattle.scq_check.specs.Exports.{place_in, AreFailures, IsSpentAt, NoneSpentAt};
+ghost use Rattle.scq_check.specs.Exports.{NamesNoPut, IsRefusals, IsAcceptedAt, AreOfLawful};
+ghost use Rattle.scq_check.specs.Exports.{HasEvent};
 
 use crate::by_name::ByName;
 use crate::failures::Failures;

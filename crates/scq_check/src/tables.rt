@@ -2,9 +2,8 @@
 
 ghost use Rattle.std.specs.Prelude.{◌≡◌, ◌<◌, ◌↔◌, ℕ, suc, IsTrue, length, slice_get, IfOk};
 ghost use Rattle.std.specs.Prelude.{MatchOption};
-ghost use Rattle.scq_hist.specs.Calls.{IsPut, IsGot, IsGetOf, IsPending};
-ghost use Rattle.scq_hist.specs.Lookups.{IsFirstNamed, EndsNoGet, NoPutBefore, EndsDone, NoDoneAt};
-ghost use Rattle.scq_hist.specs.Ended.{EndsPut, NoPutEnds};
+ghost use Rattle.scq_hist.specs.Exports.{IsPut, IsGot, IsGetOf, IsPending, IsFirstNamed, EndsNoGet};
+ghost use Rattle.scq_hist.specs.Exports.{NoPutBefore, EndsDone, NoDoneAt, EndsPut, NoPutEnds};
 ghost use Rattle.scq_check.specs.Puts.{put_number};
 ghost use Rattle.scq_check.specs.Tables.{AreOfLawful, HasEvent, IsCallOf, IsQueueOf, IsTables};
 

@@ -3,7 +3,7 @@
 ghost use Rattle.std.specs.Prelude.{◌≡◌, ◌+◌, ◌++◌, ◌<◌, ◌^◌, length, IfOk, IfSome};
 ghost use Rattle.std.specs.Prelude.{OnOk, is_some};
 ghost use Rattle.std.specs.Option.{option_map};
-ghost use Rattle.scq_hist.specs.Aspects.{IsLawful};
+ghost use Rattle.scq_hist.specs.Exports.{IsLawful};
 ghost use Rattle.scq_check.specs.Found.{AreFound};
 ghost use Rattle.scq_check.specs.Tables.{AreOfLawful};
 ghost use Rattle.scq_check.specs.Verdicts.{AreBreaches, AreWithin, IsVerdictOf, TellsWhatHolds};

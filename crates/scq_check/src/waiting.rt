@@ -2,8 +2,7 @@
 
 ghost use Rattle.std.specs.Prelude.{◌≡◌, ◌<◌, ◌≤◌, ◌^◌, ◌↔◌, ℕ, IsTrue, IfSome, MatchOption};
 ghost use Rattle.std.specs.Prelude.{length};
-ghost use Rattle.scq_hist.specs.Calls.{IsGot};
-ghost use Rattle.scq_hist.specs.Lookups.{IsFirstNamed};
+ghost use Rattle.scq_hist.specs.Exports.{IsGot, IsFirstNamed};
 ghost use Rattle.scq_hist.specs.declared.events.PutName.{PutName as ThePutName};
 ghost use Rattle.scq_check.specs.Failures.{AreFailures};
 ghost use Rattle.scq_check.specs.Waiting.{IsLeftOut, IsTokenLeftOut, IsPutLeftOut, IsToldPut};

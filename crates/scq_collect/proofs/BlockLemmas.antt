@@ -5,10 +5,7 @@ use Rattle.std.specs.List.{AllZip}
 use Rattle.std.proofs.lemmas.List.{append_assoc, append-nil}
 use Rattle.std.proofs.lemmas.List.Elements.{All-append, All-cons, All-nil}
 use Rattle.scq_collect.specs.declared.blocks.OwnBlock.{OwnBlock}
-use Rattle.scq_collect.specs.Joined.{PartAnswer}
-use Rattle.scq_collect.specs.Coding.{IsCodable, answer_bytes, answers_bytes}
-use Rattle.scq_collect.specs.InBlocks.{AreInBlocks, HasAnswers, last_position}
-use Rattle.scq_collect.specs.Spans.{is_in}
+use Rattle.scq_collect.specs.Exports.{PartAnswer, IsCodable, answer_bytes, answers_bytes, AreInBlocks, HasAnswers, last_position, is_in}
 use Rattle.scq_collect.proofs.InChunks.{flat-push}
 use Rattle.scq_collect.proofs.LaidLaws.{zip-push}
 

@@ -6,8 +6,8 @@ use Rattle.std.proofs.lemmas.Bool.{and_parts, cond-true, cases_lt, eqb-true, le-
 use Rattle.std.proofs.lemmas.List.{append_assoc, drop_at, take_at}
 use Rattle.byteorder.specs.Endian.{big_bytes, big_number}
 use Rattle.byteorder.specs.Numbers.{big_number-reads_back}
-use Rattle.scq_collect.specs.Joined.{PartAnswer}
-use Rattle.scq_collect.specs.Coding.{IsCodable, answer_bytes, body_bytes, body_from, is_alone, number_bytes, number_from, part_numbers, parts_from, place_from, short_from, step, stepped, topic_code, width}
+use Rattle.scq_collect.specs.Exports.{PartAnswer, IsCodable, answer_bytes, body_bytes, body_from, is_alone, number_bytes, number_from, part_numbers}
+use Rattle.scq_collect.specs.Exports.{parts_from, place_from, short_from, step, stepped, topic_code, width}
 
 -- a number's bytes, by how large it is
 pub in_one : (n : ℕ) → n < 253 → number_bytes n ≡ n ∷ []

@@ -7,8 +7,7 @@ use Rattle.std.proofs.lemmas.Bool.Decides.{nat_tests}
 use Rattle.std.proofs.lemmas.List.{drop-drop, get_or-drop, get_or-take, length-drop, length-take-le, map-append, take-append-drop}
 use Rattle.std.proofs.lemmas.List.Elements.{All-head, All-map, All-tail}
 use Rattle.scq_collect.specs.declared.spots.Spot.{Spot}
-use Rattle.scq_collect.specs.Joined.{BeginsMessage, PartAnswer, in_front, messages_in_order}
-use Rattle.scq_collect.specs.Spots.{plain, spot_answer}
+use Rattle.scq_collect.specs.Exports.{BeginsMessage, PartAnswer, in_front, messages_in_order, plain, spot_answer}
 
 -- a part that is none of number 1, as a test
 is-other : (n : ℕ) → n ≢ 1 → (n == 1) ≡ false

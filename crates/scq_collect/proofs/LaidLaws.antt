@@ -9,12 +9,7 @@ use Rattle.scq_collect.specs.declared.answered.Answered.{Answered}
 use Rattle.scq_collect.specs.declared.laid.Block.{Block}
 use Rattle.scq_collect.specs.declared.spans.Span.{Span}
 use Rattle.scq_collect.specs.declared.blocks.OwnBlock.{OwnBlock}
-use Rattle.scq_collect.specs.Coding.{IsCodable}
-use Rattle.scq_collect.specs.InBlocks.{HasAnswers}
-use Rattle.scq_collect.specs.Joined.{PartAnswer, without_way}
-use Rattle.scq_collect.specs.Laid.{AreLaid, IsBlockOf}
-use Rattle.scq_collect.specs.Merging.{members_of}
-use Rattle.scq_collect.specs.Spans.{is_in}
+use Rattle.scq_collect.specs.Exports.{IsCodable, HasAnswers, PartAnswer, without_way, AreLaid, IsBlockOf, members_of, is_in}
 use Rattle.scq_collect.proofs.InChunks.{flat-push}
 
 -- two lists of which each place of one has that of the other

@@ -10,10 +10,8 @@ use Rattle.std.proofs.lemmas.List.Sorted.{IsPermutation-map}
 use Rattle.scq_topics.specs.declared.kind.Kind.{Kind}
 use Rattle.scq_collect.specs.declared.answered.Answered.{Answered}
 use Rattle.scq_frames.specs.declared.message.Message.{Message}
-use Rattle.scq_collect.specs.Collected.{messages_to}
-use Rattle.scq_collect.specs.Joined.{IsJoined, answers_of, part_answers, without_way}
-use Rattle.scq_collect.specs.Merging.{AreApart, IsBefore, StandInOrder, IsMerged, IsSorted, position_of, position_of_part}
-use Rattle.scq_collect.specs.Output.{Answer, answers_to}
+use Rattle.scq_collect.specs.Exports.{messages_to, IsJoined, answers_of, part_answers, without_way, AreApart, IsBefore, StandInOrder, IsMerged}
+use Rattle.scq_collect.specs.Exports.{IsSorted, position_of, position_of_part, Answer, answers_to}
 use Rattle.scq_collect.proofs.Orders.{Ascends, apart-distinct, ascends, exactly, sorted-in-order}
 use Rattle.scq_collect.proofs.Parted.{joined-answers, parts-ascend, position_of_part_answer}
 use Rattle.scq_collect.proofs.Threads.{messages-answered, messages-ascend}

@@ -7,11 +7,10 @@ use Rattle.std.proofs.lemmas.Bool.Decides.{eqb_tells}
 use Rattle.std.proofs.lemmas.List.Elements.{All-nil, All-cons, All-map, All-weaker}
 use Rattle.std.proofs.lemmas.List.Sorted.{All-permutation, Contains-permutation, IsPermutation-sym}
 use Rattle.scq_topics.specs.declared.kind.Kind.{Kind}
-use Rattle.scq_frames.specs.Parts.{IsNumbered}
+use Rattle.scq_frames.specs.Exports.{IsNumbered}
 use Rattle.scq_collect.specs.declared.answered.Answered.{Answered}
-use Rattle.scq_collect.specs.Joined.{AreWhole, BeginsMessage, IsJoined, PartAnswer, answers_of, in_front, joined, messages_in_order, without_way}
-use Rattle.scq_collect.specs.Merging.{IsBefore, StandInOrder, position_of_answer, position_of_part}
-use Rattle.scq_collect.specs.Output.{Answer}
+use Rattle.scq_collect.specs.Exports.{AreWhole, BeginsMessage, IsJoined, PartAnswer, answers_of, in_front, joined, messages_in_order, without_way}
+use Rattle.scq_collect.specs.Exports.{IsBefore, StandInOrder, position_of_answer, position_of_part, Answer}
 use Rattle.scq_collect.proofs.Merged.{merged-in-order}
 use Rattle.scq_collect.proofs.Orders.{Ascends, ascends, before-before, contains-cases, contains-first}
 use Rattle.scq_collect.proofs.Parted.{position_of_part_answer}

@@ -7,7 +7,7 @@ use Rattle.std.proofs.lemmas.Bool.Decides.{nat_tests}
 use Rattle.std.proofs.lemmas.List.Elements.{All-nil, All-cons, All-head, All-tail, All-append, All-weaker, recursion_from_All}
 use Rattle.std.proofs.lemmas.List.Sorted.{IsPermutation-sym, Contains-permutation}
 use Rattle.std.proofs.lemmas.Map.Keys.{IsDistinct-cons, IsDistinct-from_apart, IsDistinct-IsPermutation, apart_from_distinct}
-use Rattle.scq_collect.specs.Merging.{AreApart, IsBefore, StandInOrder, IsSorted}
+use Rattle.scq_collect.specs.Exports.{AreApart, IsBefore, StandInOrder, IsSorted}
 
 -- the same position, as a test
 abbrev pub is_position : ℕ × ℕ × ℕ → ℕ × ℕ × ℕ → Bool

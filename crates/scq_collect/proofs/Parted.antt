@@ -11,14 +11,11 @@ use Rattle.std.proofs.lemmas.List.Elements.{All-nil, All-cons, All-append, All-h
 use Rattle.std.proofs.lemmas.List.Folds.{flat_map-map}
 use Rattle.std.proofs.lemmas.List.FromFn.{map-range_with_len_more}
 use Rattle.scq_topics.specs.declared.kind.Kind.{Kind}
-use Rattle.scq_topics.specs.Reply.{reply_of}
-use Rattle.scq_topics.specs.Topics.{kind_of}
+use Rattle.scq_topics.specs.Exports.{reply_of, kind_of}
 use Rattle.scq_frames.specs.declared.message.Message.{Message}
-use Rattle.scq_frames.specs.Parts.{Part, all_parts, part_bytes, parts_of}
-use Rattle.scq_collect.specs.Collected.{answer_of}
-use Rattle.scq_collect.specs.Joined.{BeginsMessage, PartAnswer, answers_of, joined, messages_in_order, part_answer, part_answers, text_of_parts}
-use Rattle.scq_collect.specs.Merging.{IsBefore, position_of}
-use Rattle.scq_collect.specs.Output.{Answer}
+use Rattle.scq_frames.specs.Exports.{Part, all_parts, part_bytes, parts_of}
+use Rattle.scq_collect.specs.Exports.{answer_of, BeginsMessage, PartAnswer, answers_of, joined, messages_in_order, part_answer, part_answers}
+use Rattle.scq_collect.specs.Exports.{text_of_parts, IsBefore, position_of, Answer}
 pub use Rattle.scq_collect.specs.Taken.{position_of_part_answer}
 use Rattle.scq_collect.proofs.Cutting.{cut-first}
 use Rattle.scq_collect.proofs.InChunks.{chunk-more}

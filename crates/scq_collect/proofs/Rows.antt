@@ -3,8 +3,8 @@ use Rattle.std.proofs.Common.{◌≡◌, refl, [], ◌∷◌}
 use Rattle.std.specs.Prelude.{codes}
 use Rattle.std.specs.Fmt.{digits}
 use Rattle.scq_topics.specs.declared.kind.Kind.TheVariants.{Words, Sum, Echo}
-use Rattle.scq_frames.specs.Text.{messages_after}
-use Rattle.scq_collect.specs.Output.{one_thread_output}
+use Rattle.scq_frames.specs.Exports.{messages_after}
+use Rattle.scq_collect.specs.Exports.{one_thread_output}
 
 row-empty : one_thread_output [] ([] ∷ []) ≡ codes "total - 0 0\n"
 unfolding messages_after digits

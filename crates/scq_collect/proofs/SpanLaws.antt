@@ -11,12 +11,8 @@ use Rattle.std.proofs.lemmas.List.Sorted.{All-permutation, IsPermutation-append,
 use Rattle.scq_topics.specs.declared.kind.Kind.{Kind}
 use Rattle.scq_collect.specs.declared.answered.Answered.{Answered}
 use Rattle.scq_collect.specs.declared.spans.Span.{Span}
-use Rattle.scq_collect.specs.Coding.{IsCodable}
-use Rattle.scq_collect.specs.Joined.{BeginsMessage, PartAnswer, answers_of, joined, messages_in_order, without_way}
-use Rattle.scq_collect.specs.Merging.{IsBefore, IsMerged, IsSorted, position_of_part}
-use Rattle.scq_collect.specs.Output.{Answer}
-use Rattle.scq_collect.specs.Spans.{AreNext, is_in, place_of}
-use Rattle.scq_collect.specs.Taken.{AreTaken, position_of_part_answer}
+use Rattle.scq_collect.specs.Exports.{IsCodable, BeginsMessage, PartAnswer, answers_of, joined, messages_in_order, without_way, IsBefore, IsMerged}
+use Rattle.scq_collect.specs.Exports.{IsSorted, position_of_part, Answer, AreNext, is_in, place_of, AreTaken, position_of_part_answer}
 use Rattle.scq_collect.proofs.Cutting.{cut-between}
 use Rattle.scq_collect.proofs.SpotLaws.{merged-answers}
 

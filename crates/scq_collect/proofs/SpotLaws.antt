@@ -10,11 +10,9 @@ use Rattle.std.proofs.lemmas.List.Sorted.{All-permutation, IsPermutation-keeps, 
 use Rattle.scq_collect.specs.declared.answered.Answered.{Answered}
 use Rattle.scq_collect.specs.declared.blocks.OwnBlock.{OwnBlock}
 use Rattle.scq_collect.specs.declared.spots.Spot.{Spot}
-use Rattle.scq_collect.specs.Coding.{IsCodable, answer_bytes, answers_bytes, body_bytes, body_from, place_from}
-use Rattle.scq_collect.specs.InBlocks.{AreInBlocks}
-use Rattle.scq_collect.specs.Joined.{PartAnswer, without_way}
-use Rattle.scq_collect.specs.Merging.{IsBefore, IsMerged, IsSorted, position_of_part}
-use Rattle.scq_collect.specs.Spots.{AreMerged, answer_in, body_or_nothing, plain, position_of_spot, spot_answer}
+use Rattle.scq_collect.specs.Exports.{IsCodable, answer_bytes, answers_bytes, body_bytes, body_from, place_from, AreInBlocks, PartAnswer, without_way}
+use Rattle.scq_collect.specs.Exports.{IsBefore, IsMerged, IsSorted, position_of_part, AreMerged, answer_in, body_or_nothing, plain, position_of_spot}
+use Rattle.scq_collect.specs.Exports.{spot_answer}
 use Rattle.scq_collect.proofs.CodingLaws.{body-again, place-again}
 use Rattle.scq_collect.proofs.Cuts.{all-left, all-right}
 use Rattle.scq_collect.proofs.Merged.{sorted-map}

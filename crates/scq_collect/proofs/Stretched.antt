@@ -12,13 +12,9 @@ use Rattle.scq_collect.specs.declared.answered.Answered.{Answered}
 use Rattle.scq_collect.specs.declared.spans.Span.{Span}
 use Rattle.scq_collect.specs.declared.spots.Spot.{Spot}
 use Rattle.scq_collect.specs.declared.stretches.Stretch.{Stretch}
-use Rattle.scq_collect.specs.Coding.{IsCodable}
-use Rattle.scq_collect.specs.Joined.{BeginsMessage, PartAnswer, answers_of, joined, messages_in_order, without_way}
-use Rattle.scq_collect.specs.Output.{Answer}
-use Rattle.scq_collect.specs.Pieces.{AreMadeOf, AreOfMembers, AreStretchesOf, IsMadeOf, IsStretchOf, all_answers}
-use Rattle.scq_collect.specs.Spans.{AreNext, is_in}
-use Rattle.scq_collect.specs.Spots.{plain, spot_answer}
-use Rattle.scq_collect.specs.Taken.{AreTaken, AreAnswersIn}
+use Rattle.scq_collect.specs.Exports.{IsCodable, BeginsMessage, PartAnswer, answers_of, joined, messages_in_order, without_way, Answer, AreMadeOf}
+use Rattle.scq_collect.specs.Exports.{AreOfMembers, AreStretchesOf, IsMadeOf, IsStretchOf, all_answers, AreNext, is_in, plain, spot_answer, AreTaken}
+use Rattle.scq_collect.specs.Exports.{AreAnswersIn}
 use Rattle.scq_collect.proofs.Cutting.{few-messages}
 use Rattle.scq_collect.proofs.InChunks.{flat-push}
 use Rattle.scq_collect.proofs.SpanLaws.{all-taken, answers-flat, answers-one, taken-append}

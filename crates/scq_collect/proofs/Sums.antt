@@ -3,7 +3,7 @@ use Rattle.std.proofs.Common.{◌≡◌, ◌≢◌, ◌∙◌, sym, ap, inl, inr
 use Rattle.std.proofs.lemmas.Bool.Decides.{eqb_tells}
 use Rattle.std.proofs.lemmas.List.{length-append}
 use Rattle.std.proofs.lemmas.List.Sums.{sum_by_push}
-use Rattle.scq_collect.specs.Output.{Answer, bytes_on, count_on}
+use Rattle.scq_collect.specs.Exports.{Answer, bytes_on, count_on}
 
 -- how many answers are on the topic, with one more
 pub count-push : (answers : List Answer) (a : Answer) (topic : ℕ) → count_on topic (answers ++ a ∷ []) ≡ count_on topic answers + cond (eqb a.topic topic) 1 0

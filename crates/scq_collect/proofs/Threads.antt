@@ -4,13 +4,10 @@ use Rattle.std.specs.List.{All}
 use Rattle.std.proofs.lemmas.List.{map-append}
 use Rattle.std.proofs.lemmas.List.Elements.{All-nil, All-cons, All-append, All-weaker}
 use Rattle.scq_topics.specs.declared.kind.Kind.{Kind}
-use Rattle.scq_frames.specs.Text.{Framed, framed, messages_of, messages_after, messages_from, text_lines}
-use Rattle.scq_topics.specs.Topics.{topic_of}
+use Rattle.scq_frames.specs.Exports.{Framed, framed, messages_of, messages_after, messages_from, text_lines, numbered}
+use Rattle.scq_topics.specs.Exports.{topic_of}
 use Rattle.scq_frames.specs.declared.message.Message.{Message}
-use Rattle.scq_frames.specs.Numbered.{numbered}
-use Rattle.scq_collect.specs.Collected.{answer_of, messages_to}
-use Rattle.scq_collect.specs.Merging.{IsBefore, position_of}
-use Rattle.scq_collect.specs.Output.{Answer, answer_to, answers_to}
+use Rattle.scq_collect.specs.Exports.{answer_of, messages_to, IsBefore, position_of, Answer, answer_to, answers_to}
 use Rattle.scq_collect.proofs.Orders.{Ascends, ascends-append}
 
 -- messages of one file that ascend, from a line on

@@ -1,11 +1,9 @@
 -- Messages as a framer gives them, answered.
 use Rattle.std.specs.Prelude.{ℕ, ◌+◌, List, [], ◌∷◌, ◌++◌, length, map}
 use Rattle.scq_topics.specs.declared.kind.Kind.{Kind}
-use Rattle.scq_topics.specs.Reply.{reply_of}
-use Rattle.scq_topics.specs.Topics.{kind_of, topic_of}
+use Rattle.scq_topics.specs.Exports.{reply_of, kind_of, topic_of}
 use Rattle.scq_frames.specs.declared.message.Message.{Message}
-use Rattle.scq_frames.specs.Numbered.{numbered}
-use Rattle.scq_frames.specs.Text.{messages_of}
+use Rattle.scq_frames.specs.Exports.{numbered, messages_of}
 use Rattle.scq_collect.specs.Output.{Answer}
 
 -- the answer to a message, whose topic has its number

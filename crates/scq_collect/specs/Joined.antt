@@ -3,10 +3,9 @@
 use Rattle.std.specs.Prelude.{◌≡◌, ℕ, ◌==◌, List, [], ◌∷◌, length, map, flat_map, if◌then◌else◌}
 use Rattle.std.specs.List.{All, Contains}
 use Rattle.scq_topics.specs.declared.kind.Kind.{Kind}
-use Rattle.scq_topics.specs.Reply.{reply_of}
-use Rattle.scq_topics.specs.Topics.{kind_of}
+use Rattle.scq_topics.specs.Exports.{reply_of, kind_of}
 use Rattle.scq_frames.specs.declared.message.Message.{Message}
-use Rattle.scq_frames.specs.Parts.{IsNumbered, Part, all_parts}
+use Rattle.scq_frames.specs.Exports.{IsNumbered, Part, all_parts}
 use Rattle.scq_collect.specs.Merging.{AreApart, IsMerged, position_of_part}
 use Rattle.scq_collect.specs.Output.{Answer}
 use Rattle.scq_collect.specs.declared.answered.Answered.{Answered}

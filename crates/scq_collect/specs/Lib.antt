@@ -14,3 +14,4 @@ pub mod Spans
 pub mod Laid
 pub mod Taken
 pub mod Texts
+pub mod Exports

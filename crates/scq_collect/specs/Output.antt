@@ -5,9 +5,8 @@ use Rattle.std.specs.Prelude.{ℕ, ◌+◌, ◌==◌, List, [], ◌∷◌, ◌++
 use Rattle.std.specs.Prelude.{flat_map, count_by, sum_by, if◌then◌else◌}
 use Rattle.std.specs.List.{range_with_len}
 use Rattle.scq_topics.specs.declared.kind.Kind.{Kind}
-use Rattle.scq_topics.specs.Reply.{reply_of}
-use Rattle.scq_topics.specs.Topics.{topic_of, name_of, kind_of}
-use Rattle.scq_frames.specs.Text.{Framed, messages_of}
+use Rattle.scq_topics.specs.Exports.{reply_of, topic_of, name_of, kind_of}
+use Rattle.scq_frames.specs.Exports.{Framed, messages_of}
 use Rattle.scq_collect.specs.declared.whole.AnswerView.{AnswerView}
 use Rattle.scq_collect.specs.declared.whole.Whole.{Whole}
 

@@ -1,11 +1,9 @@
 //! The answer to a message from the answers to its parts.
 ghost use Rattle.std.specs.Prelude.{◌≡◌, ◌<◌, ◌≤◌, length, IfOk, IfSome};
 ghost use Rattle.std.specs.List.{All};
-ghost use Rattle.scq_topics.specs.Reply.{reply_of};
-ghost use Rattle.scq_topics.specs.Topics.{kind_of};
-ghost use Rattle.scq_collect.specs.Joined.{joined, text_of_parts};
-ghost use Rattle.scq_collect.specs.Output.{answer_of_whole};
-ghost use Rattle.scq_collect.specs.Spots.{plain, spot_answer};
+ghost use Rattle.scq_topics.specs.Exports.{reply_of, kind_of};
+ghost use Rattle.scq_collect.specs.Exports.{joined, text_of_parts, answer_of_whole, plain};
+ghost use Rattle.scq_collect.specs.Exports.{spot_answer};
 
 use crate::Whole;
 use crate::spots::{Spot, read_spot};

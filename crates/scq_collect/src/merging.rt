@@ -2,13 +2,10 @@ ghost use Rattle.std.specs.Prelude.{◌≡◌, ◌<◌, ◌≤◌, List, ℕ, le
 ghost use Rattle.std.specs.List.{All};
 ghost use Rattle.std.specs.List.Sorted.{IsPermutation};
 ghost use Rattle.scq_collect.specs.declared.answered.Answered.{Answered as TheAnswered};
-ghost use Rattle.scq_collect.specs.Collected.{messages_to};
-ghost use Rattle.scq_collect.specs.Joined.{AreWhole, IsJoined, answers_of, part_answers};
-ghost use Rattle.scq_collect.specs.Joined.{without_way};
-ghost use Rattle.scq_collect.specs.Merging.{StandInOrder, members_of, position_of_answer};
-ghost use Rattle.scq_collect.specs.Merging.{position_of_part};
-ghost use Rattle.scq_collect.specs.Output.{answer_of_whole, answers_to};
-ghost use Rattle.scq_collect.specs.Spots.{plain, spot_answer};
+ghost use Rattle.scq_collect.specs.Exports.{messages_to, AreWhole, IsJoined, answers_of};
+ghost use Rattle.scq_collect.specs.Exports.{part_answers, without_way, StandInOrder, members_of};
+ghost use Rattle.scq_collect.specs.Exports.{position_of_answer, position_of_part, answer_of_whole};
+ghost use Rattle.scq_collect.specs.Exports.{answers_to, plain, spot_answer};
 
 use crate::joining::whole_of;
 use crate::messages::message_end;

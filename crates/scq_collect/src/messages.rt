@@ -1,8 +1,7 @@
 //! Where messages begin and end, among spots in order.
 ghost use Rattle.std.specs.Prelude.{◌≡◌, ◌≢◌, ℕ, ◌-◌, ◌<◌, ◌≤◌, ◌∷◌, length, take, drop};
 ghost use Rattle.std.specs.Prelude.{slice_index_or, IsTrue};
-ghost use Rattle.scq_collect.specs.Joined.{BeginsMessage, messages_in_order};
-ghost use Rattle.scq_collect.specs.Spots.{plain};
+ghost use Rattle.scq_collect.specs.Exports.{BeginsMessage, messages_in_order, plain};
 
 use crate::spots::Spot;
 

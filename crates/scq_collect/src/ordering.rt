@@ -1,10 +1,7 @@
 //! Spots of answers in order of file, line and part.
 ghost use Rattle.std.specs.Prelude.{List, IfOk, OnOk};
-ghost use Rattle.scq_collect.specs.Joined.{PartAnswer};
-ghost use Rattle.scq_collect.specs.Laid.{AreLaid};
-ghost use Rattle.scq_collect.specs.Merging.{members_of};
-ghost use Rattle.scq_collect.specs.Spots.{AreMerged, plain};
-ghost use Rattle.scq_collect.specs.Taken.{AreAnswersIn};
+ghost use Rattle.scq_collect.specs.Exports.{PartAnswer, AreLaid, members_of, AreMerged, plain};
+ghost use Rattle.scq_collect.specs.Exports.{AreAnswersIn};
 
 use crate::Answers;
 use crate::laid::{Block, blocks_of};

@@ -10,12 +10,8 @@ use Rattle.scq_core.specs.declared.phase.Phase.{Phase}
 use Rattle.scq_core.specs.declared.step.Step.{Step}
 use Rattle.scq_core.specs.declared.slot.Cell.{Cell}
 use Rattle.scq_core.specs.declared.slot.Slot.{Slot}
-use Rattle.scq_core.specs.Machine.{SeatPart}
-use Rattle.scq_core.specs.Table.{writes, stores, after, turn_of, ring_of, cell_of}
-use Rattle.scq_core.specs.Rings.{RingLists, IsCell, word_in, content_in, ring_with}
-use Rattle.scq_core.specs.StateLists.{ring_in, no_slot, no_ring, HasRings}
-use Rattle.scq_core.specs.Turn.{copied, started, ends_call}
-use Rattle.scq_core.specs.Advance.{found_by, beside_by, WantsMemory, Advances}
+use Rattle.scq_core.specs.Exports.{SeatPart, writes, stores, after, turn_of, ring_of, cell_of, RingLists, IsCell, word_in, content_in, ring_with}
+use Rattle.scq_core.specs.Exports.{ring_in, no_slot, no_ring, HasRings, copied, started, ends_call, found_by, beside_by, WantsMemory, Advances}
 use Rattle.scq_core.proofs.TurnCells.{is_cell}
 use Rattle.scq_core.proofs.Turns.{enabled_turn}
 

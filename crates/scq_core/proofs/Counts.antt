@@ -2,10 +2,7 @@
 use Rattle.std.proofs.Common.{◌≡◌, ℕ, zero, suc, ◌+◌, ◌<◌, ◌≤◌, refl, inl, inr, arith, eq-eqb, ne_eqb}
 use Rattle.std.specs.Prelude.{Option, Some, None}
 use Rattle.std.proofs.lemmas.Bool.{cases_eq}
-use Rattle.scq_core.specs.Updated.{updated}
-use Rattle.scq_core.specs.Machine.{SeatPart}
-use Rattle.scq_core.specs.Stances.{one_on}
-use Rattle.scq_core.specs.Laws.{total}
+use Rattle.scq_core.specs.Exports.{updated, SeatPart, one_on, total}
 use Rattle.scq_core.proofs.UpdatedLemmas.{updated_here, updated_else}
 
 -- a changed part of a seat that is not counted

@@ -2,15 +2,12 @@
 use Rattle.std.proofs.Common.{◌≡◌, ◌≢◌, ℕ, ◌+◌, ◌*◌, ◌^◌, ◌<◌, ◌≤◌, true, false, refl, inl, inr, arith, eq-eqb, ne_eqb, eqb-true, pow_mono}
 use Rattle.std.proofs.lemmas.Bool.{cases_Bool, cases_eq, eqb-false}
 use Rattle.scq_word.specs.declared.setup.Setup.{Setup}
-use Rattle.scq_word.specs.Sizes.{n_of}
-use Rattle.scq_word.specs.Words.{packed, mark_of, index_in, safe_in, cycle_in, is_none_in, rank_in}
+use Rattle.scq_word.specs.Exports.{n_of, packed, mark_of, index_in, safe_in, cycle_in, is_none_in, rank_in, reset_value}
 use Rattle.scq_word.proofs.WordLemmas.{index_in-packed, safe_in-packed, cycle_in-packed, safe_in_bit, index_in_small, rank_in-empty, rank_in-safe, rank_in-unsafe, rank_in_range, packed-parts}
 use Rattle.scq_word.proofs.TicketLemmas.{ticket_parts}
 use Rattle.scq_word.proofs.BoundLemmas as bounds
 use Rattle.std.proofs.Math.Nat.{mul-le-mul_right}
-use Rattle.scq_core.specs.Table.{ring_slots, cycle, passed, zero_level}
-use Rattle.scq_core.specs.Laws.{IsAbove}
-use Rattle.scq_word.specs.Bounds.{reset_value}
+use Rattle.scq_core.specs.Exports.{ring_slots, cycle, passed, zero_level, IsAbove}
 
 -- there are at least two indices
 pub some_indices : (c : Setup) → 2 ≤ n_of c.order

@@ -4,17 +4,13 @@ use Rattle.std.specs.Prelude.{◌-◌, slice_index_or, slice_set, replicate, ◌
 use Rattle.std.proofs.lemmas.List.{length-set, get_or-set_same, get_or-set_other, get_or_default, length-replicate, get_or-replicate}
 use Rattle.std.proofs.lemmas.Bool.{cases_eq}
 use Rattle.scq_word.specs.declared.setup.Setup.{Setup}
-use Rattle.scq_word.specs.Sizes.{n_of}
-use Rattle.scq_word.specs.Words.{packed}
+use Rattle.scq_word.specs.Exports.{n_of, packed}
 use Rattle.scq_word.proofs.TicketLemmas.{slot_of_small}
 use Rattle.scq_core.specs.declared.slot.Slot.{Slot}
-use Rattle.scq_core.specs.Machine.{SeatPart, Machine}
-use Rattle.scq_core.specs.Table.{ring_slots, zero_level, reset_level, slot}
-use Rattle.scq_core.specs.Start.{unused, filled, filled_contents, start_cells, idle_part, start_of}
-use Rattle.scq_core.specs.Rings.{RingLists}
-use Rattle.scq_core.specs.StateLists.{no_slot, no_ring, ring_in, cells_of, part_in, machine_of, HasRings, IsState}
-use Rattle.scq_core.specs.Fresh.{empty_ring, SlotsAreFilled, IsFullRing, IsStart}
-use Rattle.scq_core.specs.Reach.{IsReachable, at_start}
+use Rattle.scq_core.specs.Exports.{SeatPart, ring_slots, zero_level, reset_level, slot, unused, filled, filled_contents, start_cells, idle_part}
+use Rattle.scq_core.specs.Exports.{start_of, RingLists, no_slot, no_ring, ring_in, cells_of, part_in, machine_of, HasRings, IsState, empty_ring}
+use Rattle.scq_core.specs.Exports.{SlotsAreFilled, IsFullRing, IsStart, IsReachable, at_start}
+use Rattle.scq_core.specs.Machine.{Machine}
 use Rattle.scq_core.proofs.ListedTurns.{same_cells, same_entries, same_machine}
 
 more_word : (c : Setup) (count : ℕ) (slots : List Slot) (new : Slot) → length slots ≡ ring_slots c → new.word ≡ packed (ring_slots c) 1 1 count

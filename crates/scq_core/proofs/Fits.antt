@@ -3,10 +3,9 @@ use Rattle.std.proofs.Common.{◌≡◌, ℕ, refl, arith}
 use Rattle.scq_word.specs.declared.setup.Setup.{Setup}
 use Rattle.std.specs.Prelude.{Some}
 use Rattle.scq_core.specs.declared.step.Step.{Step}
-use Rattle.scq_core.specs.Machine.{Machine, read, beside}
-use Rattle.scq_core.specs.Table.{location_of, writes, stores, after, step_of}
-use Rattle.scq_core.specs.Reach.{IsReachable}
-use Rattle.scq_core.specs.Laws.{RankRises, CountersRise, WordsFit, ChangesOne, CatchUpLags}
+use Rattle.scq_core.specs.Exports.{read, beside, location_of, writes, stores, after, step_of, IsReachable, RankRises, CountersRise, WordsFit}
+use Rattle.scq_core.specs.Exports.{ChangesOne, CatchUpLags}
+use Rattle.scq_core.specs.Machine.{Machine}
 use Rattle.scq_core.proofs.UpdatedLemmas.{updated_else}
 use Rattle.scq_core.proofs.Turns.{turned}
 use Rattle.scq_core.proofs.Entries.{limit_low, few_seats, zero_level_is, reset_small, word_fits}

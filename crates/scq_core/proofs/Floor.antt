@@ -4,17 +4,14 @@ use Rattle.std.proofs.Common.{◌≡◌, ℕ, ◌+◌, ◌-◌, ◌<◌, ◌≤�
 use Rattle.std.specs.Prelude.{◌==◌, if◌then◌else◌, nat_lt, nat_le, Some}
 use Rattle.std.proofs.lemmas.Bool.{cond_both, leb-false}
 use Rattle.scq_word.specs.declared.setup.Setup.{Setup}
-use Rattle.scq_word.specs.Words.{safe_in, cycle_in, is_none_in}
+use Rattle.scq_word.specs.Exports.{safe_in, cycle_in, is_none_in}
 use Rattle.scq_core.specs.declared.phase.Phase.{Phase}
 use Rattle.scq_core.specs.declared.phase.Phase.TheVariants.{Idle, AtE1, AtE2, AtE3, AtE4, AtE5, AtE6, AtD1, AtD2, AtD3, AtD4, AtD5, AtD6, AtD7, AtD8, AtD9, AtD10}
 use Rattle.scq_core.specs.declared.step.Step.{Step}
-use Rattle.scq_core.specs.Updated.{updated}
-use Rattle.scq_core.specs.Machine.{Cells, SeatPart, Machine, read, beside}
-use Rattle.scq_core.specs.Table.{ring_slots, cycle, zero_level, reset_level, turn_of, location_of, after, cells_after, moved}
-use Rattle.scq_core.specs.Start.{start_of}
-use Rattle.scq_core.specs.Stances.{stance_of, entered_ring}
-use Rattle.scq_core.specs.Reach.{IsReachable, at_start, by_step}
-use Rattle.scq_core.specs.Laws.{word_at, dequeues, dequeues_of, ThresholdFloor}
+use Rattle.scq_core.specs.Exports.{updated, Cells, SeatPart, read, beside, ring_slots, cycle, zero_level, reset_level, turn_of, location_of, after}
+use Rattle.scq_core.specs.Exports.{cells_after, moved, start_of, stance_of, entered_ring, IsReachable, at_start, by_step, word_at, dequeues}
+use Rattle.scq_core.specs.Exports.{dequeues_of, ThresholdFloor}
+use Rattle.scq_core.specs.Machine.{Machine}
 use Rattle.scq_core.proofs.UpdatedLemmas.{updated_or, updated_cases}
 use Rattle.scq_core.proofs.Turns.{turned, Begins, begins_put, begins_get, begins, awake}
 use Rattle.scq_core.proofs.Entries.{zero_level_is, some_seats}

@@ -3,17 +3,13 @@ use Rattle.std.proofs.Common.{ℕ, ◌<◌, List, inl, inr, arith}
 use Rattle.std.specs.Prelude.{◌==◌, if◌then◌else◌}
 use Rattle.std.proofs.lemmas.Bool.Decides.{eqb_tells}
 use Rattle.scq_word.specs.declared.setup.Setup.{Setup}
-use Rattle.scq_word.specs.Sizes.{n_of}
-use Rattle.scq_word.specs.Words.{packed, mark_of, index_in, safe_in, cycle_in, is_none_in}
-use Rattle.scq_word.specs.Entries.{IsIndexOrMark}
+use Rattle.scq_word.specs.Exports.{n_of, packed, mark_of, index_in, safe_in, cycle_in, is_none_in, IsIndexOrMark}
 use Rattle.scq_word.proofs.WordLemmas.{index_in-packed, index_in_small}
 use Rattle.scq_core.specs.declared.phase.Phase.{Phase}
 use Rattle.scq_core.specs.declared.phase.Phase.TheVariants.{AtE2, AtE4, AtD3, AtD4, AtD5}
-use Rattle.scq_core.specs.Machine.{Cells, Machine, read, updated_entry}
-use Rattle.scq_core.specs.Table.{ring_slots, cycle, passed, location_of, cells_after}
-use Rattle.scq_core.specs.Start.{start_of, filled, unused}
-use Rattle.scq_core.specs.Reach.{IsReachable, at_start, by_step}
-use Rattle.scq_core.specs.Laws.{Busy}
+use Rattle.scq_core.specs.Exports.{Cells, read, updated_entry, ring_slots, cycle, passed, location_of, cells_after, start_of, filled, unused}
+use Rattle.scq_core.specs.Exports.{IsReachable, at_start, by_step, Busy}
+use Rattle.scq_core.specs.Machine.{Machine}
 use Rattle.scq_core.proofs.UpdatedLemmas.{updated_entry_cases}
 use Rattle.scq_core.proofs.Turns.{turned}
 use Rattle.scq_core.proofs.Entries.{some_slots}

@@ -4,18 +4,15 @@ use Rattle.std.proofs.Common.{◌≡◌, ℕ, zero, suc, ◌+◌, ◌*◌, ◌<�
 use Rattle.std.specs.Prelude.{◌==◌, nat_le, Option, Some, None}
 use Rattle.std.proofs.lemmas.Bool.{cases_Bool, cases_eq, leb-false}
 use Rattle.scq_word.specs.declared.setup.Setup.{Setup}
-use Rattle.scq_word.specs.Sizes.{n_of}
-use Rattle.scq_word.specs.Words.{packed, mark_of, index_in, safe_in, cycle_in, is_none_in}
+use Rattle.scq_word.specs.Exports.{n_of, packed, mark_of, index_in, safe_in, cycle_in, is_none_in}
 use Rattle.scq_word.proofs.WordLemmas.{cycle_in-packed, safe_in_bit, index_in_small}
 use Rattle.scq_core.specs.declared.phase.Phase.{Phase}
 use Rattle.scq_core.specs.declared.phase.Phase.TheVariants.{Idle, AtE1, AtE2, AtE3, AtE4, AtD2, AtD3, AtD4, AtD5, AtD6, AtD7, AtD8, AtD9}
 use Rattle.scq_core.specs.declared.step.Step.{Step}
-use Rattle.scq_core.specs.Machine.{Cells, SeatPart, Machine, read, beside, written, entry_of}
-use Rattle.scq_core.specs.Updated.{updated}
-use Rattle.scq_core.specs.Table.{ring_slots, cycle, slot, passed, turn_of, location_of, after, cells_after, moved}
-use Rattle.scq_core.specs.Start.{start_of, filled, unused}
-use Rattle.scq_core.specs.Reach.{IsReachable, at_start, by_step}
-use Rattle.scq_core.specs.Laws.{word_at, Busy, IsSteady, spent_of, spent_seats, CountersBounded, CyclesBounded}
+use Rattle.scq_core.specs.Exports.{Cells, SeatPart, read, beside, written, entry_of, updated, ring_slots, cycle, slot, passed, turn_of, location_of}
+use Rattle.scq_core.specs.Exports.{after, cells_after, moved, start_of, filled, unused, IsReachable, at_start, by_step, word_at, Busy, IsSteady}
+use Rattle.scq_core.specs.Exports.{spent_of, spent_seats, CountersBounded, CyclesBounded}
+use Rattle.scq_core.specs.Machine.{Machine}
 use Rattle.scq_core.proofs.UpdatedLemmas.{updated_cases, updated_entry_cases}
 use Rattle.scq_core.proofs.Turns.{turned}
 use Rattle.scq_core.proofs.Entries.{some_slots, some_indices, below_mark, limit_high, cycle_below_limit}

@@ -13,14 +13,11 @@ use Rattle.scq_core.specs.declared.step.Step.{Step}
 use Rattle.scq_core.specs.declared.slot.Cell.{Cell}
 use Rattle.scq_core.specs.declared.slot.Cell.TheVariants as cell
 use Rattle.scq_core.specs.declared.slot.Slot.{Slot}
-use Rattle.scq_core.specs.Updated.{updated}
-use Rattle.scq_core.specs.Machine.{Cells, Entries, SeatPart, Machine, location_at, read, beside, written}
-use Rattle.scq_core.specs.Table.{turn_of, location_of, writes, stores, after, cells_after, moved, step_of, ring_of, cell_of}
-use Rattle.scq_core.specs.Start.{idle_part}
-use Rattle.scq_core.specs.Reach.{by_step}
-use Rattle.scq_core.specs.Rings.{RingLists, IsCell, ring_with}
-use Rattle.scq_core.specs.StateLists.{StateLists, no_slot, no_ring, ring_in, cells_of, part_in, machine_of, HasRings, IsState}
-use Rattle.scq_core.specs.Advance.{found_by, beside_by, CanTurn, rings_after, Advances}
+use Rattle.scq_core.specs.Exports.{updated, Cells, Entries, SeatPart, location_at, read, beside, written, turn_of, location_of, writes, stores, after}
+use Rattle.scq_core.specs.Exports.{cells_after, moved, step_of, ring_of, cell_of, idle_part, by_step, RingLists, IsCell, ring_with, no_slot, no_ring}
+use Rattle.scq_core.specs.Exports.{ring_in, cells_of, part_in, machine_of, HasRings, IsState, found_by, beside_by, CanTurn, rings_after, Advances}
+use Rattle.scq_core.specs.Machine.{Machine}
+use Rattle.scq_core.specs.StateLists.{StateLists}
 use Rattle.scq_core.proofs.UpdatedLemmas.{updated_same}
 use Rattle.scq_core.proofs.Readiness.{enabled_ready}
 use Rattle.scq_core.proofs.TurnCells.{read-cell, beside-cell, is_cell}

@@ -3,8 +3,8 @@ use Rattle.std.proofs.Common.{◌≡◌, ℕ, ◌<◌, ◌^◌, subst, length, a
 use Rattle.std.specs.Prelude.{slice_index_or}
 use Rattle.scq_core.specs.declared.slot.Cell.{Cell}
 use Rattle.scq_core.specs.declared.slot.Cell.TheVariants.{Tail, Head, Threshold, Entry}
-use Rattle.scq_core.specs.Rings.{RingLists, IsCell}
-use Rattle.scq_core.specs.StateLists.{StateLists, IsState, IsCellOf, ring_in, machine_of}
+use Rattle.scq_core.specs.Exports.{RingLists, IsCell, IsState, IsCellOf, ring_in, machine_of}
+use Rattle.scq_core.specs.StateLists.{StateLists}
 use Rattle.scq_core.proofs.Entries.{zero_level_is, reset_small}
 use Rattle.scq_core.proofs.Floor.{threshold_floor}
 use Rattle.scq_core.proofs.Advancing.{ring_read}

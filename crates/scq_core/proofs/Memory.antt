@@ -4,11 +4,9 @@ use Rattle.scq_word.specs.declared.setup.Setup.{Setup}
 use Rattle.scq_core.specs.declared.phase.Phase.{Phase}
 use Rattle.scq_core.specs.declared.phase.Phase.TheVariants.{Idle, AtE1, AtE5, AtE6, AtD1, AtD2, AtD4, AtD10}
 use Rattle.scq_core.specs.declared.step.Step.{Step}
-use Rattle.scq_core.specs.Machine.{SeatPart, read, beside}
-use Rattle.scq_core.specs.Table.{ring_of, cell_of, location_of, after}
-use Rattle.scq_core.specs.Turn.{ends_call, TakesMemory}
-use Rattle.scq_core.specs.StateLists.{StateLists, part_in, machine_of}
-use Rattle.scq_core.specs.Advance.{found_by, WantsMemory}
+use Rattle.scq_core.specs.Exports.{SeatPart, read, beside, ring_of, cell_of, location_of, after, ends_call, TakesMemory, part_in, machine_of}
+use Rattle.scq_core.specs.Exports.{found_by, WantsMemory}
+use Rattle.scq_core.specs.StateLists.{StateLists}
 use Rattle.scq_core.proofs.UpdatedLemmas.{updated_here}
 use Rattle.scq_core.proofs.Turns.{turned}
 use Rattle.scq_core.proofs.TurnCells.{read-cell}

@@ -6,12 +6,10 @@ use Rattle.std.proofs.lemmas.Bool.{cases_Bool}
 use Rattle.std.proofs.lemmas.Grind.{common_steps}
 use Rattle.scq_word.specs.declared.setup.Setup.{Setup}
 use Rattle.scq_word.specs.declared.entry.Entry.{Entry}
-use Rattle.scq_word.specs.Sizes.{n_of, slots_of}
-use Rattle.scq_word.specs.Words.{index_in, safe_in, is_none_in}
-use Rattle.scq_word.specs.Entries.{safe_bit, word_of, index_unless_mark, entry_in}
+use Rattle.scq_word.specs.Exports.{n_of, slots_of, index_in, safe_in, is_none_in, safe_bit, word_of, index_unless_mark, entry_in}
 use Rattle.scq_word.proofs.WordLemmas.{safe_in_bit}
 use Rattle.scq_word.proofs.TicketLemmas.{ticket_parts}
-use Rattle.scq_core.specs.Table.{ring_slots, cycle, passed}
+use Rattle.scq_core.specs.Exports.{ring_slots, cycle, passed}
 use Rattle.scq_core.proofs.Entries.{some_indices}
 
 -- the cycle of a ticket below the limit can be packed

@@ -5,9 +5,8 @@ use Rattle.std.specs.Prelude.{if◌then◌else◌, ◌==◌, []}
 use Rattle.scq_word.specs.declared.setup.Setup.{Setup}
 use Rattle.scq_core.specs.declared.phase.Phase.{Phase}
 use Rattle.scq_core.specs.declared.phase.Phase.TheVariants.{Idle, AtE1, AtE2, AtE3, AtE4, AtD2, AtD3, AtD4, AtD5, AtD6, AtD7, AtD8, AtD9}
-use Rattle.scq_core.specs.Machine.{Cells, tail_of, head_of, entry_of, written}
-use Rattle.scq_core.specs.Table.{ring_slots, cycle, slot, cells_after}
-use Rattle.scq_core.specs.Laws.{IsAbove, RankRises, CountersRise, Busy, word_at}
+use Rattle.scq_core.specs.Exports.{Cells, tail_of, head_of, entry_of, written, ring_slots, cycle, slot, cells_after, IsAbove, RankRises, CountersRise}
+use Rattle.scq_core.specs.Exports.{Busy, word_at}
 use Rattle.scq_core.proofs.UpdatedLemmas.{updated_cases, updated_entry_cases}
 use Rattle.scq_core.proofs.Entries.{above_same, above_trans, placing_rises, taking_rises, passing_rises, below_mark, some_slots}
 

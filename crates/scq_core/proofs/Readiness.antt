@@ -5,11 +5,8 @@ use Rattle.scq_word.specs.declared.setup.Setup.{Setup}
 use Rattle.scq_core.specs.declared.phase.Phase.{Phase}
 use Rattle.scq_core.specs.declared.phase.Phase.TheVariants.{Idle, AtE1, AtE2, AtE3, AtE4, AtE5, AtE6, AtD1, AtD2, AtD3, AtD4, AtD5, AtD6, AtD7, AtD8, AtD9, AtD10}
 use Rattle.scq_core.specs.declared.step.Step.{Step}
-use Rattle.scq_core.specs.Machine.{Cells, Machine, read}
-use Rattle.scq_core.specs.Table.{turn_of, location_of, ring_of}
-use Rattle.scq_core.specs.Reach.{IsReachable}
-use Rattle.scq_core.specs.Turn.{IsReady}
-use Rattle.scq_core.specs.Laws.{Busy, WordsFit}
+use Rattle.scq_core.specs.Exports.{Cells, read, turn_of, location_of, ring_of, IsReachable, IsReady, Busy, WordsFit}
+use Rattle.scq_core.specs.Machine.{Machine}
 use Rattle.scq_core.proofs.Turns.{awake}
 use Rattle.scq_core.proofs.Steady.{has, steady}
 use Rattle.scq_core.proofs.Fits.{words_fit}

@@ -3,12 +3,9 @@ use Rattle.std.proofs.Common.{◌≡◌, ◌≢◌, ℕ, zero, suc, ◌+◌, ◌
 use Rattle.std.specs.Prelude.{slice_index_or}
 use Rattle.std.proofs.lemmas.Bool.{cases_eq}
 use Rattle.scq_word.specs.declared.setup.Setup.{Setup}
-use Rattle.scq_word.specs.Words.{packed}
-use Rattle.scq_word.specs.Sizes.{n_of}
+use Rattle.scq_word.specs.Exports.{packed, n_of}
 use Rattle.scq_word.proofs.TicketLemmas.{cycle_of-row, same_ticket}
-use Rattle.scq_core.specs.Table.{ring_slots, cycle, slot}
-use Rattle.scq_core.specs.Start.{filled, filled_contents, unused, start_cells}
-use Rattle.scq_core.specs.Laws.{StartsFull}
+use Rattle.scq_core.specs.Exports.{ring_slots, cycle, slot, filled, filled_contents, unused, start_cells, StartsFull}
 
 -- in a slot stands an index below the count at its place, with its content, or nothing, and it is the slot of no such place
 pub record Filled (c : Setup) (opening : List (List ℕ)) (count s : ℕ) : Type 0 where

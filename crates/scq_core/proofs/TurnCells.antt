@@ -6,10 +6,8 @@ use Rattle.scq_core.specs.declared.phase.Phase.{Phase}
 use Rattle.scq_core.specs.declared.phase.Phase.TheVariants.{Idle, AtE1, AtE2, AtE3, AtE4, AtE5, AtE6, AtD1, AtD2, AtD3, AtD4, AtD5, AtD6, AtD7, AtD8, AtD9, AtD10}
 use Rattle.scq_core.specs.declared.slot.Cell.{Cell}
 use Rattle.scq_core.specs.declared.slot.Cell.TheVariants as cell
-use Rattle.scq_core.specs.Machine.{location_at, read, beside}
-use Rattle.scq_core.specs.Table.{ring_of, cell_of}
-use Rattle.scq_core.specs.Rings.{RingLists, IsCell, word_in, content_in}
-use Rattle.scq_core.specs.StateLists.{cells_of, ring_in, no_slot, HasRings}
+use Rattle.scq_core.specs.Exports.{location_at, read, beside, ring_of, cell_of, RingLists, IsCell, word_in, content_in, cells_of, ring_in, no_slot}
+use Rattle.scq_core.specs.Exports.{HasRings}
 
 pub read-cell : (c : Setup) (rings : List RingLists) (r : ℕ) (p : Cell) → read (cells_of c rings) (location_at r p) ≡ word_in (no_slot c) (ring_in c rings r) p
 read-cell c rings r cell.Tail = refl

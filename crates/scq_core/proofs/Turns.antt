@@ -4,14 +4,13 @@ use Rattle.std.specs.Prelude.{Option, Some, None, is_some, unwrap_or, nat_lt}
 use Rattle.std.specs.Option.{option_map}
 use Rattle.std.proofs.lemmas.Bool.{cases_Bool, and_parts}
 use Rattle.scq_word.specs.declared.setup.Setup.{Setup}
-use Rattle.scq_word.specs.Sizes.{n_of}
+use Rattle.scq_word.specs.Exports.{n_of}
 use Rattle.scq_core.specs.declared.phase.Phase.{Phase}
 use Rattle.scq_core.specs.declared.phase.Phase.TheVariants.{Idle, AtE1, AtE2, AtE3, AtE4, AtE5, AtE6, AtD1, AtD2, AtD3, AtD4, AtD5, AtD6, AtD7, AtD8, AtD9, AtD10}
 use Rattle.scq_core.specs.declared.step.Step.{Step}
 use Rattle.scq_core.specs.declared.step.Step.TheVariants.{E1, E1Again, E2, E3, E4, E5, E6, D1, D2, D3, D4, D5, D6, D7, D8, D9, D10}
 use Rattle.scq_core.specs.Machine.{Machine}
-use Rattle.scq_core.specs.Table.{turn_at, turn_of, next_step, moved, step_of, holds_index}
-use Rattle.scq_core.specs.Turn.{started}
+use Rattle.scq_core.specs.Exports.{turn_at, turn_of, next_step, moved, step_of, holds_index, started}
 
 -- the turn that a step is: it is enabled, and the state afterwards is the one that it makes
 pub record IsTurnOf (c : Setup) (m : Machine) (k : ℕ) (s : Step) (m' : Machine) : Type 0 where

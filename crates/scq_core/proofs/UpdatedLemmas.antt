@@ -1,8 +1,7 @@
 -- What a changed function gives at the argument and elsewhere, and that writing what stood there changes nothing.
 use Rattle.std.proofs.Common.{◌≡◌, ℕ, ◌≢◌, ◌⊎◌, inl, inr, eq-eqb, ne_eqb, refl}
 use Rattle.std.proofs.lemmas.Bool.{cases_eq}
-use Rattle.scq_core.specs.Updated.{updated}
-use Rattle.scq_core.specs.Machine.{Cells, Location, tail_of, head_of, threshold_of, entry_of, read, beside, written, updated_entry}
+use Rattle.scq_core.specs.Exports.{updated, Cells, Location, tail_of, head_of, threshold_of, entry_of, read, beside, written, updated_entry}
 
 -- at the argument itself
 pub updated_here : {A : Type 0} → (f : ℕ → A) (i : ℕ) (x : A) → updated f i x i ≡ x

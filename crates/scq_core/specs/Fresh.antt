@@ -2,7 +2,7 @@
 -- in which each index stands.
 use Rattle.std.specs.Prelude.{ℕ, ◌≡◌, ◌+◌, ◌-◌, List, ◌∷◌, length, replicate, slice_index_or}
 use Rattle.scq_word.specs.declared.setup.Setup.{Setup}
-use Rattle.scq_word.specs.Sizes.{n_of}
+use Rattle.scq_word.specs.Exports.{n_of}
 use Rattle.scq_core.specs.declared.slot.Slot.{Slot}
 use Rattle.scq_core.specs.Table.{ring_slots, zero_level, reset_level}
 use Rattle.scq_core.specs.Start.{filled, filled_contents}

@@ -3,8 +3,7 @@
 use Rattle.std.specs.Prelude.{ℕ, zero, suc, ◌≡◌, ◌≢◌, ◌+◌, ◌*◌, ◌^◌, ◌<◌, ◌≤◌, ◌⊎◌, true, List, []}
 use Rattle.std.specs.Prelude.{◌++◌, slice_index_or, Option, Some, None}
 use Rattle.scq_word.specs.declared.setup.Setup.{Setup}
-use Rattle.scq_word.specs.Sizes.{n_of}
-use Rattle.scq_word.specs.Words.{packed, safe_in, cycle_in, is_none_in, rank_in}
+use Rattle.scq_word.specs.Exports.{n_of, packed, safe_in, cycle_in, is_none_in, rank_in}
 use Rattle.scq_core.specs.declared.ended.Ended.{Ended}
 use Rattle.scq_core.specs.declared.phase.Phase.{Phase}
 use Rattle.scq_core.specs.declared.phase.Phase.TheVariants.{Idle, AtE1, AtE2, AtE3, AtE4, AtE5}

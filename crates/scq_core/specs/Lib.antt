@@ -10,3 +10,4 @@ pub mod StateLists
 pub mod Turn
 pub mod Advance
 pub mod Fresh
+pub mod Exports

@@ -1,7 +1,7 @@
 -- The states that steps reach from the start. A seat may stop for ever in the middle of a call.
 use Rattle.std.specs.Prelude.{ℕ, ◌≡◌, ◌<◌, List, length, Some}
 use Rattle.scq_word.specs.declared.setup.Setup.{Setup}
-use Rattle.scq_word.specs.Sizes.{n_of}
+use Rattle.scq_word.specs.Exports.{n_of}
 use Rattle.scq_core.specs.declared.step.Step.{Step}
 use Rattle.scq_core.specs.Machine.{Machine}
 use Rattle.scq_core.specs.Table.{step_of}

@@ -10,10 +10,8 @@ use Rattle.std.specs.Prelude.{is_none}
 use Rattle.std.specs.List.{list_any}
 use Rattle.std.specs.Option.{option_map}
 use Rattle.scq_word.specs.declared.setup.Setup.{Setup}
-use Rattle.scq_word.specs.Sizes.{n_of, slots_of}
-use Rattle.scq_word.specs.Tickets.{cycle_of, slot_of}
-use Rattle.scq_word.specs.Bounds.{reset_value}
-use Rattle.scq_word.specs.Words.{mark_of, packed, index_in, safe_in, cycle_in, is_none_in, rank_in}
+use Rattle.scq_word.specs.Exports.{n_of, slots_of, cycle_of, slot_of, reset_value, mark_of, packed}
+use Rattle.scq_word.specs.Exports.{index_in, safe_in, cycle_in, is_none_in, rank_in}
 use Rattle.scq_core.specs.declared.ended.Ended.{Ended}
 use Rattle.scq_core.specs.declared.ended.Ended.TheVariants.{Done, Got, Nothing, Spent}
 use Rattle.scq_core.specs.declared.phase.Phase.{Phase}

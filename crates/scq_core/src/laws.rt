@@ -3,18 +3,16 @@
 
 ghost use Rattle.std.specs.Prelude.{◌≡◌, ◌≢◌, ℕ, ◌<◌, List, Some, length};
 ghost use Rattle.scq_word.specs.declared.setup.Setup.{Setup};
-ghost use Rattle.scq_word.specs.Sizes.{n_of};
+ghost use Rattle.scq_word.specs.Exports.{n_of};
 ghost use Rattle.scq_core.specs.declared.phase.Phase.{Phase};
 ghost use Rattle.scq_core.specs.declared.phase.Phase.TheVariants.{Idle};
 ghost use Rattle.scq_core.specs.declared.step.Step.{Step};
-ghost use Rattle.scq_core.specs.Machine.{Machine, read};
-ghost use Rattle.scq_core.specs.Table.{turn_of, next_step, location_of, step_of, ring_of};
-ghost use Rattle.scq_core.specs.Turn.{IsReady};
-ghost use Rattle.scq_core.specs.Start.{start_of};
-ghost use Rattle.scq_core.specs.Reach.{IsReachable};
-ghost use Rattle.scq_core.specs.Laws.{ChangesOne, RankRises, CountersRise, IsSteady, CatchUpLags};
-ghost use Rattle.scq_core.specs.Laws.{CountersBounded, ThresholdFloor, CyclesBounded, WordsFit};
-ghost use Rattle.scq_core.specs.Laws.{RecordsGrow, StartsFull};
+ghost use Rattle.scq_core.specs.Exports.{read, turn_of, next_step, location_of, step_of, ring_of};
+ghost use Rattle.scq_core.specs.Exports.{IsReady, start_of, IsReachable, ChangesOne, RankRises};
+ghost use Rattle.scq_core.specs.Exports.{CountersRise, IsSteady, CatchUpLags, CountersBounded};
+ghost use Rattle.scq_core.specs.Exports.{ThresholdFloor, CyclesBounded, WordsFit, RecordsGrow};
+ghost use Rattle.scq_core.specs.Exports.{StartsFull};
+ghost use Rattle.scq_core.specs.Machine.{Machine};
 
 /// The start is reachable, with an opening content for each index.
 pub fn start_is_reachable()

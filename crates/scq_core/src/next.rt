@@ -3,8 +3,7 @@
 ghost use Rattle.std.specs.Prelude.{◌≡◌, ℕ, ◌<◌, false, nat_le, List, None, unwrap_or};
 ghost use Rattle.scq_core.specs.declared.phase.Phase.TheVariants.{AtE1, AtE2, AtD3};
 ghost use Rattle.scq_core.specs.declared.ended.Ended.TheVariants.{Done};
-ghost use Rattle.scq_word.specs.Words.{rank_in};
-ghost use Rattle.scq_word.specs.Entries.{IsIndexOrMark};
+ghost use Rattle.scq_word.specs.Exports.{rank_in, IsIndexOrMark};
 ghost use Rattle.scq_core.specs.Machine.{SeatPart};
 ghost use Rattle.scq_core.specs.Table.{ring_slots, after, stores};
 ghost use Rattle.scq_core.specs.Turn.{copied, ends_call, has_ended, part_after, laid_by, IsOfGet};

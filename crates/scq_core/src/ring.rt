@@ -2,8 +2,7 @@
 
 ghost use Rattle.std.specs.Prelude.{◌≡◌, ℕ, ◌+◌, ◌<◌, IfOk, replicate, slice_set, unwrap_or};
 ghost use Rattle.std.specs.Prelude.{vec_len};
-ghost use Rattle.scq_word.specs.Sizes.{n_of};
-ghost use Rattle.scq_word.specs.Words.{packed};
+ghost use Rattle.scq_word.specs.Exports.{n_of, packed};
 ghost use Rattle.scq_core.specs.Table.{ring_slots, slot};
 ghost use Rattle.scq_core.specs.StateLists.{no_slot};
 ghost use Rattle.scq_core.specs.Fresh.{empty_ring, IsFullRing};

@@ -3,7 +3,7 @@
 ghost use Rattle.std.specs.Option.{option_copied};
 ghost use Rattle.std.specs.Prelude.{◌≡◌, ℕ, pos, ◌+ℤ◌, IsTrue, length, slice_get, ◌-◌, ◌^◌, ◌<◌};
 ghost use Rattle.std.specs.Prelude.{◌↔◌, replicate, Some, None, Err, IfOk, OnOk, OnErr, vec_len};
-ghost use Rattle.scq_word.specs.Sizes.{n_of};
+ghost use Rattle.scq_word.specs.Exports.{n_of};
 ghost use Rattle.scq_core.specs.Start.{idle_part};
 ghost use Rattle.scq_core.specs.Fresh.{IsStart};
 

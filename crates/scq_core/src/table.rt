@@ -1,11 +1,9 @@
 //! Where a turn reads and writes, and what it writes there.
 
 ghost use Rattle.std.specs.Prelude.{◌≡◌, ℕ, ◌/◌, ◌^◌, ◌<◌};
-ghost use Rattle.scq_word.specs.Sizes.{n_of, slots_of};
-ghost use Rattle.scq_word.specs.Tickets.{cycle_of};
+ghost use Rattle.scq_word.specs.Exports.{n_of, slots_of, cycle_of, mark_of, packed, safe_in};
+ghost use Rattle.scq_word.specs.Exports.{cycle_in, IsIndexOrMark};
 ghost use Rattle.scq_word.specs.declared.setup.Setup.{Setup};
-ghost use Rattle.scq_word.specs.Words.{mark_of, packed, safe_in, cycle_in};
-ghost use Rattle.scq_word.specs.Entries.{IsIndexOrMark};
 ghost use Rattle.scq_core.specs.declared.slot.Cell.TheVariants.{Entry as EntryCell};
 ghost use Rattle.scq_core.specs.Table.{ring_slots, cycle, slot, reset_level, passed, writes};
 ghost use Rattle.scq_core.specs.Table.{ring_of, cell_of};

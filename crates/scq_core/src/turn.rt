@@ -1,7 +1,7 @@
 //! The turn of a step that begins a call, and the content that a turn copies.
 
 ghost use Rattle.std.specs.Prelude.{◌≡◌, true, List, IfOk, OnErr};
-ghost use Rattle.scq_core.specs.Turn.{started, copied, needs_copy, copies_content};
+ghost use Rattle.scq_core.specs.Exports.{started, copied, needs_copy, copies_content};
 
 use crate::phase::Phase;
 use crate::step::Step;

@@ -6,7 +6,7 @@ use Rattle.std.proofs.lemmas.Bool.Decides.{nat_tests}
 use Rattle.std.proofs.lemmas.List.{get_or-map, length-map}
 use Rattle.std.proofs.lemmas.List.Sorted.{IsPermutation-sym}
 use Rattle.std.proofs.lemmas.Map.Keys.{IsDistinct-IsPermutation, apart_from_distinct}
-use Rattle.scq_collect.specs.Merging.{AreApart}
+use Rattle.scq_collect.specs.Exports.{AreApart}
 use Rattle.scq_collect.proofs.Orders.{Ascends, ascends-distinct, is_position, is_position-flip}
 
 -- a position is itself

@@ -2,9 +2,8 @@
 use Rattle.std.proofs.Common.{◌≡◌, ◌≢◌, refl, subst, true, false, ℕ, Bool, List, Option, Some, None}
 use Rattle.scq_frames.specs.declared.fault.FrameFault.{FrameFault}
 use Rattle.scq_frames.specs.declared.fault.FrameFault.TheVariants as frame
-use Rattle.scq_files.specs.Ends.{AllEndFed, ReadingStopsAt}
-use Rattle.scq_files.specs.Reading.{SourceOf}
-use Rattle.scq_desk.specs.Faults.{fault_of_workers, HasCause, MemoryIsFirst}
+use Rattle.scq_files.specs.Exports.{AllEndFed, ReadingStopsAt, SourceOf}
+use Rattle.scq_desk.specs.Exports.{fault_of_workers, HasCause, MemoryIsFirst}
 use Rattle.scq_desk.specs.declared.fault.EndFault.{EndFault}
 use Rattle.scq_desk.specs.declared.fault.EndFault.TheVariants.{Read, TooLong, TooLarge, NoMemory}
 

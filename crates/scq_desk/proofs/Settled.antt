@@ -8,16 +8,14 @@ use Rattle.std.proofs.lemmas.List.Elements.{All-map, All-nil, All-cons, All-head
 use Rattle.std.proofs.lemmas.List.Folds.{flat_map-map}
 use Rattle.std.proofs.lemmas.List.Sums.{sum_by-cons}
 use Rattle.std.proofs.lemmas.Option.{slice_get_within, get_or_from_slice_get}
-use Rattle.scq_law.specs.Hands.{times}
-use Rattle.scq_band.specs.Standing.{Identity}
+use Rattle.scq_law.specs.Exports.{times}
+use Rattle.scq_band.specs.Exports.{Identity}
 use Rattle.scq_band.proofs.Slots.{times-append}
-use Rattle.scq_queue.specs.Closing.{AreTheHeld}
-use Rattle.scq_queue.specs.Passes.{PassStanding, HeldStanding, first_pass, first_passes}
-use Rattle.scq_files.specs.Desks.{workers_at}
+use Rattle.scq_queue.specs.Exports.{AreTheHeld, PassStanding, HeldStanding, first_pass, first_passes}
+use Rattle.scq_files.specs.Exports.{workers_at}
 use Rattle.scq_files.specs.declared.desk.Desk.{Desk}
 use Rattle.scq_files.proofs.Lists.{map-map}
-use Rattle.scq_passes.specs.Calls.{index_of}
-use Rattle.scq_passes.specs.Together.{NoneSpent}
+use Rattle.scq_passes.specs.Exports.{index_of, NoneSpent}
 use Rattle.scq_passes.proofs.FirstPasses.{first-length, first-at}
 use Rattle.scq_desk.specs.declared.seat.Seat.{Seat}
 

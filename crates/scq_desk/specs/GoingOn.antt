@@ -5,9 +5,9 @@ use Rattle.std.proofs.Common.{◌≡◌, refl, sym, ◌∙◌, subst, ℕ, Bool,
 use Rattle.std.proofs.Common.{append_assoc, Option, None}
 use Rattle.std.proofs.lemmas.List.{append-nil}
 use Rattle.scq_frames.specs.declared.message.Message.{Message}
-use Rattle.scq_band.specs.Standing.{Identity}
-use Rattle.scq_queue.specs.Passes.{PassStanding, HeldStanding}
-use Rattle.scq_passes.specs.Calls.{Suits}
+use Rattle.scq_band.specs.Exports.{Identity}
+use Rattle.scq_queue.specs.Exports.{PassStanding, HeldStanding}
+use Rattle.scq_passes.specs.Exports.{Suits}
 
 module _ {W B : Type 0} where
   -- it has its number still, and where it wants no memory it wanted none before

@@ -2,3 +2,4 @@ pub mod Seats
 pub mod Rooms
 pub mod Faults
 pub mod GoingOn
+pub mod Exports

@@ -1,8 +1,8 @@
 -- Workers before they begin. A worker's pass, and whether its list is empty, are as its kind tells
 -- them.
 use Rattle.std.specs.Prelude.{◌≡◌, None}
-use Rattle.scq_band.specs.Standing.{Identity}
-use Rattle.scq_queue.specs.Passes.{PassStanding, first_pass}
+use Rattle.scq_band.specs.Exports.{Identity}
+use Rattle.scq_queue.specs.Exports.{PassStanding, first_pass}
 use Rattle.scq_desk.specs.declared.seat.Seat.{Seat}
 
 -- a worker that is to begin: it has a new pass, an empty list, and keeps no value

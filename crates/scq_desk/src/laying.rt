@@ -2,9 +2,8 @@
 ghost use Rattle.std.specs.Prelude.{◌≡◌, ℕ, ◌<◌, ◌≤◌, [], length, slice_index_or, vec_len};
 ghost use Rattle.std.specs.Prelude.{vec_capacity, IfOk};
 ghost use Rattle.std.specs.List.{All};
-ghost use Rattle.scq_queue.specs.Passes.{first_passes};
-ghost use Rattle.scq_files.specs.Desks.{AreDealt};
-ghost use Rattle.scq_files.specs.OwnFiles.{IsNew};
+ghost use Rattle.scq_queue.specs.Exports.{first_passes};
+ghost use Rattle.scq_files.specs.Exports.{AreDealt, IsNew};
 ghost use Rattle.scq_desk.specs.Rooms.{IsLaid, IsRoomFor};
 ghost use Rattle.scq_desk.specs.Seats.{IsToBegin};
 

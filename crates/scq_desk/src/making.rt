@@ -2,8 +2,8 @@
 ghost use Rattle.std.specs.Prelude.{◌≡◌, ◌^◌, ◌<◌, ◌≤◌, [], None, length, map, vec_len};
 ghost use Rattle.std.specs.Prelude.{vec_capacity};
 ghost use Rattle.std.specs.List.{All};
-ghost use Rattle.scq_queue.specs.Passes.{first_passes};
-ghost use Rattle.scq_desk.specs.Seats.{IsToBegin};
+ghost use Rattle.scq_queue.specs.Exports.{first_passes};
+ghost use Rattle.scq_desk.specs.Exports.{IsToBegin};
 
 use crate::seat::{Seat, Sits};
 use scq_block::Frame;

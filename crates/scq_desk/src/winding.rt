@@ -3,14 +3,11 @@ ghost use Rattle.std.specs.Prelude.{◌≡◌, ℕ, ◌<◌, ◌||◌, None, fal
 ghost use Rattle.std.specs.Prelude.{IfSome};
 ghost use Rattle.std.specs.List.{All};
 ghost use Rattle.std.specs.Option.{option_to_list};
-ghost use Rattle.scq_block.specs.Blocks.{AreAllOf};
-ghost use Rattle.scq_block.specs.Frames.{IsSame, bytes_of};
-ghost use Rattle.scq_queue.specs.Lists.{counts_of};
-ghost use Rattle.scq_queue.specs.Passes.{lists_of, was_told};
-ghost use Rattle.scq_passes.specs.Calls.{index_of};
-ghost use Rattle.scq_passes.specs.Closed.{HasClosed};
-ghost use Rattle.scq_files.specs.Desks.{AllEnded, AllStop, AllWhole, AreDealt, AreGathered};
-ghost use Rattle.scq_files.specs.Ends.{StopsAtFaults};
+ghost use Rattle.scq_block.specs.Exports.{AreAllOf, IsSame, bytes_of};
+ghost use Rattle.scq_queue.specs.Exports.{counts_of, lists_of, was_told};
+ghost use Rattle.scq_passes.specs.Exports.{index_of, HasClosed};
+ghost use Rattle.scq_files.specs.Exports.{AllEnded, AllStop, AllWhole, AreDealt, AreGathered};
+ghost use Rattle.scq_files.specs.Exports.{StopsAtFaults};
 ghost use Rattle.scq_desk.specs.Rooms.{IsLaid};
 
 use crate::clearing::{LeftBehind, clear};

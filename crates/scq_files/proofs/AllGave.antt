@@ -11,12 +11,8 @@ use Rattle.std.proofs.lemmas.List.Sorted.{All-permutation, IsPermutation-reverse
 use Rattle.std.proofs.lemmas.Option.{slice_get-get_or, slice_get_within, slice_get_cases}
 use Rattle.scq_topics.specs.declared.kind.Kind.{Kind}
 use Rattle.scq_frames.specs.declared.message.Message.{Message}
-use Rattle.scq_files.specs.Desks.{AllWhole, AreDealt}
-use Rattle.scq_files.specs.OwnFiles.{all_given, ids_of}
-use Rattle.scq_files.specs.Ends.{AreGiven, FileGave}
-use Rattle.scq_files.specs.Files.{files_of, own_of, OfEachFile}
-use Rattle.scq_files.specs.Given.{given_in}
-use Rattle.scq_files.specs.Reading.{IsRead, GaveAll, most_parts, SourceOf}
+use Rattle.scq_files.specs.Exports.{AllWhole, AreDealt, all_given, ids_of, AreGiven, FileGave, files_of, own_of, OfEachFile, given_in, IsRead}
+use Rattle.scq_files.specs.Exports.{GaveAll, most_parts, SourceOf}
 use Rattle.scq_files.specs.declared.desk.Desk.{Desk}
 use Rattle.scq_files.specs.declared.own_file.OwnFile.{OwnFile}
 use Rattle.scq_files.proofs.Cleared.{IsWholeFile}

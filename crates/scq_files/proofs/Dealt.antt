@@ -6,7 +6,7 @@ use Rattle.std.specs.List.{AllZip}
 use Rattle.std.specs.List.Sorted.{IsPermutation}
 use Rattle.std.proofs.lemmas.List.{append_assoc}
 use Rattle.std.proofs.lemmas.List.Sorted.{IsPermutation-refl, IsPermutation-trans, IsPermutation-append_left, IsPermutation-append_right, IsPermutation-append_comm}
-use Rattle.scq_files.specs.Files.{is_of, files_of, own_of, OfEachFile}
+use Rattle.scq_files.specs.Exports.{is_of, files_of, own_of, OfEachFile}
 
 -- numbers from this one on, so many
 abbrev pub upto : ℕ → ℕ → List ℕ

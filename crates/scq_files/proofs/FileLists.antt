@@ -3,8 +3,7 @@ use Rattle.std.proofs.Common.{◌≡◌, ◌∙◌, refl, sym, ap, arith, zero, 
 use Rattle.std.specs.Prelude.{slice_index_or, flat_map}
 use Rattle.std.proofs.lemmas.List.{append-nil, reverse-append}
 use Rattle.std.proofs.lemmas.Grind.{flat_map-append}
-use Rattle.scq_files.specs.OwnFiles.{ids_of, all_given}
-use Rattle.scq_files.specs.Given.{given_in}
+use Rattle.scq_files.specs.Exports.{ids_of, all_given, given_in}
 use Rattle.scq_files.specs.declared.own_file.OwnFile.{OwnFile}
 
 -- the first file of a list was read last

@@ -5,12 +5,10 @@ use Rattle.std.specs.List.{All}
 use Rattle.std.specs.Option.{option_map}
 use Rattle.std.proofs.lemmas.List.Elements.{All-nil, All-append}
 use Rattle.scq_topics.specs.declared.kind.Kind.{Kind}
-use Rattle.scq_topics.specs.Topics.{topic_of}
+use Rattle.scq_topics.specs.Exports.{topic_of}
 use Rattle.scq_frames.specs.declared.message.Message.{Message}
-use Rattle.scq_frames.specs.Numbered.{numbered}
-use Rattle.scq_frames.specs.Text.{messages_of}
-use Rattle.scq_files.specs.Ends.{AreGiven, all_left, messages_in}
-use Rattle.scq_files.specs.Reading.{AreOf}
+use Rattle.scq_frames.specs.Exports.{numbered, messages_of}
+use Rattle.scq_files.specs.Exports.{AreGiven, all_left, messages_in, AreOf}
 
 -- the messages of a file are on known topics, and so are all
 pub of-known : (known file line : ℕ) (ms : List Message) → AreOf known file line ms → All (λ m. m.topic ≤ known) ms

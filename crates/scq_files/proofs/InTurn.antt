@@ -5,9 +5,7 @@ use Rattle.std.specs.List.{All}
 use Rattle.std.proofs.lemmas.Bool.{cases_eq}
 use Rattle.std.proofs.lemmas.List.{length-append, length-map, length-set, get_or_append_left, get_or_default, get_or-map, get_or_push}
 use Rattle.scq_frames.specs.declared.fault.FrameFault.{FrameFault}
-use Rattle.scq_files.specs.Reading.{EndsSo, SourceOf}
-use Rattle.scq_files.specs.Ends.{StopsAtFaults}
-use Rattle.scq_files.specs.OwnFiles.{IsNew, StopsAtAFault}
+use Rattle.scq_files.specs.Exports.{EndsSo, SourceOf, StopsAtFaults, IsNew, StopsAtAFault}
 use Rattle.scq_files.specs.declared.own_file.FileEnd.{FileEnd}
 use Rattle.scq_files.specs.declared.own_file.FileEnd.TheVariants.{Unread, Stopped}
 use Rattle.scq_files.specs.declared.own_file.OwnFile.{OwnFile}

@@ -6,22 +6,17 @@ use Rattle.std.specs.Option.{option_map}
 use Rattle.std.proofs.lemmas.Bool.{true≢false}
 use Rattle.std.proofs.lemmas.List.{append-nil, length-append, length-map}
 use Rattle.std.proofs.lemmas.List.Sums.{sum_by-append}
-use Rattle.scq_outside.specs.Counts.{Rose}
+use Rattle.scq_outside.specs.Exports.{Rose}
 use Rattle.scq_topics.specs.declared.kind.Kind.{Kind}
-use Rattle.scq_topics.specs.Topics.{topic_of}
+use Rattle.scq_topics.specs.Exports.{topic_of}
 use Rattle.scq_frames.specs.declared.message.Message.{Message}
-use Rattle.scq_frames.specs.Text.{messages_of}
-use Rattle.scq_frames.specs.Numbered.{numbered}
+use Rattle.scq_frames.specs.Exports.{messages_of, numbered, EndsOnce, IsNext, NothingLeft, fresh, visible_ahead, visible_size, Found}
 use Rattle.scq_frames.specs.declared.fault.FrameFault.{FrameFault}
 use Rattle.scq_frames.specs.declared.fault.FrameFault.TheVariants.{ReadFault, TooLong, TooLarge, NoMemory}
-use Rattle.scq_frames.specs.Framing.{EndsOnce, Framing, IsNext, NothingLeft, fresh, visible_ahead, visible_size}
-use Rattle.scq_frames.specs.Coming.{Found}
+use Rattle.scq_frames.specs.Framing.{Framing}
 use Rattle.scq_frames.proofs.FindingLemmas.{Gave, Gave-found, Found-gave}
 use Rattle.scq_frames.proofs.Judging.{if-visible, judged-end, judged-fault, judged-long, sized}
-use Rattle.scq_files.specs.Ends.{StopsAtFaults}
-use Rattle.scq_files.specs.Reading.{AreOf, EndsSo, IsRead, most_parts, SourceOf}
-use Rattle.scq_files.specs.OwnFiles.{IsNew}
-use Rattle.scq_files.specs.Given.{given_in}
+use Rattle.scq_files.specs.Exports.{StopsAtFaults, AreOf, EndsSo, IsRead, most_parts, SourceOf, IsNew, given_in}
 use Rattle.scq_files.specs.declared.own_file.OwnFile.{OwnFile}
 use Rattle.scq_files.specs.declared.own_file.FileEnd.{FileEnd}
 use Rattle.scq_files.specs.declared.own_file.FileEnd.TheVariants.{Unread, Whole, Stopped}

@@ -4,12 +4,11 @@ use Rattle.std.specs.Prelude.{slice_index_or, ◌||◌}
 use Rattle.std.specs.Option.{option_or}
 use Rattle.std.proofs.lemmas.Bool.{cases_eq, or_parts}
 use Rattle.std.proofs.lemmas.List.{length-append, get_or_append_left, get_or_push}
-use Rattle.scq_outside.specs.Counts.{Rose}
+use Rattle.scq_outside.specs.Exports.{Rose}
 use Rattle.scq_frames.specs.declared.fault.FrameFault.{FrameFault}
 use Rattle.scq_frames.specs.declared.fault.FrameFault.TheVariants.{ReadFault, TooLong, TooLarge, NoMemory}
 use Rattle.scq_frames.proofs.FindingLemmas.{nothing_moved}
-use Rattle.scq_files.specs.Reading.{EndsSo, IsWhole, IsStopped, SourceOf}
-use Rattle.scq_files.specs.Ends.{EndsFed, HasMoved, ReadingStopsAt, end_fault, wanted_memory}
+use Rattle.scq_files.specs.Exports.{EndsSo, IsWhole, IsStopped, SourceOf, EndsFed, HasMoved, ReadingStopsAt, end_fault, wanted_memory}
 use Rattle.scq_files.specs.declared.own_file.FileEnd.{FileEnd}
 use Rattle.scq_files.specs.declared.own_file.FileEnd.TheVariants.{Unread, Whole, Stopped}
 

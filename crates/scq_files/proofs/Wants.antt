@@ -2,7 +2,7 @@
 use Rattle.std.proofs.Common.{◌≡◌, ◌∙◌, sym, ap, arith, Bool, false, List, [], ◌∷◌, ◌++◌, append_assoc}
 use Rattle.std.proofs.lemmas.List.{append-nil}
 use Rattle.scq_frames.specs.declared.message.Message.{Message}
-use Rattle.scq_files.specs.Handling.{WantsAtLast}
+use Rattle.scq_files.specs.Exports.{WantsAtLast}
 
 module _ {T H : Type 0} {wanted : H → Bool} {Handled : List Message → T → H → T → H → Type 0} where
   -- at none so far

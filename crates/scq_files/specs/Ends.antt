@@ -4,14 +4,13 @@ use Rattle.std.specs.Prelude.{◌≡◌, ◌⊎◌, ℕ, ◌+◌, ◌-◌, ◌%�
 use Rattle.std.specs.Prelude.{◌∷◌, ◌++◌, Option, Some, None, IfSome, option_and_then, length, map}
 use Rattle.std.specs.Prelude.{slice_index_or, All}
 use Rattle.std.specs.Option.{option_map}
-use Rattle.scq_outside.specs.Counts.{Rose}
+use Rattle.scq_outside.specs.Exports.{Rose}
 use Rattle.scq_topics.specs.declared.kind.Kind.{Kind}
-use Rattle.scq_topics.specs.Topics.{topic_of}
+use Rattle.scq_topics.specs.Exports.{topic_of}
 use Rattle.scq_frames.specs.declared.fault.FrameFault.{FrameFault}
 use Rattle.scq_frames.specs.declared.fault.FrameFault.TheVariants as frame
 use Rattle.scq_frames.specs.declared.message.Message.{Message}
-use Rattle.scq_frames.specs.Numbered.{numbered}
-use Rattle.scq_frames.specs.Text.{messages_of}
+use Rattle.scq_frames.specs.Exports.{numbered, messages_of}
 use Rattle.scq_files.specs.Files.{OfEachFile}
 use Rattle.scq_files.specs.Reading.{AreOf, EndsSo, IsWhole, IsStopped, SourceOf}
 use Rattle.scq_files.specs.declared.own_file.FileEnd.{FileEnd}

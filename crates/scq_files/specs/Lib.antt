@@ -5,3 +5,4 @@ pub mod Ends
 pub mod OwnFiles
 pub mod Desks
 pub mod Handling
+pub mod Exports

@@ -1,8 +1,7 @@
 //! Files are dealt to workers.
 ghost use Rattle.std.specs.Prelude.{◌≡◌, ◌<◌, ◌≤◌, [], length, vec_len, vec_capacity};
 ghost use Rattle.std.specs.List.{All};
-ghost use Rattle.scq_files.specs.Desks.{AreDealt, workers_at};
-ghost use Rattle.scq_files.specs.OwnFiles.{IsNew};
+ghost use Rattle.scq_files.specs.Exports.{AreDealt, workers_at, IsNew};
 
 use crate::desk::Desk;
 use crate::own_file::OwnFile;

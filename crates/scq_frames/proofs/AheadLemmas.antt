@@ -3,11 +3,9 @@ use Rattle.std.proofs.Common.{◌≡◌, ℕ, ◌+◌, ◌≤◌, Bool, Option, 
 use Rattle.std.specs.Prelude.{IsTrue, IfNone, IfSome, sum_by, if◌then◌else◌}
 use Rattle.std.specs.Option.{option_map, option_to_list}
 use Rattle.std.proofs.lemmas.List.{append-nil, map-append}
-use Rattle.scq_frames.specs.Numbered.{numbered}
-use Rattle.scq_frames.specs.Lines.{EndsAt, HasNoLineFeed}
-use Rattle.scq_frames.specs.Text.{message_in, messages_after, payload_of}
-use Rattle.scq_frames.specs.Answers.{GivesFirst}
-use Rattle.scq_frames.specs.Framing.{bytes_ahead, Framing, visible_ahead, weight_of}
+use Rattle.scq_frames.specs.Exports.{numbered, EndsAt, HasNoLineFeed, message_in, messages_after, payload_of, GivesFirst, bytes_ahead, visible_ahead}
+use Rattle.scq_frames.specs.Exports.{weight_of}
+use Rattle.scq_frames.specs.Framing.{Framing}
 use Rattle.scq_frames.specs.declared.message.Message.{Message}
 use Rattle.scq_frames.proofs.TextLemmas.{messages_after-ended, messages_after-last, messages_after-nil}
 

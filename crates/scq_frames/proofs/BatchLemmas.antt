@@ -11,10 +11,8 @@ use Rattle.std.proofs.lemmas.Option.{option_and_then_some}
 use Rattle.byteorder.specs.Endian.{big_bytes, big_number}
 use Rattle.scq_frames.specs.declared.message.Message.{Message}
 use Rattle.scq_frames.specs.declared.encoded.View.{View}
-use Rattle.scq_frames.specs.Parts.{Part, IsNumbered, parts_of as the_parts_of, part_of}
-use Rattle.scq_frames.specs.Encoded.{message_bytes, IsEncodable, number_at, part_at}
-use Rattle.scq_frames.specs.Views.{part_of_view}
-use Rattle.scq_frames.specs.Batches.{batch_bytes, bytes_behind, parts_within, parts_at, AreParts}
+use Rattle.scq_frames.specs.Exports.{Part, IsNumbered, parts_of as the_parts_of, part_of, message_bytes, IsEncodable, number_at, part_at}
+use Rattle.scq_frames.specs.Exports.{part_of_view, batch_bytes, bytes_behind, parts_within, parts_at, AreParts}
 use Rattle.scq_frames.proofs.EncodedLemmas.{chosen, passed, number_at-again, part_at-again}
 
 -- a number that was read took four bytes

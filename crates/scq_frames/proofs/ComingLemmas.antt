@@ -9,12 +9,9 @@ use Rattle.std.proofs.lemmas.List.{append-nil, append_assoc, nil_from_length, le
 use Rattle.scq_frames.specs.declared.message.Message.{Message}
 use Rattle.scq_frames.specs.declared.fault.FrameFault.{FrameFault}
 use Rattle.scq_frames.specs.declared.fault.FrameFault.TheVariants.{ReadFault, TooLong, TooLarge, NoMemory}
-use Rattle.scq_frames.specs.Lines.{EndsAt, HasNoLineFeed}
-use Rattle.scq_frames.specs.Text.{Framed, message_in, messages_after}
-use Rattle.scq_frames.specs.Trouble.{counted_bytes, whole_lines}
-use Rattle.scq_frames.specs.Framing.{Framing, Fetched}
-use Rattle.scq_frames.specs.Finding.{limit_left, MayFollow, Finds, IsTooLong}
-use Rattle.scq_frames.specs.Coming.{counted_ahead, BeginsWithLong, Comes, IsNeeded, Found}
+use Rattle.scq_frames.specs.Exports.{EndsAt, HasNoLineFeed, Framed, message_in, messages_after, counted_bytes, whole_lines, Fetched, limit_left}
+use Rattle.scq_frames.specs.Exports.{MayFollow, Finds, IsTooLong, counted_ahead, BeginsWithLong, Comes, IsNeeded, Found}
+use Rattle.scq_frames.specs.Framing.{Framing}
 use Rattle.scq_frames.proofs.TextLemmas.{ended_parts, line-clear, messages_after-line, messages_after-last, messages_after-nil}
 use Rattle.scq_frames.proofs.TroubleLemmas.{counted-line, counted-failed, counted-many}
 use Rattle.scq_frames.proofs.CutLemmas.{bare, none_of_bare}

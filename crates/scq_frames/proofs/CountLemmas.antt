@@ -8,14 +8,11 @@ use Rattle.std.proofs.Math.Seq.{take-append-add}
 use Rattle.std.proofs.lemmas.Bool.{true≢false, cases_lt}
 use Rattle.std.proofs.lemmas.List.{append-nil, append_assoc, length-take-le, get_or-append-add, get_or-append_right}
 use Rattle.std.proofs.lemmas.List.Sums.{fails_before_first, passes_at_first, position_or_len_is}
-use Rattle.scq_topics.specs.Runs.{is_space}
+use Rattle.scq_topics.specs.Exports.{is_space}
 use Rattle.scq_frames.specs.declared.fault.FrameFault.{FrameFault}
 use Rattle.scq_frames.specs.declared.fault.FrameFault.TheVariants.{ReadFault, TooLong, TooLarge, NoMemory}
-use Rattle.scq_frames.specs.Lines.{EndsAt, HasNoLineFeed}
-use Rattle.scq_frames.specs.Text.{payload_of}
-use Rattle.scq_frames.specs.Framing.{Fetched, Framing, visible_size}
-use Rattle.scq_frames.specs.Finding.{Finds, IsTooLong}
-use Rattle.scq_frames.specs.Coming.{Comes, Found}
+use Rattle.scq_frames.specs.Exports.{EndsAt, HasNoLineFeed, payload_of, Fetched, visible_size, Finds, IsTooLong, Comes, Found}
+use Rattle.scq_frames.specs.Framing.{Framing}
 use Rattle.scq_frames.proofs.TrimLemmas.{holding}
 use Rattle.scq_frames.proofs.FindingLemmas.{Gave, Gave-start, moved-moved, trouble-fetched, Finds-long, Finds-long_last, Finds-read_err}
 use Rattle.scq_frames.proofs.ComingLemmas.{Quiet, Quiet-start, Quiet-fetched, needed-fetched, Comes-long, Comes-long_last, Comes-read_err, Found-err}

@@ -6,9 +6,8 @@ use Rattle.std.proofs.Math.Seq.{take-append-add}
 use Rattle.std.proofs.lemmas.Bool.{true≢false, cond-true, eqb-true, eq-eqb}
 use Rattle.std.proofs.lemmas.List.{append_assoc, map-append}
 use Rattle.std.proofs.lemmas.List.Elements.{All-append, All-head, All-tail, All-nil, All-cons}
-use Rattle.scq_topics.specs.Runs.{is_space}
-use Rattle.scq_frames.specs.Lines.{HasNoLineFeed}
-use Rattle.scq_frames.specs.Text.{Framed, framed, payload_of, message_in, messages_after, is_line_feed}
+use Rattle.scq_topics.specs.Exports.{is_space}
+use Rattle.scq_frames.specs.Exports.{HasNoLineFeed, Framed, framed, payload_of, message_in, messages_after, is_line_feed}
 use Rattle.scq_frames.proofs.TextLemmas.{messages_after-line, messages_after-last}
 
 -- a message as one sees it who reads no topics

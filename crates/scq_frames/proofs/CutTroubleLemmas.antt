@@ -7,8 +7,9 @@ use Rattle.std.specs.Option.{option_or}
 use Rattle.std.proofs.Math.Seq.{take-append-add}
 use Rattle.std.proofs.lemmas.Bool.{cases_lt, lt-ltb, le-ltb}
 use Rattle.std.proofs.lemmas.List.Elements.{All-head, All-tail}
-use Rattle.scq_frames.specs.Text.{Framed, messages_after, is_line_feed}
-use Rattle.scq_frames.specs.Trouble.{Trouble, LongPayload, ManyBytes, whole_lines, counted_bytes, first_too_long, trouble_after}
+use Rattle.scq_frames.specs.Exports.{Framed, messages_after, is_line_feed, LongPayload, ManyBytes, whole_lines, counted_bytes, first_too_long}
+use Rattle.scq_frames.specs.Exports.{trouble_after}
+use Rattle.scq_frames.specs.Trouble.{Trouble}
 use Rattle.scq_frames.proofs.CutLemmas.{bare, bare-overlooks, Overlooks, IsTopic, messages-cut}
 
 list_any-front : (a rest : List ℕ) → All (λ b. is_line_feed b ≡ false) a → list_any is_line_feed (a ++ rest) ≡ list_any is_line_feed rest

@@ -8,8 +8,7 @@ use Rattle.std.proofs.lemmas.Nat.{be_bytes_4}
 use Rattle.std.proofs.lemmas.Option.{option_and_then_some}
 use Rattle.byteorder.specs.Endian.{big_bytes, big_number}
 use Rattle.byteorder.specs.Numbers.{big_number-reads_back}
-use Rattle.scq_frames.specs.Parts.{Part, IsNumbered}
-use Rattle.scq_frames.specs.Encoded.{message_bytes, IsEncodable, BeginsWith, number_at, part_at}
+use Rattle.scq_frames.specs.Exports.{Part, IsNumbered, message_bytes, IsEncodable, BeginsWith, number_at, part_at}
 
 -- each element is a byte
 abbrev pub AreBytes : List ℕ → Type 0

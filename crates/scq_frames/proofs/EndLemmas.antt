@@ -2,10 +2,10 @@
 use Rattle.std.proofs.Common.{◌≡◌, ◌≤◌, ℕ, Bool, true, false, refl, sym, ◌∙◌, subst}
 use Rattle.std.specs.Prelude.{IsTrue}
 use Rattle.std.proofs.lemmas.Bool.{true≢false}
-use Rattle.scq_outside.specs.Counts.{Rose}
+use Rattle.scq_outside.specs.Exports.{Rose}
 use Rattle.scq_outside.specs.declared.source.Source.{Ghosts as SourceOf}
-use Rattle.scq_frames.specs.Answers.{ReadsFrom}
-use Rattle.scq_frames.specs.Framing.{EndsOnce, Framing, visible_size}
+use Rattle.scq_frames.specs.Exports.{ReadsFrom, EndsOnce, visible_size}
+use Rattle.scq_frames.specs.Framing.{Framing}
 
 -- nothing was read
 pub ends-start : (was : Bool) (n : ℕ) → EndsOnce was was n n

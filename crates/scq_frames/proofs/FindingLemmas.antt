@@ -8,12 +8,10 @@ use Rattle.std.proofs.lemmas.List.{append-nil, append_assoc, nil_from_length, le
 use Rattle.scq_frames.specs.declared.message.Message.{Message}
 use Rattle.scq_frames.specs.declared.fault.FrameFault.{FrameFault}
 use Rattle.scq_frames.specs.declared.fault.FrameFault.TheVariants.{ReadFault, TooLong, TooLarge, NoMemory}
-use Rattle.scq_frames.specs.Lines.{EndsAt, HasNoLineFeed}
-use Rattle.scq_frames.specs.Text.{payload_of, message_in}
-use Rattle.scq_frames.specs.Trouble.{Trouble, LongPayload, trouble_after, first_too_long}
-use Rattle.scq_frames.specs.Framing.{Framing, Fetched}
-use Rattle.scq_frames.specs.Finding.{limit_left, trouble_ahead, MayFollow, SameTrouble, Finds, IsTooLong}
-use Rattle.scq_frames.specs.Coming.{Found}
+use Rattle.scq_frames.specs.Exports.{EndsAt, HasNoLineFeed, payload_of, message_in, LongPayload, trouble_after, first_too_long, Fetched, limit_left}
+use Rattle.scq_frames.specs.Exports.{trouble_ahead, MayFollow, SameTrouble, Finds, IsTooLong, Found}
+use Rattle.scq_frames.specs.Trouble.{Trouble}
+use Rattle.scq_frames.specs.Framing.{Framing}
 use Rattle.scq_frames.proofs.AheadLemmas.{option_map-nothing}
 use Rattle.scq_frames.proofs.TextLemmas.{ended_parts, line-clear}
 use Rattle.scq_frames.proofs.TroubleLemmas.{trouble_after-line, trouble_after-last, trouble_after-failed, trouble_after-many, first_too_long-fits, first_too_long-long}

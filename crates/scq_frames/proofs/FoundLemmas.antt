@@ -3,15 +3,12 @@ use Rattle.std.proofs.Common.{◌≡◌, ◌≢◌, ℕ, ◌+◌, ◌≤◌, Boo
 use Rattle.std.specs.Prelude.{IsTrue, sum_by}
 use Rattle.std.proofs.lemmas.Bool.{true≢false}
 use Rattle.std.proofs.lemmas.List.{append_assoc}
-use Rattle.scq_frames.specs.Lines.{HasNoLineFeed}
+use Rattle.scq_frames.specs.Exports.{HasNoLineFeed, MayFollow, Finds, payload_of, weight_of, Comes, Found, counted_ahead}
 use Rattle.scq_frames.specs.declared.fault.FrameFault.{FrameFault}
 use Rattle.scq_frames.specs.declared.fault.FrameFault.TheVariants.{ReadFault, TooLong, TooLarge, NoMemory}
-use Rattle.scq_frames.specs.Finding.{MayFollow, Finds}
 use Rattle.scq_frames.proofs.CutLemmas.{bare}
 use Rattle.std.specs.Option.{option_to_list}
-use Rattle.scq_frames.specs.Text.{payload_of}
-use Rattle.scq_frames.specs.Framing.{Framing, weight_of}
-use Rattle.scq_frames.specs.Coming.{Comes, Found, counted_ahead}
+use Rattle.scq_frames.specs.Framing.{Framing}
 use Rattle.scq_frames.specs.declared.message.Message.{Message}
 use Rattle.scq_frames.proofs.AheadLemmas.{Passed, PassedLast, no_line}
 use Rattle.scq_frames.proofs.FindingLemmas.{Gave, moved-moved, trouble-line, Finds-none, Finds-last}

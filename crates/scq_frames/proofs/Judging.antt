@@ -4,16 +4,14 @@ use Rattle.std.specs.Prelude.{IsTrue, nat_lt, if◌then◌else◌}
 use Rattle.std.specs.Option.{option_map, option_or}
 use Rattle.std.proofs.lemmas.List.{take-append-le, append-nil, append_assoc}
 use Rattle.std.proofs.lemmas.Bool.{lt-ltb, cond-true}
-use Rattle.scq_frames.specs.Trouble.{LongPayload, ManyBytes, counted_bytes, trouble_after, whole_lines, first_too_long}
-use Rattle.scq_frames.specs.Text.{Framed, messages_after}
+use Rattle.scq_frames.specs.Exports.{LongPayload, ManyBytes, counted_bytes, trouble_after, whole_lines, first_too_long, Framed, messages_after}
+use Rattle.scq_frames.specs.Exports.{NothingLeft, fresh, limit_left, trouble_ahead, Found, BeginsWithLong, counted_ahead, file_trouble}
 use Rattle.scq_frames.specs.declared.message.Message.{Message}
 use Rattle.scq_frames.specs.declared.fault.FrameFault.{FrameFault}
 use Rattle.scq_frames.specs.declared.fault.FrameFault.TheVariants.{ReadFault, TooLong, TooLarge, NoMemory}
-use Rattle.scq_frames.specs.Framing.{Framing, NothingLeft, fresh}
-use Rattle.scq_frames.specs.Finding.{limit_left, trouble_ahead}
-use Rattle.scq_frames.specs.Coming.{Found, BeginsWithLong, counted_ahead}
+use Rattle.scq_frames.specs.Framing.{Framing}
 use Rattle.scq_frames.proofs.FindingLemmas.{Gave, FoundSince, moved-moved}
-use Rattle.scq_frames.specs.Judged.{file_trouble, Judged}
+use Rattle.scq_frames.specs.Judged.{Judged}
 
 -- past the limit nothing matters
 counted-more : (most : ℕ) (failed : Bool) (text more : List ℕ) → most < length text → counted_bytes most failed (text ++ more) ≡ whole_lines (take most text)

@@ -3,10 +3,10 @@ use Rattle.std.proofs.Common.{◌≡◌, ℕ, ◌<◌, ◌≤◌, Bool, true, fa
 use Rattle.std.specs.Prelude.{nat_eq}
 use Rattle.std.specs.Str.{bytes_eq}
 use Rattle.std.proofs.lemmas.List.Sums.{position_or_len_is}
-use Rattle.scq_topics.specs.Topics.{HaveShortNames, has_name, topic_of}
+use Rattle.scq_topics.specs.Exports.{HaveShortNames, has_name, topic_of}
 use Rattle.scq_topics.specs.declared.kind.Kind.{Kind}
 use Rattle.scq_topics.specs.declared.kind.Kind.TheVariants.{Len}
-use Rattle.scq_frames.specs.Numbered.{numbered}
+use Rattle.scq_frames.specs.Exports.{numbered}
 use Rattle.scq_frames.proofs.CutLemmas.{Overlooks}
 
 shorter-differs : (a b : List ℕ) → length a < length b → bytes_eq a b ≡ false

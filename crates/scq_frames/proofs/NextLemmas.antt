@@ -3,16 +3,13 @@ use Rattle.std.proofs.Common.{◌≡◌, ℕ, ◌+◌, ◌≤◌, true, false, O
 use Rattle.std.specs.Prelude.{IsTrue, sum_by}
 use Rattle.std.specs.Option.{option_map, option_to_list}
 use Rattle.std.proofs.lemmas.Bool.{true≢false}
-use Rattle.scq_frames.specs.Lines.{HasNoLineFeed}
-use Rattle.scq_frames.specs.Text.{message_in}
+use Rattle.scq_frames.specs.Exports.{HasNoLineFeed, message_in, numbered, IsTrimmed, Fetched, NothingLeft, visible_ahead, visible_size, weight_of}
 use Rattle.scq_frames.proofs.AheadLemmas.{Passed, gives-line, no_line, option_map-nothing}
 use Rattle.scq_frames.proofs.FindingLemmas.{Gave, Gave-start, trouble-line, trouble-fetched, moved-moved}
 use Rattle.scq_frames.proofs.ComingLemmas.{Quiet, Quiet-start, Quiet-line, Quiet-fetched}
-use Rattle.scq_frames.specs.Numbered.{numbered}
-use Rattle.scq_frames.specs.Trimming.{IsTrimmed}
 use Rattle.scq_frames.proofs.CutLemmas.{Overlooks}
 use Rattle.scq_frames.proofs.TrimLemmas.{length-trimmed, visible_ahead-trimmed, trouble_ahead-trimmed, counted_ahead-trimmed}
-use Rattle.scq_frames.specs.Framing.{Fetched, Framing, NothingLeft, visible_ahead, visible_size, weight_of}
+use Rattle.scq_frames.specs.Framing.{Framing}
 use Rattle.scq_frames.specs.declared.message.Message.{Message}
 
 module _ (number : List ℕ → ℕ) where

@@ -6,7 +6,7 @@ use Rattle.std.proofs.Math.Seq.{take-add}
 use Rattle.std.proofs.lemmas.Bool.{cases_lt, eqb-true, eq-eqb}
 use Rattle.std.proofs.lemmas.Grind.{common_steps}
 use Rattle.memchr.specs.Find.{IsFirstByte, is_byte}
-use Rattle.scq_frames.specs.Lines.{HasNoLineFeed, EndsAt}
+use Rattle.scq_frames.specs.Exports.{HasNoLineFeed, EndsAt}
 
 module _ (xs : List ℕ) (a b : ℕ) where
   pub get_or-part : (k : ℕ) → a + k < b → get_or (slice_range xs a b) k 0 ≡ get_or xs (a + k) 0

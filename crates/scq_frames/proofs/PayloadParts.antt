@@ -6,7 +6,7 @@ use Rattle.std.proofs.Math.Nat.{add-mul, mul-le-mul_right}
 use Rattle.std.proofs.lemmas.Bool.{cases_lt}
 use Rattle.std.proofs.lemmas.Nat.{mul-le}
 use Rattle.std.proofs.lemmas.Grind.{div_ceil_times}
-use Rattle.scq_frames.specs.Parts.{parts_of}
+use Rattle.scq_frames.specs.Exports.{parts_of}
 
 -- a payload has no more parts than bytes, but for an empty one
 pub few-parts : (size : ℕ) (payload : List ℕ) → 0 < size → parts_of size payload ≤ max 1 (length payload)

@@ -1,9 +1,8 @@
 -- Rows of the definitions, worked out by hand.
 use Rattle.std.proofs.Common.{◌≡◌, refl, Some, None, true, false, [], ◌∷◌}
 use Rattle.std.specs.Prelude.{codes}
-use Rattle.scq_frames.specs.Text.{messages_of, messages_after}
-use Rattle.scq_frames.specs.Parts.{parts_of, part_bytes}
-use Rattle.scq_frames.specs.Trouble.{trouble_of, trouble_after, counted_bytes, LongPayload, ManyBytes}
+use Rattle.scq_frames.specs.Exports.{messages_of, messages_after, parts_of, part_bytes, trouble_of, trouble_after, counted_bytes, LongPayload}
+use Rattle.scq_frames.specs.Exports.{ManyBytes}
 
 row-empty : messages_of [] ≡ []
 unfolding messages_after

@@ -3,9 +3,8 @@ use Rattle.std.proofs.Common.{◌≡◌, ◌⊎◌, inl, inr, ℕ, ◌+◌, ◌�
 use Rattle.std.specs.Prelude.{IsTrue, IfErr, IfNone, IfSome, OnOk, is_err, sum_by}
 use Rattle.std.specs.Option.{option_map}
 use Rattle.scq_outside.specs.declared.source.Source.{Ghosts as SourceOf}
-use Rattle.scq_frames.specs.Answers.{GoesOn, HasFault, ReadsFrom}
-use Rattle.scq_frames.specs.Finding.{IsTooLong}
-use Rattle.scq_frames.specs.Framing.{EndsOnce, Framing, given_by, weight_of}
+use Rattle.scq_frames.specs.Exports.{GoesOn, HasFault, ReadsFrom, IsTooLong, EndsOnce, given_by, weight_of}
+use Rattle.scq_frames.specs.Framing.{Framing}
 use Rattle.scq_frames.specs.declared.message.Message.{Message}
 use Rattle.scq_frames.specs.declared.fault.FrameFault.{FrameFault}
 use Rattle.scq_frames.specs.declared.fault.FrameFault.TheVariants.{ReadFault, TooLong, TooLarge, NoMemory}

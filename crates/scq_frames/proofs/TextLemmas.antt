@@ -10,9 +10,8 @@ use Rattle.std.proofs.Math.ListN.{drop_of_length-le}
 use Rattle.std.proofs.Math.Seq.{take-length}
 use Rattle.std.proofs.lemmas.Grind.{get_or_default_zero}
 use Rattle.memchr.specs.Find.{IsFirstByte, is_byte}
-use Rattle.scq_frames.specs.Lines.{EndsAt, HasNoLineFeed}
-use Rattle.scq_frames.specs.Text.{payload_of, message_in, messages_from, messages_after, lines_of_parts, is_line_feed}
-use Rattle.scq_topics.specs.Runs.{is_space}
+use Rattle.scq_frames.specs.Exports.{EndsAt, HasNoLineFeed, payload_of, message_in, messages_from, messages_after, lines_of_parts, is_line_feed}
+use Rattle.scq_topics.specs.Exports.{is_space}
 
 -- a search for the first space finds where the topic ends
 space-some : (line : List ℕ) (n : ℕ) → IsFirstByte (is_byte 32) line (Some n) → position_or_len is_space line ≡ n

@@ -6,15 +6,10 @@ use Rattle.std.proofs.lemmas.List.{append_assoc, take-append-drop, length-take-l
 use Rattle.std.proofs.lemmas.List.Sums.{fails_before_first, passes_at_first, prefix_len-drop_all, prefix_len-drop_no, prefix_len-le-length}
 use Rattle.std.proofs.lemmas.List.Elements.{All-append, All-take, All-drop}
 use Rattle.std.proofs.Math.Seq.{take-add}
-use Rattle.scq_topics.specs.Runs.{is_space}
-use Rattle.scq_frames.specs.Numbered.{numbered}
-use Rattle.scq_frames.specs.Lines.{HasNoLineFeed}
-use Rattle.scq_frames.specs.Text.{Framed, messages_after, is_line_feed}
-use Rattle.scq_frames.specs.Trouble.{counted_bytes, trouble_after}
-use Rattle.scq_frames.specs.Framing.{Framing, visible_ahead}
-use Rattle.scq_frames.specs.Finding.{limit_left, trouble_ahead}
-use Rattle.scq_frames.specs.Coming.{counted_ahead}
-use Rattle.scq_frames.specs.Trimming.{IsCut, IsTrimmed}
+use Rattle.scq_topics.specs.Exports.{is_space}
+use Rattle.scq_frames.specs.Exports.{numbered, HasNoLineFeed, Framed, messages_after, is_line_feed, counted_bytes, trouble_after, visible_ahead}
+use Rattle.scq_frames.specs.Exports.{limit_left, trouble_ahead, counted_ahead, IsCut, IsTrimmed}
+use Rattle.scq_frames.specs.Framing.{Framing}
 use Rattle.std.proofs.lemmas.Bool.{cases_lt}
 use Rattle.scq_frames.proofs.TextLemmas.{no_line_feed}
 use Rattle.scq_frames.proofs.TroubleLemmas.{all_clear}

@@ -7,10 +7,10 @@ use Rattle.std.proofs.Math.Seq.{take-append-add, take-length}
 use Rattle.std.proofs.lemmas.List.{get_or-append-add, get_or-take, length-take, take_all}
 use Rattle.std.proofs.lemmas.List.Folds.{list_any_at, list_any_none}
 use Rattle.std.proofs.lemmas.Bool.{cases_lt, cond-true, cond-false, lt-ltb, le-ltb}
-use Rattle.scq_frames.specs.Lines.{HasNoLineFeed}
-use Rattle.scq_frames.specs.Text.{Framed, message_in, messages_after, is_line_feed}
-use Rattle.scq_topics.specs.Runs.{is_space}
-use Rattle.scq_frames.specs.Trouble.{Trouble, LongPayload, ManyBytes, whole_lines, counted_bytes, first_too_long, trouble_after}
+use Rattle.scq_frames.specs.Exports.{HasNoLineFeed, Framed, message_in, messages_after, is_line_feed, LongPayload, ManyBytes, whole_lines}
+use Rattle.scq_frames.specs.Exports.{counted_bytes, first_too_long, trouble_after}
+use Rattle.scq_topics.specs.Exports.{is_space}
+use Rattle.scq_frames.specs.Trouble.{Trouble}
 use Rattle.scq_frames.proofs.TextLemmas.{messages_after-line, messages_after-last, messages_after-nil, no_line_feed}
 
 any-line_feed : (line rest : List ℕ) → list_any is_line_feed (line ++ 10 ∷ rest) ≡ true

@@ -2,7 +2,7 @@
 use Rattle.std.specs.Prelude.{◌≡◌, ℕ, ◌+◌, ◌<◌, ◌≤◌, IsTrue, false, List, [], ◌++◌, length}
 use Rattle.std.specs.Prelude.{Option, None, IfNone, Result, Ok, OnOk, is_err, sum_by}
 use Rattle.std.specs.Option.{option_map, option_to_list}
-use Rattle.scq_outside.specs.Counts.{RoseWhere}
+use Rattle.scq_outside.specs.Exports.{RoseWhere}
 use Rattle.scq_outside.specs.declared.source.Source.{Ghosts as SourceOf}
 use Rattle.scq_frames.specs.declared.message.Message.{Message}
 use Rattle.scq_frames.specs.declared.fault.FrameFault.{FrameFault}

@@ -2,7 +2,7 @@
 use Rattle.std.specs.Prelude.{◌≡◌, ℕ, ◌+◌, ◌-◌, ◌*◌, ◌<◌, ◌≤◌, Bool, false, IsTrue, IfSome, List}
 use Rattle.std.specs.Prelude.{[], ◌++◌, Option, Result, Ok, Err, length, map, max, if◌then◌else◌}
 use Rattle.std.specs.Option.{option_map, option_to_list}
-use Rattle.scq_outside.specs.Counts.{Rose}
+use Rattle.scq_outside.specs.Exports.{Rose}
 use Rattle.scq_frames.specs.declared.message.Message.{Message}
 use Rattle.scq_frames.specs.declared.fault.FrameFault.{FrameFault}
 use Rattle.scq_frames.specs.Text.{messages_after}

@@ -15,3 +15,4 @@ pub mod Encoded
 pub mod Batches
 pub mod Views
 pub mod Judged
+pub mod Exports

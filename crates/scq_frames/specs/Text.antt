@@ -2,7 +2,7 @@
 -- declared topic and no way of reading.
 use Rattle.std.specs.Prelude.{ℕ, ◌+◌, Bool, ◌==◌, List, [], ◌∷◌, ◌++◌}
 use Rattle.std.specs.List.{slice_split, before_first, after_first}
-use Rattle.scq_topics.specs.Runs.{is_space}
+use Rattle.scq_topics.specs.Exports.{is_space}
 
 -- a byte ends a line where it is LF
 abbrev pub is_line_feed : ℕ → Bool

@@ -1,7 +1,7 @@
 -- How a line's topic is cut while the line comes in.
 use Rattle.std.specs.Prelude.{◌≡◌, ◌⊎◌, ℕ, ◌≤◌, List, ◌++◌, length, take, drop}
 use Rattle.std.specs.List.{before_first}
-use Rattle.scq_topics.specs.Runs.{is_space}
+use Rattle.scq_topics.specs.Exports.{is_space}
 
 -- of a line's topic the first bytes stayed, this many, and bytes behind them are gone
 pub record IsCut (most : ℕ) (old new : List ℕ) : Type 0 where

@@ -2,11 +2,8 @@ ghost use Rattle.std.specs.Prelude.{◌≡◌, ◌⊎◌, ℕ, ◌≤◌, length
 ghost use Rattle.std.specs.Prelude.{IsErrOf};
 ghost use Rattle.std.specs.Option.{option_to_list};
 ghost use Rattle.std.specs.List.{before_first};
-ghost use Rattle.scq_topics.specs.Runs.{is_space};
-ghost use Rattle.scq_topics.specs.Topics.{topic_of};
-ghost use Rattle.scq_frames.specs.Text.{message_in, payload_of};
-ghost use Rattle.scq_frames.specs.Numbered.{numbered};
-ghost use Rattle.scq_frames.specs.Finding.{IsTooLong};
+ghost use Rattle.scq_topics.specs.Exports.{is_space, topic_of};
+ghost use Rattle.scq_frames.specs.Exports.{message_in, payload_of, numbered, IsTooLong};
 
 use crate::{FrameFault, Message};
 use memchr::memchr;

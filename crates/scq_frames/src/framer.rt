@@ -2,7 +2,7 @@ ghost use Rattle.std.specs.Prelude.{◌≡◌, ◌≢◌, ◌⊎◌, ℕ, List, 
 ghost use Rattle.std.specs.Prelude.{drop, false, map, IsTrue, Err, IfOk, IfErr, IfSome, IfNone};
 ghost use Rattle.std.specs.Prelude.{OnOk, OnErr, IsErrOf, sum_by};
 ghost use Rattle.std.specs.Option.{option_to_list};
-ghost use Rattle.scq_topics.specs.Topics.{HaveShortNames, topic_of};
+ghost use Rattle.scq_topics.specs.Exports.{HaveShortNames, topic_of};
 ghost use Rattle.scq_frames.specs.Numbered.{numbered};
 ghost use Rattle.scq_frames.specs.Text.{message_in, payload_of};
 ghost use Rattle.scq_frames.specs.Finding.{IsTooLong};

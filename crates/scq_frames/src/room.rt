@@ -1,8 +1,8 @@
 //! The room in which a window's bytes stand: how more of it is made, and how it is read into.
 ghost use Rattle.std.specs.Prelude.{◌≡◌, ◌⊎◌, ◌+◌, ◌-◌, ◌*◌, ◌<◌, ◌≤◌, drop, slice_range, vec_len};
 ghost use Rattle.std.specs.Prelude.{Ok, IfOk, OnOk, OnErr, IsErr};
-ghost use Rattle.scq_outside.specs.Counts.{RoseWhere};
-ghost use Rattle.scq_frames.specs.Room.{CameTo, IsSameBefore};
+ghost use Rattle.scq_outside.specs.Exports.{RoseWhere};
+ghost use Rattle.scq_frames.specs.Exports.{CameTo, IsSameBefore};
 
 use scq_outside::{Failed, Source};
 use scq_word::NoMemory;

@@ -1,8 +1,8 @@
 ghost use Rattle.std.specs.Prelude.{◌≡◌, ◌⊎◌, ◌+◌, ◌-◌, ◌<◌, ◌≤◌, ◌++◌, [], length, take, drop};
 ghost use Rattle.std.specs.Prelude.{Ok, IfOk, IfErr, IfSome, IfNone, OnErr, IsErrOf};
 ghost use Rattle.std.specs.List.{before_first};
-ghost use Rattle.scq_outside.specs.Counts.{RoseWhere};
-ghost use Rattle.scq_topics.specs.Runs.{is_space};
+ghost use Rattle.scq_outside.specs.Exports.{RoseWhere};
+ghost use Rattle.scq_topics.specs.Exports.{is_space};
 ghost use Rattle.scq_frames.specs.Lines.{EndsAt, HasNoLineFeed};
 ghost use Rattle.scq_frames.specs.Trimming.{IsTrimmed};
 ghost use Rattle.scq_frames.specs.Framing.{Reads};

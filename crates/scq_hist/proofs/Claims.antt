@@ -3,11 +3,8 @@
 use Rattle.std.proofs.Common.{Bool, IsTrue, ◌↔◌, ◌≡◌, ℕ, zero, suc, ◌<◌, ◌≤◌, ◌⊎◌, inl, inr, List, Option, Some, None, slice_get, length, sym, ap, subst, arith}
 use Rattle.std.proofs.lemmas.Bool.{cases_lt, cases_eq}
 use Rattle.std.proofs.lemmas.Option.{slice_get_within}
-use Rattle.scq_hist.specs.Calls.{Names, IsGot, IsGetOf, IsPending, IsFinishedAt}
-use Rattle.scq_hist.specs.Aspects.{IsLawful, IsLawfulAt, IsAnswer, AllClaimed}
-use Rattle.scq_hist.specs.Counts.{IsCount}
-use Rattle.scq_hist.specs.Lookups.{IsFirstNamed, call_start}
-use Rattle.scq_hist.specs.Tallies.{HasLateGet, IsTally}
+use Rattle.scq_hist.specs.Exports.{Names, IsGot, IsGetOf, IsPending, IsFinishedAt, IsLawful, IsLawfulAt, IsAnswer, AllClaimed, IsCount, IsFirstNamed}
+use Rattle.scq_hist.specs.Exports.{call_start, HasLateGet, IsTally}
 use Rattle.scq_hist.specs.declared.events.Event.{Event}
 use Rattle.scq_hist.specs.declared.events.Event.TheVariants.{Start, End}
 use Rattle.scq_hist.specs.declared.events.PutName.{PutName}

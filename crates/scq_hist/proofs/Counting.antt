@@ -1,7 +1,7 @@
 -- Counts, and that a count is at most another exactly where there is a one-to-one map. Plan: a map sends a list of different
 -- members into the other list, and each that is sent takes one position away; back, members at one position of the two lists are partners
 use Rattle.std.proofs.Common.{◌≡◌, ℕ, suc, ◌+◌, ◌-◌, ◌≤◌, ◌⊎◌, inl, inr, List, [], ◌∷◌, length, refl, sym, ap, ◌∙◌, subst, arith}
-use Rattle.scq_hist.specs.Counts.{AtMostAsMany, StandsIn, Distinct, IsCount}
+use Rattle.scq_hist.specs.Exports.{AtMostAsMany, StandsIn, Distinct, IsCount}
 
 pub count_none : {X : Type 0} (A : X → Type 0) → ((x : X) → A x → ⊥) → IsCount A 0
 count_none {X} A empty = record { members = []; many = refl; sound = λ x h. absurd h; complete = λ x h. absurd (empty x h); distinct = tt }

@@ -3,9 +3,8 @@ use Rattle.std.proofs.Common.{◌≡◌, ℕ, ◌<◌, ◌↔◌, true, false, e
 use Rattle.std.specs.Option.{option_eq}
 use Rattle.std.proofs.lemmas.Bool.Decides.{nat_tests}
 use Rattle.std.proofs.lemmas.Option.{slice_get_read}
-use Rattle.scq_hist.specs.Calls.{under_way, Names, IsGot, IsGetOf}
-use Rattle.scq_hist.specs.Aspects.{IsLawful, IsLawfulAt, IsOnceAt, IsAnswer, SuitsCall}
-use Rattle.scq_hist.specs.Lookups.{got_name, call_start, IsFirstNamed, EndsNoGet}
+use Rattle.scq_hist.specs.Exports.{under_way, Names, IsGot, IsGetOf, IsLawful, IsLawfulAt, IsOnceAt, IsAnswer, SuitsCall, got_name, call_start}
+use Rattle.scq_hist.specs.Exports.{IsFirstNamed, EndsNoGet}
 use Rattle.scq_hist.specs.declared.events.Call.{Call}
 use Rattle.scq_hist.specs.declared.events.Call.TheVariants.{Put, Get}
 use Rattle.scq_hist.specs.declared.events.Event.{Event}

@@ -1,9 +1,8 @@
 -- In order at one get. A get that ends at a position has got one put, which starts at one position, so what is decided for these
 -- two positions is decided for all
 use Rattle.std.proofs.Common.{Bool, ◌≡◌, ℕ, ◌↔◌, List, IsTrue, subst}
-use Rattle.scq_hist.specs.Calls.{IsPut, IsFinishedAt, IsGetOf}
-use Rattle.scq_hist.specs.Aspects.{AllClaimed, Precedes, IsInOrderAt, IsRightWithin, IsEmptyRightAt}
-use Rattle.scq_hist.specs.Tallies.{IsPutGotAt, NoPutGotAt, IsEmptyAt}
+use Rattle.scq_hist.specs.Exports.{IsPut, IsFinishedAt, IsGetOf, AllClaimed, Precedes, IsInOrderAt, IsRightWithin, IsEmptyRightAt, IsPutGotAt}
+use Rattle.scq_hist.specs.Exports.{NoPutGotAt, IsEmptyAt}
 use Rattle.scq_hist.specs.declared.events.Call.TheVariants.{Get}
 use Rattle.scq_hist.specs.declared.events.Event.{Event}
 use Rattle.scq_hist.specs.declared.events.PutName.TheVariants.{Of}

@@ -3,9 +3,7 @@
 -- direction a put that precedes b is overtaken exactly where it isn't got, once all are claimed
 use Rattle.std.proofs.Common.{ℕ, ◌≤◌, inl, inr, List, arith}
 use Rattle.std.proofs.lemmas.Bool.{cases_lt}
-use Rattle.scq_hist.specs.Calls.{IsGot, IsGetOf, IsGotBefore, IsPending}
-use Rattle.scq_hist.specs.Aspects.{IsLawful, AllClaimed, Precedes}
-use Rattle.scq_hist.specs.Counts.{AtMostAsMany}
+use Rattle.scq_hist.specs.Exports.{IsGot, IsGetOf, IsGotBefore, IsPending, IsLawful, AllClaimed, Precedes, AtMostAsMany}
 use Rattle.scq_hist.specs.declared.events.Event.{Event}
 use Rattle.scq_hist.specs.declared.events.PutName.{PutName}
 use Rattle.scq_hist.proofs.Claims.{decide_get}

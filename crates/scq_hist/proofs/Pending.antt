@@ -1,8 +1,7 @@
 -- Gets that are under way at the end of the list, counted by their Starts
 use Rattle.std.proofs.Common.{ℕ, suc, ◌+◌, ◌<◌, inl, inr, List, sym, subst, arith}
 use Rattle.std.proofs.lemmas.Bool.{cases_eq}
-use Rattle.scq_hist.specs.Calls.{IsPending}
-use Rattle.scq_hist.specs.Counts.{IsCount}
+use Rattle.scq_hist.specs.Exports.{IsPending, IsCount}
 use Rattle.scq_hist.proofs.Counting.{count_more, count_same}
 use Rattle.scq_hist.specs.declared.events.Event.{Event}
 

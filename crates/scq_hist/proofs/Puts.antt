@@ -1,7 +1,7 @@
 -- A name names one put
 use Rattle.std.proofs.Common.{◌≡◌, ℕ, zero, suc, ◌<◌, ◌≤◌, ◌==◌, List, Some, slice_get, refl, arith, inl, inr, eq-eqb}
 use Rattle.std.proofs.lemmas.Bool.{cases_order, cases_lt, cond-true}
-use Rattle.scq_hist.specs.Calls.{puts_before, put_start, IsPut}
+use Rattle.scq_hist.specs.Exports.{puts_before, put_start, IsPut}
 use Rattle.scq_hist.specs.declared.events.Call.TheVariants.{Put}
 use Rattle.scq_hist.specs.declared.events.Event.{Event}
 use Rattle.scq_hist.specs.declared.events.Event.TheVariants.{Start}

@@ -2,10 +2,8 @@
 -- is new there; then it is one more that isn't got, or its get's Start moves the moment from which all are claimed
 use Rattle.std.proofs.Common.{◌≡◌, ℕ, ◌+◌, ◌⊎◌, inl, inr, List, Some, sym, subst, arith}
 use Rattle.std.proofs.lemmas.Bool.{cases_order, cases_lt, cases_eq}
-use Rattle.scq_hist.specs.Calls.{under_way, IsDoneAt, IsFinishedAt, Names, IsGot, IsGetOf}
-use Rattle.scq_hist.specs.Counts.{IsCount}
-use Rattle.scq_hist.specs.Lookups.{EndsDone, NoDoneAt}
-use Rattle.scq_hist.specs.Tallies.{IsTally, AddsUngot, AddsGot, AddsPut}
+use Rattle.scq_hist.specs.Exports.{under_way, IsDoneAt, IsFinishedAt, Names, IsGot, IsGetOf, IsCount, EndsDone, NoDoneAt, IsTally, AddsUngot, AddsGot}
+use Rattle.scq_hist.specs.Exports.{AddsPut}
 use Rattle.scq_hist.specs.declared.events.Event.{Event}
 use Rattle.scq_hist.specs.declared.events.PutName.{PutName}
 use Rattle.scq_hist.specs.declared.events.PutName.TheVariants.{Opening, Of}

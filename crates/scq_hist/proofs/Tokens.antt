@@ -3,10 +3,7 @@
 use Rattle.std.proofs.Common.{◌≡◌, ℕ, zero, suc, ◌+◌, ◌-◌, ◌<◌, ◌≤◌, max, ◌⊎◌, inl, inr, List, length, refl, ap, subst, arith, add-one}
 use Rattle.std.proofs.lemmas.Bool.{cases_lt, cases_eq}
 use Rattle.std.proofs.lemmas.Option.{slice_get_within}
-use Rattle.scq_hist.specs.Calls.{IsFinishedAt, IsGot, IsGetOf}
-use Rattle.scq_hist.specs.Aspects.{IsLawful}
-use Rattle.scq_hist.specs.Counts.{IsCount}
-use Rattle.scq_hist.specs.Tallies.{HasLateGet, IsTally, IsTokenGotAt, NoTokenGotAt}
+use Rattle.scq_hist.specs.Exports.{IsFinishedAt, IsGot, IsGetOf, IsLawful, IsCount, HasLateGet, IsTally, IsTokenGotAt, NoTokenGotAt}
 use Rattle.scq_hist.specs.declared.events.Event.{Event}
 use Rattle.scq_hist.specs.declared.events.Event.TheVariants.{End}
 use Rattle.scq_hist.specs.declared.events.PutName.{PutName}

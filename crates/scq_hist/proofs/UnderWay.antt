@@ -4,8 +4,7 @@ use Rattle.std.proofs.Common.{◌≡◌, ℕ, zero, suc, ◌<◌, ◌≤◌, ◌
 use Rattle.std.proofs.lemmas.Bool.{cases_order, cases_lt, cond-true}
 use Rattle.std.proofs.lemmas.Bool.Decides.{eqb_tells}
 use Rattle.std.proofs.lemmas.Option.{slice_get_within, none-some}
-use Rattle.scq_hist.specs.Calls.{under_way, under_way_after, IsCall}
-use Rattle.scq_hist.specs.Lookups.{HasUnderWay, StartsCall, StartsNoCall}
+use Rattle.scq_hist.specs.Exports.{under_way, under_way_after, IsCall, HasUnderWay, StartsCall, StartsNoCall}
 use Rattle.scq_hist.specs.declared.events.Call.{Call}
 use Rattle.scq_hist.specs.declared.events.Event.{Event}
 use Rattle.scq_hist.specs.declared.events.Event.TheVariants.{Start, End}

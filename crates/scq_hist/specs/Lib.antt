@@ -5,3 +5,4 @@ pub mod Lookups
 pub mod Tallies
 pub mod First
 pub mod Ended
+pub mod Exports

@@ -1,9 +1,8 @@
 //! What stands where in a list: each look-up is one scan, since the tests take no memory.
 
 ghost use Rattle.std.specs.Prelude.{◌≡◌, ◌<◌, ◌≤◌, length, MatchOption};
-ghost use Rattle.scq_hist.specs.Calls.{under_way, puts_before, IsPut};
-ghost use Rattle.scq_hist.specs.Lookups.{HasUnderWay, NoPutBefore, EndsDone, NoDoneAt};
-ghost use Rattle.scq_hist.specs.Lookups.{StartsCall, StartsNoCall};
+ghost use Rattle.scq_hist.specs.Exports.{under_way, puts_before, IsPut, HasUnderWay, NoPutBefore};
+ghost use Rattle.scq_hist.specs.Exports.{EndsDone, NoDoneAt, StartsCall, StartsNoCall};
 
 use crate::ended::ended_put;
 use crate::events::{Call, Event, PutName};

@@ -2,10 +2,8 @@
 
 ghost use Rattle.std.specs.Prelude.{◌≡◌, ◌+◌, ◌<◌, ◌≤◌, ◌^◌, ◌↔◌, ℕ, List, IsTrue};
 ghost use Rattle.std.specs.Prelude.{length, IfSome};
-ghost use Rattle.scq_hist.specs.Calls.{IsFinishedAt};
-ghost use Rattle.scq_hist.specs.Aspects.{IsLawful, IsRightWithin, IsEmptyRightAt, IsEmptyRight};
-ghost use Rattle.scq_hist.specs.First.{IsFirstFailing};
-ghost use Rattle.scq_hist.specs.Tallies.{IsTally};
+ghost use Rattle.scq_hist.specs.Exports.{IsFinishedAt, IsLawful, IsRightWithin, IsEmptyRightAt};
+ghost use Rattle.scq_hist.specs.Exports.{IsEmptyRight, IsFirstFailing, IsTally};
 
 use crate::ended::empty_at;
 use crate::events::Event;

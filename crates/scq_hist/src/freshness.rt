@@ -2,10 +2,8 @@
 
 ghost use Rattle.std.specs.Prelude.{◌≡◌, ◌<◌, ◌↔◌, ℕ, List, IsTrue, Some, length, slice_get};
 ghost use Rattle.std.specs.Prelude.{IfSome, MatchOption};
-ghost use Rattle.scq_hist.specs.Calls.{IsPut};
-ghost use Rattle.scq_hist.specs.Aspects.{IsLawful, IsBegun, IsFreshAt, IsFresh};
-ghost use Rattle.scq_hist.specs.First.{IsFirstFailing};
-ghost use Rattle.scq_hist.specs.Lookups.{NoPutBefore};
+ghost use Rattle.scq_hist.specs.Exports.{IsPut, IsLawful, IsBegun, IsFreshAt, IsFresh};
+ghost use Rattle.scq_hist.specs.Exports.{IsFirstFailing, NoPutBefore};
 ghost use Rattle.scq_hist.specs.declared.events.Event.{Event};
 
 use crate::calls::{call_under_way, put_named};

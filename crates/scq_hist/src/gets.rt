@@ -2,10 +2,8 @@
 
 ghost use Rattle.std.specs.Prelude.{◌≡◌, ◌+◌, ◌<◌, ◌≤◌, ◌^◌, ◌↔◌, ℕ, suc, Some, IsTrue};
 ghost use Rattle.std.specs.Prelude.{MatchOption, length, slice_get};
-ghost use Rattle.scq_hist.specs.Calls.{IsGot, IsGetOf, IsPending};
-ghost use Rattle.scq_hist.specs.Aspects.{IsLawful};
-ghost use Rattle.scq_hist.specs.Counts.{IsCount};
-ghost use Rattle.scq_hist.specs.Lookups.{got_name, call_start, IsFirstNamed, EndsNoGet};
+ghost use Rattle.scq_hist.specs.Exports.{IsGot, IsGetOf, IsPending, IsLawful, IsCount, got_name};
+ghost use Rattle.scq_hist.specs.Exports.{call_start, IsFirstNamed, EndsNoGet};
 
 use crate::calls::under_way;
 use crate::events::{Call, Event, PutName, Reply};

@@ -1,7 +1,7 @@
 //! Lawful: the events of each seat are those of calls, one after another.
 
 ghost use Rattle.std.specs.Prelude.{◌↔◌, ◌<◌, IsTrue, length, slice_get};
-ghost use Rattle.scq_hist.specs.Aspects.{SuitsCall, IsLawfulAt, IsLawful};
+ghost use Rattle.scq_hist.specs.Exports.{SuitsCall, IsLawfulAt, IsLawful};
 
 use crate::calls::{call_under_way, under_way};
 use crate::events::{Call, Event, Reply};

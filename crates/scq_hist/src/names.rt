@@ -1,8 +1,7 @@
 //! Once: nothing is taken twice.
 
 ghost use Rattle.std.specs.Prelude.{◌<◌, ◌↔◌, IsTrue, length, IfSome};
-ghost use Rattle.scq_hist.specs.Aspects.{IsLawful, IsOnceAt, IsOnce};
-ghost use Rattle.scq_hist.specs.First.{IsFirstFailing};
+ghost use Rattle.scq_hist.specs.Exports.{IsLawful, IsOnceAt, IsOnce, IsFirstFailing};
 
 use crate::events::Event;
 use crate::gets::{first_named, got_name};

@@ -2,10 +2,8 @@
 
 ghost use Rattle.std.specs.Prelude.{◌≡◌, ◌+◌, ◌<◌, ◌≤◌, ◌^◌, ◌↔◌, ℕ, List, IsTrue, MatchOption};
 ghost use Rattle.std.specs.Prelude.{length, IfSome};
-ghost use Rattle.scq_hist.specs.Calls.{IsFinishedAt};
-ghost use Rattle.scq_hist.specs.Aspects.{IsLawful, IsInOrderAt, IsInOrder};
-ghost use Rattle.scq_hist.specs.First.{IsFirstFailing};
-ghost use Rattle.scq_hist.specs.Tallies.{IsTally, IsPutGotAt, NoPutGotAt};
+ghost use Rattle.scq_hist.specs.Exports.{IsFinishedAt, IsLawful, IsInOrderAt, IsInOrder};
+ghost use Rattle.scq_hist.specs.Exports.{IsFirstFailing, IsTally, IsPutGotAt, NoPutGotAt};
 
 use crate::calls::put_named;
 use crate::events::{Event, PutName};

@@ -3,16 +3,13 @@ use Rattle.std.proofs.Common.{◌≡◌, ℕ, suc, ◌+◌, ◌-◌, ◌<◌, �
 use Rattle.std.proofs.lemmas.Bool.{cases_eq, lt-ltb}
 use Rattle.std.proofs.lemmas.Bool.Decides.{eqb_tells}
 use Rattle.std.proofs.lemmas.Option.{slice_get_within}
-use Rattle.scq_hist.specs.Aspects.{IsLawful, IsLawfulAt}
-use Rattle.scq_hist.specs.Calls.{under_way}
-use Rattle.scq_hist.specs.Counts.{IsCount, StandsIn}
-use Rattle.scq_hist.specs.Lookups.{StartsCall, StartsNoCall}
+use Rattle.scq_hist.specs.Exports.{IsLawful, IsLawfulAt, under_way, IsCount, StandsIn, StartsCall, StartsNoCall}
 use Rattle.scq_hist.specs.declared.events.Call.{Call}
 use Rattle.scq_hist.specs.declared.events.Event.{Event}
 use Rattle.scq_hist.specs.declared.events.Event.TheVariants.{Start, End}
 use Rattle.scq_hist.specs.declared.events.Reply.{Reply}
 use Rattle.scq_hist.proofs.Counting.{count_none, count_more, count_same, count_rest}
-use Rattle.scq_judge.specs.Counted.{IsStarting, IsStartAt, IsNamed, IsBusy, Overlaps, Before, IsNamedBefore, AreSeen, AreBusy, named_by, is_seen}
+use Rattle.scq_judge.specs.Exports.{IsStarting, IsStartAt, IsNamed, IsBusy, Overlaps, Before, IsNamedBefore, AreSeen, AreBusy, named_by, is_seen}
 use Rattle.scq_judge.specs.declared.counting.Named.{Named}
 use Rattle.scq_judge.specs.declared.counting.Seen.{Seen}
 

@@ -5,12 +5,10 @@ use Rattle.std.proofs.lemmas.List.{length-map}
 use Rattle.std.proofs.lemmas.Option.{slice_get_within, slice_get-get_or}
 use Rattle.std.proofs.lemmas.List.Sorted.{All-permutation}
 use Rattle.scq_hist.specs.declared.events.Event.{Event}
-use Rattle.scq_judge.specs.Files.{NoneIsLarge, IsFile}
-use Rattle.scq_judge.specs.Judged.{IsHistoryOf, IsOutOfPlace, IsCause, IsCauseIn, IsSharing, AreSoundBefore, IsUnlawfulAt, fault_of_merging}
-use Rattle.scq_judge.specs.Merged.{IsMergeOf, HasEqual, HasStampOfAnother}
-use Rattle.scq_judge.specs.Seats.{EventIsAt}
-use Rattle.scq_judge.specs.Reads.{AreQuiet, AreReadUntil, AreReadWhole}
-use Rattle.scq_judge.specs.Recording.{Recording, EventsAreOfFiles, AllAreOfFiles, recording_of}
+use Rattle.scq_judge.specs.Exports.{NoneIsLarge, IsFile, IsHistoryOf, IsOutOfPlace, IsCause, IsCauseIn, IsSharing, AreSoundBefore, IsUnlawfulAt}
+use Rattle.scq_judge.specs.Exports.{fault_of_merging, IsMergeOf, HasEqual, HasStampOfAnother, EventIsAt, AreQuiet, AreReadUntil, AreReadWhole}
+use Rattle.scq_judge.specs.Exports.{EventsAreOfFiles, AllAreOfFiles, recording_of}
+use Rattle.scq_judge.specs.Recording.{Recording}
 use Rattle.scq_judge.specs.declared.judging.JudgeFault.{JudgeFault}
 use Rattle.scq_judge.specs.declared.judging.JudgeFault.TheVariants.{BadLine, Shared as SharedBy, TwoRuns, Unlawful, ReadFault, TooLarge, NoMemory}
 use Rattle.scq_judge.specs.declared.judging.Shared.{Shared}

@@ -3,7 +3,7 @@ use Rattle.std.proofs.Common.{◌≡◌, ℕ, ◌+◌, ◌-◌, ◌<◌, ◌≤�
 use Rattle.std.proofs.lemmas.List.{append-nil, get_or_default}
 use Rattle.std.proofs.lemmas.Bool.{cases_eq, cases_lt, lt-ltb, ltb-true}
 use Rattle.std.specs.List.Sorted.{IsNonDecreasingBy}
-use Rattle.scq_judge.specs.Merged.{RiseBelow, HasEqual, StampIsAbove, IsPlaceAt}
+use Rattle.scq_judge.specs.Exports.{RiseBelow, HasEqual, StampIsAbove, IsPlaceAt}
 use Rattle.scq_judge.specs.declared.recorded.Place.{Place}
 use Rattle.scq_judge.specs.declared.recorded.Stamped.{Stamped}
 

@@ -7,11 +7,11 @@ use Rattle.std.proofs.lemmas.List.{take_rest}
 use Rattle.std.proofs.lemmas.List.Elements.{All-push}
 use Rattle.scq_hist.specs.declared.events.Event.{Event}
 use Rattle.memchr.specs.Find.{IsFirstByte, is_byte}
-use Rattle.scq_lines.specs.Lines.{lines_of}
+use Rattle.scq_lines.specs.Exports.{lines_of}
 use Rattle.scq_lines.proofs.Cutting.{lines_of-some-more, lines_of-none-more}
-use Rattle.scq_judge.specs.Entry.{said_by}
-use Rattle.scq_judge.specs.Files.{IsFile}
-use Rattle.scq_judge.specs.Recording.{Recording, AllAreOfFiles, after_entry, after_lines, after_line, after_file, after_files, event_with, if_file, entry_may_follow, nothing, recording_of, with_entry}
+use Rattle.scq_judge.specs.Exports.{said_by, IsFile, AllAreOfFiles, after_entry, after_lines, after_line, after_file, after_files, event_with}
+use Rattle.scq_judge.specs.Exports.{if_file, entry_may_follow, nothing, recording_of, with_entry}
+use Rattle.scq_judge.specs.Recording.{Recording}
 use Rattle.scq_judge.specs.declared.entry.Entry.{Entry}
 use Rattle.scq_judge.specs.declared.entry.Entry.TheVariants.{Run, Opening, Happens}
 

@@ -5,11 +5,11 @@ use Rattle.std.proofs.Math.Seq.{get_or-append_seam}
 use Rattle.std.proofs.lemmas.List.{length-append}
 use Rattle.std.proofs.lemmas.List.Elements.{All-push}
 use Rattle.std.proofs.lemmas.Option.{slice_get-get_or}
-use Rattle.scq_outside.specs.Counts.{Rose}
-use Rattle.scq_judge.specs.Files.{NoneIsLarge, HaveContents, IsFile, IsLarge, most_bytes}
-use Rattle.scq_judge.specs.Judged.{IsCause, AreSoundBefore}
-use Rattle.scq_judge.specs.Reads.{AreQuiet, AreReadBefore, AreReadUntil, CountsFault, HasFailed, HasGiven, ReadingStopped, HaveBeenRead, FileIsAdded, IsFileFault, IsOfOneFile, IsReadWhole}
-use Rattle.scq_judge.specs.Recording.{Recording, AllAreOfFiles, after_file, nothing, recording_of}
+use Rattle.scq_outside.specs.Exports.{Rose}
+use Rattle.scq_judge.specs.Exports.{NoneIsLarge, HaveContents, IsFile, IsLarge, most_bytes, IsCause, AreSoundBefore, AreQuiet, AreReadBefore}
+use Rattle.scq_judge.specs.Exports.{AreReadUntil, CountsFault, HasFailed, HasGiven, ReadingStopped, HaveBeenRead, FileIsAdded, IsFileFault}
+use Rattle.scq_judge.specs.Exports.{IsOfOneFile, IsReadWhole, AllAreOfFiles, after_file, nothing, recording_of}
+use Rattle.scq_judge.specs.Recording.{Recording}
 use Rattle.scq_judge.specs.declared.judging.JudgeFault.{JudgeFault}
 use Rattle.scq_judge.specs.declared.judging.JudgeFault.TheVariants.{BadLine, Shared, TwoRuns, Unlawful, ReadFault, TooLarge, NoMemory}
 use Rattle.scq_judge.proofs.JudgeLemmas.{sound_before}

@@ -6,7 +6,8 @@ use Rattle.std.specs.Map.{lookup}
 use Rattle.std.proofs.lemmas.Bool.{cases_eq}
 use Rattle.std.proofs.lemmas.Bool.Decides.{eqb_tells}
 use Rattle.std.proofs.lemmas.Option.{slice_get_within}
-use Rattle.scq_judge.specs.Seats.{event_seat, EventIsAt, HaveOwnFiles, HasSeatOfAnother, NoneBefore, IsSeatHome, AreHomes, IsAtHome, IsAway, IsAwayFrom}
+use Rattle.scq_judge.specs.Exports.{event_seat, EventIsAt, HaveOwnFiles, HasSeatOfAnother, NoneBefore, IsSeatHome, AreHomes, IsAtHome, IsAway}
+use Rattle.scq_judge.specs.Exports.{IsAwayFrom}
 use Rattle.scq_judge.specs.declared.recorded.Place.{Place}
 use Rattle.scq_judge.specs.declared.recorded.Stamped.{Stamped}
 use Rattle.scq_judge.specs.declared.seats.Homes.{Homes}

@@ -4,11 +4,9 @@ use Rattle.std.specs.Prelude.{IfErr, IfSome}
 use Rattle.std.specs.Option.{option_map}
 use Rattle.std.proofs.Math.Seq.{get_or-append_seam}
 use Rattle.std.proofs.lemmas.List.{get_or_append_left, length-append}
-use Rattle.scq_outside.specs.Counts.{Rose}
-use Rattle.scq_outside.specs.Taking.{Took}
-use Rattle.scq_judge.specs.Files.{HaveContents, most_bytes}
-use Rattle.scq_judge.specs.Reads.{HasGiven, OfEach, CountsFault, IsFileFault, IsLineFault}
-use Rattle.scq_judge.specs.Recording.{Recording, after_file}
+use Rattle.scq_outside.specs.Exports.{Rose, Took}
+use Rattle.scq_judge.specs.Exports.{HaveContents, most_bytes, HasGiven, OfEach, CountsFault, IsFileFault, IsLineFault, after_file}
+use Rattle.scq_judge.specs.Recording.{Recording}
 use Rattle.scq_judge.specs.declared.judging.JudgeFault.{JudgeFault}
 use Rattle.scq_judge.specs.declared.judging.JudgeFault.TheVariants.{BadLine, Shared, TwoRuns, Unlawful, ReadFault, TooLarge, NoMemory}
 
@@ -52,7 +50,6 @@ file_fault file lone before content (TooLarge f) h = absurd h
 file_fault file lone before content NoMemory h = h
 
 module _ {S : Type 0} (faults end_count : S → ℕ) (left : S → Option (List ℕ)) where
-
   -- a read more
   pub taken_more : (old mid new : S) (piece : List ℕ) → HasGivenSoFar faults end_count left old mid → Took piece (left mid) (left new) → faults new ≡ faults mid
       → end_count new ≡ end_count mid → HasGivenSoFar faults end_count left old new

@@ -4,8 +4,8 @@ use Rattle.std.specs.Prelude.{ℕ, ◌-◌, ◌^◌, nat_le, List, [], ◌∷◌
 use Rattle.std.specs.Prelude.{if◌then◌else◌}
 use Rattle.std.specs.Option.{option_map}
 use Rattle.std.specs.Str.{bytes_eq}
-use Rattle.scq_lines.specs.Lines.{fields_of, number_of}
-use Rattle.scq_check.specs.Line.{said}
+use Rattle.scq_lines.specs.Exports.{fields_of, number_of}
+use Rattle.scq_check.specs.Exports.{said}
 use Rattle.scq_check.specs.declared.line.Bounds.{Bounds}
 use Rattle.scq_check.specs.declared.line.Line.{Line}
 use Rattle.scq_check.specs.declared.line.Line.TheVariants as line

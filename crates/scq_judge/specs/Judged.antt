@@ -2,8 +2,7 @@
 -- fault
 use Rattle.std.specs.Prelude.{◌≡◌, ℕ, ◌-◌, Bool, ◌==◌, List, Ok, Err, Option, Some, length}
 use Rattle.std.specs.Prelude.{take, slice_get}
-use Rattle.scq_hist.specs.Aspects.{IsLawful, IsLawfulAt}
-use Rattle.scq_hist.specs.First.{IsFirstFailing}
+use Rattle.scq_hist.specs.Exports.{IsLawful, IsLawfulAt, IsFirstFailing}
 use Rattle.scq_hist.specs.declared.events.Event.{Event}
 use Rattle.scq_judge.specs.Files.{NoneIsLarge, IsLarge}
 use Rattle.scq_judge.specs.Merged.{IsMergeOf, HasStampOfAnother}

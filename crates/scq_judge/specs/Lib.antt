@@ -9,3 +9,4 @@ pub mod Counted
 pub mod Telling
 pub mod Report
 pub mod Judged
+pub mod Exports

@@ -2,8 +2,7 @@
 -- they answered, and what they have left may be visible
 use Rattle.std.specs.Prelude.{◌≡◌, ◌⊎◌, ℕ, ◌-◌, ◌<◌, ◌≤◌, Bool, List, Option, IfSome, [], length}
 use Rattle.std.specs.Prelude.{slice_index_or, Ok, Err}
-use Rattle.scq_outside.specs.Counts.{Rose}
-use Rattle.scq_outside.specs.Taking.{Took}
+use Rattle.scq_outside.specs.Exports.{Rose, Took}
 use Rattle.scq_judge.specs.Files.{NoneIsLarge, HaveContents, IsFile, most_bytes}
 use Rattle.scq_judge.specs.Judged.{IsCause}
 use Rattle.scq_judge.specs.Recording.{Recording, AllAreOfFiles, after_file, recording_of}

@@ -1,11 +1,9 @@
 -- What is said of a merged history
 use Rattle.std.specs.Prelude.{◌≡◌, ℕ, ◌+◌, List, [], ◌++◌, Option, Some, None, length, codes}
 use Rattle.std.specs.Prelude.{decimal}
-use Rattle.scq_hist.specs.Counts.{IsCount}
+use Rattle.scq_hist.specs.Exports.{IsCount}
 use Rattle.scq_hist.specs.declared.events.Event.{Event}
-use Rattle.scq_check.specs.Failures.{AreFailures}
-use Rattle.scq_check.specs.Full.{IsFullRightAt}
-use Rattle.scq_check.specs.Verdicts.{AreBreaches}
+use Rattle.scq_check.specs.Exports.{AreFailures, IsFullRightAt, AreBreaches}
 use Rattle.scq_check.specs.declared.counterparts.Origin.{Origin}
 use Rattle.scq_check.specs.declared.counterparts.Origin.TheVariants.{Nobody, Token, Start}
 use Rattle.scq_check.specs.declared.failures.Failures.{Failures}

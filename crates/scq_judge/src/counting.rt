@@ -2,8 +2,7 @@
 
 ghost use Rattle.std.specs.Prelude.{◌≡◌, ◌+◌, ◌<◌, ◌≤◌, ◌↔◌, ◌==◌, ◌||◌, ℕ, IsTrue, false, IfOk};
 ghost use Rattle.std.specs.Prelude.{OnOk, Some, length};
-ghost use Rattle.scq_hist.specs.Aspects.{IsLawful};
-ghost use Rattle.scq_hist.specs.Counts.{IsCount};
+ghost use Rattle.scq_hist.specs.Exports.{IsLawful, IsCount};
 ghost use Rattle.scq_hist.specs.declared.events.Event.TheVariants.{Start};
 ghost use Rattle.scq_judge.specs.Counted.{IsStartAt, IsNamed, Overlaps, Before, AreSeen, AreBusy};
 ghost use Rattle.scq_judge.specs.Counted.{named_by, is_seen};

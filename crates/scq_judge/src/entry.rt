@@ -2,7 +2,7 @@
 
 ghost use Rattle.std.specs.Prelude.{◌≡◌, ◌∷◌, codes, IfOk};
 ghost use Rattle.std.specs.Str.{bytes_eq};
-ghost use Rattle.scq_lines.specs.Lines.{fields_after};
+ghost use Rattle.scq_lines.specs.Exports.{fields_after};
 ghost use Rattle.scq_judge.specs.Entry.{without_stamp, run_in, stamped, said_by};
 
 use scq_check::{Bounds, Line, read_fields};

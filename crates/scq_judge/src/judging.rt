@@ -1,8 +1,8 @@
 //! Recordings merged and judged.
 
 ghost use Rattle.std.specs.Prelude.{◌≡◌, ◌<◌, ◌⊎◌, length, map, string_bytes, IfOk, IfErr, IfSome};
-ghost use Rattle.scq_hist.specs.Aspects.{IsLawful};
-ghost use Rattle.scq_check.specs.Verdicts.{AreWithin};
+ghost use Rattle.scq_hist.specs.Exports.{IsLawful};
+ghost use Rattle.scq_check.specs.Exports.{AreWithin};
 ghost use Rattle.scq_judge.specs.Runs.{AreOfOneRun};
 ghost use Rattle.scq_judge.specs.Seats.{HaveOwnFiles};
 ghost use Rattle.scq_judge.specs.Judged.{shared_by, IsReported, IsReportOf};

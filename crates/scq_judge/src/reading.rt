@@ -2,7 +2,7 @@
 
 ghost use Rattle.std.specs.Prelude.{◌≡◌, ◌+◌, ◌<◌, ◌≤◌, ◌^◌, ◌∷◌, ◌++◌, ℕ, List, None, Ok, Err};
 ghost use Rattle.std.specs.Prelude.{length, IfOk, IfErr, OnOk};
-ghost use Rattle.scq_lines.specs.Lines.{lines_of};
+ghost use Rattle.scq_lines.specs.Exports.{lines_of};
 ghost use Rattle.memchr.specs.Find.{IsFirstByte, is_byte};
 ghost use Rattle.scq_judge.specs.Recording.{after_lines, AllAreOfFiles};
 ghost use Rattle.scq_judge.specs.Files.{IsFile};

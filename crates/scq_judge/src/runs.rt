@@ -1,7 +1,7 @@
 //! Files of two runs.
 
 ghost use Rattle.std.specs.Prelude.{MatchOption};
-ghost use Rattle.scq_judge.specs.Runs.{AreOfOneRun, IsOfAnotherRun};
+ghost use Rattle.scq_judge.specs.Exports.{AreOfOneRun, IsOfAnotherRun};
 
 use crate::recorded::RunOf;
 

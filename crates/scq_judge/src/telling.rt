@@ -2,7 +2,7 @@
 
 ghost use Rattle.std.specs.Prelude.{◌≡◌, ◌+◌, ◌<◌, ◌^◌, ◌++◌, ◌-◌, [], Some, decimal, length};
 ghost use Rattle.std.specs.Prelude.{map, slice_get, slice_index_or, string_bytes, OnOk};
-ghost use Rattle.scq_check.specs.Calls.{own_start};
+ghost use Rattle.scq_check.specs.Exports.{own_start};
 ghost use Rattle.scq_judge.specs.Telling.{byte_text, hex_digit, name_text, line_text, place_text};
 ghost use Rattle.scq_judge.specs.Telling.{put_name_text, got_name_text, seat_text, call_text};
 ghost use Rattle.scq_judge.specs.Telling.{call_at_text, event_at_text, token_text, told_by};

@@ -2,14 +2,11 @@
 
 ghost use Rattle.std.specs.Prelude.{◌≡◌, ◌<◌, ◌^◌, ◌++◌, codes, decimal, length, Some, IfOk};
 ghost use Rattle.std.specs.Prelude.{IfSome, OnOk};
-ghost use Rattle.scq_check.specs.Counterparts.{IsOriginWithin};
-ghost use Rattle.scq_check.specs.Verdicts.{AreWithin};
-ghost use Rattle.scq_check.specs.Waiting.{IsToldWithin};
-ghost use Rattle.scq_judge.specs.Telling.{told_by};
-ghost use Rattle.scq_judge.specs.Report.{beside_line, count_line, event_text, full_line, got_text};
-ghost use Rattle.scq_judge.specs.Report.{order_line, origin_line, origin_text, overtaker_text};
-ghost use Rattle.scq_judge.specs.Report.{plain_line, put_text, report_lines, verdict_text};
-ghost use Rattle.scq_judge.specs.Report.{waiting_line, waiting_text};
+ghost use Rattle.scq_check.specs.Exports.{IsOriginWithin, AreWithin, IsToldWithin};
+ghost use Rattle.scq_judge.specs.Exports.{told_by, beside_line, count_line, event_text, full_line};
+ghost use Rattle.scq_judge.specs.Exports.{got_text, order_line, origin_line, origin_text};
+ghost use Rattle.scq_judge.specs.Exports.{overtaker_text, plain_line, put_text, report_lines};
+ghost use Rattle.scq_judge.specs.Exports.{verdict_text, waiting_line, waiting_text};
 
 use crate::counting::Counts;
 use crate::judging::Report;

@@ -4,16 +4,14 @@ use Rattle.std.specs.Prelude.{◌≡◌, ℕ, ◌+◌, ◌*◌, ◌<◌, ◌≤�
 use Rattle.std.specs.Prelude.{if◌then◌else◌, List, [], ◌∷◌}
 use Rattle.std.specs.List.{Contains}
 use Rattle.scq_word.specs.declared.setup.Setup.{Setup}
-use Rattle.scq_word.specs.Sizes.{n_of}
+use Rattle.scq_word.specs.Exports.{n_of, reset_value, ticket_bound}
 use Rattle.scq_core.specs.declared.ended.Ended.{Ended}
 use Rattle.scq_core.specs.declared.ended.Ended.TheVariants.{Done, Got, Nothing, Spent}
 use Rattle.scq_core.specs.declared.phase.Phase.{Phase}
-use Rattle.scq_core.specs.Stances.{stance_of, put_ring, attempt_ring, one_on}
+use Rattle.scq_core.specs.Exports.{stance_of, put_ring, attempt_ring, one_on, ring_slots}
+use Rattle.scq_core.specs.Exports.{zero_level, total}
 use Rattle.scq_core.specs.Machine.{Machine}
-use Rattle.scq_core.specs.Table.{ring_slots, zero_level}
-use Rattle.scq_core.specs.Laws.{total}
 use Rattle.scq_law.specs.Run.{Recorded}
-use Rattle.scq_word.specs.Bounds.{reset_value, ticket_bound}
 
 -- no ring's Tail, as far as it is below the limit, is more than twice the number of indices, less
 -- one, past its Head

@@ -3,14 +3,14 @@ use Rattle.std.specs.Prelude.{◌≡◌, ℕ, ◌+◌, ◌-◌, ◌*◌, ◌<◌
 use Rattle.std.specs.Prelude.{Some}
 use Rattle.std.specs.List.{count_by}
 use Rattle.scq_word.specs.declared.setup.Setup.{Setup}
-use Rattle.scq_word.specs.Words.{rank_in}
+use Rattle.scq_word.specs.Exports.{rank_in}
 use Rattle.scq_core.specs.declared.phase.Phase.{Phase}
 use Rattle.scq_core.specs.declared.phase.Phase.TheVariants.{Idle, AtE1, AtE2, AtE3, AtE4, AtE5}
 use Rattle.scq_core.specs.declared.phase.Phase.TheVariants.{AtE6, AtD1, AtD2, AtD3, AtD4, AtD5}
 use Rattle.scq_core.specs.declared.phase.Phase.TheVariants.{AtD6, AtD7, AtD8, AtD9, AtD10}
 use Rattle.scq_core.specs.declared.step.Step.{Step}
-use Rattle.scq_core.specs.Machine.{Machine, read, beside}
-use Rattle.scq_core.specs.Table.{ring_slots, turn_of, location_of, after}
+use Rattle.scq_core.specs.Exports.{read, beside, ring_slots, turn_of, location_of, after}
+use Rattle.scq_core.specs.Machine.{Machine}
 
 -- above the rank of each word that an exchange is tried with, and no lower than Tail ever is
 abbrev pub top : Setup → ℕ

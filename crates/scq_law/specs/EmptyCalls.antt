@@ -1,8 +1,7 @@
 -- That a seat's last call, which ended with Nothing, was right about it, in the history of the run
 -- so far.
 use Rattle.std.specs.Prelude.{◌≡◌, ℕ, ◌≤◌, List, ◌++◌, length}
-use Rattle.scq_hist.specs.Aspects.{IsRightWithin}
-use Rattle.scq_hist.specs.Calls.{IsCall}
+use Rattle.scq_hist.specs.Exports.{IsRightWithin, IsCall}
 use Rattle.scq_hist.specs.declared.events.Call.TheVariants.{Get}
 use Rattle.scq_hist.specs.declared.events.Event.{Event}
 use Rattle.scq_hist.specs.declared.events.Reply.TheVariants.{Nothing}

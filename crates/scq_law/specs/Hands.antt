@@ -2,10 +2,9 @@
 -- ring.
 use Rattle.std.specs.Prelude.{◌≡◌, ℕ, ◌+◌, ◌<◌, false, ◌==◌, if◌then◌else◌, List, [], ◌∷◌}
 use Rattle.scq_word.specs.declared.setup.Setup.{Setup}
-use Rattle.scq_word.specs.Sizes.{n_of}
-use Rattle.scq_word.specs.Words.{index_in, is_none_in}
+use Rattle.scq_word.specs.Exports.{n_of, index_in, is_none_in}
 use Rattle.scq_core.specs.Machine.{Machine}
-use Rattle.scq_core.specs.Table.{ring_slots}
+use Rattle.scq_core.specs.Exports.{ring_slots}
 
 -- how often an index stands in a hand
 abbrev pub times : ℕ → List ℕ → ℕ

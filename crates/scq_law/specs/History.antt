@@ -1,6 +1,6 @@
 -- What the history of a run has.
 use Rattle.std.specs.Prelude.{ℕ, List}
-use Rattle.scq_hist.specs.Aspects.{HasAspects}
+use Rattle.scq_hist.specs.Exports.{HasAspects}
 use Rattle.scq_law.specs.Run.{Recorded}
 
 -- the history of what is recorded has the four aspects: lawful and fresh, once, in order, and each

@@ -2,15 +2,13 @@
 -- got from it.
 use Rattle.std.specs.Prelude.{◌≡◌, ℕ, ◌+◌, ◌≤◌, ◌==◌, if◌then◌else◌, length}
 use Rattle.scq_word.specs.declared.setup.Setup.{Setup}
-use Rattle.scq_word.specs.Sizes.{n_of}
-use Rattle.scq_word.specs.Words.{is_none_in}
+use Rattle.scq_word.specs.Exports.{n_of, is_none_in}
 use Rattle.scq_core.specs.declared.ended.Ended.{Ended}
 use Rattle.scq_core.specs.declared.ended.Ended.TheVariants.{Done, Got}
 use Rattle.scq_core.specs.declared.phase.Phase.{Phase}
-use Rattle.scq_core.specs.Stances.{stance_of, placed_ring, one_on}
-use Rattle.scq_core.specs.Machine.{Cells, SeatPart, Machine}
-use Rattle.scq_core.specs.Table.{ring_slots}
-use Rattle.scq_core.specs.Laws.{total}
+use Rattle.scq_core.specs.Exports.{stance_of, placed_ring, one_on, Cells, SeatPart, ring_slots}
+use Rattle.scq_core.specs.Exports.{total}
+use Rattle.scq_core.specs.Machine.{Machine}
 use Rattle.scq_law.specs.Bounds.{tally, openings}
 use Rattle.scq_law.specs.Sums.{sum_to}
 

@@ -4,7 +4,7 @@ use Rattle.std.specs.Prelude.{ℕ, ◌≤◌, List}
 use Rattle.scq_word.specs.declared.setup.Setup.{Setup}
 use Rattle.scq_core.specs.declared.step.Step.{Step}
 use Rattle.scq_core.specs.Machine.{Machine}
-use Rattle.scq_core.specs.Laws.{RecordsGrow}
+use Rattle.scq_core.specs.Exports.{RecordsGrow}
 use Rattle.scq_law.specs.Run.{Recorded}
 use Rattle.scq_law.specs.Moments.{IsMoment}
 use Rattle.scq_law.specs.Places.{Maker, GaveUp, IsPlacedBy, IsTakenBy}

@@ -3,7 +3,7 @@ use Rattle.std.specs.Prelude.{◌≡◌, ℕ, ◌<◌, Some}
 use Rattle.scq_word.specs.declared.setup.Setup.{Setup}
 use Rattle.scq_core.specs.declared.step.Step.{Step}
 use Rattle.scq_core.specs.Machine.{Machine}
-use Rattle.scq_core.specs.Table.{step_of}
+use Rattle.scq_core.specs.Exports.{step_of}
 
 pub data IsLater (c : Setup) (m : Machine) : Machine → Type 0 where
   at_once : IsLater c m m

@@ -30,3 +30,4 @@ pub mod Order
 pub mod Notes
 pub mod Progress
 pub mod RecordedSteps
+pub mod Exports

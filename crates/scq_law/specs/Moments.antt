@@ -2,7 +2,7 @@
 use Rattle.std.specs.Prelude.{◌≡◌, ℕ, ◌≤◌, List, take}
 use Rattle.scq_word.specs.declared.setup.Setup.{Setup}
 use Rattle.scq_core.specs.declared.step.Step.{Step}
-use Rattle.scq_core.specs.Laws.{RankRises, CountersRise, CatchUpLags}
+use Rattle.scq_core.specs.Exports.{RankRises, CountersRise, CatchUpLags}
 use Rattle.scq_law.specs.Run.{Recorded, IsRun}
 
 -- the first i steps are a run, and this is recorded of it

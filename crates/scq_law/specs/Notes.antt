@@ -7,17 +7,15 @@ use Rattle.std.specs.HashMap.{get, HashMap}
 use Rattle.std.specs.List.{Contains, AllAdjacentBelow}
 use Rattle.std.specs.List.Sorted.{IsNonDecreasingBy}
 use Rattle.scq_word.specs.declared.setup.Setup.{Setup}
-use Rattle.scq_word.specs.Sizes.{n_of}
+use Rattle.scq_word.specs.Exports.{n_of}
 use Rattle.scq_core.specs.declared.ended.Ended.{Ended}
 use Rattle.scq_core.specs.declared.ended.Ended.TheVariants.{Done, Got, Nothing, Spent}
 use Rattle.scq_core.specs.declared.phase.Phase.{Phase}
 use Rattle.scq_core.specs.declared.phase.Phase.TheVariants.{Idle, AtE1, AtD2, AtD6, AtD10}
 use Rattle.scq_core.specs.declared.step.Step.{Step}
 use Rattle.scq_core.specs.declared.step.Step.TheVariants.{E1, D1}
-use Rattle.scq_core.specs.Machine.{Cells, Machine}
-use Rattle.scq_core.specs.Table.{zero_level, ring_slots}
-use Rattle.scq_core.specs.Updated.{updated}
-use Rattle.scq_core.specs.StateLists.{machine_of}
+use Rattle.scq_core.specs.Exports.{Cells, zero_level, ring_slots, updated, machine_of}
+use Rattle.scq_core.specs.Machine.{Machine}
 use Rattle.scq_law.specs.Acts.{ended_in}
 use Rattle.scq_law.specs.Places.{AllIdle}
 use Rattle.scq_law.specs.Run.{Recorded, IsRun}

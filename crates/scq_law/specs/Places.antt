@@ -4,15 +4,12 @@
 use Rattle.std.specs.Prelude.{◌≡◌, ℕ, ◌+◌, ◌-◌, ◌<◌, ◌≤◌, ◌⊎◌, Bool, false, List, [], length, Some}
 use Rattle.std.specs.Prelude.{slice_get, slice_index_or}
 use Rattle.scq_word.specs.declared.setup.Setup.{Setup}
-use Rattle.scq_word.specs.Sizes.{n_of}
-use Rattle.scq_word.specs.Words.{is_none_in}
+use Rattle.scq_word.specs.Exports.{n_of, is_none_in}
 use Rattle.scq_core.specs.declared.ended.Ended.TheVariants.{Done, Got}
 use Rattle.scq_core.specs.declared.phase.Phase.{Phase}
 use Rattle.scq_core.specs.declared.phase.Phase.TheVariants.{Idle, AtD4}
-use Rattle.scq_core.specs.Stances.{stance_of, landed, trying, gave_up}
+use Rattle.scq_core.specs.Exports.{stance_of, landed, trying, gave_up, ring_slots, slot, word_at}
 use Rattle.scq_core.specs.Machine.{Machine}
-use Rattle.scq_core.specs.Table.{ring_slots, slot}
-use Rattle.scq_core.specs.Laws.{word_at}
 
 -- who placed: an opening put, or a seat's call by its number in the record, from 0
 pub data Maker : Type 0 where

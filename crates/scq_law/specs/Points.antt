@@ -2,12 +2,12 @@
 -- place, as if at once. A point is how many steps have been made, so that of step i is i + 1; it is
 -- 0 for an opening put.
 use Rattle.std.specs.Prelude.{◌≡◌, ◌⊎◌, ℕ, ◌+◌, ◌<◌, ◌≤◌, max, false, List}
-use Rattle.scq_word.specs.Sizes.{n_of}
+use Rattle.scq_word.specs.Exports.{n_of}
 use Rattle.scq_core.specs.declared.ended.Ended.TheVariants.{Done}
 use Rattle.scq_core.specs.declared.phase.Phase.{Phase}
 use Rattle.scq_core.specs.declared.phase.Phase.TheVariants.{AtD1, AtD6, AtD10}
 use Rattle.scq_core.specs.Machine.{Machine}
-use Rattle.scq_core.specs.Table.{ring_slots, zero_level}
+use Rattle.scq_core.specs.Exports.{ring_slots, zero_level}
 use Rattle.scq_law.specs.RunSteps.{Run, Makes, IsStepOf, HasEnded, DrawsPut, DrawsGet, state_before}
 
 -- a turn by which a dequeue decides, in the state m before it, that ring r is empty: a D1 finds

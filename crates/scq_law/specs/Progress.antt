@@ -4,14 +4,12 @@ use Rattle.std.specs.Prelude.{◌≡◌, ℕ, ◌+◌, ◌*◌, ◌<◌, ◌≤�
 use Rattle.std.specs.Prelude.{length}
 use Rattle.std.specs.List.{All}
 use Rattle.scq_word.specs.declared.setup.Setup.{Setup}
-use Rattle.scq_word.specs.Sizes.{n_of}
-use Rattle.scq_word.specs.Bounds.{reset_value}
+use Rattle.scq_word.specs.Exports.{n_of, reset_value}
 use Rattle.scq_core.specs.declared.ended.Ended.{Ended}
 use Rattle.scq_core.specs.declared.ended.Ended.TheVariants.{Done, Got, Nothing, Spent}
 use Rattle.scq_core.specs.declared.step.Step.{Step}
 use Rattle.scq_core.specs.Machine.{Machine}
-use Rattle.scq_core.specs.Table.{ring_of}
-use Rattle.scq_core.specs.Laws.{total}
+use Rattle.scq_core.specs.Exports.{ring_of, total}
 use Rattle.scq_law.specs.Bounds.{tally}
 use Rattle.scq_law.specs.CallSteps.{steps_of}
 use Rattle.scq_law.specs.Run.{Recorded, IsRun}

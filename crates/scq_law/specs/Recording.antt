@@ -1,8 +1,7 @@
 -- For private calls: how the variables of a replay show what is recorded of its steps.
 use Rattle.std.specs.Prelude.{◌≡◌, ℕ, ◌+◌, ◌^◌, ◌<◌, List, ◌++◌, length, slice_index}
 use Rattle.scq_word.specs.declared.setup.Setup.{Setup}
-use Rattle.scq_core.specs.Machine.{SeatPart}
-use Rattle.scq_core.specs.StateLists.{machine_of}
+use Rattle.scq_core.specs.Exports.{SeatPart, machine_of}
 use Rattle.scq_hist.specs.declared.events.Event.{Event}
 use Rattle.scq_hist.specs.declared.events.PutName.{PutName}
 use Rattle.scq_hist.specs.declared.events.PutName.TheVariants.{Of}

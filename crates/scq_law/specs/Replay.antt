@@ -2,7 +2,7 @@
 use Rattle.std.specs.Prelude.{◌≡◌, ℕ, ◌+◌, ◌<◌, List, length, take, None, IsSome, slice_index}
 use Rattle.scq_word.specs.declared.setup.Setup.{Setup}
 use Rattle.scq_core.specs.declared.step.Step.{Step}
-use Rattle.scq_core.specs.StateLists.{machine_of}
+use Rattle.scq_core.specs.Exports.{machine_of}
 use Rattle.scq_law.specs.declared.replayed.Replayed.{Replayed}
 use Rattle.scq_law.specs.Run.{Recorded, recorded_of, IsRun}
 

@@ -3,12 +3,11 @@
 use Rattle.std.specs.Prelude.{ℕ, ◌+◌, ◌≤◌, List}
 use Rattle.std.specs.List.{All}
 use Rattle.scq_word.specs.declared.setup.Setup.{Setup}
-use Rattle.scq_word.specs.Bounds.{reset_value}
+use Rattle.scq_word.specs.Exports.{reset_value}
 use Rattle.scq_core.specs.declared.step.Step.{Step}
-use Rattle.scq_core.specs.Laws.{CountersBounded, ThresholdFloor}
+use Rattle.scq_core.specs.Exports.{CountersBounded, ThresholdFloor, machine_of}
 use Rattle.scq_core.specs.Machine.{Machine}
-use Rattle.scq_core.specs.StateLists.{machine_of}
-use Rattle.scq_hist.specs.Aspects.{HasAspects}
+use Rattle.scq_hist.specs.Exports.{HasAspects}
 use Rattle.scq_law.specs.declared.replayed.Replayed.{Replayed}
 use Rattle.scq_law.specs.Begun.{EnqueuesBegun}
 use Rattle.scq_law.specs.Bounds.{WithinWindow, ThresholdCovers, TicketsBounded}

@@ -1,14 +1,14 @@
 -- Why the loops of a call end: each new try stands higher than the one before, and has a bound.
 use Rattle.std.specs.Prelude.{◌≡◌, ℕ, ◌+◌, ◌*◌, ◌<◌, ◌≤◌, Some}
 use Rattle.scq_word.specs.declared.setup.Setup.{Setup}
-use Rattle.scq_word.specs.Words.{rank_in}
+use Rattle.scq_word.specs.Exports.{rank_in}
 use Rattle.scq_core.specs.declared.phase.Phase.{Phase}
 use Rattle.scq_core.specs.declared.phase.Phase.TheVariants.{AtE1, AtE2, AtE3, AtE4, AtD2, AtD3}
 use Rattle.scq_core.specs.declared.phase.Phase.TheVariants.{AtD5, AtD7, AtD8, AtD9, AtD10}
 use Rattle.scq_core.specs.declared.step.Step.{Step}
-use Rattle.scq_core.specs.Machine.{Machine, read, beside}
-use Rattle.scq_core.specs.Table.{ring_slots, cycle, turn_of, location_of, after}
-use Rattle.scq_core.specs.Laws.{IsAbove}
+use Rattle.scq_core.specs.Exports.{read, beside, ring_slots, cycle, turn_of, location_of, after}
+use Rattle.scq_core.specs.Exports.{IsAbove}
+use Rattle.scq_core.specs.Machine.{Machine}
 
 -- what a turn finds: a counter or a rank no lower than its least; at an exchange the word that was
 -- loaded or one of a higher rank; at the exchange of a catch-up a Tail no lower than the one

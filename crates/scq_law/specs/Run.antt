@@ -5,17 +5,16 @@ use Rattle.std.specs.Prelude.{List, [], ◌∷◌, ◌++◌, length, Option, Som
 use Rattle.std.specs.List.{All}
 use Rattle.std.specs.Option.{option_and_then, option_map}
 use Rattle.scq_word.specs.declared.setup.Setup.{Setup}
-use Rattle.scq_word.specs.Sizes.{n_of}
+use Rattle.scq_word.specs.Exports.{n_of}
 use Rattle.scq_core.specs.declared.ended.Ended.{Ended}
 use Rattle.scq_core.specs.declared.ended.Ended.TheVariants as ended
 use Rattle.scq_core.specs.declared.phase.Phase.{Phase}
 use Rattle.scq_core.specs.declared.phase.Phase.TheVariants.{Idle, AtE1, AtE4, AtE5, AtE6, AtD1}
 use Rattle.scq_core.specs.declared.phase.Phase.TheVariants.{AtD10}
 use Rattle.scq_core.specs.declared.step.Step.{Step}
-use Rattle.scq_core.specs.Updated.{updated}
-use Rattle.scq_core.specs.Machine.{Machine, read, updated_entry}
-use Rattle.scq_core.specs.Table.{moved, ring_slots, turn_of, location_of}
-use Rattle.scq_core.specs.Start.{start_of}
+use Rattle.scq_core.specs.Exports.{updated, read, updated_entry, moved, ring_slots, turn_of}
+use Rattle.scq_core.specs.Exports.{location_of, start_of}
+use Rattle.scq_core.specs.Machine.{Machine}
 use Rattle.scq_hist.specs.declared.events.Call.TheVariants.{Put, Get}
 use Rattle.scq_hist.specs.declared.events.Event.{Event}
 use Rattle.scq_hist.specs.declared.events.Event.TheVariants.{Start, End}

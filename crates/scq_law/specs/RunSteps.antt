@@ -8,7 +8,7 @@ use Rattle.scq_core.specs.declared.phase.Phase.{Phase}
 use Rattle.scq_core.specs.declared.phase.Phase.TheVariants.{Idle, AtE1, AtD2}
 use Rattle.scq_core.specs.declared.step.Step.{Step}
 use Rattle.scq_core.specs.Machine.{Machine}
-use Rattle.scq_core.specs.Table.{turn_of}
+use Rattle.scq_core.specs.Exports.{turn_of}
 use Rattle.scq_law.specs.Run.{Recorded, recorded_of, recorded_first, IsRun}
 use Rattle.scq_law.specs.Places.{AllIdle}
 

@@ -4,8 +4,9 @@ use Rattle.std.specs.List.{Contains}
 use Rattle.scq_word.specs.declared.setup.Setup.{Setup}
 use Rattle.scq_core.specs.declared.ended.Ended.{Ended}
 use Rattle.scq_core.specs.declared.ended.Ended.TheVariants.{Spent}
-use Rattle.scq_core.specs.Machine.{SeatPart, Machine}
-use Rattle.scq_word.specs.Bounds.{ticket_bound}
+use Rattle.scq_core.specs.Exports.{SeatPart}
+use Rattle.scq_core.specs.Machine.{Machine}
+use Rattle.scq_word.specs.Exports.{ticket_bound}
 use Rattle.scq_law.specs.Bounds.{enqueues}
 
 -- the record ends with a call of this ring that ended with Spent and this ticket

@@ -2,11 +2,9 @@
 -- content beside it.
 use Rattle.std.specs.Prelude.{◌≡◌, ℕ, ◌<◌, ◌⊎◌, false, List}
 use Rattle.scq_word.specs.declared.setup.Setup.{Setup}
-use Rattle.scq_word.specs.Sizes.{n_of}
-use Rattle.scq_word.specs.Words.{index_in, cycle_in, is_none_in}
-use Rattle.scq_core.specs.Machine.{Cells, Machine}
-use Rattle.scq_core.specs.Table.{ring_slots, cycle, slot}
-use Rattle.scq_core.specs.Laws.{word_at}
+use Rattle.scq_word.specs.Exports.{n_of, index_in, cycle_in, is_none_in}
+use Rattle.scq_core.specs.Exports.{Cells, ring_slots, cycle, slot, word_at}
+use Rattle.scq_core.specs.Machine.{Machine}
 use Rattle.scq_law.specs.Places.{Maker, IsPlacedBy, IsTaken, IsUntaken}
 
 -- the word of this place's slot has its cycle and an index below n, and this content stands beside

@@ -2,7 +2,7 @@
 
 ghost use Rattle.std.specs.Prelude.{◌≡◌, ◌<◌, IfOk};
 ghost use Rattle.std.specs.Option.{option_copied};
-ghost use Rattle.scq_core.specs.StateLists.{machine_of};
+ghost use Rattle.scq_core.specs.Exports.{machine_of};
 ghost use Rattle.scq_law.specs.Acts.{act_of, ended_in};
 
 use scq_core::{Ended, Phase, State, Step};

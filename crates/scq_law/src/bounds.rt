@@ -5,12 +5,10 @@ ghost use Rattle.std.specs.Prelude.{ℕ, List};
 ghost use Rattle.scq_word.specs.declared.setup.Setup.{Setup};
 ghost use Rattle.scq_core.specs.declared.step.Step.{Step};
 ghost use Rattle.scq_core.specs.Machine.{Machine};
-ghost use Rattle.scq_core.specs.Reach.{IsReachable};
-ghost use Rattle.scq_core.specs.Laws.{CountersBounded, ThresholdFloor};
-ghost use Rattle.scq_law.specs.Run.{Recorded, IsRun};
-ghost use Rattle.scq_law.specs.Bounds.{WithinWindow, ThresholdCovers, FailsBounded, TicketsBounded};
-ghost use Rattle.scq_law.specs.Bounds.{NoneSpentWithinLimit};
-ghost use Rattle.scq_law.specs.Spent.{SpentKept};
+ghost use Rattle.scq_core.specs.Exports.{IsReachable, CountersBounded, ThresholdFloor};
+ghost use Rattle.scq_law.specs.Exports.{Recorded, IsRun, WithinWindow, ThresholdCovers};
+ghost use Rattle.scq_law.specs.Exports.{FailsBounded, TicketsBounded, NoneSpentWithinLimit};
+ghost use Rattle.scq_law.specs.Exports.{SpentKept};
 
 /// Tail, as far as it is below the limit, is at most `2n - 1` past Head on each ring of `n`
 /// indices.

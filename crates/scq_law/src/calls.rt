@@ -5,11 +5,9 @@ ghost use Rattle.std.specs.Prelude.{ℕ, List};
 ghost use Rattle.scq_word.specs.declared.setup.Setup.{Setup};
 ghost use Rattle.scq_core.specs.declared.step.Step.{Step};
 ghost use Rattle.scq_core.specs.Machine.{Machine};
-ghost use Rattle.scq_core.specs.Reach.{IsReachable};
-ghost use Rattle.scq_law.specs.Run.{Recorded, IsRun};
-ghost use Rattle.scq_law.specs.Retries.{RetriesRise};
-ghost use Rattle.scq_law.specs.CallSteps.{CallsEnd, FewSteps};
-ghost use Rattle.scq_law.specs.Progress.{HasProgress, DelayedByEnds, EndsAlone};
+ghost use Rattle.scq_core.specs.Exports.{IsReachable};
+ghost use Rattle.scq_law.specs.Exports.{Recorded, IsRun, RetriesRise, CallsEnd, FewSteps};
+ghost use Rattle.scq_law.specs.Exports.{HasProgress, DelayedByEnds, EndsAlone};
 
 /// Why each loop of a call ends, in its seat's steps. The exchanges with one ticket: a failed one
 /// found an entry of a higher rank, and is tried again only while that is below what the ticket's

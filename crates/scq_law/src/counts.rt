@@ -5,10 +5,8 @@ ghost use Rattle.std.specs.Prelude.{ℕ, List};
 ghost use Rattle.scq_word.specs.declared.setup.Setup.{Setup};
 ghost use Rattle.scq_core.specs.declared.step.Step.{Step};
 ghost use Rattle.scq_core.specs.Machine.{Machine};
-ghost use Rattle.scq_core.specs.Reach.{IsReachable};
-ghost use Rattle.scq_law.specs.Run.{Recorded, IsRun};
-ghost use Rattle.scq_law.specs.Kept.{Balanced, AllKept};
-ghost use Rattle.scq_law.specs.Begun.{EnqueuesBegun};
+ghost use Rattle.scq_core.specs.Exports.{IsReachable};
+ghost use Rattle.scq_law.specs.Exports.{Recorded, IsRun, Balanced, AllKept, EnqueuesBegun};
 
 /// On each ring the indices that are left and the gets that took one are as many as the puts that
 /// placed one, the opening puts among them. A put has placed once its exchange has succeeded.

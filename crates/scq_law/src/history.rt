@@ -6,12 +6,9 @@ ghost use Rattle.scq_word.specs.declared.setup.Setup.{Setup};
 ghost use Rattle.scq_core.specs.declared.ended.Ended.{Ended};
 ghost use Rattle.scq_core.specs.declared.ended.Ended.TheVariants.{Nothing};
 ghost use Rattle.scq_core.specs.declared.step.Step.{Step};
-ghost use Rattle.scq_hist.specs.Aspects.{IsLawful, IsFresh, IsOnce, IsInOrder, IsEmptyRight};
-ghost use Rattle.scq_law.specs.Run.{Recorded, IsRun};
-ghost use Rattle.scq_law.specs.History.{HistoryHasAspects};
-ghost use Rattle.scq_law.specs.ShownCalls.{HistoryShowsRecords};
-ghost use Rattle.scq_law.specs.Prefixes.{IsPrefix, IsPrefixOfRun, IsRecordAfter};
-ghost use Rattle.scq_law.specs.EmptyCalls.{IsEmptyAtCall};
+ghost use Rattle.scq_hist.specs.Exports.{IsLawful, IsFresh, IsOnce, IsInOrder, IsEmptyRight};
+ghost use Rattle.scq_law.specs.Exports.{Recorded, IsRun, HistoryHasAspects, HistoryShowsRecords};
+ghost use Rattle.scq_law.specs.Exports.{IsPrefix, IsPrefixOfRun, IsRecordAfter, IsEmptyAtCall};
 
 /// The events of each seat alternate, beginning with a Start, and each reply suits its call.
 pub fn histories_are_lawful()

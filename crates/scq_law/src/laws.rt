@@ -3,12 +3,9 @@
 ghost use Rattle.std.specs.Prelude.{ℕ, ◌<◌, List};
 ghost use Rattle.scq_word.specs.declared.setup.Setup.{Setup};
 ghost use Rattle.scq_core.specs.Machine.{Machine};
-ghost use Rattle.scq_core.specs.Reach.{IsReachable};
-ghost use Rattle.scq_law.specs.Hands.{OneHand};
-ghost use Rattle.scq_law.specs.Lasting.{PlacesLast};
-ghost use Rattle.scq_law.specs.Later.{IsLater};
-ghost use Rattle.scq_law.specs.Places.{Maker, IsPlacedBy, IsTaken, AllIdle, PlacesOnce};
-ghost use Rattle.scq_law.specs.Standing.{EntriesMatchPlaces};
+ghost use Rattle.scq_core.specs.Exports.{IsReachable};
+ghost use Rattle.scq_law.specs.Exports.{OneHand, PlacesLast, IsLater, Maker, IsPlacedBy, IsTaken};
+ghost use Rattle.scq_law.specs.Exports.{AllIdle, PlacesOnce, EntriesMatchPlaces};
 
 /// Each index is in the hand of one seat, once, or in one entry of one ring, and nowhere else.
 pub fn one_hand()

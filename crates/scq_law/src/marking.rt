@@ -2,10 +2,8 @@
 
 ghost use Rattle.std.specs.Prelude.{◌≡◌, ◌+◌, ◌<◌, ◌^◌, ℕ, [], None, Some, Err, IfOk, OnOk};
 ghost use Rattle.std.specs.Prelude.{vec_len, slice_index};
-ghost use Rattle.scq_word.specs.Sizes.{n_of};
-ghost use Rattle.scq_core.specs.StateLists.{machine_of};
-ghost use Rattle.scq_core.specs.Start.{start_of};
-ghost use Rattle.scq_core.specs.Table.{step_of};
+ghost use Rattle.scq_word.specs.Exports.{n_of};
+ghost use Rattle.scq_core.specs.Exports.{machine_of, start_of, step_of};
 ghost use Rattle.scq_law.specs.Notes.{AddsStep, IsUnmarked, tokens_of};
 
 use crate::act::ended;

@@ -1,7 +1,7 @@
 //! What a turn is to the order of a ring.
 
 ghost use Rattle.std.specs.Prelude.{◌≡◌, ◌<◌};
-ghost use Rattle.scq_core.specs.StateLists.{machine_of};
+ghost use Rattle.scq_core.specs.Exports.{machine_of};
 ghost use Rattle.scq_law.specs.Notes.{put_note, get_note, refusal_note, end_note, level_note};
 ghost use Rattle.scq_law.specs.Notes.{note_of};
 

@@ -3,15 +3,13 @@
 ghost use Rattle.std.specs.Prelude.{◌≡◌, ℕ, ◌<◌, Err, IfOk, OnOk, MatchOption, map, vec_len};
 ghost use Rattle.std.specs.List.{All};
 ghost use Rattle.std.specs.List.Sorted.{IsPermutation};
-ghost use Rattle.scq_word.specs.Sizes.{n_of};
+ghost use Rattle.scq_word.specs.Exports.{n_of};
 ghost use Rattle.scq_core.specs.declared.step.Step.{Step as StepOf};
-ghost use Rattle.scq_core.specs.StateLists.{machine_of};
-ghost use Rattle.scq_law.specs.Places.{AllIdle};
-ghost use Rattle.scq_law.specs.Replay.{StopsAt};
+ghost use Rattle.scq_core.specs.Exports.{machine_of};
+ghost use Rattle.scq_law.specs.Exports.{AllIdle, StopsAt, AreInKeyOrder, IsMarkedRun};
+ghost use Rattle.scq_law.specs.Exports.{IsLinearization, IsOneOrder, run_of, IsFinishedRun};
+ghost use Rattle.scq_law.specs.Exports.{IsUnfinished, IsLowestBusy};
 ghost use Rattle.scq_law.specs.declared.marks.Member.{Member as TheMember};
-ghost use Rattle.scq_law.specs.Notes.{AreInKeyOrder, IsMarkedRun};
-ghost use Rattle.scq_law.specs.Order.{IsLinearization, IsOneOrder};
-ghost use Rattle.scq_law.specs.RunSteps.{run_of, IsFinishedRun, IsUnfinished, IsLowestBusy};
 
 use crate::marking::{Marking, members_of};
 use crate::marks::Member;

@@ -7,12 +7,11 @@ ghost use Rattle.scq_core.specs.declared.ended.Ended.TheVariants.{Nothing};
 ghost use Rattle.scq_core.specs.declared.step.Step.{Step};
 ghost use Rattle.scq_law.specs.declared.ordered.Ordered.{Ordered};
 ghost use Rattle.scq_law.specs.declared.ordered.Ordered.TheVariants.{Call};
-ghost use Rattle.scq_law.specs.Points.{IsDecidingStep};
-ghost use Rattle.scq_law.specs.RunSteps.{Run, IsFinishedRun, HasEnded, DrawsPut, DrawsGet};
-ghost use Rattle.scq_law.specs.Order.{EndedBefore, IsLinearization, IsOneOrder};
-ghost use Rattle.scq_law.specs.Run.{Recorded, IsRun};
-ghost use Rattle.scq_law.specs.Prefixes.{IsPrefix, IsRecordAfter};
-ghost use Rattle.scq_law.specs.Spans.{RestsAt, CallsApart};
+ghost use Rattle.scq_law.specs.Exports.{IsDecidingStep, IsFinishedRun, HasEnded, DrawsPut};
+ghost use Rattle.scq_law.specs.Exports.{DrawsGet, EndedBefore, IsLinearization, IsOneOrder};
+ghost use Rattle.scq_law.specs.Exports.{Recorded, IsRun, IsPrefix, IsRecordAfter, RestsAt};
+ghost use Rattle.scq_law.specs.Exports.{CallsApart};
+ghost use Rattle.scq_law.specs.RunSteps.{Run};
 
 /// In every run whose calls have all ended, the order of each ring has all its calls but those that
 /// ended with Spent, once, and the opening puts first; a call that ended before another started

@@ -2,9 +2,8 @@
 
 ghost use Rattle.std.specs.Prelude.{◌≡◌, ℕ, ◌+◌, ◌^◌, ◌<◌, List, ◌++◌, Some, None, Err, length};
 ghost use Rattle.std.specs.Prelude.{slice_index, vec_len, unwrap_or, IfOk, OnOk};
-ghost use Rattle.scq_word.specs.Sizes.{n_of};
-ghost use Rattle.scq_core.specs.StateLists.{machine_of};
-ghost use Rattle.scq_core.specs.Reach.{IsReachable};
+ghost use Rattle.scq_word.specs.Exports.{n_of};
+ghost use Rattle.scq_core.specs.Exports.{machine_of, IsReachable};
 ghost use Rattle.scq_law.specs.Run.{Recorded, recorded_reply, first_placer, recorded_by};
 ghost use Rattle.scq_law.specs.Run.{recorded_first};
 ghost use Rattle.scq_law.specs.Acts.{IsOnRing, starts_by, puts_after_act, names_by, resets_by};

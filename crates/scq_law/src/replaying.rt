@@ -2,11 +2,9 @@
 
 ghost use Rattle.std.specs.Prelude.{◌≡◌, ℕ, ◌<◌, List, [], Err, IfOk, OnOk, vec_len};
 ghost use Rattle.std.specs.List.{All};
-ghost use Rattle.scq_word.specs.Sizes.{n_of};
+ghost use Rattle.scq_word.specs.Exports.{n_of};
 ghost use Rattle.scq_core.specs.declared.step.Step.{Step as StepOf};
-ghost use Rattle.scq_law.specs.RecordedSteps.{IsRecording};
-ghost use Rattle.scq_law.specs.Replay.{ReplaysRun, StopsAt};
-ghost use Rattle.scq_law.specs.ReplayLaws.{ObeysLaws, ObeysRunLaws};
+ghost use Rattle.scq_law.specs.Exports.{IsRecording, ReplaysRun, StopsAt, ObeysLaws, ObeysRunLaws};
 
 use crate::recording::Recording;
 use crate::replayed::{ReplayFault, Replayed};

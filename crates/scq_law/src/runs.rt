@@ -5,11 +5,8 @@ ghost use Rattle.std.specs.Prelude.{◌≡◌, ℕ, List};
 ghost use Rattle.scq_word.specs.declared.setup.Setup.{Setup};
 ghost use Rattle.scq_core.specs.declared.step.Step.{Step};
 ghost use Rattle.scq_core.specs.Machine.{Machine};
-ghost use Rattle.scq_core.specs.Reach.{IsReachable};
-ghost use Rattle.scq_core.specs.Laws.{RankRises, CountersRise};
-ghost use Rattle.scq_law.specs.Later.{IsLater};
-ghost use Rattle.scq_law.specs.Run.{Recorded, IsRun};
-ghost use Rattle.scq_law.specs.Runs.{EndsRun};
+ghost use Rattle.scq_core.specs.Exports.{IsReachable, RankRises, CountersRise};
+ghost use Rattle.scq_law.specs.Exports.{IsLater, Recorded, IsRun, EndsRun};
 
 /// The reachable states are those in which a run of the setup's seats ends.
 pub fn runs_end_in_the_reachable_states()

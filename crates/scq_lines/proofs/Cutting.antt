@@ -8,7 +8,7 @@ use Rattle.std.proofs.lemmas.List.Elements.{All-head, All-tail}
 use Rattle.std.proofs.lemmas.List.Splits.{slice_split_at, slice_split_none}
 use Rattle.std.proofs.lemmas.Grind.{get_or_default_zero}
 use Rattle.memchr.specs.Find.{IsFirstByte, is_byte}
-use Rattle.scq_lines.specs.Lines.{lines_of, fields_of, fields_after, ends_field}
+use Rattle.scq_lines.specs.Exports.{lines_of, fields_of, fields_after, ends_field}
 
 -- none of the bytes is this one
 abbrev IsOther : ℕ → ℕ → Type 0

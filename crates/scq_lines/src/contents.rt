@@ -1,7 +1,7 @@
 //! The contents that fields say.
 
 ghost use Rattle.std.specs.Prelude.{◌≡◌, IfOk};
-ghost use Rattle.scq_lines.specs.Lines.{field_content, is_hex, is_lower_digit};
+ghost use Rattle.scq_lines.specs.Exports.{field_content, is_hex, is_lower_digit};
 
 use hex::FromHexError;
 use scq_word::{Bytes, NoMemory};

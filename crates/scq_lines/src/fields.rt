@@ -1,7 +1,7 @@
 //! The fields of a line, taken from its front one by one.
 
 ghost use Rattle.std.specs.Prelude.{◌≡◌, [], ◌∷◌, MatchOption};
-ghost use Rattle.scq_lines.specs.Lines.{fields_of, fields_after};
+ghost use Rattle.scq_lines.specs.Exports.{fields_of, fields_after};
 
 use memchr::memchr;
 

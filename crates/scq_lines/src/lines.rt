@@ -1,7 +1,7 @@
 //! The lines of a text, cut from its front.
 
 ghost use Rattle.std.specs.Prelude.{◌≡◌, ◌<◌, [], ◌∷◌, length, MatchOption};
-ghost use Rattle.scq_lines.specs.Lines.{lines_of};
+ghost use Rattle.scq_lines.specs.Exports.{lines_of};
 
 use memchr::memchr;
 

@@ -5,3 +5,4 @@ pub mod Readable
 pub mod Table
 pub mod Taking
 pub mod Written
+pub mod Exports

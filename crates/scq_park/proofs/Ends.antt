@@ -5,9 +5,9 @@ use Rattle.std.proofs.lemmas.List.{append_assoc, map-append}
 use Rattle.std.proofs.lemmas.List.Elements.{All-nil, All-cons, All-head, All-tail}
 use Rattle.atomic_table.specs.Seated.{TableId}
 use Rattle.scq_park.specs.declared.rested.Rested.{Rested}
-use Rattle.scq_park.specs.Rule.{Deeds, deeds, added}
-use Rattle.scq_park.specs.Crews.{Post, no_wakes, rested_of, plus, woken, ended, AreInWorkerOrder, AreAll}
-use Rattle.scq_park.specs.Kept.{ParkerDeeds, parker_deeds, parkers_of, one_rested, IsLink, IsStand, post_of, AreFor, with_row, gathered, told, told_by_post, EachEnds, rests_between}
+use Rattle.scq_park.specs.Exports.{Deeds, deeds, added, Post, no_wakes, rested_of, plus, woken, ended, AreInWorkerOrder, AreAll, ParkerDeeds}
+use Rattle.scq_park.specs.Exports.{parker_deeds, parkers_of, one_rested, IsLink, IsStand, post_of, AreFor, with_row, gathered, told, told_by_post}
+use Rattle.scq_park.specs.Exports.{EachEnds, rests_between}
 use Rattle.scq_park.proofs.Rows.{read_at, same_some, parkers_length}
 
 -- the last of a row, at its parker

@@ -3,7 +3,7 @@ use Rattle.std.proofs.Common.{◌≡◌, ◌∙◌, refl, arith, ℕ, zero, suc,
 use Rattle.std.proofs.lemmas.List.{length-append}
 use Rattle.std.proofs.lemmas.List.Elements.{All-nil, All-push}
 use Rattle.atomic_table.specs.Seated.{TableId}
-use Rattle.scq_park.specs.Crews.{Post, first_post, first_posts, AreInWorkerOrder, AreAll}
+use Rattle.scq_park.specs.Exports.{Post, first_post, first_posts, AreInWorkerOrder, AreAll}
 
 firsts_length : (crew : List TableId) (n : ℕ) → length (first_posts crew n) ≡ n
 firsts_length crew zero = refl

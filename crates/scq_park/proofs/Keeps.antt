@@ -4,7 +4,8 @@ use Rattle.std.proofs.Common.{◌≡◌, ℕ, zero, suc, ◌+◌, ◌<◌, ◌�
 use mathlib.Core.Option.{some, some-injective, some-ne-none}
 use lib.ListN.{get_elem?}
 use Rattle.crossbeam_utils.specs.Register.{TurnsAt, Turns, Forks, Merges}
-use Rattle.scq_park.specs.Rule.{Deeds, deeds, once_woken, once_rested, one_part_less, added, total_deeds, worth, IsIdleWithoutPart, AreIdleWithoutPart, IsCovered}
+use Rattle.scq_park.specs.Exports.{Deeds, deeds, once_woken, once_rested, one_part_less, added, total_deeds, worth, IsIdleWithoutPart}
+use Rattle.scq_park.specs.Exports.{AreIdleWithoutPart, IsCovered}
 
 -- a total after a change of one pass, and with one pass more
 total-set : (f : Deeds → ℕ) (vs : List Deeds) (i : ℕ) (v w : Deeds) → get_elem? vs i ≡ some v → total_deeds f (set vs i w) + f v ≡ total_deeds f vs + f w

@@ -4,9 +4,8 @@ use Rattle.std.specs.Prelude.{All, Some, None, slice_get, slice_index}
 use Rattle.std.proofs.lemmas.Option.{slice_get_read}
 use Rattle.std.proofs.lemmas.List.Elements.{All-nil, All-cons, All-head, All-tail, All-set}
 use Rattle.atomic_table.specs.Seated.{TableId}
-use Rattle.scq_park.specs.Rule.{Deeds, deeds, once_woken, once_rested}
-use Rattle.scq_park.specs.Crews.{post, no_wakes, first_post, with_wake}
-use Rattle.scq_park.specs.Kept.{ParkerDeeds, parker_deeds, parkers_of, one_rested, IsLink, post_of, IsStand, first_link, with_part_less, cut_below}
+use Rattle.scq_park.specs.Exports.{Deeds, deeds, once_woken, once_rested, post, no_wakes, first_post, with_wake, ParkerDeeds, parker_deeds}
+use Rattle.scq_park.specs.Exports.{parkers_of, one_rested, IsLink, post_of, IsStand, first_link, with_part_less, cut_below}
 
 pub same_some : {A : Type 0} (x y : A) → Some x ≡ Some y → x ≡ y
 same_some x y is = cc

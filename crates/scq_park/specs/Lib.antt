@@ -1,3 +1,4 @@
 pub mod Rule
 pub mod Crews
 pub mod Kept
+pub mod Exports

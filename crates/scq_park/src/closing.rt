@@ -1,8 +1,8 @@
 //! The end of a crew: all passes come back to the parkers that they are of.
 ghost use Rattle.std.specs.Prelude.{◌≡◌, ◌+◌, ◌<◌, ◌≤◌, [], length, map, All, vec_len};
 ghost use Rattle.std.specs.Prelude.{vec_capacity};
-ghost use Rattle.scq_park.specs.Kept.{parkers_of, AreFor, with_row, gathered, told, told_by_post};
-ghost use Rattle.scq_park.specs.Kept.{EachEnds, rests_between};
+ghost use Rattle.scq_park.specs.Exports.{parkers_of, AreFor, with_row, gathered, told};
+ghost use Rattle.scq_park.specs.Exports.{told_by_post, EachEnds, rests_between};
 
 use crate::passes::{RestPass, WakePass};
 use crate::rested::Rested;

@@ -1,9 +1,8 @@
 //! The parkers of a crew, and the stands of its workers.
 ghost use Rattle.std.specs.Prelude.{◌≡◌, ◌+◌, ◌-◌, ◌<◌, ◌≤◌, [], map, All, IfOk, vec_len};
 ghost use Rattle.std.specs.Prelude.{vec_capacity};
-ghost use Rattle.scq_park.specs.Rule.{deeds};
-ghost use Rattle.scq_park.specs.Crews.{first_posts};
-ghost use Rattle.scq_park.specs.Kept.{parkers_of, first_link, with_part_less, cut_below};
+ghost use Rattle.scq_park.specs.Exports.{deeds, first_posts, parkers_of, first_link};
+ghost use Rattle.scq_park.specs.Exports.{with_part_less, cut_below};
 
 use crate::passes::WakePass;
 use crate::stand::Stand;

@@ -4,7 +4,8 @@ use Rattle.std.specs.List.{AllZip, Contains}
 use Rattle.std.proofs.lemmas.List.{map-append}
 use Rattle.std.proofs.lemmas.List.Elements.{Contains-append_left, Contains-push}
 use Rattle.std.proofs.lemmas.Slice.Zip.{all_zipped_more}
-use Rattle.scq_passes.specs.Becoming.{BecomeSoFar, none, and_became, and_passed_over}
+use Rattle.scq_passes.specs.Exports.{BecomeSoFar, and_became, and_passed_over}
+use Rattle.scq_passes.specs.Becoming.{none}
 
 module _ {T M : Type 0} {Over : T → Type 0} {Becomes : T → M → Type 0} where
   -- each take has its own then

@@ -4,10 +4,9 @@ use Rattle.std.specs.Prelude.{count_by}
 use Rattle.std.specs.List.{Contains}
 use Rattle.std.proofs.lemmas.List.Elements.{Contains-push_cases}
 use Rattle.scq_core.specs.declared.ended.Ended.{Ended}
-use Rattle.scq_queue.specs.Lists.{Placed, sends_of}
-use Rattle.scq_queue.specs.Passes.{PassStanding, known_on}
-use Rattle.scq_passes.specs.Records.{is_got, is_put, Puts, HoldsNothingAtEachFull, MeetsNoSpent}
-use Rattle.scq_passes.specs.Calls.{HasTakenFollowed, HasFoundFull, HasSentSo, IsBetweenParts, after_retire}
+use Rattle.scq_queue.specs.Exports.{Placed, sends_of, PassStanding, known_on}
+use Rattle.scq_passes.specs.Exports.{is_got, is_put, Puts, HoldsNothingAtEachFull, MeetsNoSpent, HasTakenFollowed, HasFoundFull, HasSentSo}
+use Rattle.scq_passes.specs.Exports.{IsBetweenParts, after_retire}
 use Rattle.scq_passes.proofs.Kept.{taken-calls, full-calls, full-sends, sent-calls, sent-sends, placed, knows-still}
 use Rattle.scq_passes.proofs.RecordSteps.{alone-sent, even-sent, alone-full, even-full, even-taken, alone-taken, unspent-sent, unspent-full, unspent-taken}
 

@@ -8,11 +8,12 @@ use Rattle.std.proofs.lemmas.List.Folds.{list_any-append}
 use Rattle.std.proofs.lemmas.List.Sums.{sum_by-append}
 use Rattle.scq_core.specs.declared.ended.Ended.{Ended}
 use Rattle.scq_core.specs.declared.ended.Ended.TheVariants.{Done, Got, Nothing}
-use Rattle.scq_law.specs.Bounds.{tally, was_put}
+use Rattle.scq_law.specs.Exports.{tally, was_put}
 use Rattle.scq_law.proofs.Base.SeatSums.{tally-append}
-use Rattle.scq_queue.specs.Lists.{sends_of, takes_of}
+use Rattle.scq_queue.specs.Exports.{sends_of, takes_of}
 use Rattle.scq_queue.proofs.Records.{sends-append, takes-append}
-use Rattle.scq_passes.specs.Records.{is_got, is_put, is_lend, Puts, AreTakesFollowed, IsReturn, AreReturns, none, and_got, and_found_none}
+use Rattle.scq_passes.specs.Exports.{is_got, is_put, is_lend, Puts, AreTakesFollowed, IsReturn, AreReturns, and_got, and_found_none}
+use Rattle.scq_passes.specs.Records.{none}
 
 -- what is given back goes to the free ring
 pub returns : AreReturns IsReturn

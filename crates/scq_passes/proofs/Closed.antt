@@ -4,16 +4,11 @@ use Rattle.std.specs.Prelude.{slice_get, slice_index, sum}
 use Rattle.std.specs.List.{All}
 use Rattle.std.proofs.lemmas.List.Sums.{sum_by-cons}
 use Rattle.scq_word.specs.declared.setup.Setup.{Setup}
-use Rattle.scq_word.specs.Sizes.{n_of}
-use Rattle.scq_band.specs.Buffers.{opening_of}
-use Rattle.scq_band.specs.Closing.{AreTheSame, IsOneRunToTheEnd}
-use Rattle.scq_band.specs.Standing.{Identity}
-use Rattle.scq_queue.specs.Closing.{all_held, callers_of, records_of}
-use Rattle.scq_queue.specs.Passes.{PassStanding, HeldStanding}
-use Rattle.scq_passes.specs.AllPasses.{HaveShared}
-use Rattle.scq_passes.specs.Closed.{HasClosed}
-use Rattle.scq_passes.specs.Records.{HoldsNothingAtEachFull, MeetsNoSpent}
-use Rattle.scq_passes.specs.Together.{SendsAreTakes, NothingIsLeft, NoneSpent, IsBounded, HasSwept}
+use Rattle.scq_word.specs.Exports.{n_of}
+use Rattle.scq_band.specs.Exports.{opening_of, AreTheSame, IsOneRunToTheEnd, Identity}
+use Rattle.scq_queue.specs.Exports.{all_held, callers_of, records_of, PassStanding, HeldStanding}
+use Rattle.scq_passes.specs.Exports.{HaveShared, HasClosed, HoldsNothingAtEachFull, MeetsNoSpent, SendsAreTakes, NothingIsLeft, NoneSpent, IsBounded}
+use Rattle.scq_passes.specs.Exports.{HasSwept}
 use Rattle.scq_passes.proofs.SendsAndTakes.{sends-are-takes, no-place-twice, nothing-is-left}
 
 -- numbers of which each is 0 have the sum 0, and where all others are, the first is the sum

@@ -2,11 +2,9 @@
 use Rattle.std.proofs.Common.{◌≡◌, ◌∙◌, refl, ap, arith, zero, suc, ℕ, ◌-◌, ◌^◌, ◌<◌, ◌≤◌, List, [], ◌∷◌, map}
 use Rattle.std.specs.Prelude.{min}
 use Rattle.std.specs.List.{All}
-use Rattle.scq_queue.specs.Lists.{counts_of}
-use Rattle.scq_queue.specs.Passes.{PassStanding, lists_of}
+use Rattle.scq_queue.specs.Exports.{counts_of, PassStanding, lists_of}
 use Rattle.scq_queue.specs.declared.counts.Counts.{Counts}
-use Rattle.scq_passes.specs.AllPasses.{lengths_of}
-use Rattle.scq_passes.specs.Together.{IsBounded}
+use Rattle.scq_passes.specs.Exports.{lengths_of, IsBounded}
 
 -- counts of few calls are the lengths of the lists
 few-counted : (n most : ℕ) → most < 2 ^ 64 → n ≤ most → min n (2 ^ 64 - 1) ≡ n

@@ -6,7 +6,7 @@ use Rattle.std.proofs.lemmas.List.{append-nil}
 use Rattle.std.proofs.lemmas.List.Elements.{filter-append}
 use Rattle.std.proofs.lemmas.Slice.Zip.{all_zipped_more}
 use Rattle.scq_core.specs.declared.ended.Ended.{Ended}
-use Rattle.scq_passes.specs.PassedOn.{EachHasItsCall}
+use Rattle.scq_passes.specs.Exports.{EachHasItsCall}
 
 module _ {P : Type 0} (Is : P → Ended → Type 0) (counts : Ended → Bool) where
   -- by calls of which none counts

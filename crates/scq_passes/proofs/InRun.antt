@@ -5,14 +5,12 @@ use Rattle.scq_word.specs.declared.setup.Setup.{Setup}
 use Rattle.scq_core.specs.declared.ended.Ended.{Ended}
 use Rattle.scq_core.specs.declared.ended.Ended.TheVariants.{Nothing}
 use Rattle.scq_core.specs.declared.step.Step.{Step}
-use Rattle.scq_law.specs.Prefixes.{IsPrefix, AllPrefixes, IsRecordAfter}
+use Rattle.scq_law.specs.Exports.{IsPrefix, AllPrefixes, IsRecordAfter}
 use Rattle.scq_law.proofs.Replays.RunPrefixes.{prefix_trans, prefix_shorter}
-use Rattle.scq_band.specs.RunSeen.{Caller, EndsWith, IsCallInRun, Seen, with_run}
-use Rattle.scq_band.specs.Standing.{Identity}
+use Rattle.scq_band.specs.Exports.{Caller, EndsWith, IsCallInRun, Seen, with_run, Identity, opening_of}
 use Rattle.scq_band.proofs.DelayedCalls.{call_delayed}
-use Rattle.scq_band.specs.Buffers.{opening_of}
-use Rattle.scq_queue.specs.Passes.{PassStanding, HeldStanding, HasGot, WasGivenBack, FoundNothing, caller_of}
-use Rattle.scq_passes.specs.Leaving.{MetTopicEmpty, HasOnlyCalled}
+use Rattle.scq_queue.specs.Exports.{PassStanding, HeldStanding, HasGot, WasGivenBack, FoundNothing, caller_of}
+use Rattle.scq_passes.specs.Exports.{MetTopicEmpty, HasOnlyCalled}
 
 -- calls that stand in the run, and more of the same seat behind them, are calls in the run
 pub calls-along : (c : Setup) (opening : List (List ℕ)) (old mid new : Caller) → mid.seat ≡ old.seat

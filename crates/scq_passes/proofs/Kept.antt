@@ -5,14 +5,12 @@ use Rattle.std.specs.List.{Contains}
 use Rattle.std.proofs.lemmas.List.{append-nil, length-append}
 use Rattle.scq_core.specs.declared.ended.Ended.{Ended}
 use Rattle.scq_core.specs.declared.ended.Ended.TheVariants.{Done, Got, Nothing}
-use Rattle.scq_law.specs.Bounds.{tally, was_put}
+use Rattle.scq_law.specs.Exports.{tally, was_put}
 use Rattle.scq_law.proofs.Base.SeatSums.{tally-append}
-use Rattle.scq_queue.specs.Lists.{Placed, sends_of, takes_of}
-use Rattle.scq_queue.specs.Passes.{PassStanding, known_on}
+use Rattle.scq_queue.specs.Exports.{Placed, sends_of, takes_of, PassStanding, known_on}
 use Rattle.scq_queue.proofs.Records.{sends-append, takes-append}
-use Rattle.scq_passes.specs.Records.{Puts, AreReturns}
-use Rattle.scq_passes.specs.Together.{HasSwept}
-use Rattle.scq_passes.specs.Calls.{KnowsMore, HasTakenFollowed, HasTaken, HasSentSo, HasFoundFull, KnowsItsSends, HasFewCalls}
+use Rattle.scq_passes.specs.Exports.{Puts, AreReturns, HasSwept, KnowsMore, HasTakenFollowed, HasTaken, HasSentSo, HasFoundFull, KnowsItsSends}
+use Rattle.scq_passes.specs.Exports.{HasFewCalls}
 use Rattle.scq_passes.proofs.Blocks.{returns, takes-weaker, takes-no_send, takes-puts, takes-returns}
 
 -- one put is at most one on a ring

@@ -3,7 +3,7 @@ use Rattle.std.proofs.Common.{◌≡◌, ◌≢◌, refl, sym, ◌∙◌, ap, su
 use Rattle.std.proofs.lemmas.Bool.{cases_eq}
 use Rattle.std.proofs.lemmas.List.{get_or-set_other, get_or-set_same}
 use Rattle.scq_band.specs.declared.numbers.Numbers.{Numbers}
-use Rattle.scq_band.specs.Numbers.{known_of, changed, finishes, sees, passes, drew, empties}
+use Rattle.scq_band.specs.Exports.{known_of, changed, finishes, sees, passes, drew, empties}
 
 -- of another ring they stay
 pub known-other : (f : Numbers → Numbers) (r q : ℕ) (ns : List Numbers) → q ≢ r → known_of (changed f r ns) q ≡ known_of ns q

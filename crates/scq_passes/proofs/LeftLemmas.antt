@@ -4,12 +4,10 @@ use Rattle.std.specs.Prelude.{◌==◌, if◌then◌else◌, IfSome}
 use Rattle.std.proofs.lemmas.List.{append-nil, length-append}
 use Rattle.scq_core.specs.declared.ended.Ended.{Ended}
 use Rattle.scq_core.specs.declared.ended.Ended.TheVariants.{Got, Spent}
-use Rattle.scq_law.specs.Bounds.{tally, was_put}
+use Rattle.scq_law.specs.Exports.{tally, was_put}
 use Rattle.scq_law.proofs.Base.SeatSums.{tally-append}
-use Rattle.scq_queue.specs.Lists.{sends_of, takes_of}
-use Rattle.scq_queue.specs.Passes.{PassStanding, HeldStanding, HasGot, WasLent, after_spent_get, after_spent_put, having_seen}
-use Rattle.scq_passes.specs.Records.{Puts}
-use Rattle.scq_passes.specs.Calls.{HasTakenFollowed, HasTaken, HasFoundFull, HasLeftSo, HasLeft, HasFewCalls, index_of}
+use Rattle.scq_queue.specs.Exports.{sends_of, takes_of, PassStanding, HeldStanding, HasGot, WasLent, after_spent_get, after_spent_put, having_seen}
+use Rattle.scq_passes.specs.Exports.{Puts, HasTakenFollowed, HasTaken, HasFoundFull, HasLeftSo, HasLeft, HasFewCalls, index_of}
 use Rattle.scq_queue.proofs.Records.{sends-append, takes-append}
 use Rattle.scq_passes.proofs.Kept.{at_most, few_calls-taken, few_calls-full}
 

@@ -7,16 +7,12 @@ use Rattle.std.proofs.lemmas.List.{length-map, get_or-map}
 use Rattle.std.proofs.lemmas.List.Concat.{length-flat_map}
 use Rattle.std.proofs.lemmas.List.Sums.{sum_by-cons, get_or-le-sum_by}
 use Rattle.scq_word.specs.declared.setup.Setup.{Setup}
-use Rattle.scq_word.specs.Sizes.{n_of}
-use Rattle.scq_word.specs.Bounds.{reset_value, limit_for}
+use Rattle.scq_word.specs.Exports.{n_of, reset_value, limit_for}
 use Rattle.scq_core.proofs.Entries.{few_seats}
-use Rattle.scq_law.specs.Bounds.{tally, was_put}
+use Rattle.scq_law.specs.Exports.{tally, was_put}
 use Rattle.scq_band.proofs.ClosedCounts.{sum_by-map}
-use Rattle.scq_queue.specs.Lists.{sends_of, takes_of}
-use Rattle.scq_queue.specs.Passes.{PassStanding}
-use Rattle.scq_queue.specs.Closing.{EachTakeIsASend, NoPlaceIsTakenTwice, NoneIsKeptWithinTheLimit}
-use Rattle.scq_passes.specs.Together.{all_sends, all_takes, NoneSpent, IsBounded}
-use Rattle.scq_passes.specs.Calls.{HasFewCalls}
+use Rattle.scq_queue.specs.Exports.{sends_of, takes_of, PassStanding, EachTakeIsASend, NoPlaceIsTakenTwice, NoneIsKeptWithinTheLimit}
+use Rattle.scq_passes.specs.Exports.{all_sends, all_takes, NoneSpent, IsBounded, HasFewCalls}
 use Rattle.scq_passes.proofs.SendsAndTakes.{few-takes}
 
 -- what a get may cost is low

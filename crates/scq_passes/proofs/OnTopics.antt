@@ -10,15 +10,14 @@ use Rattle.std.proofs.lemmas.List.Kept.{AllPairs-filter}
 use Rattle.std.proofs.lemmas.List.Sorted.{Contains-permutation, IsPermutation-sym}
 use Rattle.scq_core.specs.declared.ended.Ended.{Ended}
 use Rattle.scq_core.specs.declared.ended.Ended.TheVariants.{Done, Got, Nothing, Spent}
-use Rattle.scq_law.specs.Bounds.{tally, was_put}
-use Rattle.scq_queue.specs.Lists.{Placed, sends_of, takes_of}
-use Rattle.scq_queue.specs.Passes.{PassStanding}
-use Rattle.scq_queue.specs.Closing.{EachTakeIsASend, NoPlaceIsTakenTwice}
+use Rattle.scq_law.specs.Exports.{tally, was_put}
+use Rattle.scq_queue.specs.Exports.{Placed, sends_of, takes_of, PassStanding, EachTakeIsASend, NoPlaceIsTakenTwice}
 use Rattle.scq_queue.proofs.Records.{sends-append, takes-append}
 use Rattle.scq_collect.proofs.Distinct.{same-members, included-length}
 use Rattle.scq_collect.proofs.Orders.{contains-cases, contains-first, contains-more}
-use Rattle.scq_passes.specs.Records.{on, Puts, AreTakesFollowed, none, and_got, and_found_none, MeetsNoSpent}
-use Rattle.scq_passes.specs.Together.{Apart, all_sends, all_takes, SendsAreTakes, NoPlaceStandsTwice}
+use Rattle.scq_passes.specs.Exports.{on, Puts, AreTakesFollowed, and_got, and_found_none, MeetsNoSpent, Apart, all_sends, all_takes, SendsAreTakes}
+use Rattle.scq_passes.specs.Exports.{NoPlaceStandsTwice}
+use Rattle.scq_passes.specs.Records.{none}
 use Rattle.scq_passes.proofs.SendsAndTakes.{distinct, takes-apart, take-was-sent}
 
 -- of a list with one behind it

@@ -8,18 +8,17 @@ use Rattle.std.proofs.lemmas.List.Elements.{Contains-append_cases, Contains-push
 use Rattle.scq_core.specs.declared.ended.Ended.{Ended}
 use Rattle.scq_core.specs.declared.ended.Ended.TheVariants.{Done, Got, Nothing}
 use Rattle.scq_band.specs.declared.numbers.Numbers.{Numbers}
-use Rattle.scq_band.specs.Numbers.{known_of, changed, finishes, sees, passes, drew, empties}
-use Rattle.scq_band.specs.Standing.{Identity}
+use Rattle.scq_band.specs.Exports.{known_of, changed, finishes, sees, passes, drew, empties, Identity, Seen}
 use Rattle.scq_band.proofs.Learning.{changed_length}
 use Rattle.scq_collect.proofs.Orders.{contains-first, contains-more}
-use Rattle.scq_band.specs.RunSeen.{Seen}
-use Rattle.scq_law.specs.Bounds.{tally, was_put}
+use Rattle.scq_law.specs.Exports.{tally, was_put}
 use Rattle.scq_law.proofs.Base.SeatSums.{tally-append}
-use Rattle.scq_queue.specs.Lists.{Placed, sends_of}
+use Rattle.scq_queue.specs.Exports.{Placed, sends_of, PassStanding, HeldStanding, HasGot, WasLent, WasGivenBack, FoundEmpty, FoundFull, having_seen}
+use Rattle.scq_queue.specs.Exports.{after_put, without, known_on, after_look}
 use Rattle.scq_queue.proofs.Records.{sends-append}
-use Rattle.scq_queue.specs.Passes.{PassStanding, HeldStanding, HasGot, WasLent, WasGivenBack, FoundEmpty, FoundFull, having_seen, after_put, without, known_on, after_look}
-use Rattle.scq_passes.specs.Records.{Puts, AreReturns, none, and_got, and_found_none}
-use Rattle.scq_passes.specs.Calls.{KnowsMore, HasTakenFollowed, HasTaken, HasSentSo, HasFoundFull, Suits, takes_left}
+use Rattle.scq_passes.specs.Exports.{Puts, AreReturns, and_got, and_found_none, KnowsMore, HasTakenFollowed, HasTaken, HasSentSo, HasFoundFull, Suits}
+use Rattle.scq_passes.specs.Exports.{takes_left}
+use Rattle.scq_passes.specs.Records.{none}
 use Rattle.scq_passes.proofs.Blocks.{takes-join}
 use Rattle.scq_passes.proofs.Kept.{knows-still, taken-same}
 use Rattle.scq_passes.proofs.KnownNumbers.{known-other, known-same, Raises, raises-along, known-raised, finishes-raises, got-raises, empty-raises, empty-finished, empty-passes, finished-stays}

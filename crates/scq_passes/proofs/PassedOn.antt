@@ -5,10 +5,10 @@ use Rattle.std.specs.List.Sorted.{IsPermutation}
 use Rattle.std.proofs.lemmas.List.{append_assoc, map-append, length-append}
 use Rattle.std.proofs.lemmas.List.Elements.{Contains-append_left, Contains-push, Contains-push_cases}
 use Rattle.std.proofs.lemmas.List.Sorted.{IsPermutation-refl, IsPermutation-trans, IsPermutation-append_left, IsPermutation-append_right, IsPermutation-append_comm}
-use Rattle.scq_passes.specs.PassedOn.{ArePassedOn, none, and_sent, and_made}
+use Rattle.scq_passes.specs.Exports.{ArePassedOn, and_sent, and_made}
+use Rattle.scq_passes.specs.PassedOn.{none}
 
 module _ {P S D : Type 0} {Sends : P → S → Type 0} {Makes : P → D → Type 0} where
-
   -- what each send is of
   pub passed-send : (ps : List P) (sends : List S) (directs : List D) → ArePassedOn Sends Makes ps sends directs → (s : S) → Contains sends s
       → (p : P) × Contains ps p × Sends p s

@@ -8,10 +8,12 @@ use Rattle.std.proofs.lemmas.List.Folds.{list_any-append}
 use Rattle.std.proofs.lemmas.List.Sums.{sum_by-append}
 use Rattle.scq_core.specs.declared.ended.Ended.{Ended}
 use Rattle.scq_core.specs.declared.ended.Ended.TheVariants.{Done, Got, Nothing, Spent}
-use Rattle.scq_law.specs.Bounds.{tally}
+use Rattle.scq_law.specs.Exports.{tally}
 use Rattle.scq_law.proofs.Base.SeatSums.{tally-append}
-use Rattle.scq_queue.specs.Lists.{was_full}
-use Rattle.scq_passes.specs.Records.{is_got, is_put, is_lend, is_take, HoldsNothingAtEachFull, AfterEachFull, HelpsAfterEachFull, HelpsOnceAfterEachFull, Puts, AreTakesFollowed, IsReturn, none, and_got, and_found_none, MeetsNoSpent}
+use Rattle.scq_queue.specs.Exports.{was_full}
+use Rattle.scq_passes.specs.Exports.{is_got, is_put, is_lend, is_take, HoldsNothingAtEachFull, AfterEachFull, HelpsAfterEachFull}
+use Rattle.scq_passes.specs.Exports.{HelpsOnceAfterEachFull, Puts, AreTakesFollowed, IsReturn, and_got, and_found_none, MeetsNoSpent}
+use Rattle.scq_passes.specs.Records.{none}
 use Rattle.scq_passes.proofs.Splits.{split-append, before-led, before-none, before-some, before-all}
 use Rattle.scq_passes.proofs.Blocks.{takes-no_lend, takes-even}
 

@@ -5,12 +5,10 @@ use Rattle.std.specs.List.{list_any, Contains}
 use Rattle.std.proofs.lemmas.List.{length-append, take-append-drop}
 use Rattle.std.proofs.Math.Seq.{take-append_seam, drop-append_seam}
 use Rattle.scq_core.specs.declared.ended.Ended.{Ended}
-use Rattle.scq_queue.specs.Lists.{Placed, sends_of, takes_of}
-use Rattle.scq_queue.specs.Passes.{PassStanding, known_on}
+use Rattle.scq_queue.specs.Exports.{Placed, sends_of, takes_of, PassStanding, known_on}
 use Rattle.scq_queue.proofs.Records.{takes-append}
-use Rattle.scq_passes.specs.Records.{is_lend, on, Puts, AreReturns}
-use Rattle.scq_passes.specs.Together.{HasRetired}
-use Rattle.scq_passes.specs.Calls.{HasTakenFollowed, KnowsItsSends, calls_before, calls_behind, after_retire}
+use Rattle.scq_passes.specs.Exports.{is_lend, on, Puts, AreReturns, HasRetired, HasTakenFollowed, KnowsItsSends, calls_before, calls_behind}
+use Rattle.scq_passes.specs.Exports.{after_retire}
 use Rattle.scq_passes.proofs.Blocks.{takes-no_lend, takes-no_send}
 use Rattle.scq_passes.proofs.Kept.{taken-calls, taken-sends-as}
 use Rattle.scq_passes.proofs.OnTopics.{on-member}

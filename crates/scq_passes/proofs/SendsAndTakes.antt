@@ -5,10 +5,9 @@ use Rattle.std.specs.List.{All, AllPairs, Contains}
 use Rattle.std.proofs.lemmas.List.Sorted.{sum_by-IsPermutation}
 use Rattle.std.proofs.lemmas.Option.{slice_get_within, get_or_from_slice_get}
 use Rattle.scq_word.specs.declared.setup.Setup.{Setup}
-use Rattle.scq_queue.specs.Lists.{Placed, sends_of, takes_of}
-use Rattle.scq_queue.specs.Passes.{PassStanding}
-use Rattle.scq_queue.specs.Closing.{WasSent, EachTakeIsASend, NoPlaceIsSentTwice, NoPlaceIsTakenTwice, EachSendPassedIsTaken, IsBalance, sends_on, takes_on}
-use Rattle.scq_passes.specs.Together.{Apart, all_sends, all_takes, SendsAreTakes, NoPlaceStandsTwice, NothingIsLeft, HasSwept}
+use Rattle.scq_queue.specs.Exports.{Placed, sends_of, takes_of, PassStanding, WasSent, EachTakeIsASend, NoPlaceIsSentTwice, NoPlaceIsTakenTwice}
+use Rattle.scq_queue.specs.Exports.{EachSendPassedIsTaken, IsBalance, sends_on, takes_on}
+use Rattle.scq_passes.specs.Exports.{Apart, all_sends, all_takes, SendsAreTakes, NoPlaceStandsTwice, NothingIsLeft, HasSwept}
 use Rattle.scq_passes.proofs.ManyLists.{stands-at, found-at, in-all, from-all, apart-all, count-all}
 use Rattle.scq_collect.proofs.Distinct.{IsDistinct, same-members, included-length}
 

@@ -4,11 +4,9 @@ use Rattle.std.specs.List.{Contains}
 use Rattle.std.proofs.lemmas.List.Elements.{Contains-append_cases, Contains-push_cases}
 use Rattle.std.proofs.Math.Seq.{drop-append_seam}
 use Rattle.scq_core.specs.declared.ended.Ended.{Ended}
-use Rattle.scq_queue.specs.Lists.{Placed, takes_of}
-use Rattle.scq_queue.specs.Passes.{PassStanding, known_on}
+use Rattle.scq_queue.specs.Exports.{Placed, takes_of, PassStanding, known_on}
 use Rattle.scq_queue.proofs.Records.{takes-append}
-use Rattle.scq_passes.specs.Records.{on, Puts}
-use Rattle.scq_passes.specs.Calls.{KnowsMore, HasTakenFollowed, since, taken_since, TookNoneBelow}
+use Rattle.scq_passes.specs.Exports.{on, Puts, KnowsMore, HasTakenFollowed, since, taken_since, TookNoneBelow}
 use Rattle.scq_passes.proofs.Kept.{taken-calls}
 use Rattle.scq_passes.proofs.OnTopics.{on-append}
 

@@ -4,17 +4,10 @@ use Rattle.std.specs.Prelude.{◌==◌}
 use Rattle.std.proofs.lemmas.List.{append-nil}
 use Rattle.scq_core.specs.declared.ended.Ended.{Ended}
 use Rattle.scq_core.specs.declared.ended.Ended.TheVariants.{Nothing}
-use Rattle.scq_queue.specs.Lists.{takes_of}
-use Rattle.scq_band.specs.Buffers.{opening_of}
-use Rattle.scq_band.specs.RunSeen.{IsReadingInRun}
-use Rattle.scq_band.specs.Standing.{Identity}
-use Rattle.scq_queue.specs.Passes.{PassStanding, after_look, having_seen, caller_of}
+use Rattle.scq_queue.specs.Exports.{takes_of, PassStanding, after_look, having_seen, caller_of}
+use Rattle.scq_band.specs.Exports.{opening_of, IsReadingInRun, Identity}
 use Rattle.scq_queue.proofs.Records.{takes-append}
-use Rattle.scq_passes.specs.Records.{Puts}
-use Rattle.scq_passes.specs.Leaving.{TookNothing, MetTopicEmpty, HasOnlyCalled, IsSweep}
-use Rattle.scq_passes.specs.Taking.{HasEmptiedAll}
-use Rattle.scq_passes.specs.Waiting.{TookMore}
-use Rattle.scq_passes.specs.Calls.{HasTakenFollowed}
+use Rattle.scq_passes.specs.Exports.{Puts, TookNothing, MetTopicEmpty, HasOnlyCalled, IsSweep, HasEmptiedAll, TookMore, HasTakenFollowed}
 use Rattle.scq_passes.proofs.Kept.{taken-calls}
 
 module _ {B : Type 0} where

@@ -1,8 +1,7 @@
 -- A take of a topic that found nothing.
 use Rattle.std.proofs.Common.{ap, suc, ◌<◌, length, ℕ}
-use Rattle.scq_queue.specs.Passes.{PassStanding, FoundEmpty}
-use Rattle.scq_passes.specs.Leaving.{TookNothing}
-use Rattle.scq_passes.specs.Taking.{HasEmptied}
+use Rattle.scq_queue.specs.Exports.{PassStanding, FoundEmpty}
+use Rattle.scq_passes.specs.Exports.{TookNothing, HasEmptied}
 use Rattle.scq_passes.proofs.PassLemmas.{found-past}
 use Rattle.scq_passes.proofs.Sweeps.{found-now, found-takes}
 use Rattle.scq_passes.proofs.Vain.{vain-none}

@@ -5,12 +5,9 @@ use Rattle.std.proofs.lemmas.List.{length-append}
 use Rattle.std.proofs.lemmas.List.Sums.{sum_by-append}
 use Rattle.scq_core.specs.declared.ended.Ended.{Ended}
 use Rattle.scq_core.specs.declared.ended.Ended.TheVariants.{Done, Got, Nothing}
-use Rattle.scq_queue.specs.Lists.{Placed, sends_of, takes_of}
-use Rattle.scq_queue.specs.Passes.{PassStanding, HeldStanding, HasGot, WasGivenBack}
+use Rattle.scq_queue.specs.Exports.{Placed, sends_of, takes_of, PassStanding, HeldStanding, HasGot, WasGivenBack}
 use Rattle.scq_queue.proofs.Records.{sends-append, takes-append}
-use Rattle.scq_passes.specs.Records.{Puts}
-use Rattle.scq_passes.specs.Calls.{HasTakenFollowed, HasSentSo, HasFoundFull}
-use Rattle.scq_passes.specs.Waiting.{vain_takes, TookInVain, TookMore, HelpsInVain, SweepsInVain}
+use Rattle.scq_passes.specs.Exports.{Puts, HasTakenFollowed, HasSentSo, HasFoundFull, vain_takes, TookInVain, TookMore, HelpsInVain, SweepsInVain}
 use Rattle.scq_passes.proofs.Kept.{taken-calls, sent-calls, sent-sends, placed, full-sends}
 
 -- one call more

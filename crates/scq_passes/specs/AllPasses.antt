@@ -5,13 +5,10 @@ use Rattle.std.specs.Prelude.{◌≡◌, ℕ, ◌+◌, ◌^◌, List, length, So
 use Rattle.std.specs.Prelude.{All, Vec}
 use Rattle.std.specs.Global.{Global}
 use Rattle.scq_word.specs.declared.setup.Setup.{Setup}
-use Rattle.scq_word.specs.Sizes.{n_of}
-use Rattle.scq_band.specs.Buffers.{opening_of}
-use Rattle.scq_band.specs.Closing.{AreTheSame, IsOneRunToTheEnd}
-use Rattle.scq_band.specs.Standing.{Identity}
-use Rattle.scq_queue.specs.Closing.{AllFullsStand, IsBalance, all_held, callers_of, records_of}
-use Rattle.scq_queue.specs.Lists.{sends_of, takes_of}
-use Rattle.scq_queue.specs.Passes.{PassStanding}
+use Rattle.scq_word.specs.Exports.{n_of}
+use Rattle.scq_band.specs.Exports.{opening_of, AreTheSame, IsOneRunToTheEnd, Identity}
+use Rattle.scq_queue.specs.Exports.{AllFullsStand, IsBalance, all_held, callers_of, records_of}
+use Rattle.scq_queue.specs.Exports.{sends_of, takes_of, PassStanding}
 use Rattle.scq_queue.specs.declared.counts.Counts.{Counts}
 use Rattle.scq_passes.specs.Records.{HoldsNothingAtEachFull, MeetsNoSpent}
 use Rattle.scq_passes.specs.Together.{SendsAreTakes, NoPlaceStandsTwice, NothingIsLeft, NoneSpent}

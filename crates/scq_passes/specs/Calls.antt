@@ -4,11 +4,10 @@ use Rattle.std.specs.Prelude.{take, drop, count_by, Option, Some, None, unwrap_o
 use Rattle.std.specs.List.{Contains}
 use Rattle.scq_core.specs.declared.ended.Ended.{Ended}
 use Rattle.scq_core.specs.declared.ended.Ended.TheVariants.{Done, Got, Nothing}
-use Rattle.scq_law.specs.Bounds.{tally, was_put}
-use Rattle.scq_band.specs.Standing.{Identity}
-use Rattle.scq_queue.specs.Lists.{Placed, sends_of, takes_of}
-use Rattle.scq_band.specs.RunSeen.{with_retiree}
-use Rattle.scq_queue.specs.Passes.{PassStanding, HeldStanding, known_on}
+use Rattle.scq_law.specs.Exports.{tally, was_put}
+use Rattle.scq_band.specs.Exports.{Identity, with_retiree}
+use Rattle.scq_queue.specs.Exports.{Placed, sends_of, takes_of, PassStanding, HeldStanding}
+use Rattle.scq_queue.specs.Exports.{known_on}
 use Rattle.scq_passes.specs.Records.{is_got, is_put, on, Puts, AreTakesFollowed, IsReturn}
 use Rattle.scq_passes.specs.Records.{HoldsNothingAtEachFull, MeetsNoSpent}
 

@@ -1,13 +1,11 @@
 -- What is known of the passes of a queue once it is closed.
 use Rattle.std.specs.Prelude.{ℕ, List, map}
 use Rattle.scq_word.specs.declared.setup.Setup.{Setup}
-use Rattle.scq_band.specs.Buffers.{opening_of}
-use Rattle.scq_band.specs.Closing.{AreTheSame, IsOneRunToTheEnd}
-use Rattle.scq_queue.specs.Closing.{EachTakeIsASend, NoPlaceIsSentTwice, NoPlaceIsTakenTwice}
-use Rattle.scq_queue.specs.Closing.{IsBalance, EachSendPassedIsTaken, AllFullsStand}
-use Rattle.scq_queue.specs.Closing.{NoneIsKeptWithinTheLimit, IsAllThere, all_held, callers_of}
-use Rattle.scq_queue.specs.Closing.{records_of}
-use Rattle.scq_queue.specs.Passes.{PassStanding, HeldStanding}
+use Rattle.scq_band.specs.Exports.{opening_of, AreTheSame, IsOneRunToTheEnd}
+use Rattle.scq_queue.specs.Exports.{EachTakeIsASend, NoPlaceIsSentTwice, NoPlaceIsTakenTwice}
+use Rattle.scq_queue.specs.Exports.{IsBalance, EachSendPassedIsTaken, AllFullsStand}
+use Rattle.scq_queue.specs.Exports.{NoneIsKeptWithinTheLimit, IsAllThere, all_held, callers_of}
+use Rattle.scq_queue.specs.Exports.{records_of, PassStanding, HeldStanding}
 
 -- what `close` says of the passes of a queue that was given these buffers, and gives those back
 pub record HasClosed {B : Type 0} (contents : B → List ℕ) (IsSameBuffer : B → B

@@ -3,11 +3,8 @@
 use Rattle.std.specs.Prelude.{◌≡◌, ◌⊎◌, ℕ, suc, ◌+◌, ◌<◌, List, [], ◌∷◌, ◌++◌}
 use Rattle.scq_core.specs.declared.ended.Ended.{Ended}
 use Rattle.scq_core.specs.declared.ended.Ended.TheVariants.{Nothing}
-use Rattle.scq_band.specs.Buffers.{opening_of}
-use Rattle.scq_band.specs.RunSeen.{IsCallInRun, IsReadingInRun}
-use Rattle.scq_band.specs.Standing.{Identity}
-use Rattle.scq_queue.specs.Lists.{takes_of}
-use Rattle.scq_queue.specs.Passes.{PassStanding, after_look, having_seen, caller_of}
+use Rattle.scq_band.specs.Exports.{opening_of, IsCallInRun, IsReadingInRun, Identity}
+use Rattle.scq_queue.specs.Exports.{takes_of, PassStanding, after_look, having_seen, caller_of}
 use Rattle.scq_passes.specs.Records.{Puts}
 use Rattle.scq_passes.specs.Calls.{HasTakenFollowed, after_retire}
 use Rattle.scq_passes.specs.Waiting.{TookInVain}

@@ -9,3 +9,4 @@ pub mod PassedOn
 pub mod Becoming
 pub mod Jobs
 pub mod Closed
+pub mod Exports

@@ -5,7 +5,7 @@ use Rattle.std.specs.Prelude.{◌++◌, count_by, filter}
 use Rattle.std.specs.List.{list_any, before_first, Contains}
 use Rattle.scq_core.specs.declared.ended.Ended.{Ended}
 use Rattle.scq_core.specs.declared.ended.Ended.TheVariants.{Done, Got, Nothing, Spent}
-use Rattle.scq_queue.specs.Lists.{Placed}
+use Rattle.scq_queue.specs.Exports.{Placed}
 
 -- whether a call gave the pass a buffer: a lend or a take did
 abbrev pub is_got : Ended → Bool

@@ -1,6 +1,6 @@
 -- What taking from topics makes of a pass, one take or all until a topic is empty.
 use Rattle.std.specs.Prelude.{◌≡◌, ℕ, suc, ◌<◌}
-use Rattle.scq_queue.specs.Passes.{PassStanding, known_on}
+use Rattle.scq_queue.specs.Exports.{PassStanding, known_on}
 use Rattle.scq_passes.specs.Leaving.{EndsAtEmpty, MetTopicEmpty}
 use Rattle.scq_passes.specs.Waiting.{TookInVain, TookMore}
 

@@ -4,8 +4,7 @@ use Rattle.std.specs.Prelude.{Some, None, slice_index, All}
 use Rattle.std.specs.List.{AllPairs, Contains, list_any}
 use Rattle.std.specs.List.Sorted.{IsPermutation}
 use Rattle.scq_core.specs.declared.ended.Ended.{Ended}
-use Rattle.scq_queue.specs.Lists.{Placed, sends_of, takes_of}
-use Rattle.scq_queue.specs.Passes.{PassStanding, known_on}
+use Rattle.scq_queue.specs.Exports.{Placed, sends_of, takes_of, PassStanding, known_on}
 use Rattle.scq_passes.specs.Records.{is_lend}
 
 -- two places are not one: their topics or their numbers differ

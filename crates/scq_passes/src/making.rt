@@ -1,8 +1,8 @@
 //! The queue of workers is made over the frames of one block.
 ghost use Rattle.std.specs.Prelude.{◌≡◌, ◌+◌, ◌^◌, ◌≤◌, length, vec_len, IfOk};
 ghost use Rattle.std.specs.List.{All};
-ghost use Rattle.scq_block.specs.Blocks.{AreAllOf};
-ghost use Rattle.scq_queue.specs.Passes.{first_passes};
+ghost use Rattle.scq_block.specs.Exports.{AreAllOf};
+ghost use Rattle.scq_queue.specs.Exports.{first_passes};
 
 use scq_block::{Block, Frame};
 use scq_queue::{Pass, Queue};

@@ -1,6 +1,6 @@
 //! Sweeps: topics are taken from until nothing is there.
 ghost use Rattle.std.specs.Prelude.{◌≡◌, ◌+◌, ◌≤◌, ◌<◌, ℕ, true, false, Ok, IfErr, OnOk};
-ghost use Rattle.scq_queue.specs.Passes.{known_on};
+ghost use Rattle.scq_queue.specs.Exports.{known_on};
 ghost use Rattle.scq_passes.specs.Calls.{HasTakenFollowed, Suits, takes_left};
 ghost use Rattle.scq_passes.specs.Leaving.{HasOnlyCalled, HasSweptLast, TookNothing};
 ghost use Rattle.scq_passes.specs.Taking.{HasEmptied, HasEmptiedAll, HasTakenFrom};

@@ -1,11 +1,9 @@
 //! Who takes from topics.
 ghost use Rattle.std.specs.Prelude.{◌≡◌, ℕ, ◌≤◌, ◌==◌, List, Option, true, false, Some, Ok, IfErr};
 ghost use Rattle.std.specs.Prelude.{OnOk};
-ghost use Rattle.scq_band.specs.Buffers.{opening_of};
-ghost use Rattle.scq_band.specs.RunSeen.{IsReadingInRun};
-ghost use Rattle.scq_band.specs.Standing.{Identity};
-ghost use Rattle.scq_queue.specs.Passes.{HeldStanding, PassStanding, after_look, caller_of};
-ghost use Rattle.scq_queue.specs.Passes.{having_seen};
+ghost use Rattle.scq_band.specs.Exports.{opening_of, IsReadingInRun, Identity};
+ghost use Rattle.scq_queue.specs.Exports.{HeldStanding, PassStanding, after_look, caller_of};
+ghost use Rattle.scq_queue.specs.Exports.{having_seen};
 ghost use Rattle.scq_passes.specs.Calls.{HasTakenFollowed, Suits};
 ghost use Rattle.scq_passes.specs.Leaving.{HasOnlyCalled, TookNothing};
 ghost use Rattle.scq_passes.specs.Records.{AreReturns};

@@ -9,10 +9,10 @@ use lib.ListN.{get_elem?}
 use Rattle.atomic_table.specs.Table.{State, Me, Allows, Arrives, Final, Seen, keeps, takes, gives}
 use Rattle.atomic_table.specs.Table as table
 use Rattle.atomic_table.proofs.Lists.{at_set, set_here, set_else, some_there}
-use Rattle.scq_queue.specs.Passes.{PassStanding}
+use Rattle.scq_queue.specs.Exports.{PassStanding}
 use Rattle.scq_port.specs.declared.port_buffer.PortBuffer.{PortBuffer}
-use Rattle.scq_port.specs.Ports.{PortQueue}
-use Rattle.scq_port.specs.Ends.{Laid, Claim, no_claim, claimed_at, laid_at, home_of, IsPassOf, IsTrueClaim, EndsHold, HasClaimed, HasLaid}
+use Rattle.scq_port.specs.Exports.{PortQueue, Laid, Claim, no_claim, claimed_at, laid_at, home_of, IsPassOf, IsTrueClaim, EndsHold, HasClaimed}
+use Rattle.scq_port.specs.Exports.{HasLaid}
 
 at_end : {A : Type 0} (l : List A) (a b : A) (j : ℕ) → get_elem? (l ++ a ∷ []) j ≡ some b → (get_elem? l j ≡ some b) ⊎ ((j ≡ length l) × (a ≡ b))
 at_end [] a b zero e = inr (refl, some-injective a b e)

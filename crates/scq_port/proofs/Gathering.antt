@@ -6,14 +6,11 @@ use Rattle.std.proofs.lemmas.List.{length-append}
 use Rattle.std.proofs.lemmas.List.Sums.{sum_by-cons, sum_by-append}
 use mathlib.Core.Option.{some, some-injective}
 use lib.ListN.{get_elem?}
-use Rattle.scq_law.specs.Hands.{times}
-use Rattle.scq_queue.specs.Passes.{PassStanding}
-use Rattle.scq_queue.specs.Closing.{AreTheHeld}
+use Rattle.scq_law.specs.Exports.{times}
+use Rattle.scq_queue.specs.Exports.{PassStanding, AreTheHeld}
 use Rattle.scq_queue.proofs.Leaving.{get_before, get_last}
 use Rattle.scq_port.specs.declared.port_buffer.PortBuffer.{PortBuffer}
-use Rattle.scq_port.specs.Ports.{PortQueue, Value}
-use Rattle.scq_port.specs.Ends.{Laid, IsPassOf, AreAllPasses}
-use Rattle.scq_port.specs.Kept.{AreAdded}
+use Rattle.scq_port.specs.Exports.{PortQueue, Value, Laid, IsPassOf, AreAllPasses, AreAdded}
 
 -- of the slots below i those passes were gathered, with these values. Where none was missing, each stands in the place of its number
 pub record PassesAreGathered (queue : PortQueue) (slots : List Laid) (i : ℕ) (passes : List (PassStanding PortBuffer)) (values : List Value) : Type 0 where

@@ -3,13 +3,11 @@ use Rattle.std.proofs.Common.{◌≡◌, ℕ, ◌≤◌, List, [], ◌∷◌, �
 use Rattle.std.specs.Prelude.{◌⊎◌, Option, Some, None, filter_map, reverse}
 use Rattle.std.proofs.lemmas.Bool.{cases_eq}
 use Rattle.std.proofs.lemmas.List.{reverse-append, append_assoc}
-use Rattle.scq_law.specs.Hands.{times}
-use Rattle.scq_queue.specs.Passes.{PassStanding, IsHeldBy, WasGivenBack, without, after_put, after_spent_put, having_seen}
+use Rattle.scq_law.specs.Exports.{times}
+use Rattle.scq_queue.specs.Exports.{PassStanding, IsHeldBy, WasGivenBack, without, after_put, after_spent_put, having_seen}
 use Rattle.scq_queue.proofs.HeldOnce.{IsAlike, contains_times}
 use Rattle.scq_port.specs.declared.port_buffer.PortBuffer.{PortBuffer}
-use Rattle.scq_port.specs.Ports.{PortQueue, Value, buffer_bytes}
-use Rattle.scq_port.specs.Calls.{values_of, GaveBack, HasPassEnded}
-use Rattle.scq_port.specs.Kept.{Keeps, LetsGo, StandsAt}
+use Rattle.scq_port.specs.Exports.{PortQueue, Value, buffer_bytes, values_of, GaveBack, HasPassEnded, Keeps, LetsGo, StandsAt}
 use Rattle.scq_queue.proofs.Leaving.{get_before, get_last, not_last}
 use Rattle.scq_port.proofs.Lists.{less_here, less_other, get_past, none_at_all}
 

@@ -3,13 +3,12 @@ use Rattle.std.proofs.Common.{◌≡◌, ◌≢◌, ℕ, zero, suc, ◌+◌, ◌
 use Rattle.std.specs.Prelude.{Option, Some, None, slice_get, slice_set, replicate}
 use Rattle.std.specs.List.{Contains}
 use Rattle.std.proofs.lemmas.Bool.{cases_eq}
-use Rattle.scq_law.specs.Hands.{times}
-use Rattle.scq_word.specs.Sizes.{n_of}
-use Rattle.scq_queue.specs.Passes.{PassStanding, IsHeldBy, without, after_put, after_get, having_seen}
+use Rattle.scq_law.specs.Exports.{times}
+use Rattle.scq_word.specs.Exports.{n_of}
+use Rattle.scq_queue.specs.Exports.{PassStanding, IsHeldBy, without, after_put, after_get, having_seen}
 use Rattle.scq_queue.proofs.HeldOnce.{IsAlike, contains_times}
 use Rattle.scq_port.specs.declared.port_buffer.PortBuffer.{PortBuffer}
-use Rattle.scq_port.specs.Ports.{PortQueue, Value}
-use Rattle.scq_port.specs.Kept.{Keeps, StandsAt}
+use Rattle.scq_port.specs.Exports.{PortQueue, Value, Keeps, StandsAt}
 use Rattle.scq_port.proofs.Lists.{set_here, set_other, times_contains, more_here, more_other, less_here, less_other, less_length}
 
 -- the place of an index below n is there

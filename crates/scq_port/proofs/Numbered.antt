@@ -5,14 +5,11 @@ use Rattle.std.specs.Option.{option_map}
 use Rattle.std.proofs.lemmas.Bool.{cases_eq}
 use Rattle.std.proofs.lemmas.List.{length-append}
 use Rattle.std.proofs.lemmas.Option.{slice_get-map}
-use Rattle.scq_word.specs.Sizes.{n_of}
-use Rattle.scq_band.specs.Closing.{AreTheSame}
-use Rattle.scq_band.specs.Standing.{IsAsGiven}
+use Rattle.scq_word.specs.Exports.{n_of}
+use Rattle.scq_band.specs.Exports.{AreTheSame, IsAsGiven}
 use Rattle.scq_queue.proofs.Leaving.{get_last}
 use Rattle.scq_port.specs.declared.port_buffer.PortBuffer.{PortBuffer}
-use Rattle.scq_port.specs.Numbers.{four_bytes, numbers_below}
-use Rattle.scq_port.specs.Ports.{PortQueue, Value, AreNumbered, buffer_bytes}
-use Rattle.scq_port.specs.Calls.{HasItsNumber}
+use Rattle.scq_port.specs.Exports.{four_bytes, numbers_below, PortQueue, Value, AreNumbered, buffer_bytes, HasItsNumber}
 use Rattle.scq_port.proofs.Unpacking.{before_last}
 
 numbers_length : (n : ℕ) → length (numbers_below n) ≡ n

@@ -4,11 +4,9 @@ use Rattle.std.specs.Prelude.{All, reverse, Result, Ok, Err, IfOk, Some, None, s
 use Rattle.std.proofs.lemmas.Bool.{cases_eq}
 use Rattle.std.proofs.lemmas.List.{reverse-append, length-append, length-map, map-append}
 use Rattle.std.proofs.lemmas.List.Elements.{All-cons}
-use Rattle.scq_queue.specs.Passes.{PassStanding, first_pass, first_passes}
+use Rattle.scq_queue.specs.Exports.{PassStanding, first_pass, first_passes}
 use Rattle.scq_port.specs.declared.port_buffer.PortBuffer.{PortBuffer}
-use Rattle.scq_port.specs.Ports.{PortQueue, PortStanding}
-use Rattle.scq_port.specs.Calls.{new_port}
-use Rattle.scq_port.specs.Kept.{HoldsNothing}
+use Rattle.scq_port.specs.Exports.{PortQueue, PortStanding, new_port, HoldsNothing}
 use Rattle.scq_queue.proofs.Leaving.{get_last}
 use Rattle.scq_port.proofs.Unpacking.{before_last}
 

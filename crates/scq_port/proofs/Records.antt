@@ -2,18 +2,15 @@
 use Rattle.std.proofs.Common.{◌≡◌, ℕ, suc, ◌+◌, ◌-◌, ◌<◌, ◌≤◌, List, length, refl, sym, ◌∙◌, ap, subst}
 use Rattle.std.specs.Prelude.{◌==◌, Bool, true, false, is_none, Option, Some, None, Result, Err, slice_get, slice_set}
 use Rattle.std.proofs.lemmas.Bool.{eqb-true}
-use Rattle.scq_word.specs.Sizes.{n_of}
-use Rattle.scq_band.specs.Buffers.{opening_of}
-use Rattle.scq_band.specs.RunSeen.{IsCallInRun, WasEmptyInRun, IsReadingInRun, WasCountedInRun, AllWereSeenRetired}
-use Rattle.scq_queue.specs.Passes.{PassStanding, HasGot, having_seen, caller_of, after_look, after_put}
-use Rattle.scq_queue.specs.Calls.{WasSpent, IsInRun as IsInQueueRun}
+use Rattle.scq_word.specs.Exports.{n_of}
+use Rattle.scq_band.specs.Exports.{opening_of, IsCallInRun, WasEmptyInRun, IsReadingInRun, WasCountedInRun, AllWereSeenRetired}
+use Rattle.scq_queue.specs.Exports.{PassStanding, HasGot, having_seen, caller_of, after_look, after_put, WasSpent, IsInRun as IsInQueueRun}
 use Rattle.scq_queue.proofs.HeldOnce.{IsAlike}
 use Rattle.scq_port.specs.declared.hand.Hand.{Hand}
 use Rattle.scq_port.specs.declared.port_buffer.PortBuffer.{PortBuffer}
-use Rattle.scq_port.specs.Ports.{PortStanding, PortQueue, Value, buffer_bytes}
-use Rattle.scq_port.specs.Calls.{Came, ValueWent, IsSpent, PortHasRetired, HasAsked, HasCounted}
+use Rattle.scq_port.specs.Exports.{PortStanding, PortQueue, Value, buffer_bytes, Came, ValueWent, IsSpent, PortHasRetired, HasAsked, HasCounted}
+use Rattle.scq_port.specs.Exports.{Keeps, KeepsHand, StillKeeps, seen_as}
 use Rattle.scq_band.specs.declared.calls.Spent.{Spent}
-use Rattle.scq_port.specs.Kept.{Keeps, KeepsHand, StillKeeps, seen_as}
 use Rattle.scq_port.proofs.Keeping.{keeps_more, keeps_less, keeps_alike}
 use Rattle.scq_port.proofs.Lists.{set_here, set_back}
 

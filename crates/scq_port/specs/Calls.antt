@@ -4,14 +4,13 @@ use Rattle.std.specs.Prelude.{◌≡◌, ℕ, suc, ◌+◌, ◌<◌, ◌≤◌, 
 use Rattle.std.specs.Prelude.{filter_map, Option, Some, None, slice_set, replicate, map}
 use Rattle.std.specs.List.{Contains}
 use Rattle.scq_word.specs.declared.setup.Setup.{Setup}
-use Rattle.scq_word.specs.Sizes.{n_of}
-use Rattle.scq_band.specs.Buffers.{opening_of}
-use Rattle.scq_band.specs.RunSeen.{IsCallInRun, WasEmptyInRun, IsReadingInRun, WasCountedInRun}
-use Rattle.scq_band.specs.RunSeen.{AllWereSeenRetired, with_retiree}
-use Rattle.scq_queue.specs.Lists.{with_send, with_take, with_full}
-use Rattle.scq_queue.specs.Passes.{PassStanding, lists_of, known_on, WasLent, HasGot, WasGivenBack}
-use Rattle.scq_queue.specs.Passes.{FoundNothing, FoundFull, having_seen, caller_of, after_put}
-use Rattle.scq_queue.specs.Passes.{after_spent_put, after_spent_get, after_look, first_passes}
+use Rattle.scq_word.specs.Exports.{n_of}
+use Rattle.scq_band.specs.Exports.{opening_of, IsCallInRun, WasEmptyInRun, IsReadingInRun}
+use Rattle.scq_band.specs.Exports.{WasCountedInRun, AllWereSeenRetired, with_retiree}
+use Rattle.scq_queue.specs.Exports.{with_send, with_take, with_full, PassStanding, lists_of}
+use Rattle.scq_queue.specs.Exports.{known_on, WasLent, HasGot, WasGivenBack, FoundNothing}
+use Rattle.scq_queue.specs.Exports.{FoundFull, having_seen, caller_of, after_put, after_spent_put}
+use Rattle.scq_queue.specs.Exports.{after_spent_get, after_look, first_passes}
 use Rattle.scq_port.specs.declared.port_buffer.PortBuffer.{PortBuffer}
 use Rattle.scq_port.specs.Numbers.{four_bytes, numbers_below}
 use Rattle.scq_port.specs.Ports.{PortStanding, PortQueue, Value, HasValue, buffer_bytes}

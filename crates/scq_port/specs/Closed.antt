@@ -1,12 +1,10 @@
 -- What is told with the last port of a queue, of the passes of all ports as each was when its port
 -- closed: all that the queue's `close` says but `back`, of which `numbers` stands for the buffers.
 use Rattle.std.specs.Prelude.{◌≡◌, ℕ, List}
-use Rattle.scq_word.specs.Sizes.{n_of}
-use Rattle.scq_band.specs.Buffers.{opening_of}
-use Rattle.scq_band.specs.Closing.{IsOneRunToTheEnd}
-use Rattle.scq_queue.specs.Passes.{PassStanding}
-use Rattle.scq_queue.specs.Closing.{SentAndTook, NoneIsLost, KeptSpeakOfTheLimit, RetiredAsTold}
-use Rattle.scq_queue.specs.Closing.{records_of, all_held, callers_of}
+use Rattle.scq_word.specs.Exports.{n_of}
+use Rattle.scq_band.specs.Exports.{opening_of, IsOneRunToTheEnd}
+use Rattle.scq_queue.specs.Exports.{PassStanding, SentAndTook, NoneIsLost, KeptSpeakOfTheLimit}
+use Rattle.scq_queue.specs.Exports.{RetiredAsTold, records_of, all_held, callers_of}
 use Rattle.scq_port.specs.declared.port_buffer.PortBuffer.{PortBuffer}
 use Rattle.scq_port.specs.Numbers.{numbers_below}
 use Rattle.scq_port.specs.Ports.{PortQueue, Value, buffer_bytes}

@@ -1,9 +1,9 @@
 -- For private calls: what a port keeps.
 use Rattle.std.specs.Prelude.{◌≡◌, ℕ, ◌+◌, ◌<◌, ◌≤◌, Bool, is_none, List, [], length, map, Option}
 use Rattle.std.specs.Prelude.{Some, None, slice_get}
-use Rattle.scq_law.specs.Hands.{times}
-use Rattle.scq_word.specs.Sizes.{n_of}
-use Rattle.scq_queue.specs.Passes.{PassStanding}
+use Rattle.scq_law.specs.Exports.{times}
+use Rattle.scq_word.specs.Exports.{n_of}
+use Rattle.scq_queue.specs.Exports.{PassStanding}
 use Rattle.scq_port.specs.declared.port_buffer.PortBuffer.{PortBuffer}
 use Rattle.scq_port.specs.declared.hand.Hand.{Hand}
 use Rattle.scq_port.specs.Ports.{PortStanding, PortQueue, Value}

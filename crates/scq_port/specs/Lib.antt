@@ -4,3 +4,4 @@ pub mod Kept
 pub mod Ends
 pub mod Closed
 pub mod Numbers
+pub mod Exports

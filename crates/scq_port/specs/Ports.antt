@@ -1,8 +1,8 @@
 -- What contracts see of a port: its pass, the values that it holds, and how many it may hold.
 use Rattle.std.specs.Prelude.{◌≡◌, ℕ, List, map, Option, Some, slice_get}
-use Rattle.scq_word.specs.Sizes.{n_of}
-use Rattle.scq_band.specs.Standing.{Identity}
-use Rattle.scq_queue.specs.Passes.{PassStanding, HeldStanding}
+use Rattle.scq_word.specs.Exports.{n_of}
+use Rattle.scq_band.specs.Exports.{Identity}
+use Rattle.scq_queue.specs.Exports.{PassStanding, HeldStanding}
 use Rattle.scq_port.specs.declared.port_buffer.PortBuffer.{PortBuffer}
 use Rattle.scq_port.specs.Numbers.{numbers_below}
 

@@ -1,11 +1,9 @@
 //! The calls of a pass together with the values that it holds.
 ghost use Rattle.std.specs.Prelude.{◌≡◌, ℕ, suc, ◌+◌, ◌<◌, ◌≤◌, [], length, Some, None, Err, IfOk};
 ghost use Rattle.std.specs.Prelude.{◌≢◌};
-ghost use Rattle.scq_port.specs.Calls.{IsLent, ValueIsTaken, IsSent, ValueIsGivenBack, WasFull};
-ghost use Rattle.scq_port.specs.Calls.{WasEmpty};
-ghost use Rattle.scq_port.specs.Calls.{IsSpentGet, IsSpentPut, HoldsNoSuch};
-ghost use Rattle.scq_port.specs.Kept.{KeepsHand, StillKeeps, seen_as};
-ghost use Rattle.scq_port.specs.Ports.{AreNumbered};
+ghost use Rattle.scq_port.specs.Exports.{IsLent, ValueIsTaken, IsSent, ValueIsGivenBack, WasFull};
+ghost use Rattle.scq_port.specs.Exports.{WasEmpty, IsSpentGet, IsSpentPut, HoldsNoSuch, KeepsHand};
+ghost use Rattle.scq_port.specs.Exports.{StillKeeps, seen_as, AreNumbered};
 
 use crate::hand::Hand;
 use crate::port_buffer::PortBuffer;

@@ -1,8 +1,6 @@
 //! What becomes of the values that a port holds where it is closed.
 ghost use Rattle.std.specs.Prelude.{◌≡◌};
-ghost use Rattle.scq_port.specs.Calls.{HasPassEnded};
-ghost use Rattle.scq_port.specs.Ends.{IsPassOf};
-ghost use Rattle.scq_port.specs.Kept.{KeepsHand, seen_as};
+ghost use Rattle.scq_port.specs.Exports.{HasPassEnded, IsPassOf, KeepsHand, seen_as};
 
 use crate::hand::Hand;
 use crate::leaving::Leaving;

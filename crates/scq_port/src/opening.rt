@@ -1,12 +1,10 @@
 //! How a queue is made with its ports.
 ghost use Rattle.std.specs.Prelude.{◌≡◌, ℕ, ◌<◌, ◌≤◌, ◌+◌, [], map, replicate, IfOk, vec_len};
 ghost use Rattle.std.specs.Arc.{arc_value};
-ghost use Rattle.scq_word.specs.Sizes.{n_of};
-ghost use Rattle.scq_queue.specs.Passes.{first_passes};
-ghost use Rattle.scq_port.specs.Numbers.{numbers_below};
-ghost use Rattle.scq_port.specs.Ports.{buffer_bytes};
-ghost use Rattle.scq_port.specs.Calls.{AreOpened, new_port};
-ghost use Rattle.scq_port.specs.Kept.{HoldsNothing};
+ghost use Rattle.scq_word.specs.Exports.{n_of};
+ghost use Rattle.scq_queue.specs.Exports.{first_passes};
+ghost use Rattle.scq_port.specs.Exports.{numbers_below, buffer_bytes, AreOpened, new_port};
+ghost use Rattle.scq_port.specs.Exports.{HoldsNothing};
 
 use crate::hand::Hand;
 use crate::owner::Owner;

@@ -1,7 +1,6 @@
 //! The queue that ports share.
 ghost use Rattle.std.specs.Prelude.{◌≡◌, ◌<◌, ◌≤◌, [], map, IfOk, IfSome, vec_capacity};
-ghost use Rattle.scq_queue.specs.Lists.{counts_of};
-ghost use Rattle.scq_queue.specs.Passes.{lists_of};
+ghost use Rattle.scq_queue.specs.Exports.{counts_of, lists_of};
 ghost use Rattle.scq_port.specs.Ports.{AreNumbered, buffer_bytes};
 ghost use Rattle.scq_port.specs.Ends.{laid_at};
 ghost use Rattle.scq_port.specs.Closed.{HasClosedPorts};

@@ -2,9 +2,8 @@
 ghost use Rattle.std.specs.Prelude.{◌≡◌, ◌==◌, ℕ, suc, ◌+◌, ◌<◌, ◌≤◌, is_none, length, map, Some};
 ghost use Rattle.std.specs.Prelude.{None, Err, IfOk, IfErr, IfSome};
 ghost use Rattle.std.specs.Arc.{arc_value};
-ghost use Rattle.scq_word.specs.Sizes.{n_of};
-ghost use Rattle.scq_queue.specs.Lists.{counts_of};
-ghost use Rattle.scq_queue.specs.Passes.{lists_of};
+ghost use Rattle.scq_word.specs.Exports.{n_of};
+ghost use Rattle.scq_queue.specs.Exports.{counts_of, lists_of};
 ghost use Rattle.scq_port.specs.Calls.{PortHasRetired, HasAsked, HasCounted, retired_pass};
 ghost use Rattle.scq_port.specs.Calls.{retired_port, IsLent, ValueIsTaken, IsSent};
 ghost use Rattle.scq_port.specs.Calls.{ValueIsGivenBack, WasFull};

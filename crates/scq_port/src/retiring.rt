@@ -1,8 +1,6 @@
 //! How a port's pass retires.
 ghost use Rattle.std.specs.Prelude.{◌≡◌, ℕ, Bool, is_none, List, Option};
-ghost use Rattle.scq_port.specs.Calls.{retired_pass};
-ghost use Rattle.scq_port.specs.Kept.{Keeps};
-ghost use Rattle.scq_port.specs.Ports.{Value};
+ghost use Rattle.scq_port.specs.Exports.{retired_pass, Keeps, Value};
 
 use crate::port_buffer::PortBuffer;
 use scq_queue::{Pass, Queue};

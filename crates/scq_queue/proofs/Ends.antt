@@ -10,17 +10,16 @@ use Rattle.std.proofs.Math.Dec.{eqb-suc-zero}
 use Rattle.scq_core.specs.declared.ended.Ended.{Ended}
 use Rattle.scq_core.specs.declared.ended.Ended.TheVariants.{Done, Got}
 use Rattle.scq_word.specs.declared.setup.Setup.{Setup}
-use Rattle.scq_law.specs.Hands.{times}
-use Rattle.scq_law.specs.Bounds.{tally, openings}
-use Rattle.scq_law.specs.Kept.{was_done, was_got}
-use Rattle.scq_band.specs.Standing.{Identity, Standing, IsAsGiven, caller_of as band_caller}
+use Rattle.scq_law.specs.Exports.{times, tally, openings, was_done, was_got}
+use Rattle.scq_band.specs.Exports.{Identity, IsAsGiven, caller_of as band_caller}
+use Rattle.scq_band.specs.Standing.{Standing}
 use Rattle.scq_band.specs.Closing as band
 use Rattle.scq_band.proofs.ClosedRecords.{map_back, map_on}
 use Rattle.scq_band.proofs.Slots.{times-append}
-use Rattle.scq_queue.specs.Lists.{Placed, sent_by, taken_by, sends_of, takes_of, on_topic}
-use Rattle.scq_queue.specs.Passes.{PassStanding, HeldStanding}
-use Rattle.scq_queue.specs.Closing.{records_of, all_held, callers_of, WasSent, WasTaken, EachTakeIsASend, NoPlaceIsSentTwice, NoPlaceIsTakenTwice, IsBalance, EachSendPassedIsTaken, IsAllThere, AllRetiredWhereTold, EachSeenRetiredHas, AreTheHeld}
-use Rattle.scq_queue.specs.Kept.{seat_of_pass, value_of, HasGivenBuffer}
+use Rattle.scq_queue.specs.Exports.{Placed, sent_by, taken_by, sends_of, takes_of, on_topic, PassStanding, HeldStanding, records_of, all_held}
+use Rattle.scq_queue.specs.Exports.{callers_of, WasSent, WasTaken, EachTakeIsASend, NoPlaceIsSentTwice, NoPlaceIsTakenTwice, IsBalance}
+use Rattle.scq_queue.specs.Exports.{EachSendPassedIsTaken, IsAllThere, AllRetiredWhereTold, EachSeenRetiredHas, AreTheHeld, seat_of_pass, value_of}
+use Rattle.scq_queue.specs.Exports.{HasGivenBuffer}
 use Rattle.scq_queue.proofs.Hands.{indices-all_lifted, lifted-all_lifted}
 use Rattle.scq_queue.proofs.Records.{CameBy, came_by, gives_one, sent_call, taken_call, done_sent, got_taken}
 

@@ -4,10 +4,8 @@ use Rattle.std.specs.Prelude.{Option, Some, None}
 use Rattle.std.specs.List.{Contains}
 use Rattle.std.proofs.lemmas.Bool.{cases_eq}
 use Rattle.std.proofs.lemmas.List.Elements.{Contains-append_right}
-use Rattle.scq_band.specs.Standing.{in_hand, without_index, with_buffer}
-use Rattle.scq_band.specs.Closing.{indices_of, lifted_of}
-use Rattle.scq_queue.specs.Passes.{without}
-use Rattle.scq_queue.specs.Kept.{all_lifted}
+use Rattle.scq_band.specs.Exports.{in_hand, without_index, with_buffer, indices_of, lifted_of}
+use Rattle.scq_queue.specs.Exports.{without, all_lifted}
 
 -- what stands in a longer list is its first, or stands in the rest
 contains_cases : (x i : ℕ) (xs : List ℕ) → Contains (x ∷ xs) i → x ≢ i → Contains xs i

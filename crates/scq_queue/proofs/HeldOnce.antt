@@ -4,18 +4,17 @@ use Rattle.std.specs.Prelude.{Some, Err, slice_get}
 use Rattle.std.specs.List.{Contains}
 use Rattle.std.proofs.lemmas.Bool.{cases_eq}
 use Rattle.std.proofs.lemmas.List.{map-append}
-use Rattle.scq_law.specs.Hands.{times}
-use Rattle.scq_band.specs.Standing.{Identity}
+use Rattle.scq_law.specs.Exports.{times}
+use Rattle.scq_band.specs.Exports.{Identity}
 use Rattle.scq_band.proofs.GoingHome.{contains_behind}
 use Rattle.scq_band.proofs.Slots.{times-append}
 use Rattle.scq_queue.specs.declared.calls.LendRefusal.{LendRefusal}
 use Rattle.scq_queue.specs.declared.calls.LendRefusal.TheVariants.{Full, Spent as NoTicket}
 use Rattle.scq_queue.specs.declared.calls.TakeRefusal.{TakeRefusal}
 use Rattle.scq_queue.specs.declared.calls.TakeRefusal.TheVariants.{Empty, Spent}
-use Rattle.scq_queue.specs.Passes.{PassStanding, HeldStanding, HasGot, IsHeldBy, without, after_put, after_spent_put, after_spent_get, having_seen}
-use Rattle.scq_queue.specs.Calls.{FoundNoneFree, FoundTopicEmpty, WasSpent, GetWasSpent, PutWasSpent}
-use Rattle.scq_queue.specs.Closing.{AreTheHeld}
-use Rattle.scq_queue.specs.HoldsJust.{AllOf, HoldsJust}
+use Rattle.scq_queue.specs.Exports.{PassStanding, HeldStanding, HasGot, IsHeldBy, without, after_put, after_spent_put, after_spent_get, having_seen}
+use Rattle.scq_queue.specs.Exports.{FoundNoneFree, FoundTopicEmpty, WasSpent, GetWasSpent, PutWasSpent, AreTheHeld, AllOf}
+use Rattle.scq_queue.specs.HoldsJust.{HoldsJust}
 use Rattle.scq_queue.proofs.Hands.{contains_last}
 use Rattle.scq_queue.proofs.HeldValues.{cases_spent, failed}
 

@@ -4,19 +4,15 @@ use Rattle.std.specs.Prelude.{Option, Some, None, Result, Ok, Err}
 use Rattle.std.specs.List.{Contains}
 use Rattle.scq_core.specs.declared.ended.Ended.{Ended}
 use Rattle.scq_core.specs.declared.ended.Ended.TheVariants.{Nothing}
-use Rattle.scq_word.specs.Sizes.{n_of}
-use Rattle.scq_band.specs.Buffers.{opening_of}
-use Rattle.scq_band.specs.Numbers.{known_of}
-use Rattle.scq_band.specs.RunSeen.{Seen, WasEmptyInRun}
+use Rattle.scq_word.specs.Exports.{n_of}
+use Rattle.scq_band.specs.Exports.{opening_of, known_of, Seen, WasEmptyInRun, Identity, in_hand, with_buffer, without_index, SeatHasTaken, IsAsGiven}
+use Rattle.scq_band.specs.Exports.{indices_of}
 use Rattle.scq_band.specs.declared.calls.DeqRefusal.{DeqRefusal}
 use Rattle.scq_band.specs.declared.calls.DeqRefusal.TheVariants.{Empty, Spent as DrewSpent}
 use Rattle.scq_band.specs.Standing as band
-use Rattle.scq_band.specs.Standing.{Identity, Standing, in_hand, with_buffer, without_index, SeatHasTaken, IsAsGiven}
-use Rattle.scq_band.specs.Closing.{indices_of}
-use Rattle.scq_queue.specs.Lists.{sent_by, taken_by}
-use Rattle.scq_queue.specs.Passes.{PassStanding, HeldStanding, IsHeldBy, HasGot, lists_of, without, having_seen, after_put, after_get}
-use Rattle.scq_queue.specs.Calls.{CameOff, WasPutOn, FoundRingEmpty, WasSpent}
-use Rattle.scq_queue.specs.Kept.{all_lifted, AreLifted, StaysLifted, pass_over, held_of}
+use Rattle.scq_band.specs.Standing.{Standing}
+use Rattle.scq_queue.specs.Exports.{sent_by, taken_by, PassStanding, HeldStanding, IsHeldBy, HasGot, lists_of, without, having_seen, after_put}
+use Rattle.scq_queue.specs.Exports.{after_get, CameOff, WasPutOn, FoundRingEmpty, WasSpent, all_lifted, AreLifted, StaysLifted, pass_over, held_of}
 use Rattle.scq_queue.proofs.Hands.{indices-all_lifted, held_lifted, lifted_and_put, came_in_hand, came_and_lifted, contains_last, not_held}
 use Rattle.scq_queue.proofs.Records.{same_lists, put_lists, got_lists}
 

@@ -2,9 +2,9 @@
 use Rattle.std.proofs.Common.{◌≡◌, ◌≢◌, ℕ, zero, suc, List, [], ◌∷◌, ◌++◌, length, refl, sym, ◌∙◌, ap, subst, inl, inr, arith, eq-eqb, ne_eqb}
 use Rattle.std.specs.Prelude.{Option, Some, None, slice_get}
 use Rattle.std.proofs.lemmas.Bool.{cases_eq}
-use Rattle.scq_band.specs.Standing.{Identity, Standing, in_hand, with_buffer}
-use Rattle.scq_queue.specs.Passes.{HeldStanding, IsHeldBy}
-use Rattle.scq_queue.specs.Kept.{AreLifted, pass_over}
+use Rattle.scq_band.specs.Exports.{Identity, in_hand, with_buffer}
+use Rattle.scq_band.specs.Standing.{Standing}
+use Rattle.scq_queue.specs.Exports.{HeldStanding, IsHeldBy, AreLifted, pass_over}
 use Rattle.scq_queue.proofs.HeldValues.{value_lifted}
 
 -- a list and its last

@@ -4,10 +4,10 @@ use Rattle.std.specs.Prelude.{All}
 use Rattle.std.proofs.lemmas.List.{map-append, length_push}
 use Rattle.std.proofs.lemmas.List.Elements.{All-nil, All-push}
 use Rattle.scq_word.specs.declared.setup.Setup.{Setup}
-use Rattle.scq_band.specs.Standing.{Identity, Standing, first_standing, first_standings}
-use Rattle.scq_queue.specs.Passes.{PassStanding, first_pass, first_passes, was_told}
+use Rattle.scq_band.specs.Exports.{Identity, first_standing, first_standings}
+use Rattle.scq_band.specs.Standing.{Standing}
+use Rattle.scq_queue.specs.Exports.{PassStanding, first_pass, first_passes, was_told, pass_over, IsQueue}
 use Rattle.scq_queue.specs.declared.counts.Counts.{Counts}
-use Rattle.scq_queue.specs.Kept.{pass_over, IsQueue}
 
 module _ {B : Type 0} where
   pub as_many_seats : (band : Identity B) (k : ℕ) → length (first_standings band k) ≡ k

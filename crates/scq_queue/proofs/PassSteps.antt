@@ -4,13 +4,13 @@ use Rattle.std.specs.Prelude.{Bool, Some, None, min}
 use Rattle.std.proofs.lemmas.List.{length-append}
 use Rattle.scq_core.specs.declared.ended.Ended.{Ended}
 use Rattle.scq_core.specs.declared.ended.Ended.TheVariants.{Done, Got, Nothing}
-use Rattle.scq_law.specs.Bounds.{tally}
-use Rattle.scq_band.specs.Standing.{Identity, Standing}
+use Rattle.scq_law.specs.Exports.{tally}
+use Rattle.scq_band.specs.Exports.{Identity}
+use Rattle.scq_band.specs.Standing.{Standing}
 use Rattle.scq_queue.specs.declared.counts.Counts.{Counts}
-use Rattle.scq_queue.specs.Lists.{was_full, fulls_in, with_send, with_take, counted, counts_of}
-use Rattle.scq_queue.specs.Passes.{PassStanding, HeldStanding, WasGivenBack, lists_of, was_told}
-use Rattle.scq_queue.specs.Calls.{CameOff, WasLentOne, WasPutOn, FoundRingEmpty, FoundNoneFree, WasSpent, IsInRun}
-use Rattle.scq_queue.specs.Kept.{StaysLifted, IsPass, pass_over}
+use Rattle.scq_queue.specs.Exports.{was_full, fulls_in, with_send, with_take, counted, counts_of, PassStanding, HeldStanding, WasGivenBack, lists_of}
+use Rattle.scq_queue.specs.Exports.{was_told, CameOff, WasLentOne, WasPutOn, FoundRingEmpty, FoundNoneFree, WasSpent, IsInRun, StaysLifted, IsPass}
+use Rattle.scq_queue.specs.Exports.{pass_over}
 use Rattle.scq_queue.proofs.HeldValues.{cases_spent}
 
 -- one Full more in a record, or none

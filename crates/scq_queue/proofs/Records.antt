@@ -8,10 +8,8 @@ use Rattle.std.proofs.lemmas.List.Sums.{sum_by-cons}
 use Rattle.std.proofs.Math.Dec.{eqb-suc-suc, eqb-zero-suc}
 use Rattle.scq_core.specs.declared.ended.Ended.{Ended}
 use Rattle.scq_core.specs.declared.ended.Ended.TheVariants.{Done, Got, Nothing, Spent}
-use Rattle.scq_law.specs.Bounds.{tally}
-use Rattle.scq_law.specs.Kept.{was_done, was_got}
-use Rattle.scq_queue.specs.Lists.{Placed, sent_by, taken_by, sends_of, takes_of, on_topic, with_put, with_got}
-use Rattle.scq_queue.specs.Passes.{PassStanding, lists_of}
+use Rattle.scq_law.specs.Exports.{tally, was_done, was_got}
+use Rattle.scq_queue.specs.Exports.{Placed, sent_by, taken_by, sends_of, takes_of, on_topic, with_put, with_got, PassStanding, lists_of}
 
 -- a record with more calls
 pub sends-append : (xs ys : List Ended) → sends_of (xs ++ ys) ≡ sends_of xs ++ sends_of ys

@@ -1,11 +1,9 @@
 -- What each outcome of a call says of the pass that made it, in one record. A ring is named by its
 -- number: 0 is the free ring, and topic t is ring t + 1.
 use Rattle.std.specs.Prelude.{◌≡◌, ℕ, suc, ◌<◌, ◌≤◌, List, [], ◌∷◌, ◌++◌, None}
-use Rattle.scq_word.specs.Sizes.{n_of}
-use Rattle.scq_band.specs.Buffers.{opening_of}
-use Rattle.scq_band.specs.Numbers.{known_of}
-use Rattle.scq_band.specs.RunSeen.{IsCallInRun, WasEmptyInRun}
-use Rattle.scq_band.specs.Standing.{Identity, IsAsGiven}
+use Rattle.scq_word.specs.Exports.{n_of}
+use Rattle.scq_band.specs.Exports.{opening_of, known_of, IsCallInRun, WasEmptyInRun, Identity}
+use Rattle.scq_band.specs.Exports.{IsAsGiven}
 use Rattle.scq_queue.specs.Lists.{with_put, with_got}
 use Rattle.scq_queue.specs.Passes.{PassStanding, HeldStanding, lists_of, caller_of, having_seen}
 use Rattle.scq_queue.specs.Passes.{HasGot, WasLent, FoundNothing, after_put, after_spent_put}

@@ -5,12 +5,11 @@ use Rattle.std.specs.Prelude.{slice_index, All, sum, sum_by, Bool}
 use Rattle.std.specs.List.{Contains}
 use Rattle.scq_core.specs.declared.ended.Ended.{Ended}
 use Rattle.scq_word.specs.declared.setup.Setup.{Setup}
-use Rattle.scq_word.specs.Sizes.{n_of}
-use Rattle.scq_law.specs.Hands.{times}
-use Rattle.scq_band.specs.RunSeen.{Caller}
-use Rattle.scq_band.specs.Standing.{Identity}
-use Rattle.scq_band.specs.Closing.{EachSpentIsPastTheBound, NoneIsSpentWithinTheLimit, AreTheSame}
-use Rattle.scq_band.specs.Closing.{ComesBackAsItWas, EachIsInOneHand, EachLeftIsItsPut}
+use Rattle.scq_word.specs.Exports.{n_of}
+use Rattle.scq_law.specs.Exports.{times}
+use Rattle.scq_band.specs.Exports.{Caller, Identity, EachSpentIsPastTheBound}
+use Rattle.scq_band.specs.Exports.{NoneIsSpentWithinTheLimit, AreTheSame, ComesBackAsItWas}
+use Rattle.scq_band.specs.Exports.{EachIsInOneHand, EachLeftIsItsPut}
 use Rattle.scq_queue.specs.declared.counts.Counts.{Counts}
 use Rattle.scq_queue.specs.Lists.{Placed, sends_of, takes_of, on_topic, fulls_in, counts_of}
 use Rattle.scq_queue.specs.Passes.{PassStanding, HeldStanding, known_on, caller_of, lists_of}

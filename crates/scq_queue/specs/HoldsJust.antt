@@ -1,8 +1,8 @@
 -- For those who call: a pass of a queue with just the values that it holds, in the order in which
 -- they came.
 use Rattle.std.specs.Prelude.{◌≡◌, ℕ, ◌≤◌, List, [], ◌∷◌, map, None}
-use Rattle.scq_law.specs.Hands.{times}
-use Rattle.scq_band.specs.Standing.{Identity}
+use Rattle.scq_law.specs.Exports.{times}
+use Rattle.scq_band.specs.Exports.{Identity}
 use Rattle.scq_queue.specs.Passes.{PassStanding, HeldStanding}
 
 module _ {B : Type 0} where

@@ -1,7 +1,7 @@
 -- For private calls: what a queue, a pass and a held value keep.
 use Rattle.std.specs.Prelude.{◌≡◌, ℕ, ◌≤◌, Bool, List, [], ◌∷◌, ◌++◌, map, length, Option, None}
-use Rattle.scq_band.specs.Standing.{Identity, Standing, IsAsGiven}
-use Rattle.scq_band.specs.Closing.{indices_of}
+use Rattle.scq_band.specs.Exports.{Identity, IsAsGiven, indices_of}
+use Rattle.scq_band.specs.Standing.{Standing}
 use Rattle.scq_queue.specs.declared.counts.Counts.{Counts}
 use Rattle.scq_queue.specs.declared.fulls.Fulls.{Fulls}
 use Rattle.scq_queue.specs.declared.fulls.Fulls.TheVariants.{Never, After'}

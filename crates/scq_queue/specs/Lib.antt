@@ -4,3 +4,4 @@ pub mod Calls
 pub mod Closing
 pub mod Kept
 pub mod HoldsJust
+pub mod Exports

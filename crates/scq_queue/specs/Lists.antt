@@ -5,7 +5,7 @@ use Rattle.std.specs.Prelude.{Option, Some, None, count_by}
 use Rattle.std.specs.List.{filter_map}
 use Rattle.scq_core.specs.declared.ended.Ended.{Ended}
 use Rattle.scq_core.specs.declared.ended.Ended.TheVariants.{Done, Got, Nothing}
-use Rattle.scq_law.specs.Bounds.{tally}
+use Rattle.scq_law.specs.Exports.{tally}
 use Rattle.scq_queue.specs.declared.counts.Counts.{Counts}
 
 -- bytes that were sent or taken at a place of a topic

@@ -7,10 +7,8 @@ use Rattle.std.specs.List.{Contains}
 use Rattle.scq_core.specs.declared.ended.Ended.{Ended}
 use Rattle.scq_core.specs.declared.ended.Ended.TheVariants.{Done, Got, Nothing, Spent}
 use Rattle.scq_band.specs.declared.numbers.Numbers.{Numbers}
-use Rattle.scq_band.specs.RunSeen.{Seen, nothing_seen, Caller}
-use Rattle.scq_band.specs.Numbers.{known_of, first_numbers, changed, finishes, sees, passes, drew}
-use Rattle.scq_band.specs.Numbers.{empties}
-use Rattle.scq_band.specs.Standing.{Identity}
+use Rattle.scq_band.specs.Exports.{Seen, nothing_seen, Caller, known_of, first_numbers, changed}
+use Rattle.scq_band.specs.Exports.{finishes, sees, passes, drew, empties, Identity}
 use Rattle.scq_queue.specs.Lists.{Lists, sends_of, takes_of}
 
 -- what contracts see of a pass

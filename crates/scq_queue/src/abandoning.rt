@@ -1,6 +1,6 @@
 //! The end of a pass, and of a queue, where not all come back.
 ghost use Rattle.std.specs.Prelude.{◌≡◌, ℕ, Some, None, slice_get};
-ghost use Rattle.scq_band.specs.Standing.{in_hand, with_buffer};
+ghost use Rattle.scq_band.specs.Exports.{in_hand, with_buffer};
 ghost use Rattle.scq_queue.specs.Passes.{HeldStanding, IsHeldBy};
 
 use crate::held::Held;

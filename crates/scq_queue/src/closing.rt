@@ -1,8 +1,7 @@
 //! The end of a queue: its passes and the values that are still held come back, and its buffers are
 //! handed out.
 ghost use Rattle.std.specs.Prelude.{◌≡◌, ◌≤◌, [], map, All, vec_len, vec_capacity};
-ghost use Rattle.scq_band.specs.Closing.{IsOneRunToTheEnd};
-ghost use Rattle.scq_band.specs.Buffers.{opening_of};
+ghost use Rattle.scq_band.specs.Exports.{IsOneRunToTheEnd, opening_of};
 ghost use Rattle.scq_queue.specs.Lists.{counts_of};
 ghost use Rattle.scq_queue.specs.Passes.{lists_of, was_told};
 ghost use Rattle.scq_queue.specs.Closing.{AllFullsStand, AreTheHeld, records_of, all_held};

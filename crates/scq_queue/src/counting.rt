@@ -1,8 +1,7 @@
 //! About how many values stand on a topic.
 ghost use Rattle.std.specs.Prelude.{◌≡◌, suc, ◌+◌, ◌<◌, ◌≤◌};
-ghost use Rattle.scq_word.specs.Sizes.{n_of};
-ghost use Rattle.scq_band.specs.Buffers.{opening_of};
-ghost use Rattle.scq_band.specs.RunSeen.{WasCountedInRun};
+ghost use Rattle.scq_word.specs.Exports.{n_of};
+ghost use Rattle.scq_band.specs.Exports.{opening_of, WasCountedInRun};
 ghost use Rattle.scq_queue.specs.Passes.{having_seen, caller_of};
 
 use crate::pass::Pass;

@@ -2,7 +2,7 @@
 ghost use Rattle.std.specs.Prelude.{◌≡◌, length, replicate, IfOk};
 ghost use Rattle.std.proofs.Common.{sym, refl, ◌∙◌};
 ghost use Rattle.std.specs.Vec.{with_items};
-ghost use Rattle.scq_word.specs.Written.{rewritten};
+ghost use Rattle.scq_word.specs.Exports.{rewritten};
 
 use scq_word::{Buffer, BufferMut, NoMemory};
 use std::alloc::Global;

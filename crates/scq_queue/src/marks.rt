@@ -1,8 +1,8 @@
 //! What a pass has seen of the run of all passes, carried to another: a mark; and how two passes
 //! meet.
 ghost use Rattle.std.specs.Prelude.{◌≡◌};
-ghost use Rattle.scq_band.specs.Buffers.{opening_of};
-ghost use Rattle.scq_band.specs.RunSeen.{IsMomentInRun, HaveMet, HaveSeenOneRun, both_seen};
+ghost use Rattle.scq_band.specs.Exports.{opening_of, IsMomentInRun, HaveMet, HaveSeenOneRun};
+ghost use Rattle.scq_band.specs.Exports.{both_seen};
 ghost use Rattle.scq_queue.specs.Passes.{having_seen, caller_of};
 
 use crate::pass::Pass;

@@ -1,7 +1,6 @@
 //! What a pass knows of the rings, carried to another.
 ghost use Rattle.std.specs.Prelude.{◌≡◌};
-ghost use Rattle.scq_band.specs.Numbers.{raised_by};
-ghost use Rattle.scq_band.specs.RunSeen.{both_seen};
+ghost use Rattle.scq_band.specs.Exports.{raised_by, both_seen};
 
 use crate::pass::Pass;
 use crate::queue::Queue;

@@ -1,10 +1,10 @@
 //! A queue, and how it is made with its passes.
 ghost use Rattle.std.specs.Prelude.{◌≡◌, ℕ, ◌<◌, ◌≤◌, ◌==◌, true, false, [], map, length, Some};
 ghost use Rattle.std.specs.Prelude.{None, All, IfOk, IfErr, vec_len, vec_capacity};
-ghost use Rattle.scq_word.specs.Sizes.{n_of};
+ghost use Rattle.scq_word.specs.Exports.{n_of};
 ghost use Rattle.scq_band.specs.Standing.{Standing};
-ghost use Rattle.scq_band.specs.Buffers.{opening_of};
-ghost use Rattle.scq_band.specs.RunSeen.{IsReadingInRun, with_retiree, AllWereSeenRetired};
+ghost use Rattle.scq_band.specs.Exports.{opening_of, IsReadingInRun, with_retiree};
+ghost use Rattle.scq_band.specs.Exports.{AllWereSeenRetired};
 ghost use Rattle.scq_queue.specs.Passes.{first_passes, after_look, having_seen, caller_of};
 ghost use Rattle.scq_queue.specs.Passes.{was_told};
 ghost use Rattle.scq_queue.specs.Kept.{pass_over};

@@ -1,10 +1,8 @@
 //! Values that a seat gets off a ring and puts on one. Their buffers are lifted while they are
 //! held.
 ghost use Rattle.std.specs.Prelude.{◌≡◌, ℕ, List, ◌<◌, Some, None, Err, IfOk, IfErr};
-ghost use Rattle.scq_queue.specs.Passes.{IsHeldBy};
-ghost use Rattle.scq_queue.specs.Calls.{CameOff, WasPutOn, FoundRingEmpty, GetWasSpent, IsInRun};
-ghost use Rattle.scq_queue.specs.Calls.{PutWasSpent};
-ghost use Rattle.scq_queue.specs.Kept.{pass_over, AreLifted, StaysLifted};
+ghost use Rattle.scq_queue.specs.Exports.{IsHeldBy, CameOff, WasPutOn, FoundRingEmpty, GetWasSpent};
+ghost use Rattle.scq_queue.specs.Exports.{IsInRun, PutWasSpent, pass_over, AreLifted, StaysLifted};
 
 use crate::held::Held;
 use scq_band::{Band, DeqRefusal, Seat, Spent};

@@ -6,16 +6,14 @@ use Rattle.std.proofs.lemmas.Bool.{cases_eq}
 use Rattle.std.proofs.lemmas.Option.{slice_get-get_or, slice_get_within}
 use Rattle.scq_core.specs.declared.step.Step.{Step}
 use Rattle.scq_core.specs.Machine.{Machine}
-use Rattle.scq_core.specs.StateLists.{machine_of}
-use Rattle.scq_core.specs.Updated.{updated}
+use Rattle.scq_core.specs.Exports.{machine_of, updated}
 use Rattle.scq_core.proofs.UpdatedLemmas.{updated_here, updated_else}
 use Rattle.scq_law.specs.declared.ordered.Ordered.{Ordered}
-use Rattle.scq_law.specs.Order.{Key, HasKey, of_opening, of_nothing, of_put, of_get, IsLinearization}
-use Rattle.scq_law.specs.RunSteps.{IsFinishedRun}
+use Rattle.scq_law.specs.Exports.{Key, HasKey, of_nothing, of_put, of_get, IsLinearization, IsFinishedRun}
+use Rattle.scq_law.specs.Order.{of_opening}
 use Rattle.scq_law.proofs.Order.RunStates.{get_or_any}
 use Rattle.scq_replay.specs.declared.ordering.Schedule.{Schedule}
-use Rattle.scq_replay.specs.OrderSteps.{run_of_schedule, ScheduleLeads, IsScheduleOf, IsNumberedCall}
-use Rattle.scq_replay.specs.OrderText.{IsOrderText, ring_lines, rings_lines}
+use Rattle.scq_replay.specs.Exports.{run_of_schedule, ScheduleLeads, IsScheduleOf, IsNumberedCall, IsOrderText, ring_lines, rings_lines}
 use Rattle.scq_replay.proofs.ScheduleRuns.{last_is}
 
 -- the lines of the first rings, each of which has its order

@@ -3,9 +3,7 @@ use Rattle.std.proofs.Common.{ℕ, ◌<◌, List, unwrap_or, arith}
 use Rattle.scq_word.specs.declared.setup.Setup.{Setup}
 use Rattle.scq_core.specs.declared.phase.Phase.{Phase}
 use Rattle.scq_core.specs.declared.phase.Phase.TheVariants.{Idle, AtE1, AtE2, AtE3, AtE4, AtE5, AtE6, AtD1, AtD2, AtD3, AtD4, AtD5, AtD6, AtD7, AtD8, AtD9, AtD10}
-use Rattle.scq_core.specs.Laws.{Busy}
-use Rattle.scq_core.specs.Machine.{Cells}
-use Rattle.scq_core.specs.Turn.{ring_under_way}
+use Rattle.scq_core.specs.Exports.{Busy, Cells, ring_under_way}
 
 -- what a seat is in the middle of is on such a ring, and so is ring 0
 pub under_way_ring : (c : Setup) (m : Cells) (hand : List ℕ) (phase : Phase) → Busy c m hand phase → unwrap_or (ring_under_way phase) 0 < c.rings

@@ -4,27 +4,19 @@ use Rattle.std.proofs.Common.{◌≡◌, ℕ, ◌+◌, ◌<◌, ◌≤◌, List,
 use Rattle.std.specs.Prelude.{Option, Some, Err, replicate, unwrap_or}
 use Rattle.std.specs.Option.{option_map}
 use Rattle.std.proofs.lemmas.List.{append-nil, map-append, length-append, length-replicate, take_all}
-use Rattle.scq_word.specs.Sizes.{n_of}
+use Rattle.scq_word.specs.Exports.{n_of}
 use Rattle.scq_word.specs.declared.setup.Setup.{Setup}
 use Rattle.scq_core.specs.declared.step.Step.{Step}
 use Rattle.scq_core.specs.Machine.{Machine}
-use Rattle.scq_core.specs.Start.{start_of}
-use Rattle.scq_core.specs.StateLists.{machine_of}
-use Rattle.scq_core.specs.Table.{step_of}
+use Rattle.scq_core.specs.Exports.{start_of, machine_of, step_of}
 use Rattle.scq_core.proofs.Turns.{turned}
-use Rattle.scq_law.specs.Replay.{StopsAt}
-use Rattle.scq_law.specs.Run.{Recorded, recorded_after, recorded_by, recorded_first, recorded_of, IsRun}
-use Rattle.scq_law.specs.RunSteps.{last_state}
+use Rattle.scq_law.specs.Exports.{StopsAt, Recorded, recorded_after, recorded_by, recorded_first, recorded_of, IsRun, last_state}
 use Rattle.scq_law.proofs.Order.RunStates.{moment}
 use Rattle.scq_law.proofs.Replays.LongerRuns.{run_first, run_last}
 use Rattle.scq_replay.specs.declared.ordering.Schedule.{Schedule}
 use Rattle.scq_replay.specs.declared.replaying.ScheduleFault.{ScheduleFault}
-use Rattle.scq_replay.specs.OrderSteps.{run_of_schedule, ScheduleLeads, IsScheduleOf, IsAdded}
-use Rattle.scq_replay.specs.OrderText.{SaysSteps}
-use Rattle.scq_replay.specs.Printed.{call_ring, step_line}
-use Rattle.scq_replay.specs.Replay.{turn_of_line, schedule_start, HasSetup, Gives, steps_of}
-use Rattle.scq_replay.specs.Schedule.{turn_in}
-use Rattle.scq_replay.specs.Steps.{IsMade, LineIsRefused}
+use Rattle.scq_replay.specs.Exports.{run_of_schedule, ScheduleLeads, IsScheduleOf, IsAdded, SaysSteps, call_ring, step_line, turn_of_line}
+use Rattle.scq_replay.specs.Exports.{schedule_start, HasSetup, Gives, steps_of, turn_in, IsMade, LineIsRefused}
 use Rattle.scq_replay.proofs.StepsRun as lines_run
 
 abbrev pub no_contents : Setup → List (List ℕ)

@@ -4,11 +4,11 @@ use Rattle.std.specs.Prelude.{IfErr}
 use Rattle.scq_word.specs.declared.setup.Setup.{Setup}
 use Rattle.scq_core.specs.Machine.{Machine}
 use Rattle.scq_core.specs.declared.step.Step.{Step}
-use Rattle.scq_core.specs.Table.{step_of}
+use Rattle.scq_core.specs.Exports.{step_of}
 use Rattle.scq_replay.specs.declared.replaying.ScheduleFault.{ScheduleFault}
 use Rattle.scq_replay.specs.declared.replaying.ScheduleFault.TheVariants.{Unfinished, NoMemory}
-use Rattle.scq_replay.specs.Replay.{onto, step_gives, taken, turn_of_line, steps_from, schedule_start, Gives, no_setup, steps_of}
-use Rattle.scq_replay.specs.Steps.{IsMade, LineIsRefused, bad_line, not_enabled}
+use Rattle.scq_replay.specs.Exports.{onto, step_gives, taken, turn_of_line, steps_from, schedule_start, Gives, no_setup, steps_of, IsMade}
+use Rattle.scq_replay.specs.Exports.{LineIsRefused, bad_line, not_enabled}
 
 -- all the lines give what was printed, before what the rest gives
 pub record LinesAreRun (c : Setup) (start : Machine) (lines : List (List ℕ)) (m : Machine) (number : ℕ) (rest : List (List ℕ)) (printed : List ℕ) : Type 0 where

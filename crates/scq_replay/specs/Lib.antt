@@ -4,3 +4,4 @@ pub mod Replay
 pub mod Steps
 pub mod OrderText
 pub mod OrderSteps
+pub mod Exports

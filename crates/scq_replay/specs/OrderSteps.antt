@@ -2,11 +2,10 @@
 use Rattle.std.specs.Prelude.{◌≡◌, ℕ, ◌<◌, List, [], ◌∷◌, ◌++◌, Some}
 use Rattle.scq_word.specs.declared.setup.Setup.{Setup}
 use Rattle.scq_core.specs.declared.step.Step.{Step}
-use Rattle.scq_core.specs.StateLists.{machine_of}
-use Rattle.scq_core.specs.Table.{step_of}
+use Rattle.scq_core.specs.Exports.{machine_of, step_of}
 use Rattle.scq_law.specs.declared.ordered.Ordered.{Ordered}
 use Rattle.scq_law.specs.declared.ordered.Ordered.TheVariants.{Opening, Call}
-use Rattle.scq_law.specs.Run.{Recorded, IsRun}
+use Rattle.scq_law.specs.Exports.{Recorded, IsRun}
 use Rattle.scq_law.specs.RunSteps.{Run}
 use Rattle.scq_replay.specs.declared.ordering.Schedule.{Schedule}
 use Rattle.scq_replay.specs.OrderText.{SaysSteps, schedule_run}

@@ -3,13 +3,13 @@
 use Rattle.std.specs.Prelude.{◌≡◌, ℕ, ◌-◌, ◌<◌, ◌≤◌, zero, suc, List, [], ◌++◌, length, map}
 use Rattle.std.specs.Prelude.{flat_map, Some, Err, codes, decimal, replicate, slice_get}
 use Rattle.scq_word.specs.declared.setup.Setup.{Setup}
-use Rattle.scq_word.specs.Sizes.{n_of}
+use Rattle.scq_word.specs.Exports.{n_of}
 use Rattle.scq_core.specs.declared.step.Step.{Step}
 use Rattle.scq_core.specs.Machine.{Machine}
 use Rattle.scq_law.specs.declared.ordered.Ordered.{Ordered}
 use Rattle.scq_law.specs.declared.ordered.Ordered.TheVariants.{Opening, Call}
-use Rattle.scq_law.specs.RunSteps.{Run, run_of, last_state, IsFinishedRun, IsUnfinished}
-use Rattle.scq_law.specs.Order.{IsLinearization}
+use Rattle.scq_law.specs.Exports.{run_of, last_state, IsFinishedRun, IsUnfinished, IsLinearization}
+use Rattle.scq_law.specs.RunSteps.{Run}
 use Rattle.scq_replay.specs.declared.replaying.ScheduleFault.{ScheduleFault}
 use Rattle.scq_replay.specs.declared.replaying.ScheduleFault.TheVariants.{Unfinished}
 use Rattle.scq_replay.specs.Printed.{reply_words}

@@ -11,11 +11,10 @@ use Rattle.scq_core.specs.declared.phase.Phase.{Phase}
 use Rattle.scq_core.specs.declared.step.Step.{Step}
 use Rattle.scq_core.specs.declared.step.Step.TheVariants.{E1, E1Again, E2, E3, E4, E5, E6, D1, D2}
 use Rattle.scq_core.specs.declared.step.Step.TheVariants.{D3, D4, D5, D6, D7, D8, D9, D10}
-use Rattle.scq_core.specs.Machine.{Cells, Machine}
-use Rattle.scq_core.specs.Table.{ring_slots, zero_level}
-use Rattle.scq_core.specs.Turn.{ring_under_way}
-use Rattle.scq_law.specs.Acts.{ended_in}
-use Rattle.scq_lines.specs.Lines.{content_text}
+use Rattle.scq_core.specs.Exports.{Cells, ring_slots, zero_level, ring_under_way}
+use Rattle.scq_core.specs.Machine.{Machine}
+use Rattle.scq_law.specs.Exports.{ended_in}
+use Rattle.scq_lines.specs.Exports.{content_text}
 
 -- the name of a step: a put's first ticket and its later ones are drawn by E1
 abbrev pub step_name : Step → List ℕ

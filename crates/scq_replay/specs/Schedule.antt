@@ -3,12 +3,12 @@
 use Rattle.std.specs.Prelude.{◌≡◌, ℕ, ◌≤◌, List, [], ◌∷◌, Option, Some, None, codes, if◌then◌else◌}
 use Rattle.std.specs.Option.{option_map}
 use Rattle.std.specs.Str.{bytes_eq}
-use Rattle.scq_word.specs.Sizes.{n_of}
+use Rattle.scq_word.specs.Exports.{n_of}
 use Rattle.scq_word.specs.declared.setup.Setup.{Setup}
 use Rattle.scq_core.specs.declared.step.Step.{Step}
 use Rattle.scq_core.specs.declared.step.Step.TheVariants.{E1, E1Again, E2, E3, E4, E5, E6, D1, D2}
 use Rattle.scq_core.specs.declared.step.Step.TheVariants.{D3, D4, D5, D6, D7, D8, D9, D10}
-use Rattle.scq_lines.specs.Lines.{fields_of, number_of, number_below, field_content}
+use Rattle.scq_lines.specs.Exports.{fields_of, number_of, number_below, field_content}
 use Rattle.scq_replay.specs.declared.schedule.SetupNumbers.{SetupNumbers}
 
 -- the numbers of `setup ORDER RINGS SEATS LIMIT`

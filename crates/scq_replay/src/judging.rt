@@ -2,10 +2,9 @@
 
 ghost use Rattle.std.specs.Prelude.{◌≡◌, ℕ, ◌<◌, None, Err, IfOk, OnOk, IsSome, vec_len};
 ghost use Rattle.std.specs.List.{All};
-ghost use Rattle.scq_word.specs.Sizes.{n_of};
+ghost use Rattle.scq_word.specs.Exports.{n_of};
 ghost use Rattle.scq_core.specs.declared.step.Step.{Step as StepOf};
-ghost use Rattle.scq_law.specs.Run.{recorded_of};
-ghost use Rattle.scq_law.specs.Replay.{StopsAt};
+ghost use Rattle.scq_law.specs.Exports.{recorded_of, StopsAt};
 
 use scq_check::{Verdict, judge};
 use scq_core::Step;

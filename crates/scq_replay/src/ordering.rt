@@ -2,10 +2,9 @@
 
 ghost use Rattle.std.specs.Prelude.{◌≡◌, ◌⊎◌, ◌++◌, ◌<◌, ◌≤◌, [], ℕ, List, Err, IfOk, OnOk, IfErr};
 ghost use Rattle.std.specs.List.{All};
-ghost use Rattle.scq_core.specs.StateLists.{machine_of};
-ghost use Rattle.scq_lines.specs.Lines.{lines_of};
-ghost use Rattle.scq_law.specs.Order.{IsLinearization};
-ghost use Rattle.scq_law.specs.RunSteps.{IsFinishedRun, IsUnfinished};
+ghost use Rattle.scq_core.specs.Exports.{machine_of};
+ghost use Rattle.scq_lines.specs.Exports.{lines_of};
+ghost use Rattle.scq_law.specs.Exports.{IsLinearization, IsFinishedRun, IsUnfinished};
 ghost use Rattle.scq_replay.specs.OrderSteps.{run_of_schedule, ScheduleLeads, IsScheduleOf};
 ghost use Rattle.scq_replay.specs.OrderSteps.{IsAdded};
 ghost use Rattle.scq_replay.specs.OrderSteps.{IsNumberedCall};

@@ -4,15 +4,11 @@ ghost use Rattle.std.specs.Prelude.{◌≡◌, ◌+◌, ◌++◌, ◌<◌, ◌�
 ghost use Rattle.std.specs.Prelude.{IfSome, OnOk};
 ghost use Rattle.std.specs.Fmt.{signed_decimal};
 ghost use Rattle.std.specs.Option.{option_copied};
-ghost use Rattle.scq_core.specs.Reach.{IsReachable};
-ghost use Rattle.scq_core.specs.StateLists.{machine_of};
-ghost use Rattle.scq_core.specs.Table.{ring_slots};
-ghost use Rattle.scq_lines.specs.Lines.{content_text};
-ghost use Rattle.scq_replay.specs.Printed.{step_name, begins_on, call_ring, head_words};
-ghost use Rattle.scq_replay.specs.Printed.{entry_words};
-ghost use Rattle.scq_replay.specs.Printed.{counter_words, threshold_words, printed_ring};
-ghost use Rattle.scq_replay.specs.Printed.{reply_words};
-ghost use Rattle.scq_replay.specs.Printed.{step_line};
+ghost use Rattle.scq_core.specs.Exports.{IsReachable, machine_of, ring_slots};
+ghost use Rattle.scq_lines.specs.Exports.{content_text};
+ghost use Rattle.scq_replay.specs.Exports.{step_name, begins_on, call_ring, head_words};
+ghost use Rattle.scq_replay.specs.Exports.{entry_words, counter_words, threshold_words};
+ghost use Rattle.scq_replay.specs.Exports.{printed_ring, reply_words, step_line};
 
 use itoa::Buffer;
 use scq_core::{Ended, State, Step};

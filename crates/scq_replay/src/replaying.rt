@@ -1,9 +1,8 @@
 //! A schedule run from its start, and printed.
 
 ghost use Rattle.std.specs.Prelude.{◌≡◌, ◌⊎◌, ◌≤◌, ℕ, Ok, Err, IfOk, OnOk, IfErr};
-ghost use Rattle.scq_core.specs.Reach.{IsReachable};
-ghost use Rattle.scq_core.specs.StateLists.{machine_of};
-ghost use Rattle.scq_lines.specs.Lines.{lines_of};
+ghost use Rattle.scq_core.specs.Exports.{IsReachable, machine_of};
+ghost use Rattle.scq_lines.specs.Exports.{lines_of};
 ghost use Rattle.scq_replay.specs.Replay.{steps_from, Gives};
 ghost use Rattle.scq_replay.specs.Steps.{IsMade, LineIsRefused};
 ghost use Rattle.scq_replay.specs.declared.replaying.ScheduleFault.TheVariants.{

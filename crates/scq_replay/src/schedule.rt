@@ -3,7 +3,7 @@
 ghost use Rattle.std.specs.Prelude.{◌≡◌, [], ◌∷◌, ◌<◌, ℕ, None, IfOk, IfSome, MatchOption};
 ghost use Rattle.std.specs.Str.{bytes_eq};
 ghost use Rattle.scq_word.specs.declared.setup.Setup.{Setup as SetupOf};
-ghost use Rattle.scq_lines.specs.Lines.{fields_of, fields_after};
+ghost use Rattle.scq_lines.specs.Exports.{fields_of, fields_after};
 ghost use Rattle.scq_replay.specs.Schedule.{setup_said, IsSetupLine, bare_step, step_said, turn_in};
 ghost use Rattle.scq_replay.specs.Printed.{begins_on};
 

@@ -2,11 +2,9 @@
 
 ghost use Rattle.std.specs.Prelude.{◌≡◌, ◌⊎◌, ◌+◌, ◌<◌, ◌≤◌, [], ℕ, Some, None, Err, IfOk, OnOk};
 ghost use Rattle.std.specs.Prelude.{IfErr, IfSome, replicate, vec_len};
-ghost use Rattle.scq_word.specs.Sizes.{n_of};
-ghost use Rattle.scq_core.specs.Reach.{IsReachable};
-ghost use Rattle.scq_core.specs.StateLists.{machine_of};
-ghost use Rattle.scq_core.specs.Table.{step_of};
-ghost use Rattle.scq_lines.specs.Lines.{lines_of};
+ghost use Rattle.scq_word.specs.Exports.{n_of};
+ghost use Rattle.scq_core.specs.Exports.{IsReachable, machine_of, step_of};
+ghost use Rattle.scq_lines.specs.Exports.{lines_of};
 ghost use Rattle.scq_replay.specs.Printed.{begins_on};
 ghost use Rattle.scq_replay.specs.Replay.{turn_of_line, HasSetup, Gives};
 ghost use Rattle.scq_replay.specs.declared.replaying.ScheduleFault.TheVariants.{BadLine};

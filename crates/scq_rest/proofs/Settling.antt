@@ -7,20 +7,14 @@ use Rattle.std.proofs.lemmas.List.{get_or-map, length-map}
 use Rattle.std.proofs.lemmas.List.Elements.{All-nil, All-cons, All-push, All-head, All-tail}
 use Rattle.atomic_table.specs.Seated.{TableId}
 use Rattle.scq_block.specs.declared.frame.Frame.{Frame}
-use Rattle.scq_queue.specs.Passes.{PassStanding, was_told}
+use Rattle.scq_queue.specs.Exports.{PassStanding, was_told}
 use Rattle.scq_park.specs.declared.rested.Rested.{Rested}
-use Rattle.scq_park.specs.Crews.{Post, AreInWorkerOrder, AreAll, counted, plus, woken, ended, rested_of, no_wakes, first_post, first_posts}
-use Rattle.scq_worker.specs.Opening.{takes_behind}
-use Rattle.scq_worker.specs.Seats.{IsToBegin, Seated}
-use Rattle.scq_files.specs.OwnFiles.{IsNew, ids_of}
-use Rattle.scq_rest.specs.Resting.{AreSettled}
-use Rattle.scq_rest.specs.Threads.{Task, IsGiven, HasDone}
-use Rattle.scq_passes.specs.Together.{NoneSpent}
-use Rattle.scq_passes.specs.Waiting.{SweepsInVain}
-use Rattle.scq_block.specs.Frames.{bytes_of}
-use Rattle.scq_passes.specs.Records.{IsReturn}
-use Rattle.scq_rest.specs.Sweeping.{HasLeftTold}
-use Rattle.scq_rest.specs.Waiting.{HasWaited, EachWaited, HaveWaited}
+use Rattle.scq_park.specs.Exports.{Post, AreInWorkerOrder, AreAll, counted, plus, woken, ended, rested_of, no_wakes, first_post, first_posts}
+use Rattle.scq_worker.specs.Exports.{takes_behind, IsToBegin, Seated}
+use Rattle.scq_files.specs.Exports.{IsNew, ids_of}
+use Rattle.scq_rest.specs.Exports.{AreSettled, Task, IsGiven, HasDone, HasLeftTold, HasWaited, EachWaited, HaveWaited}
+use Rattle.scq_passes.specs.Exports.{NoneSpent, SweepsInVain, IsReturn}
+use Rattle.scq_block.specs.Exports.{bytes_of}
 use Rattle.scq_files.specs.declared.desk.Desk.{Desk}
 use Rattle.scq_rest.specs.declared.threads.Work.{Work}
 

@@ -1,20 +1,16 @@
 -- A worker that has retired, and what its sweeps and rests make of it.
 use Rattle.std.proofs.Common.{◌≡◌, sym, subst, ℕ, ◌+◌, List, length, Option, Some}
-use Rattle.scq_band.specs.Standing.{Identity}
-use Rattle.scq_queue.specs.Passes.{PassStanding, HeldStanding}
+use Rattle.scq_band.specs.Exports.{Identity}
+use Rattle.scq_queue.specs.Exports.{PassStanding, HeldStanding}
 use Rattle.scq_files.specs.declared.own_file.OwnFile.{OwnFile}
-use Rattle.scq_passes.specs.Calls.{HasTaken, after_retire}
-use Rattle.scq_passes.specs.Records.{IsReturn}
-use Rattle.scq_passes.specs.Waiting.{SweepsInVain}
+use Rattle.scq_passes.specs.Exports.{HasTaken, after_retire, IsReturn, SweepsInVain}
 use Rattle.scq_passes.proofs.Vain.{sweeps-begin}
-use Rattle.scq_files.specs.Reading.{SourceOf}
-use Rattle.scq_worker.specs.Desks.{IsToSweep}
-use Rattle.scq_worker.specs.Opening.{takes_behind}
+use Rattle.scq_files.specs.Exports.{SourceOf}
+use Rattle.scq_worker.specs.Exports.{IsToSweep, takes_behind}
 use Rattle.scq_worker.specs.declared.job.Job.{Job}
 use Rattle.scq_worker.specs.declared.worker.Worker.{Worker}
 use Rattle.scq_worker.proofs.Produced.{none-or, queue-swept}
-use Rattle.scq_rest.specs.Sweeping.{HasLeftTold, HasSweptTold}
-use Rattle.scq_rest.specs.Waiting.{HasWaited}
+use Rattle.scq_rest.specs.Exports.{HasLeftTold, HasSweptTold, HasWaited}
 
 module _ {B : Type 0} where
   -- one that met a ticket past the limit is asked for nothing more

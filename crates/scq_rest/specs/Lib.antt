@@ -3,3 +3,4 @@ pub mod Waiting
 pub mod Threads
 pub mod Places
 pub mod Resting
+pub mod Exports

@@ -4,8 +4,8 @@ use Rattle.std.specs.Global.{Global}
 use Rattle.std.specs.List.{AllZip}
 use Rattle.atomic_table.specs.Seated.{TableId}
 use Rattle.scq_block.specs.declared.frame.Frame.{Frame}
-use Rattle.scq_band.specs.Standing.{Identity}
-use Rattle.scq_files.specs.Reading.{SourceOf}
+use Rattle.scq_band.specs.Exports.{Identity}
+use Rattle.scq_files.specs.Exports.{SourceOf}
 use Rattle.scq_rest.specs.Threads.{Task, task, CanStart, IsGiven, HasDone}
 use Rattle.scq_worker.specs.declared.job.Job.{Job}
 use Rattle.scq_rest.specs.declared.places.Runner.{Runner}

@@ -1,9 +1,9 @@
 -- Workers that may rest, before and after their work: the room for their threads, and their stands.
 use Rattle.std.specs.Prelude.{◌≡◌, ℕ, ◌≤◌, List, [], length, vec_capacity}
 use Rattle.atomic_table.specs.Seated.{TableId}
-use Rattle.scq_park.specs.Crews.{Post, AreAll}
+use Rattle.scq_park.specs.Exports.{Post, AreAll}
 use Rattle.scq_block.specs.declared.frame.Frame.{Frame}
-use Rattle.scq_queue.specs.Passes.{PassStanding}
+use Rattle.scq_queue.specs.Exports.{PassStanding}
 use Rattle.scq_rest.specs.Waiting.{EachWaited}
 use Rattle.scq_rest.specs.declared.resting.RestingRoom.{RestingRoom}
 

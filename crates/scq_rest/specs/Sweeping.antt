@@ -1,10 +1,9 @@
 -- How a worker that may rest sweeps, and when it leaves. `topics` is the number of topic rings.
 use Rattle.std.specs.Prelude.{◌≡◌, ℕ, ◌+◌, List}
-use Rattle.scq_band.specs.Standing.{Identity}
-use Rattle.scq_queue.specs.Passes.{PassStanding}
-use Rattle.scq_passes.specs.Calls.{after_retire}
-use Rattle.scq_passes.specs.Leaving.{AreSweeps, IsSweep, no_sweep, and_some, and_idle}
-use Rattle.scq_passes.specs.Records.{Puts}
+use Rattle.scq_band.specs.Exports.{Identity}
+use Rattle.scq_queue.specs.Exports.{PassStanding}
+use Rattle.scq_passes.specs.Exports.{after_retire, AreSweeps, IsSweep, no_sweep, and_some, and_idle}
+use Rattle.scq_passes.specs.Exports.{Puts}
 
 module _ {B : Type 0} {contents : B → List ℕ} {queue : Identity B} {By : Puts} {topics : ℕ}
     {Goes : ℕ → Type 0} where

@@ -1,18 +1,14 @@
 -- What the worker of a thread is given, what it makes of that, and how its thread ends.
 use Rattle.std.specs.Prelude.{◌≡◌, ℕ, ◌+◌, ◌<◌, ◌≤◌, List, length, All}
 use Rattle.atomic_table.specs.Seated.{TableId}
-use Rattle.scq_block.specs.Frames.{bytes_of}
+use Rattle.scq_block.specs.Exports.{bytes_of}
 use Rattle.scq_block.specs.declared.frame.Frame.{Frame}
 use Rattle.scq_topics.specs.declared.kind.Kind.{Kind}
-use Rattle.scq_band.specs.Standing.{Identity}
-use Rattle.scq_park.specs.Crews.{first_post}
-use Rattle.scq_worker.specs.Opening.{takes_behind}
-use Rattle.scq_worker.specs.Seats.{IsToBegin}
-use Rattle.scq_files.specs.OwnFiles.{IsNew, ids_of}
-use Rattle.scq_files.specs.Reading.{SourceOf}
-use Rattle.scq_worker.specs.Desks.{HasProduced, HasRun}
+use Rattle.scq_band.specs.Exports.{Identity}
+use Rattle.scq_park.specs.Exports.{first_post}
+use Rattle.scq_worker.specs.Exports.{takes_behind, IsToBegin, HasProduced, HasRun, but_wakes}
+use Rattle.scq_files.specs.Exports.{IsNew, ids_of, SourceOf}
 use Rattle.scq_rest.specs.Waiting.{HasWaited}
-use Rattle.scq_worker.specs.Bells.{but_wakes}
 use Rattle.scq_worker.specs.declared.job.Job.{Job}
 use Rattle.scq_rest.specs.declared.threads.Work.{Work}
 use Rattle.scq_rest.specs.declared.threads.HandedBack.{HandedBack}

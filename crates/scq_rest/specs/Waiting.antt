@@ -3,12 +3,11 @@
 use Rattle.std.specs.Prelude.{◌≡◌, ◌⊎◌, ℕ, ◌-◌, ◌^◌, ◌≤◌, Bool, true, List, length, map, All}
 use Rattle.std.specs.Prelude.{Some, None, slice_get}
 use Rattle.scq_park.specs.declared.rested.Rested.{Rested}
-use Rattle.scq_park.specs.Crews.{Post, counted}
-use Rattle.scq_queue.specs.Passes.{PassStanding, was_told}
-use Rattle.scq_block.specs.Frames.{bytes_of}
+use Rattle.scq_park.specs.Exports.{Post, counted}
+use Rattle.scq_queue.specs.Exports.{PassStanding, was_told}
+use Rattle.scq_block.specs.Exports.{bytes_of}
 use Rattle.scq_block.specs.declared.frame.Frame.{Frame}
-use Rattle.scq_passes.specs.Records.{IsReturn}
-use Rattle.scq_passes.specs.Waiting.{SweepsInVain}
+use Rattle.scq_passes.specs.Exports.{IsReturn, SweepsInVain}
 use Rattle.scq_rest.specs.Sweeping.{HasLeftTold}
 
 -- of a worker that waited, unless it met a ticket past the limit: it was told that all had

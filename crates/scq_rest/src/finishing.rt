@@ -1,9 +1,8 @@
 //! What a worker that may rest does once it has retired.
 ghost use Rattle.std.specs.Prelude.{◌≡◌, ◌+◌, length};
-ghost use Rattle.scq_block.specs.Frames.{bytes_of};
-ghost use Rattle.scq_worker.specs.Desks.{HasProducedAt, HasRunAt, IsToSweepAt};
-ghost use Rattle.scq_worker.specs.Opening.{takes_behind};
-ghost use Rattle.scq_rest.specs.Waiting.{HasWaited};
+ghost use Rattle.scq_block.specs.Exports.{bytes_of};
+ghost use Rattle.scq_worker.specs.Exports.{HasProducedAt, HasRunAt, IsToSweepAt, takes_behind};
+ghost use Rattle.scq_rest.specs.Exports.{HasWaited};
 
 use crate::sweeping::sweep_and_rest;
 use scq_block::Frame;

@@ -2,11 +2,9 @@
 ghost use Rattle.std.specs.Prelude.{◌≡◌, ℕ, ◌+◌, ◌<◌, ◌≤◌, ◌++◌, ◌∷◌, [], length, map, reverse};
 ghost use Rattle.std.specs.Prelude.{slice_index_or, vec_len, vec_capacity, IfOk};
 ghost use Rattle.std.specs.List.{All};
-ghost use Rattle.scq_park.specs.Crews.{first_posts};
-ghost use Rattle.scq_worker.specs.Opening.{takes_behind};
-ghost use Rattle.scq_worker.specs.Seats.{IsToBegin};
-ghost use Rattle.scq_files.specs.OwnFiles.{IsNew, ids_of};
-ghost use Rattle.scq_worker.specs.Desks.{HasRunAt};
+ghost use Rattle.scq_park.specs.Exports.{first_posts};
+ghost use Rattle.scq_worker.specs.Exports.{takes_behind, IsToBegin, HasRunAt};
+ghost use Rattle.scq_files.specs.Exports.{IsNew, ids_of};
 ghost use Rattle.scq_rest.specs.Resting.{HasRoom, AreSettled};
 
 use crate::places::{Runner, run_all};

@@ -1,9 +1,8 @@
 //! How a worker waits in place of leaving early, whoever it is.
 ghost use Rattle.std.specs.Prelude.{◌≡◌, ℕ, ◌+◌, ◌<◌, Some, IfErr, OnOk};
-ghost use Rattle.scq_queue.specs.Passes.{known_on};
-ghost use Rattle.scq_passes.specs.Waiting.{SweepsInVain};
-ghost use Rattle.scq_rest.specs.Sweeping.{HasSweptTold};
-ghost use Rattle.scq_passes.specs.Calls.{HasTakenFollowed, Suits};
+ghost use Rattle.scq_queue.specs.Exports.{known_on};
+ghost use Rattle.scq_passes.specs.Exports.{SweepsInVain, HasTakenFollowed, Suits};
+ghost use Rattle.scq_rest.specs.Exports.{HasSweptTold};
 
 use scq_park::{Crew, Stand};
 use scq_passes::{AtLimit, Taker, sweep};

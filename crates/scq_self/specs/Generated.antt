@@ -2,7 +2,7 @@
 use Rattle.std.specs.Prelude.{ℕ, ◌+◌, ◌*◌, ◌%◌, ◌^◌, zero, suc, List, [], ◌∷◌, ◌++◌, codes, decimal}
 use Rattle.scq_topics.specs.declared.kind.Kind.{Kind}
 use Rattle.scq_topics.specs.declared.kind.Kind.TheVariants.{Len, Words, Sum, Sha256, Echo}
-use Rattle.scq_topics.specs.Topics.{name_of}
+use Rattle.scq_topics.specs.Exports.{name_of}
 
 -- the five topics, one of each kind
 abbrev pub self_topics : List (List ℕ × Kind)

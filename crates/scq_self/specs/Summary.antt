@@ -3,7 +3,7 @@ use Rattle.std.specs.Prelude.{ℕ, List, [], ◌∷◌, ◌++◌, codes, decimal
 use Rattle.hex.specs.Hex.{encode_lower}
 use Rattle.sha2.specs.Sha256.{sha256}
 use Rattle.scq_topics.specs.declared.kind.Kind.{Kind}
-use Rattle.scq_collect.specs.Output.{Answer, answers_to, text_of_answers, total_lines}
+use Rattle.scq_collect.specs.Exports.{Answer, answers_to, text_of_answers, total_lines}
 use Rattle.scq_self.specs.Generated.{generated, self_topics}
 
 -- how many lines, the totals, and the digest of the whole text

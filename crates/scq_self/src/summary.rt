@@ -1,8 +1,7 @@
 ghost use Rattle.std.specs.Prelude.{◌≡◌, ◌≤◌, ℕ, [], ◌∷◌, length, map, IfOk};
 ghost use Rattle.std.specs.List.{All};
-ghost use Rattle.scq_collect.specs.Output.{answers_to, answer_of_whole};
-ghost use Rattle.scq_self.specs.Generated.{generated, self_topics};
-ghost use Rattle.scq_self.specs.Summary.{self_summary, summary_of};
+ghost use Rattle.scq_collect.specs.Exports.{answers_to, answer_of_whole};
+ghost use Rattle.scq_self.specs.Exports.{generated, self_topics, self_summary, summary_of};
 
 use itoa::Buffer;
 use scq_collect::{Whole, output, push_totals};

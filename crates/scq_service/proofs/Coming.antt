@@ -7,13 +7,10 @@ use Rattle.std.specs.Str.{bytes_eq}
 use Rattle.std.proofs.lemmas.List.{get_or-map, length-map, take_more}
 use Rattle.std.proofs.lemmas.List.Elements.{All-push}
 use Rattle.std.proofs.lemmas.Option.{slice_get-get_or}
-use Rattle.scq_outside.specs.Counts.{Rose}
-use Rattle.scq_outside.specs.Table.{Table, without_name}
-use Rattle.scq_files.specs.Ends.{all_left}
-use Rattle.scq_service.specs.Members.{FilesOf, SourceOf}
-use Rattle.scq_service.specs.Answers.{HaveCome}
-use Rattle.scq_service.specs.Contents.{IfVisible, IsMissing, without_names}
-use Rattle.scq_service.specs.Ends.{Change, HasMissed, inputs_of}
+use Rattle.scq_outside.specs.Exports.{Rose, without_name}
+use Rattle.scq_outside.specs.Table.{Table}
+use Rattle.scq_files.specs.Exports.{all_left}
+use Rattle.scq_service.specs.Exports.{FilesOf, SourceOf, HaveCome, IfVisible, IsMissing, without_names, Change, HasMissed, inputs_of}
 use Rattle.scq_service.proofs.Files.{gone, no-contents, parts, visible-more, without-more}
 
 -- the table without the names so far and without the next one

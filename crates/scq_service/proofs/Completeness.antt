@@ -3,21 +3,19 @@ use Rattle.std.proofs.Common.{IfSome, ◌≤◌, ◌+◌, ◌∷◌, [], ◌≡�
 use Rattle.std.specs.Prelude.{IsSomeAnd, slice_get}
 use Rattle.std.specs.List.{All}
 use Rattle.std.proofs.lemmas.Option.{slice_get_within, get_or_from_slice_get}
-use Rattle.scq_frames.specs.Trouble.{Trouble, LongPayload, ManyBytes}
-use Rattle.scq_frames.specs.Judged.{file_trouble}
+use Rattle.scq_frames.specs.Exports.{LongPayload, ManyBytes, file_trouble}
+use Rattle.scq_frames.specs.Trouble.{Trouble}
 use Rattle.std.specs.Option.{option_map}
 use Rattle.scq_words.specs.declared.text_request.TextCommand.{TextCommand}
-use Rattle.scq_service.specs.Members.{SourceOf}
-use Rattle.scq_service.specs.Causes.{IsTroubled}
-use Rattle.scq_files.specs.Ends.{all_left}
-use Rattle.scq_outside.specs.Counts.{Rose}
-use Rattle.scq_collect.specs.Output.{one_thread_output}
-use Rattle.scq_self.specs.Summary.{self_summary}
-use Rattle.scq_stages.specs.Output.{one_thread_stage_output}
+use Rattle.scq_service.specs.Exports.{SourceOf, IsTroubled, Inputs, Wrote, EndsWithoutFiles, EndsAs, EndsOver, EndsWhole, IfContent, IsCalm}
+use Rattle.scq_service.specs.Exports.{IsCalmText, IsOfTextAlone, most_payload, most_text, EndsCalmly}
+use Rattle.scq_files.specs.Exports.{all_left}
+use Rattle.scq_outside.specs.Exports.{Rose}
+use Rattle.scq_collect.specs.Exports.{one_thread_output}
+use Rattle.scq_self.specs.Exports.{self_summary}
+use Rattle.scq_stages.specs.Exports.{one_thread_stage_output}
 use Rattle.scq_words.specs.Asked.{Asked}
 use Rattle.scq_words.specs.declared.fault.WordsFault.{WordsFault}
-use Rattle.scq_service.specs.Ends.{Inputs, Wrote, EndsWithoutFiles, EndsAs, EndsOver, EndsWhole, IfContent, IsCalm, IsCalmText, IsOfTextAlone, most_payload, most_text}
-use Rattle.scq_service.specs.Serving.{EndsCalmly}
 use Rattle.scq_service.specs.declared.outcome.Outcome.{Outcome}
 use Rattle.scq_service.specs.declared.fault.Fault.{Fault}
 use Rattle.scq_service.specs.declared.fault.Fault.TheVariants.{Words, OpenFault, ReadFault, TooLong, TooLarge, WriteFault, BadLine, NotEnabled, Unlawful, Unfinished, BadLineOf, SharedOf, TwoRunsOf, UnlawfulOf, NoMemory}

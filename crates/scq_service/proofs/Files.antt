@@ -5,8 +5,9 @@ use Rattle.std.specs.List.{list_any}
 use Rattle.std.specs.Option.{option_map}
 use Rattle.std.specs.Str.{bytes_eq}
 use Rattle.std.proofs.lemmas.Slice.Eq.{bytes_eq-Decides}
-use Rattle.scq_outside.specs.Table.{Table, without_name}
-use Rattle.scq_service.specs.Contents.{contents_of, IfVisible, without_names}
+use Rattle.scq_outside.specs.Exports.{without_name}
+use Rattle.scq_outside.specs.Table.{Table}
+use Rattle.scq_service.specs.Exports.{contents_of, IfVisible, without_names}
 
 -- one name more leaves the table
 pub without-more : (names : List (List ℕ)) (name : List ℕ) (table : Table)

@@ -4,19 +4,14 @@ use Rattle.std.specs.Prelude.{slice_index_or, ◌==◌}
 use Rattle.std.specs.Option.{option_map}
 use Rattle.std.proofs.Math.Seq.{take-length}
 use Rattle.scq_outside.specs.Table.{Table}
-use Rattle.scq_judge.specs.Files.{HaveContents}
-use Rattle.scq_judge.specs.Judged.{AreSoundBefore, IsCause, IsCauseIn, IsJudged}
-use Rattle.scq_judge.specs.Reads.{AreReadUntil, AreReadWhole, HasGiven, ReadingStopped, HaveBeenRead, IsOfOneFile, OfEach, Progress}
-use Rattle.scq_judge.specs.Recording.{recording_of}
+use Rattle.scq_judge.specs.Exports.{HaveContents, AreSoundBefore, IsCause, IsCauseIn, IsJudged, AreReadUntil, AreReadWhole, HasGiven, ReadingStopped}
+use Rattle.scq_judge.specs.Exports.{HaveBeenRead, IsOfOneFile, OfEach, Progress, recording_of}
 use Rattle.scq_judge.specs.declared.judging.JudgeFault.{JudgeFault}
 use Rattle.scq_judge.specs.declared.judging.JudgeFault.TheVariants as judge
 use Rattle.scq_judge.proofs.JudgeLemmas.{cause_of_recorded, sound_all, until_recorded}
-use Rattle.scq_files.specs.Ends.{HasMoved, all_left}
-use Rattle.scq_service.specs.Members.{FilesOf, SourceOf}
-use Rattle.scq_service.specs.Answers.{HaveCome}
-use Rattle.scq_service.specs.Contents.{IsMissing, without_names}
-use Rattle.scq_service.specs.Ends.{Change, Wrote, HasGotSources, HasMissed, HaveAll, EndsJudged, IfTold, ReportMeets, IsUnchanged, IsUnopened, IsUnwritten, inputs_of}
-use Rattle.scq_service.specs.Faults.{fault_of_judge}
+use Rattle.scq_files.specs.Exports.{HasMoved, all_left}
+use Rattle.scq_service.specs.Exports.{FilesOf, SourceOf, HaveCome, IsMissing, without_names, Change, Wrote, HasGotSources, HasMissed, HaveAll}
+use Rattle.scq_service.specs.Exports.{EndsJudged, IfTold, ReportMeets, IsUnchanged, IsUnopened, IsUnwritten, inputs_of, fault_of_judge}
 use Rattle.scq_service.specs.declared.fault.Fault.{Fault}
 use Rattle.scq_service.specs.declared.fault.Fault.TheVariants.{OpenFault}
 use Rattle.scq_service.proofs.Coming.{SourceIsGot, IsMissed, IsNextName, come-got, come-missed, has-missed}

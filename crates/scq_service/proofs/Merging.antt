@@ -8,8 +8,7 @@ use Rattle.std.proofs.lemmas.List.Sorted.{All-permutation}
 use Rattle.scq_topics.specs.declared.kind.Kind.{Kind}
 use Rattle.scq_collect.specs.declared.answered.Answered.{Answered}
 use Rattle.scq_collect.specs.declared.whole.Whole.{Whole}
-use Rattle.scq_collect.specs.Joined.{IsJoined, PartAnswer, answers_of, in_front, joined, messages_in_order, without_way}
-use Rattle.scq_collect.specs.Output.{Answer, answer_of_whole}
+use Rattle.scq_collect.specs.Exports.{IsJoined, PartAnswer, answers_of, in_front, joined, messages_in_order, without_way, Answer, answer_of_whole}
 
 -- a message's topic is that of its first part
 first-topic : (topics : List (List ℕ × Kind)) (known : ℕ) (a : PartAnswer) (group : List PartAnswer) → a.topic ≤ known

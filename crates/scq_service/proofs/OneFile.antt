@@ -4,14 +4,13 @@ use Rattle.std.specs.Prelude.{nat_lt, unwrap_or}
 use Rattle.std.specs.Option.{option_map}
 use Rattle.std.proofs.Math.Seq.{take-append_seam}
 use Rattle.std.proofs.lemmas.Bool.{lt-ltb}
-use Rattle.scq_frames.specs.Trouble.{Trouble, LongPayload, ManyBytes}
+use Rattle.scq_frames.specs.Exports.{LongPayload, ManyBytes, file_trouble, Judges}
+use Rattle.scq_frames.specs.Trouble.{Trouble}
 use Rattle.scq_frames.specs.declared.fault.FrameFault.{FrameFault}
 use Rattle.scq_frames.specs.declared.fault.FrameFault.TheVariants as frame
-use Rattle.scq_outside.specs.Counts.{Rose}
-use Rattle.scq_frames.specs.Judged.{file_trouble, Judges}
+use Rattle.scq_outside.specs.Exports.{Rose}
 use Rattle.scq_files.specs.Reading as reading
-use Rattle.scq_service.specs.Members.{SourceOf}
-use Rattle.scq_service.specs.Causes.{given_bytes, file_fault}
+use Rattle.scq_service.specs.Exports.{SourceOf, given_bytes, file_fault}
 use Rattle.scq_service.specs.declared.fault.Fault.{Fault}
 use Rattle.scq_service.specs.declared.fault.Fault.TheVariants.{ReadFault, TooLong, TooLarge, NoMemory}
 

@@ -3,8 +3,7 @@ use Rattle.std.proofs.Common.{◌≡◌, ◌∙◌, sym, ap, subst, arith, zero,
 use Rattle.std.proofs.lemmas.List.{append-nil, take_all}
 use Rattle.scq_collect.specs.declared.answered.Answered.{Answered}
 use Rattle.scq_queue.specs.declared.counts.Counts.{Counts}
-use Rattle.scq_service.specs.Reports.{worker_line, worker_lines}
-use Rattle.scq_service.specs.Writing.{written_with, WrotePart}
+use Rattle.scq_service.specs.Exports.{worker_line, worker_lines, written_with, WrotePart}
 use Rattle.scq_service.proofs.Writings.{part-first, part-second, written-then}
 
 -- the lines of the first workers, that of the next, and those of the others

@@ -4,7 +4,7 @@ use Rattle.std.specs.Prelude.{codes}
 use Rattle.std.specs.Fmt.{digits}
 use Rattle.scq_topics.specs.declared.topics.TopicFault.TheVariants.{TooMany, BadName}
 use Rattle.scq_words.specs.declared.fault.WordsFault.TheVariants.{NotUnderstood, Topics, NoName}
-use Rattle.scq_service.specs.Faults.{fault_line}
+use Rattle.scq_service.specs.Exports.{fault_line}
 use Rattle.scq_service.specs.declared.fault.Fault.TheVariants.{Words, OpenFault, ReadFault, TooLong, TooLarge}
 
 row-words : fault_line (Words NotUnderstood) ≡ codes "words not understood\n"

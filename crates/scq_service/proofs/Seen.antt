@@ -1,9 +1,10 @@
 -- What is seen of the queue of a run's workers.
 use Rattle.std.proofs.Common.{◌≡◌, refl, true, false, Option, Some, None, Result, Ok, Err}
 use Rattle.std.specs.Prelude.{is_some}
-use Rattle.scq_words.specs.Asked.{Asked, run, generated, judged, whole, staged}
+use Rattle.scq_words.specs.Exports.{run, generated, judged, whole, staged}
+use Rattle.scq_words.specs.Asked.{Asked}
 use Rattle.scq_words.specs.declared.fault.WordsFault.{WordsFault}
-use Rattle.scq_service.specs.Answers.{IsSeenAt}
+use Rattle.scq_service.specs.Exports.{IsSeenAt}
 use Rattle.scq_service.specs.declared.fault.Fault.TheVariants.{NoMemory}
 
 -- at want of memory nothing need be seen

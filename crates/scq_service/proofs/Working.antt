@@ -5,21 +5,17 @@ use Rattle.std.specs.List.{All}
 use Rattle.std.specs.Option.{option_map, option_or}
 use Rattle.std.proofs.lemmas.List.{get_or-take, length-take-le}
 use Rattle.std.proofs.lemmas.Option.{slice_get-get_or}
-use Rattle.scq_frames.specs.Framing.{NothingLeft}
+use Rattle.scq_frames.specs.Exports.{NothingLeft}
 use Rattle.scq_frames.specs.declared.fault.FrameFault.{FrameFault}
 use Rattle.scq_frames.specs.declared.fault.FrameFault.TheVariants as frame
 use Rattle.scq_outside.specs.Table.{Table}
-use Rattle.scq_files.specs.Ends.{HasMoved, ReadingStopsAt, all_left}
-use Rattle.scq_desk.specs.Faults.{HasCause}
+use Rattle.scq_files.specs.Exports.{HasMoved, ReadingStopsAt, all_left}
+use Rattle.scq_desk.specs.Exports.{HasCause}
 use Rattle.scq_files.specs.Reading as reading
 use Rattle.scq_desk.specs.declared.fault.EndFault.{EndFault}
 use Rattle.scq_desk.specs.declared.fault.EndFault.TheVariants as work
-use Rattle.scq_service.specs.Members.{SourceOf}
-use Rattle.scq_service.specs.Answers.{HaveAllCome, HaveCome}
-use Rattle.scq_service.specs.Causes.{given_bytes, first_file_fault, HaveRest}
-use Rattle.scq_service.specs.Contents.{IfVisible, IsMissing, without_names}
-use Rattle.scq_service.specs.Ends.{Change, HasGotSources, HasMissed, IfTold, FileIsRefused, IsUnchanged, ReadsOver}
-use Rattle.scq_service.specs.Faults.{bytes_of_large, fault_of_work}
+use Rattle.scq_service.specs.Exports.{SourceOf, HaveAllCome, HaveCome, given_bytes, first_file_fault, HaveRest, IfVisible, IsMissing, without_names}
+use Rattle.scq_service.specs.Exports.{Change, HasGotSources, HasMissed, IfTold, FileIsRefused, IsUnchanged, ReadsOver, bytes_of_large, fault_of_work}
 use Rattle.scq_service.specs.declared.fault.Fault.{Fault}
 use Rattle.scq_service.specs.declared.fault.Fault.TheVariants.{OpenFault}
 use Rattle.scq_service.proofs.Files.{no-contents, parts}

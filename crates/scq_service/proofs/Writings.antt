@@ -4,10 +4,8 @@ use Rattle.std.specs.Prelude.{Result, Ok, Err, OnOk}
 use Rattle.std.proofs.Math.Seq.{take-append-add}
 use Rattle.std.proofs.lemmas.Grind.{common_steps}
 use Rattle.std.proofs.lemmas.List.{take-append-le}
-use Rattle.scq_outside.specs.Counts.{Rose}
-use Rattle.scq_service.specs.Members.{SinkOf}
-use Rattle.scq_service.specs.Writing.{written_with, WrotePart}
-use Rattle.scq_service.specs.Written.{HasWritten}
+use Rattle.scq_outside.specs.Exports.{Rose}
+use Rattle.scq_service.specs.Exports.{SinkOf, written_with, WrotePart, HasWritten}
 
 -- bytes and then bytes are their sum
 pub written-then : (written : Option (List ℕ)) (a b : List ℕ) → written_with (written_with written a) b ≡ written_with written (a ++ b)

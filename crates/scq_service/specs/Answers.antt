@@ -8,26 +8,25 @@ use Rattle.std.specs.Option.{option_map}
 use Rattle.std.specs.List.Sorted.{IsPermutation}
 use Rattle.scq_block.specs.declared.frame.Frame.{Frame}
 use Rattle.scq_park.specs.declared.rested.Rested.{Rested}
-use Rattle.scq_queue.specs.Passes.{PassStanding}
+use Rattle.scq_queue.specs.Exports.{PassStanding}
 use Rattle.scq_frames.specs.declared.message.Message.{Message}
-use Rattle.scq_collect.specs.Collected.{messages_to}
-use Rattle.scq_collect.specs.Joined.{part_answers, without_way}
-use Rattle.scq_collect.specs.Merging.{members_of}
-use Rattle.scq_self.specs.Generated.{generated, self_topics}
+use Rattle.scq_collect.specs.Exports.{messages_to, part_answers, without_way, members_of}
+use Rattle.scq_self.specs.Exports.{generated, self_topics}
 use Rattle.scq_stages.specs.AllStages as staging
 use Rattle.scq_stages.specs.Output as stage_output
 use Rattle.scq_stages.specs.declared.job.StageJob.{StageJob}
 use Rattle.scq_stages.specs.declared.staged.Staged.{Staged}
 use Rattle.scq_topics.specs.declared.kind.Kind.{Kind}
-use Rattle.scq_words.specs.Asked.{Asked, RunAsked}
+use Rattle.scq_words.specs.Exports.{RunAsked}
+use Rattle.scq_words.specs.Asked.{Asked}
 use Rattle.scq_words.specs.Asked as asks
 use Rattle.scq_words.specs.declared.fault.WordsFault.{WordsFault}
-use Rattle.scq_work.specs.AllWorkers.{HasWorked, NothingIsStranded}
-use Rattle.scq_worker.specs.Opening.{most_together, takes_behind}
+use Rattle.scq_work.specs.Exports.{HasWorked, NothingIsStranded}
+use Rattle.scq_worker.specs.Exports.{most_together, takes_behind}
 use Rattle.scq_worker.specs.declared.job.Job.{Job}
-use Rattle.scq_files.specs.Ends.{AreGiven, all_left, messages_in}
+use Rattle.scq_files.specs.Exports.{AreGiven, all_left, messages_in}
 use Rattle.scq_files.specs.Reading as reading
-use Rattle.scq_rest.specs.Waiting.{HaveWaited}
+use Rattle.scq_rest.specs.Exports.{HaveWaited}
 use Rattle.scq_work.specs.declared.worked.Worked.{Worked}
 use Rattle.scq_service.specs.Members.{SourceOf}
 use Rattle.scq_service.specs.Contents.{IfVisible, without_names}

@@ -5,8 +5,8 @@ use Rattle.std.specs.Prelude.{◌≡◌, ℕ, ◌+◌, ◌-◌, ◌^◌, ◌++�
 use Rattle.std.specs.Prelude.{length, take, Option, Some, None, IsSomeAnd, unwrap_or, slice_get}
 use Rattle.std.specs.Prelude.{if◌then◌else◌}
 use Rattle.std.specs.Option.{option_or}
-use Rattle.scq_frames.specs.Trouble.{Trouble, LongPayload, ManyBytes}
-use Rattle.scq_frames.specs.Judged.{file_trouble}
+use Rattle.scq_frames.specs.Exports.{LongPayload, ManyBytes, file_trouble}
+use Rattle.scq_frames.specs.Trouble.{Trouble}
 use Rattle.scq_service.specs.Members.{SourceOf}
 use Rattle.scq_service.specs.declared.fault.Fault.{Fault}
 use Rattle.scq_service.specs.declared.fault.Fault.TheVariants.{ReadFault, TooLong, TooLarge}

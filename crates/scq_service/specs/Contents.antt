@@ -4,7 +4,8 @@ use Rattle.std.specs.Prelude.{IsTrue, IfSome, IsSomeAnd, option_and_then}
 use Rattle.std.specs.List.{list_any}
 use Rattle.std.specs.Str.{bytes_eq}
 use Rattle.std.specs.Option.{option_map}
-use Rattle.scq_outside.specs.Table.{Table, without_name}
+use Rattle.scq_outside.specs.Exports.{without_name}
+use Rattle.scq_outside.specs.Table.{Table}
 
 -- the contents that a table gives for these names, in their order, where each is there; a name that
 -- was given is there no more

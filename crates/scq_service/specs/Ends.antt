@@ -5,23 +5,22 @@ use Rattle.std.specs.Prelude.{None, IsSome, IfSome, IsSomeAnd, Result, Ok, Err, 
 use Rattle.std.specs.Prelude.{slice_get, slice_index_or, ◌==◌}
 use Rattle.std.specs.List.{All}
 use Rattle.std.specs.Option.{option_map}
-use Rattle.scq_outside.specs.Counts.{Rose}
-use Rattle.scq_outside.specs.Table.{Table, without_name}
-use Rattle.scq_frames.specs.Framing.{NothingLeft}
-use Rattle.scq_frames.specs.Trouble.{LongPayload, ManyBytes}
-use Rattle.scq_frames.specs.Judged.{file_trouble}
-use Rattle.scq_collect.specs.Output.{one_thread_output}
-use Rattle.scq_lines.specs.Lines.{lines_of}
-use Rattle.scq_self.specs.Summary.{self_summary}
-use Rattle.scq_judge.specs.Judged.{AreSoundBefore, IsJudged, IsCause}
-use Rattle.scq_judge.specs.Reads.{AreQuiet, AreReadUntil, AreReadWhole}
+use Rattle.scq_outside.specs.Exports.{Rose, without_name}
+use Rattle.scq_outside.specs.Table.{Table}
+use Rattle.scq_frames.specs.Exports.{NothingLeft, LongPayload, ManyBytes, file_trouble}
+use Rattle.scq_collect.specs.Exports.{one_thread_output}
+use Rattle.scq_lines.specs.Exports.{lines_of}
+use Rattle.scq_self.specs.Exports.{self_summary}
+use Rattle.scq_judge.specs.Exports.{AreSoundBefore, IsJudged, IsCause, AreQuiet, AreReadUntil}
+use Rattle.scq_judge.specs.Exports.{AreReadWhole}
 use Rattle.scq_judge.specs.declared.judging.JudgeFault.{JudgeFault}
 use Rattle.scq_judge.specs.declared.judging.JudgeFault.TheVariants as judge
-use Rattle.scq_stages.specs.Output.{one_thread_stage_output}
-use Rattle.scq_words.specs.Asked.{Asked, run, generated, judged, whole, staged}
+use Rattle.scq_stages.specs.Exports.{one_thread_stage_output}
+use Rattle.scq_words.specs.Exports.{run, generated, judged, whole, staged}
+use Rattle.scq_words.specs.Asked.{Asked}
 use Rattle.scq_words.specs.declared.fault.WordsFault.{WordsFault}
 use Rattle.scq_words.specs.declared.text_request.TextCommand.{TextCommand}
-use Rattle.scq_files.specs.Ends.{HasMoved, all_left}
+use Rattle.scq_files.specs.Exports.{HasMoved, all_left}
 use Rattle.scq_service.specs.Members.{FilesOf, SinkOf, SourceOf}
 use Rattle.scq_service.specs.Causes.{first_file_fault, IsTroubled, HaveRest}
 use Rattle.scq_service.specs.Faults.{fault_of_judge}

@@ -10,3 +10,4 @@ pub mod Telling
 pub mod Answers
 pub mod Reports
 pub mod Serving
+pub mod Exports

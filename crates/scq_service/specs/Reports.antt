@@ -8,7 +8,7 @@ use Rattle.scq_words.specs.Asked.{Asked}
 use Rattle.scq_words.specs.Asked as asks
 use Rattle.scq_words.specs.declared.fault.WordsFault.{WordsFault}
 use Rattle.scq_work.specs.declared.worked.Worked.{Worked}
-use Rattle.scq_worker.specs.Members.{is_direct}
+use Rattle.scq_worker.specs.Exports.{is_direct}
 use Rattle.scq_service.specs.Faults.{fault_line}
 use Rattle.scq_service.specs.declared.fault.Fault.{Fault}
 

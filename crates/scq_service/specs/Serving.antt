@@ -1,8 +1,9 @@
 -- What the service comes to, by what its words ask for, whether its workers leave early or wait.
 use Rattle.std.specs.Prelude.{◌≡◌, ◌⊎◌, List, ℕ, Option, Some, None, IfSome, IsSome, IsSomeAnd}
 use Rattle.std.specs.Prelude.{OnSome, is_some, Result, Ok}
-use Rattle.scq_outside.specs.Counts.{Rose}
-use Rattle.scq_words.specs.Asked.{Asked, RunAsked, SelfAsked, StagesAsked, TextAsked}
+use Rattle.scq_outside.specs.Exports.{Rose}
+use Rattle.scq_words.specs.Exports.{RunAsked, SelfAsked, StagesAsked, TextAsked}
+use Rattle.scq_words.specs.Asked.{Asked}
 use Rattle.scq_words.specs.Asked as asks
 use Rattle.scq_words.specs.declared.fault.WordsFault.{WordsFault}
 use Rattle.scq_service.specs.Answers.{IsSeenAt, LeavesNothing, WaitedAs, WorkedAs}

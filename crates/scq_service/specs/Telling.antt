@@ -1,11 +1,10 @@
 -- What the text of a file tells a command, line by line: what is to be written, or the first line
 -- with a fault.
 use Rattle.std.specs.Prelude.{◌≡◌, ℕ, List, Result, Ok, Err}
-use Rattle.scq_check.specs.HistoryText.{tokens_in, events_in, IsHistory, IsBadLine, IsUnlawfulLine}
-use Rattle.scq_check.specs.Verdicts.{IsVerdictOf, verdict_lines}
+use Rattle.scq_check.specs.Exports.{tokens_in, events_in, IsHistory, IsBadLine, IsUnlawfulLine}
+use Rattle.scq_check.specs.Exports.{IsVerdictOf, verdict_lines}
 use Rattle.scq_check.specs.declared.verdicts.Verdict.{Verdict}
-use Rattle.scq_replay.specs.OrderText.{IsOrderText, HasNoOrders}
-use Rattle.scq_replay.specs.Replay.{Gives}
+use Rattle.scq_replay.specs.Exports.{IsOrderText, HasNoOrders, Gives}
 use Rattle.scq_replay.specs.declared.replaying.ScheduleFault.TheVariants as schedule
 use Rattle.scq_words.specs.declared.text_request.TextCommand.{TextCommand}
 use Rattle.scq_words.specs.declared.text_request.TextCommand.TheVariants.{Check, Replay, Order}

@@ -1,6 +1,6 @@
 -- What becomes of bytes that are to be written.
 use Rattle.std.specs.Prelude.{◌≡◌, ℕ, List, OnErr, OnOk, Result}
-use Rattle.scq_outside.specs.Counts.{Rose}
+use Rattle.scq_outside.specs.Exports.{Rose}
 use Rattle.scq_service.specs.Members.{SinkOf}
 use Rattle.scq_service.specs.Writing.{written_with, WrotePart}
 

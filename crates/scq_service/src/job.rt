@@ -1,6 +1,6 @@
 ghost use Rattle.std.specs.Prelude.{◌≡◌, ◌^◌};
-ghost use Rattle.scq_passes.specs.Jobs.{IsJob};
-ghost use Rattle.scq_worker.specs.Opening.{most_together};
+ghost use Rattle.scq_passes.specs.Exports.{IsJob};
+ghost use Rattle.scq_worker.specs.Exports.{most_together};
 
 use scq_stages::StageJob;
 use scq_topics::Topics;

@@ -2,11 +2,10 @@
 ghost use Rattle.std.specs.Prelude.{◌≡◌, ◌+◌, ◌≤◌, [], Some, None, length, map, string_bytes};
 ghost use Rattle.std.specs.Prelude.{vec_len, vec_capacity, IfSome, IsErrOf, IsNone, IsSome};
 ghost use Rattle.std.specs.Prelude.{IsSomeAnd, OnSome};
-ghost use Rattle.scq_work.specs.Ends.{EndsWork};
-ghost use Rattle.scq_rest.specs.Waiting.{HaveWaited};
-ghost use Rattle.scq_worker.specs.Opening.{takes_behind};
-ghost use Rattle.scq_service.specs.Answers.{HaveCome, HaveAllCome, TellsWork};
-ghost use Rattle.scq_service.specs.Ends.{ReadsOver, inputs_of};
+ghost use Rattle.scq_work.specs.Exports.{EndsWork};
+ghost use Rattle.scq_rest.specs.Exports.{HaveWaited};
+ghost use Rattle.scq_worker.specs.Exports.{takes_behind};
+ghost use Rattle.scq_service.specs.Exports.{HaveCome, HaveAllCome, TellsWork, ReadsOver, inputs_of};
 
 use crate::{Fault, Outcome};
 use scq_desk::{End, EndFault};

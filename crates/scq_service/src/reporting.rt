@@ -1,10 +1,9 @@
 ghost use Rattle.std.specs.Prelude.{◌≡◌, ◌++◌, codes, decimal, OnOk, OnErr};
-ghost use Rattle.scq_outside.specs.Counts.{Rose};
-ghost use Rattle.scq_service.specs.Faults.{entry_line, fault_line, file_line, limit_line};
-ghost use Rattle.scq_service.specs.Faults.{payload_line, place_line, run_line, seat_line};
-ghost use Rattle.scq_service.specs.Faults.{shared_words, text_line, topics_line, words_line};
-ghost use Rattle.scq_service.specs.Writing.{written_with, WrotePart};
-ghost use Rattle.scq_service.specs.Written.{HasWritten};
+ghost use Rattle.scq_outside.specs.Exports.{Rose};
+ghost use Rattle.scq_service.specs.Exports.{entry_line, fault_line, file_line, limit_line};
+ghost use Rattle.scq_service.specs.Exports.{payload_line, place_line, run_line, seat_line};
+ghost use Rattle.scq_service.specs.Exports.{shared_words, text_line, topics_line, words_line};
+ghost use Rattle.scq_service.specs.Exports.{written_with, WrotePart, HasWritten};
 
 use crate::Fault;
 use crate::writing::write_all;

@@ -1,7 +1,6 @@
 ghost use Rattle.std.specs.Prelude.{◌≡◌, None, Some, false, is_some, IfSome, IsSomeAnd, map};
 ghost use Rattle.std.specs.Prelude.{string_bytes};
-ghost use Rattle.scq_words.specs.Asked.{asked};
-ghost use Rattle.scq_words.specs.Ranges.{is_accepted};
+ghost use Rattle.scq_words.specs.Exports.{asked, is_accepted};
 ghost use Rattle.scq_service.specs.Answers.{IsSeenAt, LeavesNothing, StagedAs, WorkedAs};
 ghost use Rattle.scq_service.specs.Ends.{EndsAs, inputs_of, wrote_of};
 ghost use Rattle.scq_service.specs.Faults.{status_of};

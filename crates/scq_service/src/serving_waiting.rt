@@ -1,13 +1,10 @@
 //! The service whose idle workers wait in place of leaving early.
 ghost use Rattle.std.specs.Prelude.{◌≡◌, None, Some, false, is_some, IfSome, IsSome, IsSomeAnd};
 ghost use Rattle.std.specs.Prelude.{OnSome, map, string_bytes};
-ghost use Rattle.scq_words.specs.Asked.{asked_for_run};
-ghost use Rattle.scq_words.specs.Ranges.{is_taken_for_run};
-ghost use Rattle.scq_service.specs.Answers.{IsSeenAt, LeavesNothing, WaitedAs, WorkedAs};
-ghost use Rattle.scq_service.specs.Ends.{EndsAs, inputs_of, wrote_of};
-ghost use Rattle.scq_service.specs.Faults.{status_of};
-ghost use Rattle.scq_service.specs.Reports.{asks_report, reported};
-ghost use Rattle.scq_service.specs.Serving.{EndsCalmly, WorkersWaited, IsOutcomeOf, HasReported};
+ghost use Rattle.scq_words.specs.Exports.{asked_for_run, is_taken_for_run};
+ghost use Rattle.scq_service.specs.Exports.{IsSeenAt, LeavesNothing, WaitedAs, WorkedAs, EndsAs};
+ghost use Rattle.scq_service.specs.Exports.{inputs_of, wrote_of, status_of, asks_report, reported};
+ghost use Rattle.scq_service.specs.Exports.{EndsCalmly, WorkersWaited, IsOutcomeOf, HasReported};
 
 use crate::commands::run_files_waiting;
 use crate::job::job_of;

@@ -1,5 +1,5 @@
 ghost use Rattle.std.specs.Prelude.{◌≡◌, ◌⊎◌, ◌≤◌, ◌++◌, decimal, sum_by, OnOk, OnErr};
-ghost use Rattle.scq_outside.specs.Counts.{Rose};
+ghost use Rattle.scq_outside.specs.Exports.{Rose};
 ghost use Rattle.scq_service.specs.Reports.{counts_line, directs_in, workers_report, reported};
 ghost use Rattle.scq_service.specs.Reports.{worker_line};
 ghost use Rattle.scq_service.specs.Writing.{written_with, WrotePart};

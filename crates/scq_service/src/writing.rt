@@ -1,7 +1,7 @@
 ghost use Rattle.std.specs.Prelude.{◌≡◌, OnOk, OnErr};
-ghost use Rattle.scq_collect.specs.Pieces.{pieces_bytes};
-ghost use Rattle.scq_outside.specs.Counts.{Rose};
-ghost use Rattle.scq_service.specs.Writing.{written_with, WrotePart};
+ghost use Rattle.scq_collect.specs.Exports.{pieces_bytes};
+ghost use Rattle.scq_outside.specs.Exports.{Rose};
+ghost use Rattle.scq_service.specs.Exports.{written_with, WrotePart};
 
 use scq_collect::Text;
 use scq_outside::{Failed, Sink};

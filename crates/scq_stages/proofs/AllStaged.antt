@@ -13,32 +13,22 @@ use Rattle.std.proofs.lemmas.List.Sorted.{IsPermutation-map, IsPermutation-sym, 
 use Rattle.std.proofs.lemmas.Option.{slice_get-map, slice_get_within, slice_get_cases, get_or_from_slice_get}
 use Rattle.scq_frames.specs.declared.message.Message.{Message}
 use Rattle.scq_word.specs.declared.setup.Setup.{Setup}
-use Rattle.scq_band.specs.Standing.{Identity}
+use Rattle.scq_band.specs.Exports.{Identity}
 use Rattle.scq_band.proofs.ClosedCounts.{sum_by-map}
 use Rattle.scq_collect.proofs.Orders.{contains-cases, contains-first, contains-more}
-use Rattle.scq_queue.specs.Closing.{EachTakeIsASend, NoPlaceIsTakenTwice, NoneIsKeptWithinTheLimit}
-use Rattle.scq_queue.specs.Lists.{Placed, sends_of, takes_of}
-use Rattle.scq_queue.specs.Passes.{PassStanding, HeldStanding}
-use Rattle.scq_files.specs.Ends.{AreGiven}
-use Rattle.scq_files.specs.Files.{own_of}
+use Rattle.scq_queue.specs.Exports.{EachTakeIsASend, NoPlaceIsTakenTwice, NoneIsKeptWithinTheLimit, Placed, sends_of, takes_of, PassStanding}
+use Rattle.scq_queue.specs.Exports.{HeldStanding}
+use Rattle.scq_files.specs.Exports.{AreGiven, own_of}
 use Rattle.scq_files.proofs.Lists.{map-map}
-use Rattle.scq_passes.specs.AllPasses.{HaveShared, OfEachWorker}
-use Rattle.scq_passes.specs.Calls.{calls_behind, index_of}
-use Rattle.scq_passes.specs.PassedOn.{ArePassedOn, EachHasItsCall}
-use Rattle.scq_passes.specs.Records.{HoldsNothingAtEachFull, MeetsNoSpent, on}
-use Rattle.scq_passes.specs.Together.{HasSwept, IsBounded, NoneSpent}
+use Rattle.scq_passes.specs.Exports.{HaveShared, OfEachWorker, calls_behind, index_of, ArePassedOn, EachHasItsCall, HoldsNothingAtEachFull}
+use Rattle.scq_passes.specs.Exports.{MeetsNoSpent, on, HasSwept, IsBounded, NoneSpent, HasClosed}
 use Rattle.scq_passes.proofs.ManyLists.{stands-at}
 use Rattle.scq_passes.proofs.NoneSpent.{message_count, passes_of}
 use Rattle.scq_passes.proofs.OnTopics.{on-member}
 use Rattle.scq_passes.proofs.SendsAndTakes.{no-place-twice}
 use Rattle.scq_stages.specs.declared.finished.Finished.{Finished}
-use Rattle.scq_stages.specs.AllStages.{HaveFinished, KeepsStages, handled_of}
-use Rattle.scq_stages.specs.Members.{DirectsAre, FirstsAre, SecondsAre, is_direct, is_first}
-use Rattle.scq_stages.specs.Records.{first, is_next, second}
-use Rattle.scq_stages.specs.Output.{finished_in, without_way}
-use Rattle.scq_stages.specs.Passing.{FinishesItself, IsNextOf, SendsToFirst}
-use Rattle.scq_stages.specs.Working.{HasMovedAllAndSwept, HasFewStageCalls}
-use Rattle.scq_passes.specs.Closed.{HasClosed}
+use Rattle.scq_stages.specs.Exports.{HaveFinished, KeepsStages, handled_of, DirectsAre, FirstsAre, SecondsAre, is_direct, is_first, first, is_next}
+use Rattle.scq_stages.specs.Exports.{second, finished_in, without_way, FinishesItself, IsNextOf, SendsToFirst, HasMovedAllAndSwept, HasFewStageCalls}
 use Rattle.scq_passes.proofs.Closed.{all-taken, have-shared}
 use Rattle.scq_stages.proofs.Conclusion.{Work, IsMoving, IsWork, all-finished, firsts-all, lists_in, worked_messages, moved-all, passes_in, seconds-all, took-behind, was-sent}
 use Rattle.scq_stages.proofs.Ended.{follows-all, moves-so-far, nothing-behind-alone, retired-empty}

@@ -7,14 +7,12 @@ use Rattle.std.proofs.lemmas.List.Elements.{filter-append, filter_map-append}
 use Rattle.std.proofs.lemmas.Slice.Zip.{all_zipped_more}
 use Rattle.scq_core.specs.declared.ended.Ended.{Ended}
 use Rattle.scq_core.specs.declared.ended.Ended.TheVariants.{Done, Got, Nothing}
-use Rattle.scq_band.specs.Standing.{Identity}
+use Rattle.scq_band.specs.Exports.{Identity}
 use Rattle.scq_frames.specs.declared.message.Message.{Message}
-use Rattle.scq_queue.specs.Lists.{Placed, sends_of, takes_of}
-use Rattle.scq_queue.specs.Passes.{PassStanding, HeldStanding, WasLent, after_spent_put, having_seen, known_on}
+use Rattle.scq_queue.specs.Exports.{Placed, sends_of, takes_of, PassStanding, HeldStanding, WasLent, after_spent_put, having_seen, known_on}
 use Rattle.scq_queue.proofs.Records.{sends-append, takes-append}
-use Rattle.scq_passes.specs.Records.{Puts, on}
-use Rattle.scq_passes.specs.PassedOn.{ArePassedOn, EachHasItsCall, and_sent, and_made}
-use Rattle.scq_passes.specs.Calls.{HasTakenFollowed, HasFoundFull, HasSentSo, HasLeftSo, Suits, index_of, since, taken_since}
+use Rattle.scq_passes.specs.Exports.{Puts, on, ArePassedOn, EachHasItsCall, and_sent, and_made, HasTakenFollowed, HasFoundFull, HasSentSo, HasLeftSo}
+use Rattle.scq_passes.specs.Exports.{Suits, index_of, since, taken_since}
 use Rattle.scq_passes.proofs.Between.{between-taken, between-full, between-sent}
 use Rattle.scq_passes.proofs.Following.{follows-others, follows-next}
 use Rattle.scq_passes.proofs.Kept.{taken-calls, sent-calls, placed, sent-sends, sent-takes, full-calls, full-sends, full-takes}
@@ -24,12 +22,10 @@ use Rattle.scq_passes.proofs.RecordSteps.{after-sent, after-helped, after-taken,
 use Rattle.scq_passes.proofs.Since.{since-taken}
 use Rattle.scq_stages.specs.declared.finished.Finished.{Finished}
 use Rattle.scq_stages.specs.declared.finished.StageWay.TheVariants.{Direct}
-use Rattle.scq_stages.specs.Stages.{both}
-use Rattle.scq_stages.specs.Members.{is_second, is_first, is_direct, finished, DirectsAre}
-use Rattle.scq_stages.specs.Records.{first, second, take_topic, is_next, HelpsSecondThenFirst, HelpsJustSecondThenFirst}
-use Rattle.scq_stages.specs.Passing.{whole_of, SendsToFirst, FinishesItself, IsNextOf}
-use Rattle.scq_stages.specs.Steps.{SecondsSoFar, MovesSoFar, HasTakenOrMoved, HasMovedIts, HasFinishedOnlySeconds}
-use Rattle.scq_stages.specs.Working.{HasFewStageCalls, HasListed, IsAtWork, IsDone, HasStopped}
+use Rattle.scq_stages.specs.Exports.{both, is_second, is_first, is_direct, finished, DirectsAre, first, second, take_topic, is_next}
+use Rattle.scq_stages.specs.Exports.{HelpsSecondThenFirst, HelpsJustSecondThenFirst, whole_of, SendsToFirst, FinishesItself, IsNextOf, SecondsSoFar}
+use Rattle.scq_stages.specs.Exports.{MovesSoFar, HasTakenOrMoved, HasMovedIts, HasFinishedOnlySeconds, HasFewStageCalls, HasListed, IsAtWork, IsDone}
+use Rattle.scq_stages.specs.Exports.{HasStopped}
 use Rattle.scq_stages.proofs.Moving.{moves-none_to_first, moves-none_next}
 use Rattle.scq_stages.proofs.FewCalls.{few_calls-sent, few_calls-full, few_calls-moved, few_calls-more, few_calls-at_send}
 

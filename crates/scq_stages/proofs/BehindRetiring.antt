@@ -3,22 +3,16 @@ use Rattle.std.proofs.Common.{◌≡◌, sym, ◌∙◌, ap, subst, List, [], le
 use Rattle.std.specs.Prelude.{filter}
 use Rattle.std.specs.List.{AllZip, Contains}
 use Rattle.scq_frames.specs.declared.message.Message.{Message}
-use Rattle.scq_queue.specs.Lists.{sends_of, takes_of}
-use Rattle.scq_queue.specs.Passes.{PassStanding}
-use Rattle.scq_passes.specs.Records.{on}
+use Rattle.scq_queue.specs.Exports.{sends_of, takes_of, PassStanding}
+use Rattle.scq_passes.specs.Exports.{on, ArePassedOn, TookNoneBelow, after_retire, calls_behind, since}
 use Rattle.scq_passes.specs.Becoming.{none}
-use Rattle.scq_passes.specs.PassedOn.{ArePassedOn}
-use Rattle.scq_passes.specs.Calls.{TookNoneBelow, after_retire, calls_behind, since}
 use Rattle.scq_passes.proofs.Between.{between-taken, between-retired}
 use Rattle.scq_passes.proofs.Retired.{behind-retired, retired-sends}
 use Rattle.scq_passes.proofs.Since.{since-taken}
 use Rattle.scq_stages.specs.declared.finished.Finished.{Finished}
 use Rattle.scq_stages.specs.declared.finished.StageWay.TheVariants.{Direct}
-use Rattle.scq_stages.specs.Members.{is_second, is_first, is_direct, DirectsAre}
-use Rattle.scq_stages.specs.Records.{first, second}
-use Rattle.scq_stages.specs.Passing.{SendsToFirst, FinishesItself}
-use Rattle.scq_stages.specs.Steps.{SecondsSoFar, FirstsSoFar, HasGivenBack, HasFinished}
-use Rattle.scq_stages.specs.Working.{HasListed, HasListedAll, IsDone, IsLeaving}
+use Rattle.scq_stages.specs.Exports.{is_second, is_first, is_direct, DirectsAre, first, second, SendsToFirst, FinishesItself, SecondsSoFar}
+use Rattle.scq_stages.specs.Exports.{FirstsSoFar, HasGivenBack, HasFinished, HasListed, HasListedAll, IsDone, IsLeaving}
 use Rattle.scq_stages.proofs.AtWork.{takes-since}
 use Rattle.scq_stages.proofs.Moving.{gives, moved-of}
 use Rattle.scq_stages.proofs.FewCalls.{few_calls-moved, few_calls-retired}

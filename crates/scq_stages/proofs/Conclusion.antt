@@ -12,14 +12,9 @@ use Rattle.std.proofs.lemmas.List.Folds.{flat_map-map}
 use Rattle.std.proofs.lemmas.List.Sorted.{IsPermutation-refl, IsPermutation-sym, IsPermutation-trans, IsPermutation-append_left, IsPermutation-map}
 use Rattle.scq_frames.specs.declared.message.Message.{Message}
 use Rattle.scq_collect.proofs.Orders.{contains-first, contains-more}
-use Rattle.scq_queue.specs.Closing.{EachTakeIsASend, NoPlaceIsTakenTwice}
-use Rattle.scq_queue.specs.Lists.{Placed, sends_of, takes_of}
-use Rattle.scq_queue.specs.Passes.{PassStanding, HeldStanding}
-use Rattle.scq_passes.specs.Becoming.{BecomeSoFar}
-use Rattle.scq_passes.specs.Calls.{calls_before, calls_behind}
-use Rattle.scq_passes.specs.PassedOn.{ArePassedOn, EachHasItsCall}
-use Rattle.scq_passes.specs.Records.{on}
-use Rattle.scq_passes.specs.Together.{all_sends, all_takes, NoPlaceStandsTwice, SendsAreTakes}
+use Rattle.scq_queue.specs.Exports.{EachTakeIsASend, NoPlaceIsTakenTwice, Placed, sends_of, takes_of, PassStanding, HeldStanding}
+use Rattle.scq_passes.specs.Exports.{BecomeSoFar, calls_before, calls_behind, ArePassedOn, EachHasItsCall, on, all_sends, all_takes}
+use Rattle.scq_passes.specs.Exports.{NoPlaceStandsTwice, SendsAreTakes}
 use Rattle.scq_passes.proofs.Becoming.{so-far-all, so-far-results}
 use Rattle.scq_passes.proofs.ManyLists.{flat-map, found-at, from-all, in-all, stands-at, together}
 use Rattle.scq_passes.proofs.OnTopics.{member-on, on-all, on-append, on-member, sends-are-takes-on}
@@ -27,12 +22,9 @@ use Rattle.scq_passes.proofs.Retired.{takes-before-and-behind}
 use Rattle.scq_passes.proofs.SendsAndTakes.{take-was-sent}
 use Rattle.scq_stages.specs.declared.finished.Finished.{Finished}
 use Rattle.scq_stages.specs.declared.finished.StageWay.TheVariants.{Second, First}
-use Rattle.scq_stages.specs.Stages.{squeezed, both}
-use Rattle.scq_stages.specs.AllStages.{handled_of}
-use Rattle.scq_stages.specs.Members.{AreMoves, DirectsAre, FinishesTake, FirstsAre, IsMove, IsNoPart, SecondsAre, is_direct, is_first, is_second}
-use Rattle.scq_stages.specs.Records.{first, is_next, second}
-use Rattle.scq_stages.specs.Output.{Handled, finished_in, without_way}
-use Rattle.scq_stages.specs.Passing.{FinishesItself, IsNextOf, SendsToFirst}
+use Rattle.scq_stages.specs.Exports.{squeezed, both, handled_of, AreMoves, DirectsAre, FinishesTake, FirstsAre, IsMove, IsNoPart, SecondsAre}
+use Rattle.scq_stages.specs.Exports.{is_direct, is_first, is_second, first, is_next, second, Handled, finished_in, without_way, FinishesItself}
+use Rattle.scq_stages.specs.Exports.{IsNextOf, SendsToFirst}
 use Rattle.scq_stages.proofs.Readings.{IsPart, finished-reads, in-three, moved-part, moved-reads, not-over, passed-reads, read_part, sent-part}
 use Rattle.scq_stages.proofs.Zips.{zip-from, zip-reads}
 

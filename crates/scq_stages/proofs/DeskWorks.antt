@@ -10,25 +10,19 @@ use Rattle.std.proofs.lemmas.List.Elements.{All-map}
 use Rattle.std.proofs.lemmas.List.Folds.{flat_map-map}
 use Rattle.std.proofs.lemmas.Option.{slice_get-map, slice_get_cases}
 use Rattle.scq_word.specs.declared.setup.Setup.{Setup}
-use Rattle.scq_band.specs.Standing.{Identity}
+use Rattle.scq_band.specs.Exports.{Identity}
 use Rattle.scq_band.proofs.ClosedCounts.{sum_by-map}
 use Rattle.scq_frames.specs.declared.message.Message.{Message}
-use Rattle.scq_queue.specs.Passes.{PassStanding, HeldStanding}
-use Rattle.scq_files.specs.Desks.{AllEnded, AllWhole, AreDealt}
-use Rattle.scq_files.specs.Ends.{AreGiven}
-use Rattle.scq_files.specs.Files.{own_of}
-use Rattle.scq_files.specs.Reading.{SourceOf}
+use Rattle.scq_queue.specs.Exports.{PassStanding, HeldStanding}
+use Rattle.scq_files.specs.Exports.{AllEnded, AllWhole, AreDealt, AreGiven, own_of, SourceOf}
 use Rattle.scq_files.specs.declared.desk.Desk.{Desk}
 use Rattle.scq_files.proofs.AllGave.{AllRead, all-messages, few-in-all, given, is-given, own-given, worker_messages}
 use Rattle.scq_files.proofs.Lists.{map-map}
 use Rattle.scq_desk.proofs.Settled.{held_at}
-use Rattle.scq_passes.specs.AllPasses.{HaveShared}
+use Rattle.scq_passes.specs.Exports.{HaveShared, HasClosed}
 use Rattle.scq_stages.specs.declared.finished.Finished.{Finished}
-use Rattle.scq_stages.specs.Seats.{Seated}
-use Rattle.scq_stages.specs.AllStages.{HaveFinished, KeepsStages}
-use Rattle.scq_stages.specs.Working.{HasRun}
+use Rattle.scq_stages.specs.Exports.{Seated, HaveFinished, KeepsStages, HasRun}
 use Rattle.scq_stages.proofs.AllStaged.{AllDone, HasDoneItsWork, all-shared, have-staged, held_in}
-use Rattle.scq_passes.specs.Closed.{HasClosed}
 use Rattle.scq_stages.proofs.Conclusion.{Work, lists_in, worked_messages, passes_in}
 
 module _ {B S : Type 0} where

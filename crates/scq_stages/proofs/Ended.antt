@@ -6,20 +6,15 @@ use Rattle.std.proofs.lemmas.List.Elements.{filter-append}
 use Rattle.scq_core.specs.declared.ended.Ended.{Ended}
 use Rattle.scq_core.specs.declared.ended.Ended.TheVariants.{Done, Got, Nothing}
 use Rattle.scq_frames.specs.declared.message.Message.{Message}
-use Rattle.scq_queue.specs.Lists.{Placed, sends_of, takes_of}
-use Rattle.scq_queue.specs.Passes.{PassStanding}
-use Rattle.scq_passes.specs.Calls.{calls_before, calls_behind}
-use Rattle.scq_passes.specs.PassedOn.{EachHasItsCall}
-use Rattle.scq_passes.specs.Records.{AreReturns, AreTakesFollowed, IsGivenBack, on, none, and_got, and_found_none}
-use Rattle.scq_passes.specs.Together.{HasRetired}
+use Rattle.scq_queue.specs.Exports.{Placed, sends_of, takes_of, PassStanding}
+use Rattle.scq_passes.specs.Exports.{calls_before, calls_behind, EachHasItsCall, AreReturns, AreTakesFollowed, IsGivenBack, on, and_got}
+use Rattle.scq_passes.specs.Exports.{and_found_none, HasRetired}
+use Rattle.scq_passes.specs.Records.{none}
 use Rattle.scq_passes.proofs.Following.{follows-others}
 use Rattle.scq_passes.proofs.Kept.{taken-calls}
 use Rattle.scq_passes.proofs.Retired.{before-retired, nothing-behind, retired-sends, retired-taken}
 use Rattle.scq_stages.specs.declared.finished.Finished.{Finished}
-use Rattle.scq_stages.specs.Records.{FoundFirstEmpty, first, is_next, second}
-use Rattle.scq_stages.specs.Passing.{IsNextOf}
-use Rattle.scq_stages.specs.Steps.{MovesSoFar}
-use Rattle.scq_stages.specs.Working.{HasMovedAllAndSwept}
+use Rattle.scq_stages.specs.Exports.{FoundFirstEmpty, first, is_next, second, IsNextOf, MovesSoFar, HasMovedAllAndSwept}
 
 -- what is given back goes to the free ring
 home : AreReturns IsGivenBack

@@ -4,18 +4,15 @@ use Rattle.std.specs.Prelude.{◌⊎◌}
 use Rattle.std.proofs.lemmas.List.{length-append}
 use Rattle.scq_core.specs.declared.ended.Ended.{Ended}
 use Rattle.scq_core.specs.declared.ended.Ended.TheVariants.{Done, Got, Nothing, Spent}
-use Rattle.scq_law.specs.Bounds.{tally, was_put}
+use Rattle.scq_law.specs.Exports.{tally, was_put}
 use Rattle.scq_law.proofs.Base.SeatSums.{tally-append}
-use Rattle.scq_queue.specs.Lists.{Placed, sends_of, takes_of}
-use Rattle.scq_queue.specs.Passes.{PassStanding, HeldStanding, HasGot, WasLent, after_spent_get, after_spent_put, having_seen}
+use Rattle.scq_queue.specs.Exports.{Placed, sends_of, takes_of, PassStanding, HeldStanding, HasGot, WasLent, after_spent_get, after_spent_put}
+use Rattle.scq_queue.specs.Exports.{having_seen}
 use Rattle.scq_queue.proofs.Records.{sends-append, takes-append}
-use Rattle.scq_passes.specs.Records.{on}
-use Rattle.scq_passes.specs.Calls.{HasFoundFull, HasSentSo, after_retire}
+use Rattle.scq_passes.specs.Exports.{on, HasFoundFull, HasSentSo, after_retire}
 use Rattle.scq_passes.proofs.Kept.{taken-calls, full-calls, sent-calls}
 use Rattle.scq_passes.proofs.OnTopics.{on-append}
-use Rattle.scq_stages.specs.Records.{first, second}
-use Rattle.scq_stages.specs.Steps.{HasTakenOrMoved}
-use Rattle.scq_stages.specs.Working.{HasFewStageCalls}
+use Rattle.scq_stages.specs.Exports.{first, second, HasTakenOrMoved, HasFewStageCalls}
 use Rattle.scq_stages.proofs.Moving.{moves-none_to_first, moves-to_first, moves-to_second, moves-sent, moves-returns}
 
 module _ {B : Type 0} where

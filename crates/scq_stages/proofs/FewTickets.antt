@@ -7,18 +7,14 @@ use Rattle.std.proofs.lemmas.List.Concat.{length-flat_map}
 use Rattle.std.proofs.lemmas.List.Sums.{sum_by-cons, get_or-le-sum_by}
 use Rattle.scq_word.specs.declared.setup.Setup.{Setup}
 use Rattle.scq_core.proofs.Entries.{few_seats}
-use Rattle.scq_law.specs.Bounds.{tally, was_put}
+use Rattle.scq_law.specs.Exports.{tally, was_put}
 use Rattle.scq_band.proofs.ClosedCounts.{sum_by-map}
-use Rattle.scq_queue.specs.Lists.{sends_of, takes_of}
-use Rattle.scq_queue.specs.Passes.{PassStanding}
-use Rattle.scq_queue.specs.Closing.{EachTakeIsASend, NoPlaceIsTakenTwice, NoneIsKeptWithinTheLimit}
-use Rattle.scq_passes.specs.Records.{on}
-use Rattle.scq_passes.specs.Together.{all_sends, all_takes, NoneSpent, IsBounded}
+use Rattle.scq_queue.specs.Exports.{sends_of, takes_of, PassStanding, EachTakeIsASend, NoPlaceIsTakenTwice, NoneIsKeptWithinTheLimit}
+use Rattle.scq_passes.specs.Exports.{on, all_sends, all_takes, NoneSpent, IsBounded}
 use Rattle.scq_passes.proofs.NoneSpent.{message_count, none-spent-within, passes_of, sums, sums-le}
 use Rattle.scq_passes.proofs.OnTopics.{few-takes-on, on-all}
 use Rattle.scq_passes.proofs.SendsAndTakes.{few-takes}
-use Rattle.scq_stages.specs.Records.{first}
-use Rattle.scq_stages.specs.Working.{HasFewStageCalls}
+use Rattle.scq_stages.specs.Exports.{first, HasFewStageCalls}
 
 -- a sum of numbers, each at most two others together
 sums-both : {A : Type 0} (f g h : A → ℕ) (xs : List A)

@@ -5,14 +5,11 @@ use Rattle.std.specs.List.{filter_map}
 use Rattle.std.proofs.lemmas.List.{append-nil}
 use Rattle.std.proofs.lemmas.List.Elements.{filter-append, filter_map-append}
 use Rattle.scq_core.specs.declared.ended.Ended.TheVariants.{Done, Got, Nothing}
-use Rattle.scq_frames.specs.Parts.{Part}
-use Rattle.scq_frames.specs.Encoded.{BeginsWith, part_at}
-use Rattle.scq_queue.specs.Lists.{Placed, sends_of, takes_of}
-use Rattle.scq_queue.specs.Passes.{PassStanding, HeldStanding, HasGot, FoundEmpty, WasGivenBack, known_on, having_seen, after_put, after_spent_put, after_spent_get}
+use Rattle.scq_frames.specs.Exports.{Part, BeginsWith, part_at}
+use Rattle.scq_queue.specs.Exports.{Placed, sends_of, takes_of, PassStanding, HeldStanding, HasGot, FoundEmpty, WasGivenBack, known_on, having_seen}
+use Rattle.scq_queue.specs.Exports.{after_put, after_spent_put, after_spent_get}
 use Rattle.scq_queue.proofs.Records.{sends-append}
-use Rattle.scq_passes.specs.Records.{on}
-use Rattle.scq_passes.specs.Becoming.{BecomeSoFar, and_became, and_passed_over}
-use Rattle.scq_passes.specs.Calls.{HasLeftSo, since, taken_since}
+use Rattle.scq_passes.specs.Exports.{on, BecomeSoFar, and_became, and_passed_over, HasLeftSo, since, taken_since}
 use Rattle.scq_passes.proofs.OnTopics.{on-append}
 use Rattle.scq_passes.proofs.PassLemmas.{got-and-put, took-and-gave, found-none}
 use Rattle.scq_passes.proofs.Since.{since-of, since-taken_on, none_below-nothing, none_below-one}
@@ -20,12 +17,10 @@ use Rattle.scq_passes.proofs.LeftLemmas.{left-so-at-get, left-so-at-put}
 use Rattle.scq_stages.specs.declared.finished.Finished.{Finished}
 use Rattle.scq_stages.specs.declared.finished.StageWay.{StageWay}
 use Rattle.scq_stages.specs.declared.finished.StageWay.TheVariants.{Second, First}
-use Rattle.scq_stages.specs.Stages.{redacted, squeezed, both, stages_left}
-use Rattle.scq_stages.specs.Handling.{after_stage}
-use Rattle.scq_stages.specs.Members.{FinishesTake, IsNoPart, is_second, is_first, is_direct, finished, way_from}
-use Rattle.scq_stages.specs.Records.{first, second, take_topic}
-use Rattle.scq_stages.specs.Steps.{SecondsSoFar, FirstsSoFar, MovesSoFar, GotNo, HasMovedIts, HasFinishedSeconds, HasFinishedFirsts, HasFinished, HasFinishedOne, HasFinishedOnlySeconds, HasTakenOne}
-use Rattle.scq_stages.specs.Working.{HasFewStageCalls}
+use Rattle.scq_stages.specs.Exports.{redacted, squeezed, both, stages_left, after_stage, FinishesTake, IsNoPart, is_second, is_first, is_direct}
+use Rattle.scq_stages.specs.Exports.{finished, way_from, first, second, take_topic, SecondsSoFar, FirstsSoFar, MovesSoFar, GotNo, HasMovedIts}
+use Rattle.scq_stages.specs.Exports.{HasFinishedSeconds, HasFinishedFirsts, HasFinished, HasFinishedOne, HasFinishedOnlySeconds, HasTakenOne}
+use Rattle.scq_stages.specs.Exports.{HasFewStageCalls}
 use Rattle.scq_stages.proofs.FewCalls.{few_calls-at_get, few_calls-at_put}
 
 -- one list behind two

@@ -3,11 +3,9 @@ use Rattle.std.proofs.Common.{◌≡◌, ◌∙◌, refl, sym, ap, subst, arith,
 use Rattle.std.specs.Prelude.{IfSome, IsSomeAnd}
 use Rattle.std.proofs.lemmas.List.{take_at, drop_at, length-map, length-take-le}
 use Rattle.byteorder.specs.Endian.{big_bytes}
-use Rattle.scq_frames.specs.Parts.{Part}
-use Rattle.scq_frames.specs.Encoded.{BeginsWith, message_bytes}
+use Rattle.scq_frames.specs.Exports.{Part, BeginsWith, message_bytes}
 use Rattle.scq_frames.proofs.EncodedLemmas.{begins-room}
-use Rattle.scq_stages.specs.Stages.{redacted, redacted_byte}
-use Rattle.scq_stages.specs.Handling.{after_stage}
+use Rattle.scq_stages.specs.Exports.{redacted, redacted_byte, after_stage}
 use Rattle.scq_stages.specs.declared.handling.Rest.{Rest}
 
 -- the six numbers of a part

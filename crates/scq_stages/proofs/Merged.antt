@@ -6,11 +6,11 @@ use Rattle.std.specs.List.Sorted.{IsPermutation, IsSortedByKey}
 use Rattle.std.specs.Ordering.{is_lt, nat_cmp, ordering_then}
 use Rattle.std.proofs.lemmas.Bool.{lt-ltb}
 use Rattle.std.proofs.lemmas.List.Sorted.{All-permutation, IsPermutation-map}
-use Rattle.scq_collect.specs.Merging.{IsBefore, StandInOrder, IsMerged, IsSorted}
+use Rattle.scq_collect.specs.Exports.{IsBefore, StandInOrder, IsMerged, IsSorted}
 use Rattle.scq_collect.proofs.Merged.{sorted-map}
 use Rattle.scq_collect.proofs.Orders.{ascends, exactly}
 use Rattle.scq_stages.specs.declared.finished.Finished.{Finished}
-use Rattle.scq_stages.specs.Output.{position_of_finished, position_of_handled, all_handled, without_way}
+use Rattle.scq_stages.specs.Exports.{position_of_finished, position_of_handled, all_handled, without_way}
 use Rattle.scq_stages.proofs.Threads.{handled-ascend}
 
 -- a member with its position

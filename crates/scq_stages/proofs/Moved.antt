@@ -3,18 +3,12 @@ use Rattle.std.proofs.Common.{◌≡◌, ap, arith, refl, suc, ℕ, ◌<◌, Lis
 use Rattle.std.specs.Prelude.{IfSome}
 use Rattle.std.specs.List.{filter_map}
 use Rattle.scq_core.specs.declared.ended.Ended.TheVariants.{Done, Got}
-use Rattle.scq_frames.specs.Parts.{Part}
-use Rattle.scq_frames.specs.Encoded.{BeginsWith, part_at}
-use Rattle.scq_queue.specs.Lists.{takes_of}
-use Rattle.scq_queue.specs.Passes.{PassStanding, HeldStanding, HasGot, WasGivenBack, having_seen, after_put}
-use Rattle.scq_passes.specs.Records.{on}
-use Rattle.scq_passes.specs.Calls.{since}
+use Rattle.scq_frames.specs.Exports.{Part, BeginsWith, part_at}
+use Rattle.scq_queue.specs.Exports.{takes_of, PassStanding, HeldStanding, HasGot, WasGivenBack, having_seen, after_put}
+use Rattle.scq_passes.specs.Exports.{on, since}
 use Rattle.scq_passes.proofs.PassLemmas.{took-and-put}
 use Rattle.scq_stages.specs.declared.finished.Finished.{Finished}
-use Rattle.scq_stages.specs.Stages.{redacted}
-use Rattle.scq_stages.specs.Handling.{after_stage}
-use Rattle.scq_stages.specs.Records.{first, second, take_topic}
-use Rattle.scq_stages.specs.Steps.{HasTakenOrMoved, HasMovedIts, HasFinishedOnlySeconds}
+use Rattle.scq_stages.specs.Exports.{redacted, after_stage, first, second, take_topic, HasTakenOrMoved, HasMovedIts, HasFinishedOnlySeconds}
 use Rattle.scq_stages.proofs.Finishing.{since-took, moved-one, moved-back, helped-nothing}
 
 module _ {B : Type 0} where

@@ -5,17 +5,16 @@ use Rattle.std.proofs.lemmas.List.{append-nil, length-append}
 use Rattle.std.proofs.lemmas.List.Elements.{filter-append}
 use Rattle.scq_core.specs.declared.ended.Ended.{Ended}
 use Rattle.scq_core.specs.declared.ended.Ended.TheVariants.{Done, Got, Nothing}
-use Rattle.scq_law.specs.Bounds.{tally, was_put}
-use Rattle.scq_queue.specs.Lists.{sends_of, takes_of}
-use Rattle.scq_queue.specs.Passes.{PassStanding}
+use Rattle.scq_law.specs.Exports.{tally, was_put}
+use Rattle.scq_queue.specs.Exports.{sends_of, takes_of, PassStanding}
 use Rattle.scq_queue.proofs.Records.{sends-append, takes-append}
-use Rattle.scq_passes.specs.Records.{AreTakesFollowed, none, and_got, and_found_none, IsGivenBack, AreReturns, MeetsNoSpent, on}
+use Rattle.scq_passes.specs.Exports.{AreTakesFollowed, and_got, and_found_none, IsGivenBack, AreReturns, MeetsNoSpent, on}
+use Rattle.scq_passes.specs.Records.{none}
 use Rattle.scq_passes.proofs.Blocks.{takes-puts_all}
 use Rattle.scq_passes.proofs.Kept.{taken-weaker}
 use Rattle.scq_passes.proofs.OnTopics.{on-append, puts-on, moved-few}
 use Rattle.scq_passes.proofs.RecordSteps.{unspent-taken}
-use Rattle.scq_stages.specs.Records.{first, second, is_next}
-use Rattle.scq_stages.specs.Steps.{IsReturnOrMove, HasGivenBack, HasTakenOrMoved}
+use Rattle.scq_stages.specs.Exports.{first, second, is_next, IsReturnOrMove, HasGivenBack, HasTakenOrMoved}
 
 -- what is given back goes to the free ring
 pub gives : AreReturns IsGivenBack

@@ -6,20 +6,17 @@ use Rattle.std.specs.List.Sorted.{IsPermutation}
 use Rattle.std.proofs.lemmas.List.{map-append}
 use Rattle.std.proofs.lemmas.List.Elements.{All-nil, All-cons, All-append, All-weaker}
 use Rattle.scq_topics.specs.declared.kind.Kind.{Kind}
-use Rattle.scq_topics.specs.Topics.{topic_of}
+use Rattle.scq_topics.specs.Exports.{topic_of}
 use Rattle.scq_frames.specs.declared.message.Message.{Message}
-use Rattle.scq_frames.specs.Numbered.{numbered}
-use Rattle.scq_frames.specs.Text.{messages_of}
-use Rattle.scq_collect.specs.Merging.{AreApart, IsBefore}
+use Rattle.scq_frames.specs.Exports.{numbered, messages_of}
+use Rattle.scq_collect.specs.Exports.{AreApart, IsBefore}
 use Rattle.scq_collect.proofs.Orders.{Ascends, ascends-append}
 use Rattle.scq_desk.proofs.Apart.{apart-shown}
-use Rattle.scq_files.specs.Ends.{AreGiven, all_left, messages_in}
-use Rattle.scq_files.specs.Reading.{AreOf}
+use Rattle.scq_files.specs.Exports.{AreGiven, all_left, messages_in, AreOf}
 use Rattle.scq_files.proofs.Lists.{map-map}
 use Rattle.scq_files.proofs.GivenLemmas.{given-told}
 use Rattle.scq_stages.specs.declared.finished.Finished.{Finished}
-use Rattle.scq_stages.specs.AllStages.{handled_of}
-use Rattle.scq_stages.specs.Output.{Handled, position_of_finished, position_of_handled, all_handled, without_way}
+use Rattle.scq_stages.specs.Exports.{handled_of, Handled, position_of_finished, position_of_handled, all_handled, without_way}
 
 -- messages of this file, handled, that ascend from above a line
 record AreAbove (file line : ℕ) (handled : List Handled) : Type 0 where

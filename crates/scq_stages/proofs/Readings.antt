@@ -6,26 +6,21 @@ use Rattle.std.specs.List.Sorted.{IsPermutation}
 use Rattle.std.proofs.lemmas.List.{append_assoc, length-map}
 use Rattle.std.proofs.lemmas.List.Sorted.{IsPermutation-trans, IsPermutation-append_right, IsPermutation-filter_both}
 use Rattle.scq_frames.specs.declared.message.Message.{Message}
-use Rattle.scq_frames.specs.Parts.{Part}
-use Rattle.scq_frames.specs.Encoded.{BeginsWith, IsEncodable, part_at}
+use Rattle.scq_frames.specs.Exports.{Part, BeginsWith, IsEncodable, part_at}
 use Rattle.scq_frames.proofs.EncodedLemmas.{part_at-again}
 use Rattle.scq_core.specs.declared.ended.Ended.{Ended}
 use Rattle.scq_core.specs.declared.ended.Ended.TheVariants.{Done}
-use Rattle.scq_queue.specs.Lists.{Placed, sends_of, sent_by}
+use Rattle.scq_queue.specs.Exports.{Placed, sends_of, sent_by}
 use Rattle.scq_queue.proofs.Records.{came_by, sent_call}
-use Rattle.scq_passes.specs.PassedOn.{ArePassedOn, EachHasItsCall}
+use Rattle.scq_passes.specs.Exports.{ArePassedOn, EachHasItsCall}
 use Rattle.scq_passes.proofs.ManyLists.{found-at, stands-at}
 use Rattle.scq_passes.proofs.PassedOn.{passed-results}
 use Rattle.scq_stages.specs.declared.finished.Finished.{Finished}
 use Rattle.scq_stages.specs.declared.finished.StageWay.{StageWay}
 use Rattle.scq_stages.specs.declared.finished.StageWay.TheVariants.{Second, First, Direct}
-use Rattle.scq_stages.specs.Stages.{redacted, redacted_byte, squeezed, both}
-use Rattle.scq_stages.specs.Handling.{after_stage}
-use Rattle.scq_stages.specs.AllStages.{handled_of}
-use Rattle.scq_stages.specs.Members.{FinishesTake, IsMove, is_direct, is_first, is_second, is_way_direct, is_way_first, is_way_second}
-use Rattle.scq_stages.specs.Records.{first, is_next}
-use Rattle.scq_stages.specs.Output.{Handled, without_way}
-use Rattle.scq_stages.specs.Passing.{FinishesItself, IsNextOf, SendsToFirst, whole_of}
+use Rattle.scq_stages.specs.Exports.{redacted, redacted_byte, squeezed, both, after_stage, handled_of, FinishesTake, IsMove, is_direct, is_first}
+use Rattle.scq_stages.specs.Exports.{is_second, is_way_direct, is_way_first, is_way_second, first, is_next, Handled, without_way, FinishesItself}
+use Rattle.scq_stages.specs.Exports.{IsNextOf, SendsToFirst, whole_of}
 use Rattle.scq_stages.proofs.Zips.{contains-filter, filter-filter, zip-from}
 
 -- what becomes of a part by a stage

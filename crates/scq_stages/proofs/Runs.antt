@@ -4,20 +4,18 @@ use Rattle.std.specs.Prelude.{IfSome, OnOk}
 use Rattle.std.specs.List.{All}
 use Rattle.scq_core.specs.declared.ended.Ended.{Ended}
 use Rattle.scq_core.specs.declared.ended.Ended.TheVariants.{Nothing}
-use Rattle.scq_band.specs.Standing.{Identity}
+use Rattle.scq_band.specs.Exports.{Identity}
 use Rattle.scq_band.proofs.Opening.{numbers_length}
 use Rattle.scq_topics.specs.declared.kind.Kind.{Kind}
-use Rattle.scq_queue.specs.Passes.{PassStanding, HeldStanding, first_pass, known_on}
-use Rattle.scq_files.specs.Given.{given_in}
-use Rattle.scq_files.specs.OwnFiles.{StopsAtAFault, all_given}
-use Rattle.scq_files.specs.Reading.{IsRead, SourceOf}
+use Rattle.scq_queue.specs.Exports.{PassStanding, HeldStanding, first_pass, known_on}
+use Rattle.scq_files.specs.Exports.{given_in, StopsAtAFault, all_given, IsRead, SourceOf}
 use Rattle.scq_files.specs.declared.own_file.OwnFile.{OwnFile}
 use Rattle.scq_passes.specs.Becoming as becoming
 use Rattle.scq_passes.specs.PassedOn as passing
-use Rattle.scq_passes.specs.Calls.{Suits, HasLeftSo, index_of, after_retire}
+use Rattle.scq_passes.specs.Exports.{Suits, HasLeftSo, index_of, after_retire}
 use Rattle.scq_passes.proofs.Kept.{swept}
 use Rattle.scq_stages.specs.declared.finished.Finished.{Finished}
-use Rattle.scq_stages.specs.Working.{HasFewStageCalls, IsAtWork, IsDone, IsLeaving, HasStopped, HasRun}
+use Rattle.scq_stages.specs.Exports.{HasFewStageCalls, IsAtWork, IsDone, IsLeaving, HasStopped, HasRun}
 use Rattle.scq_stages.proofs.FewCalls.{few_calls-late, few_calls-retired}
 
 -- what follows of a clause of an answer that is Ok
@@ -36,7 +34,6 @@ AllRead topics size src files =
     All (λ f. IsRead topics size src f.number f.was.value f.source (given_in f.given.value) f.end) files
 
 module _ {B : Type 0} where
-
   pub work-first : (shared : Identity B) (number : ℕ) (p : PassStanding B) (members : List Finished) (starved : Bool) → p ≡ first_pass shared number
       → members ≡ [] → IsAtWork [] p members starved
   work-first shared number p members starved is new =

@@ -1,16 +1,11 @@
 -- Sweeps of a worker, one behind the other.
 use Rattle.std.proofs.Common.{◌≡◌, ◌∙◌, sym, ap, subst, ℕ, false, List, [], Option}
 use Rattle.std.proofs.lemmas.List.{append-nil}
-use Rattle.scq_queue.specs.Lists.{takes_of}
-use Rattle.scq_queue.specs.Passes.{HeldStanding}
-use Rattle.scq_passes.specs.Calls.{since}
-use Rattle.scq_passes.specs.Records.{on}
+use Rattle.scq_queue.specs.Exports.{takes_of, HeldStanding}
+use Rattle.scq_passes.specs.Exports.{since, on}
 use Rattle.scq_passes.proofs.LeftLemmas.{left-so-taken}
 use Rattle.scq_passes.proofs.Since.{since-of, since-takes, none_below-along, none_below-nothing}
-use Rattle.scq_stages.specs.Records.{first}
-use Rattle.scq_stages.specs.Steps.{HasFinished, HasGivenBack}
-use Rattle.scq_stages.specs.Sweeping.{FinishesOn, HasFinishedAll, HasLeftAt, LeavesOn}
-use Rattle.scq_stages.specs.Working.{HasFewStageCalls}
+use Rattle.scq_stages.specs.Exports.{first, HasFinished, HasGivenBack, FinishesOn, HasFinishedAll, HasLeftAt, LeavesOn, HasFewStageCalls}
 use Rattle.scq_stages.specs.declared.worker.Worker.{Worker}
 use Rattle.scq_stages.proofs.FewCalls.{few_calls-moved}
 use Rattle.scq_stages.proofs.Finishing.{finished-along, finished-nothing}

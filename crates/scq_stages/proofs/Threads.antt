@@ -2,10 +2,10 @@
 use Rattle.std.proofs.Common.{◌≡◌, refl, sym, inl, inr, arith, ℕ, ◌+◌, ◌≤◌, List, [], ◌∷◌, map}
 use Rattle.std.specs.List.{All}
 use Rattle.std.proofs.lemmas.List.Elements.{All-nil, All-cons, All-append, All-weaker}
-use Rattle.scq_frames.specs.Text.{framed, messages_after, messages_from, text_lines}
-use Rattle.scq_collect.specs.Merging.{IsBefore}
+use Rattle.scq_frames.specs.Exports.{framed, messages_after, messages_from, text_lines}
+use Rattle.scq_collect.specs.Exports.{IsBefore}
 use Rattle.scq_collect.proofs.Orders.{Ascends, ascends-append}
-use Rattle.scq_stages.specs.Output.{Handled, handled_to, all_handled, position_of_handled}
+use Rattle.scq_stages.specs.Exports.{Handled, handled_to, all_handled, position_of_handled}
 
 -- messages of one file, handled, that ascend, from a line on
 record AreOf (file line : ℕ) (handled : List Handled) : Type 0 where

@@ -2,8 +2,8 @@
 use Rattle.std.proofs.Common.{◌≡◌, subst, ℕ, List, [], Option, Some, None}
 use Rattle.std.specs.Prelude.{IfSome}
 use Rattle.scq_frames.specs.declared.message.Message.{Message}
-use Rattle.scq_files.specs.Ends.{messages_in}
-use Rattle.scq_stages.specs.AllStages.{HasStaged}
+use Rattle.scq_files.specs.Exports.{messages_in}
+use Rattle.scq_stages.specs.Exports.{HasStaged}
 use Rattle.scq_stages.specs.declared.staged.Staged.{Staged}
 
 -- where the bytes of all files are visible, what was finished is of their contents

@@ -6,8 +6,8 @@ use Rattle.std.proofs.lemmas.Grind.{div_ceil_times}
 use Rattle.std.proofs.lemmas.List.{take_all}
 use Rattle.std.proofs.Math.Nat.{mul-le-mul_right}
 use Rattle.scq_frames.specs.declared.message.Message.{Message}
-use Rattle.scq_frames.specs.Parts.{parts_of, part_of}
-use Rattle.scq_stages.specs.Passing.{whole_of}
+use Rattle.scq_frames.specs.Exports.{parts_of, part_of}
+use Rattle.scq_stages.specs.Exports.{whole_of}
 
 pub one-part : (size : ℕ) (payload : List ℕ) → 0 < size → length payload ≤ size → parts_of size payload ≡ 1
 one-part size payload some fits =

@@ -6,17 +6,13 @@ use Rattle.std.specs.Global.{Global}
 use Rattle.std.specs.List.Sorted.{IsPermutation}
 use Rattle.scq_word.specs.declared.setup.Setup.{Setup}
 use Rattle.scq_block.specs.declared.frame.Frame.{Frame}
-use Rattle.scq_block.specs.Frames.{IsSame, bytes_of}
+use Rattle.scq_block.specs.Exports.{IsSame, bytes_of}
 use Rattle.scq_frames.specs.declared.message.Message.{Message}
-use Rattle.scq_collect.specs.Merging.{AreApart}
-use Rattle.scq_queue.specs.Lists.{sends_of, takes_of}
-use Rattle.scq_queue.specs.Passes.{PassStanding}
-use Rattle.scq_files.specs.Files.{own_of}
-use Rattle.scq_passes.specs.AllPasses.{HaveShared, IsSetup, OfEachWorker, lengths_of}
-use Rattle.scq_passes.specs.Calls.{calls_before, calls_behind}
-use Rattle.scq_passes.specs.PassedOn.{ArePassedOn, EachHasItsCall}
-use Rattle.scq_passes.specs.Records.{on}
-use Rattle.scq_passes.specs.Together.{HasRetired}
+use Rattle.scq_collect.specs.Exports.{AreApart}
+use Rattle.scq_queue.specs.Exports.{sends_of, takes_of, PassStanding}
+use Rattle.scq_files.specs.Exports.{own_of}
+use Rattle.scq_passes.specs.Exports.{HaveShared, IsSetup, OfEachWorker, lengths_of, calls_before}
+use Rattle.scq_passes.specs.Exports.{calls_behind, ArePassedOn, EachHasItsCall, on, HasRetired}
 use Rattle.scq_stages.specs.declared.finished.Finished.{Finished}
 use Rattle.scq_stages.specs.declared.staged.Staged.{Staged}
 use Rattle.scq_stages.specs.Stages.{both}

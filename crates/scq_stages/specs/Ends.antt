@@ -3,9 +3,9 @@ use Rattle.std.specs.Prelude.{◌≡◌, ℕ, ◌<◌, List, [], length, map, sl
 use Rattle.std.specs.Prelude.{IfSome, IsErrOf, IsSomeAnd, OnOk}
 use Rattle.std.specs.List.Sorted.{IsPermutation}
 use Rattle.scq_frames.specs.declared.message.Message.{Message}
-use Rattle.scq_files.specs.Ends.{AreGiven, HasMoved, StopsAtFaults, all_left, messages_in}
-use Rattle.scq_files.specs.Reading.{IsWhole, SourceOf}
-use Rattle.scq_desk.specs.Faults.{HasCause, MemoryIsFirst}
+use Rattle.scq_files.specs.Exports.{AreGiven, HasMoved, StopsAtFaults, all_left, messages_in}
+use Rattle.scq_files.specs.Exports.{IsWhole, SourceOf}
+use Rattle.scq_desk.specs.Exports.{HasCause, MemoryIsFirst}
 use Rattle.scq_desk.specs.declared.end.End.{End}
 use Rattle.scq_desk.specs.declared.fault.EndFault.TheVariants.{NoMemory}
 use Rattle.scq_stages.specs.AllStages.{HasStaged, NothingIsStranded}

@@ -1,6 +1,6 @@
 -- A part that a stage was done to.
 use Rattle.std.specs.Prelude.{ℕ, List}
-use Rattle.scq_frames.specs.Parts.{Part}
+use Rattle.scq_frames.specs.Exports.{Part}
 
 -- the same part, with what the stage makes of its bytes
 abbrev pub after_stage : (List ℕ → List ℕ) → Part → Part

@@ -11,3 +11,4 @@ pub mod AllStages
 pub mod Ends
 pub mod Reading
 pub mod Sweeping
+pub mod Exports

@@ -2,9 +2,8 @@
 -- part.
 use Rattle.std.specs.Prelude.{◌≡◌, ℕ, zero, suc, Bool, true, false, List, filter, Some, None}
 use Rattle.std.specs.List.{AllZip}
-use Rattle.scq_frames.specs.Parts.{Part}
-use Rattle.scq_frames.specs.Encoded.{BeginsWith, part_at}
-use Rattle.scq_queue.specs.Lists.{Placed}
+use Rattle.scq_frames.specs.Exports.{Part, BeginsWith, part_at}
+use Rattle.scq_queue.specs.Exports.{Placed}
 use Rattle.scq_stages.specs.Handling.{after_stage}
 use Rattle.scq_stages.specs.Stages.{both, redacted, squeezed}
 use Rattle.scq_stages.specs.declared.finished.Finished.{Finished}

@@ -3,7 +3,7 @@
 use Rattle.std.specs.Prelude.{ℕ, ◌+◌, List, [], ◌∷◌, ◌++◌, length, map, codes, decimal, flat_map}
 use Rattle.std.specs.Prelude.{sum_by, Vec}
 use Rattle.std.specs.Global.{Global}
-use Rattle.scq_frames.specs.Text.{Framed, messages_of}
+use Rattle.scq_frames.specs.Exports.{Framed, messages_of}
 use Rattle.scq_stages.specs.Stages.{both}
 use Rattle.scq_stages.specs.declared.finished.Finished.{Finished}
 

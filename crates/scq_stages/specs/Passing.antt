@@ -4,9 +4,8 @@ use Rattle.std.specs.Prelude.{◌≡◌, ℕ, zero, suc}
 use Rattle.scq_core.specs.declared.ended.Ended.{Ended}
 use Rattle.scq_core.specs.declared.ended.Ended.TheVariants.{Done, Nothing}
 use Rattle.scq_frames.specs.declared.message.Message.{Message}
-use Rattle.scq_frames.specs.Parts.{Part}
-use Rattle.scq_frames.specs.Encoded.{IsEncodable, BeginsWith}
-use Rattle.scq_queue.specs.Lists.{Placed}
+use Rattle.scq_frames.specs.Exports.{Part, IsEncodable, BeginsWith}
+use Rattle.scq_queue.specs.Exports.{Placed}
 use Rattle.scq_stages.specs.declared.finished.Finished.{Finished}
 use Rattle.scq_stages.specs.declared.finished.StageWay.TheVariants.{Direct}
 use Rattle.scq_stages.specs.Stages.{both}

@@ -1,8 +1,8 @@
 -- What passing messages on makes of a worker.
 use Rattle.std.specs.Prelude.{List, length, Option}
 use Rattle.scq_frames.specs.declared.message.Message.{Message}
-use Rattle.scq_band.specs.Standing.{Identity}
-use Rattle.scq_queue.specs.Passes.{HeldStanding}
+use Rattle.scq_band.specs.Exports.{Identity}
+use Rattle.scq_queue.specs.Exports.{HeldStanding}
 use Rattle.scq_desk.specs.GoingOn as going
 use Rattle.scq_stages.specs.Working.{IsAtWork, HasStopped}
 use Rattle.scq_stages.specs.declared.worker.Worker.{Worker}

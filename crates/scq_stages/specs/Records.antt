@@ -5,7 +5,7 @@ use Rattle.std.specs.Prelude.{Option, Some, None}
 use Rattle.std.specs.List.{before_first, filter_map, list_any}
 use Rattle.scq_core.specs.declared.ended.Ended.{Ended}
 use Rattle.scq_core.specs.declared.ended.Ended.TheVariants.{Done, Got, Nothing, Spent}
-use Rattle.scq_passes.specs.Records.{AfterEachFull, is_lend}
+use Rattle.scq_passes.specs.Exports.{AfterEachFull, is_lend}
 
 abbrev pub first : ℕ
 first = 0

@@ -2,7 +2,7 @@
 use Rattle.std.specs.Prelude.{ℕ, zero, suc, Bool, true, false, ◌&&◌, List, [], ◌∷◌, map}
 use Rattle.std.specs.Prelude.{if◌then◌else◌}
 use Rattle.std.specs.Char.{is_ascii_digit}
-use Rattle.scq_topics.specs.Runs.{is_space}
+use Rattle.scq_topics.specs.Exports.{is_space}
 
 -- `#` in place of a digit
 abbrev pub redacted_byte : ℕ → ℕ

@@ -1,11 +1,9 @@
 -- What a worker's calls make of its pass and of its list, told by the calls that it made meanwhile.
 use Rattle.std.specs.Prelude.{◌≡◌, ◌⊎◌, ℕ, suc, Bool, List, [], ◌∷◌, ◌++◌, filter}
 use Rattle.std.specs.List.{filter_map}
-use Rattle.scq_queue.specs.Lists.{Placed, sends_of}
-use Rattle.scq_queue.specs.Passes.{PassStanding}
-use Rattle.scq_passes.specs.Records.{IsGivenBack, on}
-use Rattle.scq_passes.specs.Becoming.{BecomeSoFar}
-use Rattle.scq_passes.specs.Calls.{HasTakenFollowed, TookNoneBelow, since, taken_since}
+use Rattle.scq_queue.specs.Exports.{Placed, sends_of, PassStanding}
+use Rattle.scq_passes.specs.Exports.{IsGivenBack, on, BecomeSoFar, HasTakenFollowed, TookNoneBelow}
+use Rattle.scq_passes.specs.Exports.{since, taken_since}
 use Rattle.scq_stages.specs.declared.finished.Finished.{Finished}
 use Rattle.scq_stages.specs.declared.finished.StageWay.TheVariants.{Second, First}
 use Rattle.scq_stages.specs.Stages.{squeezed, both}

@@ -1,7 +1,7 @@
 -- What sweeps make of a worker that has retired.
 use Rattle.std.specs.Prelude.{◌≡◌, ℕ, false, Option}
-use Rattle.scq_queue.specs.Passes.{HeldStanding}
-use Rattle.scq_passes.specs.Calls.{HasLeftSo, TookNoneBelow}
+use Rattle.scq_queue.specs.Exports.{HeldStanding}
+use Rattle.scq_passes.specs.Exports.{HasLeftSo, TookNoneBelow}
 use Rattle.scq_stages.specs.Records.{first}
 use Rattle.scq_stages.specs.Steps.{HasFinished, HasGivenBack}
 use Rattle.scq_stages.specs.Working.{HasFewStageCalls}

@@ -3,19 +3,15 @@
 use Rattle.std.specs.Prelude.{◌≡◌, ℕ, ◌+◌, ◌<◌, ◌≤◌, Bool, false, List, [], length, filter, Option}
 use Rattle.std.specs.Prelude.{Some, None, IfSome, All}
 use Rattle.std.specs.List.{Contains}
-use Rattle.scq_law.specs.Bounds.{tally, was_put}
+use Rattle.scq_law.specs.Exports.{tally, was_put}
 use Rattle.scq_frames.specs.declared.message.Message.{Message}
-use Rattle.scq_band.specs.Standing.{Identity}
-use Rattle.scq_queue.specs.Lists.{Placed, sends_of, takes_of}
-use Rattle.scq_queue.specs.Passes.{PassStanding, HeldStanding, known_on}
-use Rattle.scq_files.specs.Given.{given_in}
-use Rattle.scq_files.specs.OwnFiles.{StopsAtAFault, all_given}
-use Rattle.scq_files.specs.Reading.{IsRead, SourceOf}
+use Rattle.scq_band.specs.Exports.{Identity}
+use Rattle.scq_queue.specs.Exports.{Placed, sends_of, takes_of, PassStanding, HeldStanding}
+use Rattle.scq_queue.specs.Exports.{known_on}
+use Rattle.scq_files.specs.Exports.{given_in, StopsAtAFault, all_given, IsRead, SourceOf}
 use Rattle.scq_files.specs.declared.own_file.OwnFile.{OwnFile}
-use Rattle.scq_passes.specs.Calls.{IsBetweenParts, index_of, after_retire, calls_behind}
-use Rattle.scq_passes.specs.Records.{on}
-use Rattle.scq_passes.specs.PassedOn.{ArePassedOn, EachHasItsCall}
-use Rattle.scq_passes.specs.Together.{HasSwept}
+use Rattle.scq_passes.specs.Exports.{IsBetweenParts, index_of, after_retire, calls_behind, on}
+use Rattle.scq_passes.specs.Exports.{ArePassedOn, EachHasItsCall, HasSwept}
 use Rattle.scq_stages.specs.declared.finished.Finished.{Finished}
 use Rattle.scq_stages.specs.Members.{is_second, is_first, is_direct, DirectsAre}
 use Rattle.scq_stages.specs.Records.{first, second, is_next, HelpsJustSecondThenFirst}

@@ -1,12 +1,10 @@
 //! The work of all workers, each in a thread.
 ghost use Rattle.std.specs.Prelude.{◌≡◌, ℕ, ◌+◌, ◌<◌, ◌≤◌, None, length, slice_index_or};
 ghost use Rattle.std.specs.List.{All};
-ghost use Rattle.scq_block.specs.Frames.{bytes_of};
-ghost use Rattle.scq_passes.specs.Leaving.{HasLeftSwept};
-ghost use Rattle.scq_passes.specs.Records.{IsGivenBack};
-ghost use Rattle.scq_files.specs.OwnFiles.{IsNew, ids_of};
-ghost use Rattle.scq_stages.specs.Seats.{IsToBegin};
-ghost use Rattle.scq_stages.specs.Working.{HasRun};
+ghost use Rattle.scq_block.specs.Exports.{bytes_of};
+ghost use Rattle.scq_passes.specs.Exports.{HasLeftSwept, IsGivenBack};
+ghost use Rattle.scq_files.specs.Exports.{IsNew, ids_of};
+ghost use Rattle.scq_stages.specs.Exports.{IsToBegin, HasRun};
 
 use crate::StageJob;
 use crate::running::run;

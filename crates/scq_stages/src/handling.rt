@@ -1,7 +1,7 @@
 //! The two stages on the bytes of a part, where they stand in a buffer.
 ghost use Rattle.std.specs.Prelude.{◌≡◌, ◌+◌, ◌≤◌, ◌++◌, true, false, None, length, take, drop};
 ghost use Rattle.std.specs.Prelude.{IfSome, IsSomeAnd};
-ghost use Rattle.scq_frames.specs.Encoded.{BeginsWith, part_at};
+ghost use Rattle.scq_frames.specs.Exports.{BeginsWith, part_at};
 ghost use Rattle.scq_stages.specs.Stages.{redacted, squeezed, stages_left};
 ghost use Rattle.scq_stages.specs.Handling.{after_stage};
 

@@ -1,4 +1,4 @@
-ghost use Rattle.scq_passes.specs.Jobs.{IsJob};
+ghost use Rattle.scq_passes.specs.Exports.{IsJob};
 
 /// What workers of stages are to do: messages of at most `size` bytes go through both stages in
 /// 2^order buffers, by `workers` workers.

@@ -1,11 +1,10 @@
 //! How a worker leaves: it retires, and then sweeps.
 ghost use Rattle.std.specs.Prelude.{◌≡◌, ℕ, ◌<◌, List, false, None, IfErr, OnOk};
 ghost use Rattle.scq_frames.specs.declared.message.Message.{Message as TheMessage};
-ghost use Rattle.scq_block.specs.Frames.{bytes_of};
-ghost use Rattle.scq_queue.specs.Passes.{known_on};
-ghost use Rattle.scq_passes.specs.Records.{IsGivenBack};
-ghost use Rattle.scq_passes.specs.Calls.{Suits, HasLeftSo, after_retire};
-ghost use Rattle.scq_passes.specs.Leaving.{HasSweptLast};
+ghost use Rattle.scq_block.specs.Exports.{bytes_of};
+ghost use Rattle.scq_queue.specs.Exports.{known_on};
+ghost use Rattle.scq_passes.specs.Exports.{IsGivenBack, Suits, HasLeftSo, after_retire};
+ghost use Rattle.scq_passes.specs.Exports.{HasSweptLast};
 ghost use Rattle.scq_stages.specs.Steps.{HasGivenBack};
 ghost use Rattle.scq_stages.specs.Working.{HasFewStageCalls, IsDone, IsLeaving};
 

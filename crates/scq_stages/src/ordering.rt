@@ -1,7 +1,7 @@
 //! The members of lists in order of file and line, where they lie.
 ghost use Rattle.std.specs.Prelude.{◌≡◌, map, IfOk};
 ghost use Rattle.std.specs.List.{All};
-ghost use Rattle.scq_collect.specs.Merging.{IsMerged};
+ghost use Rattle.scq_collect.specs.Exports.{IsMerged};
 ghost use Rattle.scq_stages.specs.Output.{finished_in, position_of_finished};
 
 use crate::Finished;

@@ -3,8 +3,8 @@
 ghost use Rattle.std.specs.Prelude.{◌≡◌, ℕ, ◌+◌, ◌≤◌, List, length, None, IfErr, IfSome, IsSome};
 ghost use Rattle.std.specs.Prelude.{OnOk};
 ghost use Rattle.scq_frames.specs.declared.message.Message.{Message as TheMessage};
-ghost use Rattle.scq_queue.specs.Passes.{IsHeldBy, after_put, after_spent_put, having_seen};
-ghost use Rattle.scq_passes.specs.Calls.{Suits};
+ghost use Rattle.scq_queue.specs.Exports.{IsHeldBy, after_put, after_spent_put, having_seen};
+ghost use Rattle.scq_passes.specs.Exports.{Suits};
 ghost use Rattle.scq_stages.specs.Passing.{SendsToFirst};
 ghost use Rattle.scq_stages.specs.Working.{IsAtWork, IsDone, HasStopped};
 

@@ -1,6 +1,6 @@
 //! How a worker reads its files: it passes each message on.
 ghost use Rattle.std.specs.Prelude.{◌≡◌, ◌+◌, ◌≤◌, length, None, All};
-ghost use Rattle.scq_passes.specs.Calls.{Suits};
+ghost use Rattle.scq_passes.specs.Exports.{Suits};
 
 use crate::StageJob;
 use crate::worker::Worker;

@@ -1,14 +1,10 @@
 //! A worker's whole work, at its desk.
 ghost use Rattle.std.specs.Prelude.{◌≡◌, ◌+◌, ◌≤◌, [], length, None, IfErr, OnOk, All};
-ghost use Rattle.scq_block.specs.Frames.{bytes_of};
-ghost use Rattle.scq_files.specs.Given.{given_in};
-ghost use Rattle.scq_files.specs.OwnFiles.{IsNew, StopsAtAFault, ids_of, all_given};
-ghost use Rattle.scq_files.specs.Reading.{IsRead};
-ghost use Rattle.scq_passes.specs.Calls.{Suits};
-ghost use Rattle.scq_passes.specs.Leaving.{HasLeftSwept};
-ghost use Rattle.scq_passes.specs.Records.{IsGivenBack};
-ghost use Rattle.scq_stages.specs.Seats.{IsToBegin};
-ghost use Rattle.scq_stages.specs.Working.{IsAtWork, IsDone, HasStopped, HasRun};
+ghost use Rattle.scq_block.specs.Exports.{bytes_of};
+ghost use Rattle.scq_files.specs.Exports.{given_in, IsNew, StopsAtAFault, ids_of, all_given};
+ghost use Rattle.scq_files.specs.Exports.{IsRead};
+ghost use Rattle.scq_passes.specs.Exports.{Suits, HasLeftSwept, IsGivenBack};
+ghost use Rattle.scq_stages.specs.Exports.{IsToBegin, IsAtWork, IsDone, HasStopped, HasRun};
 
 use crate::StageJob;
 use crate::leaving::leave;

@@ -1,9 +1,8 @@
 //! The stages over all files.
 ghost use Rattle.std.specs.Prelude.{◌≡◌, ◌^◌, ◌≤◌, vec_len, IfSome};
 ghost use Rattle.std.specs.List.{All};
-ghost use Rattle.scq_block.specs.Frames.{bytes_of};
-ghost use Rattle.scq_passes.specs.Leaving.{HasLeftSwept};
-ghost use Rattle.scq_passes.specs.Records.{IsGivenBack};
+ghost use Rattle.scq_block.specs.Exports.{bytes_of};
+ghost use Rattle.scq_passes.specs.Exports.{HasLeftSwept, IsGivenBack};
 ghost use Rattle.scq_stages.specs.Ends.{EndsStages};
 
 use crate::apart::run_all;

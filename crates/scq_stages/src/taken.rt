@@ -1,9 +1,8 @@
 //! The two stages on a value that a worker holds.
 ghost use Rattle.std.specs.Prelude.{◌≡◌, ◌+◌, ◌≤◌, true, false, None, length, take, drop, IfSome};
 ghost use Rattle.std.specs.Prelude.{IsSomeAnd};
-ghost use Rattle.scq_frames.specs.Encoded.{BeginsWith, part_at};
-ghost use Rattle.scq_stages.specs.Stages.{redacted, stages_left};
-ghost use Rattle.scq_stages.specs.Handling.{after_stage};
+ghost use Rattle.scq_frames.specs.Exports.{BeginsWith, part_at};
+ghost use Rattle.scq_stages.specs.Exports.{redacted, stages_left, after_stage};
 
 use crate::handling::{Rest, finish_part, redact_part};
 use scq_queue::Held;

@@ -3,10 +3,10 @@ ghost use Rattle.std.specs.Prelude.{◌≡◌, ℕ, ◌++◌, List, map, length,
 ghost use Rattle.std.specs.Prelude.{OnOk};
 ghost use Rattle.std.specs.List.Sorted.{IsPermutation};
 ghost use Rattle.scq_stages.specs.declared.finished.Finished.{Finished as TheFinished};
-ghost use Rattle.scq_collect.specs.Merging.{StandInOrder, IsMerged};
-ghost use Rattle.scq_stages.specs.Output.{finished_in, position_of_finished, without_way};
-ghost use Rattle.scq_stages.specs.Output.{handled_line, text_of_handled, all_handled};
-ghost use Rattle.scq_stages.specs.Output.{one_thread_stage_output};
+ghost use Rattle.scq_collect.specs.Exports.{StandInOrder, IsMerged};
+ghost use Rattle.scq_stages.specs.Exports.{finished_in, position_of_finished, without_way};
+ghost use Rattle.scq_stages.specs.Exports.{handled_line, text_of_handled, all_handled};
+ghost use Rattle.scq_stages.specs.Exports.{one_thread_stage_output};
 
 use crate::Finished;
 use crate::ordering::ordered;

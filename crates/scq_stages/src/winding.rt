@@ -4,16 +4,13 @@ ghost use Rattle.std.specs.Prelude.{map, slice_index_or, IfOk, IfErr, IfSome, Is
 ghost use Rattle.std.specs.Prelude.{IsSomeAnd, OnOk};
 ghost use Rattle.std.specs.List.{All};
 ghost use Rattle.std.specs.List.Sorted.{IsPermutation};
-ghost use Rattle.scq_block.specs.Blocks.{AreAllOf};
+ghost use Rattle.scq_block.specs.Exports.{AreAllOf};
 ghost use Rattle.scq_frames.specs.declared.message.Message.{Message as TheMessage};
-ghost use Rattle.scq_files.specs.Desks.{AreDealt};
-ghost use Rattle.scq_files.specs.Ends.{AreGiven, HasMoved, StopsAtFaults, all_left, messages_in};
-ghost use Rattle.scq_files.specs.Reading.{IsWhole};
-ghost use Rattle.scq_desk.specs.Rooms.{IsLaid};
-ghost use Rattle.scq_stages.specs.AllStages.{HasStaged, NothingIsStranded};
-ghost use Rattle.scq_desk.specs.Faults.{HasCause, MemoryIsFirst};
-ghost use Rattle.scq_stages.specs.Output.{finished_in, all_handled, without_way};
-ghost use Rattle.scq_stages.specs.Working.{HasRun};
+ghost use Rattle.scq_files.specs.Exports.{AreDealt, AreGiven, HasMoved, StopsAtFaults, all_left};
+ghost use Rattle.scq_files.specs.Exports.{messages_in, IsWhole};
+ghost use Rattle.scq_desk.specs.Exports.{IsLaid, HasCause, MemoryIsFirst};
+ghost use Rattle.scq_stages.specs.Exports.{HasStaged, NothingIsStranded, finished_in, all_handled};
+ghost use Rattle.scq_stages.specs.Exports.{without_way, HasRun};
 
 use crate::worker::StageDesk;
 use crate::{Finished, StageEnd, StageJob, Staged};

@@ -1,12 +1,11 @@
 //! A worker of the stages: what it makes of a message itself, and of what it takes.
 ghost use Rattle.std.specs.Prelude.{◌≡◌, ℕ, suc, ◌+◌, ◌≤◌, ◌++◌, ◌∷◌, [], true, false, length};
 ghost use Rattle.std.specs.Prelude.{take, drop, Some, None, IfOk, IfErr, IfSome, IsSome, OnOk};
-ghost use Rattle.scq_frames.specs.Encoded.{BeginsWith, part_at};
-ghost use Rattle.scq_band.specs.Buffers.{opening_of};
-ghost use Rattle.scq_band.specs.RunSeen.{IsCallInRun};
-ghost use Rattle.scq_queue.specs.Passes.{caller_of, IsHeldBy, WasGivenBack, after_put};
-ghost use Rattle.scq_queue.specs.Passes.{after_spent_put, having_seen};
-ghost use Rattle.scq_passes.specs.Calls.{Suits};
+ghost use Rattle.scq_frames.specs.Exports.{BeginsWith, part_at};
+ghost use Rattle.scq_band.specs.Exports.{opening_of, IsCallInRun};
+ghost use Rattle.scq_queue.specs.Exports.{caller_of, IsHeldBy, WasGivenBack, after_put};
+ghost use Rattle.scq_queue.specs.Exports.{after_spent_put, having_seen};
+ghost use Rattle.scq_passes.specs.Exports.{Suits};
 ghost use Rattle.scq_stages.specs.Stages.{redacted, squeezed, both as the_both};
 ghost use Rattle.scq_stages.specs.Members.{finished};
 ghost use Rattle.scq_stages.specs.Passing.{whole_of};

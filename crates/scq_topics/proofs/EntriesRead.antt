@@ -4,7 +4,7 @@ use Rattle.std.specs.Option.{option_or}
 use Rattle.std.proofs.lemmas.List.{at_drop_more, at_drop_all, take_more, take_all, map-append}
 use Rattle.scq_topics.specs.declared.kind.Kind.{Kind}
 use Rattle.scq_topics.specs.declared.topics.TopicFault.{TopicFault}
-use Rattle.scq_topics.specs.Topics.{entry_fault, first_fault, declared_by}
+use Rattle.scq_topics.specs.Exports.{entry_fault, first_fault, declared_by}
 
 -- the entry of this iteration
 pub record IsThisEntry (entries : List (List ℕ)) (n : ℕ) (entry : List ℕ) : Type 0 where

@@ -12,8 +12,7 @@ use Rattle.std.specs.List.{slice_split, onto_first, list_all}
 use Rattle.std.specs.Char.{is_ascii_digit, digit_value}
 use Rattle.std.specs.Str.{all_ascii_digits}
 use Rattle.std.specs.Str.Parse.{digits_value, digits_value_after}
-use Rattle.scq_topics.specs.Runs.{runs, is_space, has_bytes}
-use Rattle.scq_topics.specs.Sum.{sum_of, value_sum, is_number}
+use Rattle.scq_topics.specs.Exports.{runs, is_space, has_bytes, sum_of, value_sum, is_number}
 
 -- the number, where it fits 64 bits
 abbrev pub fitting : ℕ → Option ℕ

@@ -2,7 +2,7 @@
 use Rattle.std.proofs.Common.{◌≡◌, ℕ, suc, ◌+◌, Bool, true, false, not, ◌&&◌, cond, List, [], ◌∷◌, length, drop, arith, refl}
 use Rattle.std.specs.Prelude.{filter}
 use Rattle.std.specs.List.{slice_split, onto_first}
-use Rattle.scq_topics.specs.Runs.{runs, has_bytes}
+use Rattle.scq_topics.specs.Exports.{runs, has_bytes}
 
 -- 1 where a run begins at the byte, and else 0
 abbrev pub begins : (ℕ → Bool) → Bool → ℕ → ℕ

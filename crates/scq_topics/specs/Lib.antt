@@ -3,3 +3,4 @@ pub mod Runs
 pub mod Sum
 pub mod Reply
 pub mod Topics
+pub mod Exports

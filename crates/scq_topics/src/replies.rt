@@ -1,5 +1,5 @@
 ghost use Rattle.std.specs.Prelude.{◌≡◌, ◌≤◌, length, IsOk, IfOk, decimal};
-ghost use Rattle.scq_topics.specs.Reply.{reply_of};
+ghost use Rattle.scq_topics.specs.Exports.{reply_of};
 
 use crate::sum::token_sum;
 use crate::words::word_count;

@@ -1,5 +1,5 @@
 ghost use Rattle.std.specs.Prelude.{◌≡◌, length};
-ghost use Rattle.scq_topics.specs.Runs.{runs, is_blank};
+ghost use Rattle.scq_topics.specs.Exports.{runs, is_blank};
 
 /// How many maximal runs of bytes other than space and tab there are. Each begins at such a byte
 /// that follows none, so one pass counts them.

@@ -1,7 +1,6 @@
 -- What everything above uses of the reset value.
 use Rattle.std.proofs.Common.{ℕ, ◌+◌, ◌^◌, ◌<◌, ◌≤◌, arith, pow_mono}
-use Rattle.scq_word.specs.Sizes.{n_of, slots_of}
-use Rattle.scq_word.specs.Bounds.{reset_value}
+use Rattle.scq_word.specs.Exports.{n_of, slots_of, reset_value}
 
 -- it reaches over the window
 pub reset_covers : (order seats : ℕ) → 1 ≤ order → n_of order + 1 ≤ reset_value order seats

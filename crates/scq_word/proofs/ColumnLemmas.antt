@@ -2,8 +2,7 @@
 use Rattle.std.proofs.Common.{◌≡◌, ℕ, ◌+◌, ◌-◌, ◌*◌, ◌/◌, ◌%◌, ◌^◌, ◌<◌, sym, ◌∙◌, ap, arith}
 use Rattle.std.proofs.Math.Nat.{div-lt_iff_lt-mul}
 use Rattle.std.proofs.lemmas.Nat.{pow-add, div-add-mod', mod_below}
-use Rattle.scq_word.specs.Sizes.{slots_of}
-use Rattle.scq_word.specs.Tickets.{in_columns}
+use Rattle.scq_word.specs.Exports.{slots_of, in_columns}
 use Rattle.scq_word.proofs.EntryLemmas.{slots_of-pow}
 
 -- the column is one of eight

@@ -9,9 +9,8 @@ use Rattle.std.proofs.lemmas.Bool.Decides.{eqb_tells}
 use Rattle.std.proofs.lemmas.Nat.{pow_pos, pow-add, shl-shr, shr-shr, shr_below, div-add-mod', and_mask}
 use Rattle.std.proofs.lemmas.Grind.{common_steps}
 use Rattle.scq_word.specs.declared.entry.Entry.{Entry}
-use Rattle.scq_word.specs.Sizes.{n_of, slots_of}
-use Rattle.scq_word.specs.Words.{mark_of, packed, index_in, safe_in, cycle_in, rank_in}
-use Rattle.scq_word.specs.Entries.{safe_bit, index_bits, word_of, entry_in, HasOwnIndex, IsIndexOrMark, rank_of, rank_within}
+use Rattle.scq_word.specs.Exports.{n_of, slots_of, mark_of, packed, index_in, safe_in, cycle_in, rank_in, safe_bit, index_bits, word_of, entry_in}
+use Rattle.scq_word.specs.Exports.{HasOwnIndex, IsIndexOrMark, rank_of, rank_within}
 use Rattle.scq_word.proofs.WordLemmas.{bit_or-mark, index_in-packed, safe_in-packed, cycle_in-packed, packed-parts, safe_in_bit}
 
 -- there is at least one index

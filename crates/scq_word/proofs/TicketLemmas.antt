@@ -4,8 +4,7 @@ use Rattle.std.proofs.Math.Nat.{mul-le-mul_right, mod-eq_of_lt}
 use Rattle.std.specs.Prelude.{◌-◌, nat_lt}
 use Rattle.std.proofs.lemmas.Bool.{cases_Bool, cases_lt}
 use Rattle.std.proofs.lemmas.Nat.{pow_pos, div-mul-add, mod-mul-add, div-add-mod', mod_below, le-div}
-use Rattle.scq_word.specs.Sizes.{slots_of}
-use Rattle.scq_word.specs.Tickets.{cycle_of, slot_of, in_columns}
+use Rattle.scq_word.specs.Exports.{slots_of, cycle_of, slot_of, in_columns}
 use Rattle.scq_word.proofs.ColumnLemmas.{in_columns_small, in_columns_apart, columns_of, in_one_column}
 use Rattle.scq_word.proofs.Counting.{IsApart, meets_all}
 

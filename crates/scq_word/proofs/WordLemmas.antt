@@ -3,7 +3,7 @@ use Rattle.std.proofs.Common.{◌≡◌, ℕ, ◌+◌, ◌-◌, ◌*◌, ◌/◌
 use Rattle.std.specs.Int.Bits.{bit_or, or_zero_r}
 use Rattle.std.proofs.lemmas.Nat.{div-mul-add, mod-mul-add, div-add-mod', mod_below, pow_pos, or_block, le_or_r, or_lt}
 use Rattle.std.proofs.lemmas.Grind.{common_steps}
-use Rattle.scq_word.specs.Words.{packed, index_in, safe_in, cycle_in, is_none_in, rank_in}
+use Rattle.scq_word.specs.Exports.{packed, index_in, safe_in, cycle_in, is_none_in, rank_in}
 
 -- two fields above the index, as one number of two digits
 packed_row : (m c s i : ℕ) → packed m c s i ≡ (c * 2 + s) * m + i

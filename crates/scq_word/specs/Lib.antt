@@ -5,3 +5,4 @@ pub mod Bounds
 pub mod Entries
 pub mod Ranges
 pub mod Written
+pub mod Exports

@@ -2,10 +2,8 @@
 //! stands for its contract.
 
 ghost use Rattle.std.specs.Prelude.{◌≡◌, ℕ, ◌+◌, ◌-◌, ◌%◌, ◌^◌, ◌<◌, ◌≤◌, ◌↔◌, bit_or};
-ghost use Rattle.scq_word.specs.Sizes.{n_of, slots_of};
-ghost use Rattle.scq_word.specs.Tickets.{slot_of};
-ghost use Rattle.scq_word.specs.Bounds.{reset_value};
-ghost use Rattle.scq_word.specs.Words.{packed, cycle_in, safe_in, mark_of};
+ghost use Rattle.scq_word.specs.Exports.{n_of, slots_of, slot_of, reset_value, packed, cycle_in};
+ghost use Rattle.scq_word.specs.Exports.{safe_in, mark_of};
 
 /// A fetch_or of the mark consumes an entry: whatever the word was, it has no index afterwards, and
 /// the cycle and the safe bit that it had. Stated for words of every size, and for those of an

@@ -2,11 +2,9 @@
 
 ghost use Rattle.std.specs.Prelude.{◌≡◌, ℕ, ◌*◌, ◌/◌, ◌<◌, ◌≤◌, ◌^◌, ◌==◌, if◌then◌else◌};
 ghost use Rattle.std.specs.Option.{ForSome};
-ghost use Rattle.scq_word.specs.Sizes.{n_of, slots_of};
-ghost use Rattle.scq_word.specs.Words.{mark_of, rank_in};
-ghost use Rattle.scq_word.specs.Tickets.{cycle_of, slot_of, in_columns};
-ghost use Rattle.scq_word.specs.Entries.{word_of, entry_in, index_bits, HasOwnIndex, IsIndexOrMark};
-ghost use Rattle.scq_word.specs.Entries.{rank_of};
+ghost use Rattle.scq_word.specs.Exports.{n_of, slots_of, mark_of, rank_in, cycle_of, slot_of};
+ghost use Rattle.scq_word.specs.Exports.{in_columns, word_of, entry_in, index_bits, HasOwnIndex};
+ghost use Rattle.scq_word.specs.Exports.{IsIndexOrMark, rank_of};
 
 use crate::entry::Entry;
 use crate::shape::Shape;

@@ -3,8 +3,8 @@ use Rattle.std.proofs.Common.{◌≡◌, ℕ, ◌-◌, ◌≤◌, Bool, false, L
 use Rattle.std.proofs.lemmas.List.{take_all}
 use Rattle.std.specs.Prelude.{IfOk, IsErrOf, MatchResult}
 use Rattle.std.specs.Result.{IsOkAnd}
-use Rattle.scq_words.specs.Asked.{Asked, asked_by}
-use Rattle.scq_words.specs.Ranges.{IsInRange}
+use Rattle.scq_words.specs.Exports.{asked_by, IsInRange}
+use Rattle.scq_words.specs.Asked.{Asked}
 use Rattle.scq_words.specs.declared.fault.WordsFault.{WordsFault}
 use Rattle.scq_words.specs.declared.fault.WordsFault.TheVariants.{NotUnderstood}
 use Rattle.scq_words.specs.declared.fault.WordsError.{WordsError}

@@ -6,8 +6,10 @@ use Rattle.std.specs.Option.{option_or}
 use Rattle.clap.specs.Words.{App, Row, all_of, first_of, first_value, matched_of, matches_of, raw_values, rows_of, takes}
 use Rattle.clap.specs.declared.parser.matches.Found.{Found}
 use Rattle.clap.proofs.WalkLemmas.{first_value-rows, raw_values-rows}
-use Rattle.scq_words.specs.Commands.{text_app}
-use Rattle.scq_words.specs.Asked.{Asked, answered_by, judge_texts, texts_of_judge, asked_of_text, is_given, refused_names, text_command, text_file, whole, with_flag, first_of_tests, refused_by_clap, run_texts, self_texts, stages_texts, texts_of_run, texts_of_self, texts_of_stages}
+use Rattle.scq_words.specs.Exports.{text_app, answered_by, judge_texts, texts_of_judge, asked_of_text, is_given, refused_names, text_command}
+use Rattle.scq_words.specs.Exports.{text_file, whole, with_flag, first_of_tests, refused_by_clap, run_texts, self_texts, stages_texts, texts_of_run}
+use Rattle.scq_words.specs.Exports.{texts_of_self, texts_of_stages}
+use Rattle.scq_words.specs.Asked.{Asked}
 use Rattle.scq_words.specs.declared.fault.WordsFault.{WordsFault}
 use Rattle.scq_words.specs.declared.fault.WordsFault.TheVariants.{NoName, NotUnderstood}
 use Rattle.scq_words.specs.declared.text_request.TextCommand.{TextCommand}

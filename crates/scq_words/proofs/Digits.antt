@@ -11,7 +11,7 @@ use Rattle.std.proofs.lemmas.Bool.Decides.{nat_tests}
 use Rattle.std.proofs.Math.Nat.{pow-le-pow_right}
 use Rattle.std.proofs.lemmas.Str.Parse.{numerals_by_value, parse_digits, tells_all_ascii_digits}
 use Rattle.std.proofs.lemmas.Int.Digits.{digits_value-lt}
-use Rattle.scq_words.specs.Numbers.{number_in}
+use Rattle.scq_words.specs.Exports.{number_in}
 
 pub all-digits : (bytes : List ℕ) → list_all is_ascii_digit bytes ≡ all_ascii_digits bytes
 all-digits [] = refl

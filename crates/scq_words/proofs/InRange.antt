@@ -4,9 +4,9 @@ use Rattle.std.specs.Prelude.{◌==◌, ◌&&◌, nat_lt, nat_le, option_map, if
 use Rattle.std.specs.List.{All, position}
 use Rattle.std.proofs.lemmas.List.Elements.{All-map}
 use Rattle.std.specs.Option.{option_or}
-use Rattle.scq_topics.specs.Topics.{entries_of, first_fault}
-use Rattle.scq_words.specs.Asked.{JudgeTexts, RunTexts, SelfTexts, StagesTexts, first_of_tests, judge_tests, refused_if, refused_names, refused_topics, run_tests, self_tests, stages_tests}
-use Rattle.scq_words.specs.Numbers.{fault_outside, number_in, refused_outside}
+use Rattle.scq_topics.specs.Exports.{entries_of, first_fault}
+use Rattle.scq_words.specs.Exports.{JudgeTexts, RunTexts, SelfTexts, StagesTexts, first_of_tests, judge_tests, refused_if, refused_names}
+use Rattle.scq_words.specs.Exports.{refused_topics, run_tests, self_tests, stages_tests, fault_outside, number_in, refused_outside}
 use Rattle.scq_words.specs.declared.fault.WordsFault.{WordsFault}
 use Rattle.scq_words.specs.declared.fault.WordsFault.TheVariants.{NotUnderstood, Workers, Order, Size, Topics, TooManyFiles, TooManyRecordings, NoName, Room, Seed, Lines}
 

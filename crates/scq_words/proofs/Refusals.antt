@@ -6,7 +6,7 @@ use Rattle.clap.specs.Faults.{fault_of}
 use Rattle.clap.specs.declared.error.Error.{Error}
 use Rattle.clap.specs.declared.error.kind.ErrorKind.{ErrorKind}
 use Rattle.clap.specs.declared.error.kind.ErrorKind.TheVariants.{OutOfMemory}
-use Rattle.scq_words.specs.Asked.{refused_by_clap, refused_if}
+use Rattle.scq_words.specs.Exports.{refused_by_clap, refused_if}
 use Rattle.scq_words.specs.declared.fault.WordsFault.TheVariants.{NotUnderstood}
 
 some-kind : (kinds : Kinds) (k : ErrorKind) → IsAmong k kinds → 0 < length kinds

@@ -3,7 +3,7 @@ use Rattle.std.proofs.Common.{◌≡◌, refl, true, false, [], ◌∷◌, Ok, E
 use Rattle.std.specs.Prelude.{codes}
 use Rattle.clap.specs.Faults.{walk_fault, defaults_fault}
 use Rattle.clap.specs.Walk.{walked}
-use Rattle.scq_words.specs.Asked.{asked, asked_of_run, asked_of_self, asked_of_stages, run, generated, staged}
+use Rattle.scq_words.specs.Exports.{asked, asked_of_run, asked_of_self, asked_of_stages, run, generated, staged}
 use Rattle.scq_words.specs.declared.fault.WordsFault.TheVariants.{NotUnderstood, Workers, NoName, Seed}
 
 row-none : asked [] ≡ Err NotUnderstood

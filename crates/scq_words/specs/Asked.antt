@@ -8,7 +8,7 @@ use Rattle.std.specs.Str.{bytes_eq}
 use Rattle.clap.specs.Words.{App, Row, all_of, first_of, matches_of}
 use Rattle.clap.specs.Faults.{fault_of}
 use Rattle.scq_topics.specs.declared.kind.Kind.{Kind}
-use Rattle.scq_topics.specs.Topics.{declared_by, entries_of, first_fault}
+use Rattle.scq_topics.specs.Exports.{declared_by, entries_of, first_fault}
 use Rattle.scq_words.specs.Commands.{run_app, stages_app, self_app, judge_app, text_app}
 use Rattle.scq_words.specs.Numbers.{number_or, refused_outside}
 use Rattle.scq_words.specs.declared.fault.WordsFault.{WordsFault}

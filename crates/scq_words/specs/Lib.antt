@@ -4,3 +4,4 @@ pub mod Asked
 pub mod Parsing
 pub mod Ranges
 pub mod Tested
+pub mod Exports

@@ -2,11 +2,9 @@ ghost use Rattle.std.specs.Prelude.{◌≡◌, ◌≤◌, Ok, Err, None, Some, f
 ghost use Rattle.std.specs.Prelude.{string_bytes, IfOk, IfSome, IsErrOf};
 ghost use Rattle.clap.specs.Words.{takes};
 ghost use Rattle.scq_words.specs.declared.fault.WordsFault.{WordsFault as TheFault};
-ghost use Rattle.scq_words.specs.Asked.{asked_of_judge, first_of_tests, judge_of, judge_tests};
-ghost use Rattle.scq_words.specs.Asked.{judged, room_of, texts_of_judge};
-ghost use Rattle.scq_words.specs.Commands.{judge_app};
-ghost use Rattle.scq_words.specs.Numbers.{number_or, text_in};
-ghost use Rattle.scq_words.specs.Ranges.{IsJudgeInRange};
+ghost use Rattle.scq_words.specs.Exports.{asked_of_judge, first_of_tests, judge_of, judge_tests};
+ghost use Rattle.scq_words.specs.Exports.{judged, room_of, texts_of_judge, judge_app, number_or};
+ghost use Rattle.scq_words.specs.Exports.{text_in, IsJudgeInRange};
 
 use crate::files::{MOST_RECORDINGS, files_of};
 use crate::number::optional_number;

@@ -1,10 +1,9 @@
 ghost use Rattle.std.specs.Prelude.{◌≡◌, ◌≢◌, IfOk, map, string_bytes, true, false};
 ghost use Rattle.clap.specs.Words.{App, Rule, app_of, is_simple_and_free, kind_of, rule_of};
 ghost use Rattle.clap.specs.Words.{with_rule};
-ghost use Rattle.scq_words.specs.Commands.{file_rule, files_rule, flag_rule, judge_app, named_app};
-ghost use Rattle.scq_words.specs.Commands.{numbers_app, option_rule, plain_app, required_rule};
-ghost use Rattle.scq_words.specs.Commands.{run_app, self_app, stages_app, text_app};
-ghost use Rattle.scq_words.specs.Parsing.{Parses};
+ghost use Rattle.scq_words.specs.Exports.{file_rule, files_rule, flag_rule, judge_app, named_app};
+ghost use Rattle.scq_words.specs.Exports.{numbers_app, option_rule, plain_app, required_rule};
+ghost use Rattle.scq_words.specs.Exports.{run_app, self_app, stages_app, text_app, Parses};
 
 use crate::{TextCommand, WordsError, WordsFault};
 use clap::error::ErrorKind;

@@ -1,7 +1,7 @@
 ghost use Rattle.std.specs.Prelude.{◌≡◌, Ok, Err, false, map, string_bytes, IfOk, IsErrOf};
 ghost use Rattle.scq_words.specs.declared.fault.WordsFault.{WordsFault as TheFault};
-ghost use Rattle.scq_words.specs.Asked.{asked, asked_by, asked_for_run, run, asked_run};
-ghost use Rattle.scq_words.specs.Ranges.{IsInRange, IsRunInRange, is_accepted, is_taken_for_run};
+ghost use Rattle.scq_words.specs.Exports.{asked, asked_by, asked_for_run, run, asked_run};
+ghost use Rattle.scq_words.specs.Exports.{IsInRange, IsRunInRange, is_accepted, is_taken_for_run};
 
 use crate::judge_words::read_judge;
 use crate::run::read_run;

@@ -2,13 +2,10 @@ ghost use Rattle.std.specs.Prelude.{◌≡◌, ◌≤◌, Ok, Err, None, Some, f
 ghost use Rattle.std.specs.Prelude.{string_bytes, IfOk, IsErrOf};
 ghost use Rattle.std.specs.Result.{result_err};
 ghost use Rattle.scq_words.specs.declared.fault.WordsFault.{WordsFault as TheFault};
-ghost use Rattle.scq_words.specs.Asked.{asked_of_run, first_of_tests, is_given, refused_topics};
-ghost use Rattle.scq_words.specs.Asked.{run, run_asked, asked_run, run_tests, texts_of_run};
-ghost use Rattle.scq_words.specs.Asked.{topics_or_none};
+ghost use Rattle.scq_words.specs.Exports.{asked_of_run, first_of_tests, is_given, refused_topics};
+ghost use Rattle.scq_words.specs.Exports.{run, run_asked, asked_run, run_tests, texts_of_run};
+ghost use Rattle.scq_words.specs.Exports.{topics_or_none, run_app, text_in, IsRunInRange};
 ghost use Rattle.clap.specs.Words.{takes};
-ghost use Rattle.scq_words.specs.Commands.{run_app};
-ghost use Rattle.scq_words.specs.Numbers.{text_in};
-ghost use Rattle.scq_words.specs.Ranges.{IsRunInRange};
 
 use crate::files::{MOST_FILES, files_of};
 use crate::parsing::run_matches;

@@ -2,11 +2,9 @@ ghost use Rattle.std.specs.Prelude.{◌≡◌, Ok, Err, None, Some, false, map, 
 ghost use Rattle.std.specs.Prelude.{IsErrOf};
 ghost use Rattle.clap.specs.Words.{takes};
 ghost use Rattle.scq_words.specs.declared.fault.WordsFault.{WordsFault as TheFault};
-ghost use Rattle.scq_words.specs.Asked.{asked_of_stages, first_of_tests, staged, stages_asked};
-ghost use Rattle.scq_words.specs.Asked.{stages_of, stages_tests, texts_of_stages};
-ghost use Rattle.scq_words.specs.Commands.{stages_app};
-ghost use Rattle.scq_words.specs.Numbers.{text_in};
-ghost use Rattle.scq_words.specs.Ranges.{IsStagesInRange};
+ghost use Rattle.scq_words.specs.Exports.{asked_of_stages, first_of_tests, staged, stages_asked};
+ghost use Rattle.scq_words.specs.Exports.{stages_of, stages_tests, texts_of_stages, stages_app};
+ghost use Rattle.scq_words.specs.Exports.{text_in, IsStagesInRange};
 
 use crate::files::{MOST_FILES, files_of};
 use crate::parsing::stages_matches;

@@ -11,20 +11,17 @@ use Rattle.std.proofs.lemmas.List.Elements.{All-contains, Contains-get_or, recur
 use Rattle.std.proofs.lemmas.List.Folds.{flat_map-map}
 use Rattle.std.proofs.lemmas.List.Sorted.{All-permutation, IsPermutation-map, IsPermutation-trans}
 use Rattle.scq_topics.specs.declared.kind.Kind.{Kind}
-use Rattle.scq_frames.specs.Parts.{Part}
-use Rattle.scq_frames.specs.Batches.{parts_at}
-use Rattle.scq_collect.specs.Joined.{PartAnswer, part_answer, without_way}
+use Rattle.scq_frames.specs.Exports.{Part, parts_at}
+use Rattle.scq_collect.specs.Exports.{PartAnswer, part_answer, without_way}
 use Rattle.scq_collect.specs.declared.answered.Answered.{Answered}
 use Rattle.scq_collect.specs.declared.answered.Way.{Way}
 use Rattle.scq_collect.specs.declared.answered.Way.TheVariants.{Taken}
 use Rattle.scq_files.proofs.Lists.{map-map}
-use Rattle.scq_queue.specs.Lists.{Placed, sends_of, takes_of}
-use Rattle.scq_queue.specs.Passes.{PassStanding}
+use Rattle.scq_queue.specs.Exports.{Placed, sends_of, takes_of, PassStanding}
 use Rattle.scq_passes.proofs.ManyLists.{flat-map, found-at, in-all}
 use Rattle.scq_passes.proofs.PassedOn.{passed-results, passed-send}
-use Rattle.scq_worker.specs.Members.{answered, answers_from, answers_to_take, answers_to_takes, is_direct, AnswersSoFar, GotParts, IsBatch}
-use Rattle.scq_worker.specs.Passing.{BatchesArePassedOn, parts_among}
-use Rattle.scq_worker.specs.Working.{HasListed, HasListedAll}
+use Rattle.scq_worker.specs.Exports.{answered, answers_from, answers_to_take, answers_to_takes, is_direct, AnswersSoFar, GotParts, IsBatch}
+use Rattle.scq_worker.specs.Exports.{BatchesArePassedOn, parts_among, HasListed, HasListedAll}
 use Rattle.scq_work.proofs.SameParts.{batches-hold}
 use Rattle.scq_work.proofs.FlatLists.{flat-permutation}
 

@@ -11,21 +11,16 @@ use Rattle.std.proofs.lemmas.List.Sums.{sum_by-cons}
 use Rattle.std.proofs.lemmas.Option.{slice_get-get_or}
 use Rattle.scq_topics.specs.declared.kind.Kind.{Kind}
 use Rattle.scq_frames.specs.declared.message.Message.{Message}
-use Rattle.scq_frames.specs.Parts.{Part, all_parts, part_of, parts_of}
+use Rattle.scq_frames.specs.Exports.{Part, all_parts, part_of, parts_of}
 use Rattle.scq_frames.proofs.PayloadParts.{few-parts}
 use Rattle.scq_word.specs.declared.setup.Setup.{Setup}
-use Rattle.scq_band.specs.Standing.{Identity}
-use Rattle.scq_files.specs.Desks.{AllWhole, AreDealt}
-use Rattle.scq_files.specs.Ends.{AreGiven}
-use Rattle.scq_files.specs.Files.{own_of}
-use Rattle.scq_files.specs.Reading.{most_parts, SourceOf}
+use Rattle.scq_band.specs.Exports.{Identity}
+use Rattle.scq_files.specs.Exports.{AllWhole, AreDealt, AreGiven, own_of, most_parts, SourceOf}
 use Rattle.scq_files.specs.declared.desk.Desk.{Desk}
 use Rattle.scq_files.proofs.AllGave as files
 use Rattle.scq_files.proofs.AllGave.{AllRead, by-number, worker_messages}
 use Rattle.scq_files.proofs.Dealt.{all-dealt}
-use Rattle.scq_worker.specs.Desks.{HasRun}
-use Rattle.scq_worker.specs.Passing.{parts_in}
-use Rattle.scq_worker.specs.Seats.{Seated}
+use Rattle.scq_worker.specs.Exports.{HasRun, parts_in, Seated}
 use Rattle.scq_worker.proofs.MessageParts.{all-parts-in, flat-parts, own-parts}
 
 -- messages have at most so many parts

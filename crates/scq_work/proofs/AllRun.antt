@@ -14,31 +14,20 @@ use Rattle.std.proofs.lemmas.List.Sorted.{All-permutation, IsPermutation-sym, Is
 use Rattle.std.proofs.lemmas.Option.{slice_get-map, slice_get_within, slice_get_cases, get_or_from_slice_get}
 use Rattle.scq_topics.specs.declared.kind.Kind.{Kind}
 use Rattle.scq_frames.specs.declared.message.Message.{Message}
-use Rattle.scq_frames.specs.Parts.{Part}
+use Rattle.scq_frames.specs.Exports.{Part}
 use Rattle.scq_word.specs.declared.setup.Setup.{Setup}
 use Rattle.scq_collect.specs.declared.answered.Answered.{Answered}
-use Rattle.scq_collect.specs.Joined.{part_answer, part_answers, without_way}
-use Rattle.scq_collect.specs.Merging.{members_of}
-use Rattle.scq_band.specs.Standing.{Identity}
+use Rattle.scq_collect.specs.Exports.{part_answer, part_answers, without_way, members_of}
+use Rattle.scq_band.specs.Exports.{Identity}
 use Rattle.scq_band.proofs.ClosedCounts.{sum_by-map}
-use Rattle.scq_queue.specs.Closing.{EachTakeIsASend, NoPlaceIsTakenTwice, NoneIsKeptWithinTheLimit}
-use Rattle.scq_queue.specs.Lists.{takes_of}
-use Rattle.scq_queue.specs.Passes.{PassStanding, HeldStanding}
-use Rattle.scq_passes.specs.AllPasses.{HaveShared}
-use Rattle.scq_work.specs.AllWorkers.{HaveAnswered, HasHelped, OfEachWorkersAnswers}
-use Rattle.scq_files.specs.Ends.{AreGiven}
-use Rattle.scq_files.specs.Files.{own_of}
-use Rattle.scq_worker.specs.Members.{AnswersItsTakes}
-use Rattle.scq_worker.specs.Passing.{parts_in}
-use Rattle.scq_files.specs.Reading.{IsRead, SourceOf}
-use Rattle.scq_passes.specs.Records.{HoldsNothingAtEachFull, MeetsNoSpent}
-use Rattle.scq_passes.specs.Together.{SendsAreTakes, NoneSpent, IsBounded, HasSwept}
-use Rattle.scq_passes.specs.Calls.{HasFewCalls, index_of}
-use Rattle.scq_worker.specs.Working.{HasListedAll}
+use Rattle.scq_queue.specs.Exports.{EachTakeIsASend, NoPlaceIsTakenTwice, NoneIsKeptWithinTheLimit, takes_of, PassStanding, HeldStanding}
+use Rattle.scq_passes.specs.Exports.{HaveShared, HoldsNothingAtEachFull, MeetsNoSpent, SendsAreTakes, NoneSpent, IsBounded, HasSwept, HasFewCalls}
+use Rattle.scq_passes.specs.Exports.{index_of, HasClosed}
+use Rattle.scq_work.specs.Exports.{HaveAnswered, HasHelped, OfEachWorkersAnswers}
+use Rattle.scq_files.specs.Exports.{AreGiven, own_of, IsRead, SourceOf, AllWhole}
+use Rattle.scq_worker.specs.Exports.{AnswersItsTakes, parts_in, HasListedAll, Seated}
 use Rattle.scq_files.specs.declared.desk.Desk.{Desk}
-use Rattle.scq_worker.specs.Seats.{Seated}
 use Rattle.scq_files.specs.declared.own_file.OwnFile.{OwnFile}
-use Rattle.scq_files.specs.Desks.{AllWhole}
 use Rattle.scq_files.proofs.AllGave.{given_of, worker_messages}
 use Rattle.scq_desk.proofs.Settled.{held_at}
 use Rattle.scq_work.proofs.AllGave.{AllRan, given, is-given, own-given, all-parts-passed, few-in-all}
@@ -50,7 +39,6 @@ use Rattle.scq_files.proofs.GivenLemmas.{of-known, given-known}
 use Rattle.scq_work.proofs.Orders.{members-whole}
 use Rattle.scq_work.proofs.PartMembers.{members-known, members-short}
 use Rattle.scq_passes.proofs.ManyLists.{stands-at}
-use Rattle.scq_passes.specs.Closed.{HasClosed}
 use Rattle.scq_passes.proofs.Closed.{all-taken as takes-are-sends, have-shared}
 
 module _ {B S : Type 0} where

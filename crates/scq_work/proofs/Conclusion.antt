@@ -11,15 +11,12 @@ use Rattle.std.proofs.lemmas.List.Elements.{All-contains, Contains-get_or}
 use Rattle.std.proofs.lemmas.List.Folds.{flat_map-map}
 use Rattle.std.proofs.lemmas.List.Sorted.{IsPermutation-sym, IsPermutation-trans, IsPermutation-append_left, IsPermutation-map, IsPermutation-filter_both}
 use Rattle.scq_topics.specs.declared.kind.Kind.{Kind}
-use Rattle.scq_frames.specs.Parts.{Part}
-use Rattle.scq_collect.specs.Joined.{PartAnswer, part_answer, without_way}
+use Rattle.scq_frames.specs.Exports.{Part}
+use Rattle.scq_collect.specs.Exports.{PartAnswer, part_answer, without_way}
 use Rattle.scq_collect.specs.declared.answered.Answered.{Answered}
-use Rattle.scq_queue.specs.Lists.{Placed, sends_of, takes_of}
-use Rattle.scq_queue.specs.Passes.{PassStanding}
-use Rattle.scq_queue.specs.Closing.{EachTakeIsASend}
-use Rattle.scq_worker.specs.Members.{is_taken, is_direct, AnswersItsTakes, GotParts}
-use Rattle.scq_passes.specs.Together.{all_sends, all_takes, SendsAreTakes}
-use Rattle.scq_worker.specs.Working.{HasListedAll}
+use Rattle.scq_queue.specs.Exports.{Placed, sends_of, takes_of, PassStanding, EachTakeIsASend}
+use Rattle.scq_worker.specs.Exports.{is_taken, is_direct, AnswersItsTakes, GotParts, HasListedAll}
+use Rattle.scq_passes.specs.Exports.{all_sends, all_takes, SendsAreTakes}
 use Rattle.scq_work.proofs.AllAnswered.{answers_at, send-parts, taken-answers, work-answers}
 use Rattle.scq_work.proofs.FlatLists.{flat-permutation}
 use Rattle.scq_passes.proofs.ManyLists.{flat-map, found-at, from-all, in-all, stands-at, together}

@@ -8,21 +8,17 @@ use Rattle.std.proofs.lemmas.Grind.{flat_map-append}
 use Rattle.std.proofs.lemmas.List.{append_assoc, get_or-map, length-map}
 use Rattle.std.proofs.lemmas.List.Elements.{Contains-get_or}
 use Rattle.scq_topics.specs.declared.kind.Kind.{Kind}
-use Rattle.scq_topics.specs.Topics.{topic_of}
+use Rattle.scq_topics.specs.Exports.{topic_of}
 use Rattle.scq_frames.specs.declared.message.Message.{Message}
-use Rattle.scq_frames.specs.Numbered.{numbered}
-use Rattle.scq_frames.specs.Parts.{Part, IsNumbered, all_parts, part_of, parts_of}
-use Rattle.scq_frames.specs.Text.{messages_of}
+use Rattle.scq_frames.specs.Exports.{numbered, Part, IsNumbered, all_parts, part_of, parts_of, messages_of}
 use Rattle.scq_collect.specs.declared.answered.Answered.{Answered}
-use Rattle.scq_collect.specs.Collected.{messages_to}
-use Rattle.scq_collect.specs.Joined.{AreWhole, PartAnswer, part_answer, part_answers, without_way}
-use Rattle.scq_collect.specs.Merging.{AreApart, IsBefore, StandInOrder, position_of_part}
+use Rattle.scq_collect.specs.Exports.{messages_to, AreWhole, PartAnswer, part_answer, part_answers, without_way, AreApart, IsBefore, StandInOrder}
+use Rattle.scq_collect.specs.Exports.{position_of_part}
 use Rattle.scq_collect.proofs.Orders.{ascends}
 use Rattle.scq_desk.proofs.Apart.{apart-shown}
-use Rattle.scq_files.specs.Reading.{AreOf}
-use Rattle.scq_files.specs.Ends.{AreGiven, all_left, messages_in}
+use Rattle.scq_files.specs.Exports.{AreOf, AreGiven, all_left, messages_in}
 use Rattle.scq_files.proofs.GivenLemmas.{given-told}
-use Rattle.scq_worker.specs.Passing.{parts_in}
+use Rattle.scq_worker.specs.Exports.{parts_in}
 use Rattle.scq_work.proofs.PartMembers.{IsPartOf, has-part, same-place, part-of-member, member-of-part}
 use Rattle.scq_passes.proofs.ManyLists.{found-at, in-all}
 

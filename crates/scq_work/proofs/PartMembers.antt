@@ -8,12 +8,11 @@ use Rattle.std.proofs.lemmas.List.FromFn.{length-map-range_with_len, get_or-map-
 use Rattle.std.proofs.lemmas.List.Sorted.{IsPermutation-sym, Contains-permutation}
 use Rattle.scq_topics.specs.declared.kind.Kind.{Kind}
 use Rattle.scq_frames.specs.declared.message.Message.{Message}
-use Rattle.scq_frames.specs.Parts.{Part, IsNumbered, all_parts, part_of, parts_of}
+use Rattle.scq_frames.specs.Exports.{Part, IsNumbered, all_parts, part_of, parts_of}
 use Rattle.scq_collect.specs.declared.answered.Answered.{Answered}
-use Rattle.scq_collect.specs.Joined.{PartAnswer, part_answer, part_answers, without_way}
-use Rattle.scq_collect.specs.Merging.{IsBefore}
+use Rattle.scq_collect.specs.Exports.{PartAnswer, part_answer, part_answers, without_way, IsBefore}
 use Rattle.scq_collect.proofs.Orders.{Ascends, contains-cases, contains-first, contains-more, not-before-itself}
-use Rattle.scq_worker.specs.Passing.{parts_in}
+use Rattle.scq_worker.specs.Exports.{parts_in}
 use Rattle.scq_passes.proofs.ManyLists.{found-at, stands-at, from-all, in-all}
 
 -- what stands in a mapped list

@@ -5,8 +5,8 @@ use Rattle.std.specs.List.Sorted.{IsPermutation}
 use Rattle.std.proofs.lemmas.Bool.{eq-eqb, eqb-true}
 use Rattle.std.proofs.lemmas.List.Elements.{filter-append}
 use Rattle.std.proofs.lemmas.List.Sorted.{IsPermutation-refl, IsPermutation-sym, IsPermutation-trans, IsPermutation-cons, IsPermutation-middle}
-use Rattle.scq_frames.specs.Parts.{Part}
-use Rattle.scq_worker.specs.Passing.{AreBatchesOf, parts_among, parts_on}
+use Rattle.scq_frames.specs.Exports.{Part}
+use Rattle.scq_worker.specs.Exports.{AreBatchesOf, parts_among, parts_on}
 
 -- a part on a topic, and one on another
 kept : (topic : ℕ) (p : Part) (ps : List Part) → (p.topic == topic) ≡ true → parts_on topic (p ∷ ps) ≡ p ∷ parts_on topic ps

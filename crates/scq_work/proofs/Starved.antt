@@ -2,10 +2,9 @@
 use Rattle.std.proofs.Common.{◌≡◌, refl, sym, ap, subst, inl, ℕ, List, [], length, Option, Some, None, Err}
 use Rattle.std.specs.Prelude.{slice_index_or}
 use Rattle.std.specs.Option.{option_map}
-use Rattle.scq_files.specs.Ends.{HasMoved}
-use Rattle.scq_files.specs.Reading.{SourceOf}
+use Rattle.scq_files.specs.Exports.{HasMoved, SourceOf}
 use Rattle.scq_files.proofs.ReadLemmas.{stops-unread}
-use Rattle.scq_work.specs.Ends.{EndsWork}
+use Rattle.scq_work.specs.Exports.{EndsWork}
 use Rattle.scq_work.specs.declared.worked.Worked.{Worked}
 use Rattle.scq_desk.specs.declared.end.End.{End}
 use Rattle.scq_desk.specs.declared.fault.EndFault.TheVariants.{NoMemory}

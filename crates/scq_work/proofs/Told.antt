@@ -3,8 +3,8 @@ use Rattle.std.proofs.Common.{◌≡◌, subst, ℕ, List, Option, Some, None}
 use Rattle.std.specs.Prelude.{IfSome}
 use Rattle.scq_topics.specs.declared.kind.Kind.{Kind}
 use Rattle.scq_frames.specs.declared.message.Message.{Message}
-use Rattle.scq_files.specs.Ends.{messages_in}
-use Rattle.scq_work.specs.AllWorkers.{HasWorked}
+use Rattle.scq_files.specs.Exports.{messages_in}
+use Rattle.scq_work.specs.Exports.{HasWorked}
 use Rattle.scq_work.specs.declared.worked.Worked.{Worked}
 
 -- where the bytes of all files are visible, the work is done on their contents

@@ -5,22 +5,17 @@ use Rattle.std.specs.Prelude.{◌≡◌, ℕ, ◌^◌, ◌≤◌, List, Some, le
 use Rattle.std.specs.List.Sorted.{IsPermutation}
 use Rattle.scq_topics.specs.declared.kind.Kind.{Kind}
 use Rattle.scq_frames.specs.declared.message.Message.{Message}
-use Rattle.scq_collect.specs.Joined.{AreWhole, part_answers, without_way}
-use Rattle.scq_collect.specs.Merging.{members_of}
+use Rattle.scq_collect.specs.Exports.{AreWhole, part_answers, without_way, members_of}
 use Rattle.scq_collect.specs.declared.answered.Answered.{Answered}
 use Rattle.scq_word.specs.declared.setup.Setup.{Setup}
 use Rattle.scq_block.specs.declared.frame.Frame.{Frame}
-use Rattle.scq_block.specs.Frames.{IsSame, bytes_of}
-use Rattle.scq_queue.specs.Lists.{takes_of}
-use Rattle.scq_queue.specs.Passes.{PassStanding}
-use Rattle.scq_files.specs.Files.{own_of}
+use Rattle.scq_block.specs.Exports.{IsSame, bytes_of}
+use Rattle.scq_queue.specs.Exports.{takes_of, PassStanding}
+use Rattle.scq_files.specs.Exports.{own_of}
 use Rattle.scq_work.specs.declared.worked.Worked.{Worked}
-use Rattle.scq_worker.specs.Members.{AnswersItsTakes}
-use Rattle.scq_worker.specs.Passing.{parts_in}
-use Rattle.scq_worker.specs.Working.{HasListedAll}
-use Rattle.scq_passes.specs.Records.{HelpsAfterEachFull, HelpsOnceAfterEachFull}
-use Rattle.scq_passes.specs.Together.{HasRetired}
-use Rattle.scq_passes.specs.AllPasses.{IsSetup, HaveShared, lengths_of}
+use Rattle.scq_worker.specs.Exports.{AnswersItsTakes, parts_in, HasListedAll}
+use Rattle.scq_passes.specs.Exports.{HelpsAfterEachFull, HelpsOnceAfterEachFull, HasRetired}
+use Rattle.scq_passes.specs.Exports.{IsSetup, HaveShared, lengths_of}
 
 module _ {B : Type 0} where
   -- P holds of each worker's number, pass and answers

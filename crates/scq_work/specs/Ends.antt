@@ -4,16 +4,14 @@ use Rattle.std.specs.Prelude.{◌≡◌, ℕ, ◌+◌, ◌<◌, List, length, ma
 use Rattle.std.specs.Prelude.{None, IfOk, IfErr, IfSome, IsErrOf, IsSomeAnd, OnOk}
 use Rattle.std.specs.List.Sorted.{IsPermutation}
 use Rattle.scq_frames.specs.declared.message.Message.{Message}
-use Rattle.scq_collect.specs.Collected.{messages_to}
-use Rattle.scq_collect.specs.Joined.{part_answers, without_way}
-use Rattle.scq_collect.specs.Merging.{members_of}
-use Rattle.scq_files.specs.Ends.{AreGiven, HasMoved, StopsAtFaults, all_left, messages_in}
-use Rattle.scq_files.specs.Reading.{IsWhole, SourceOf}
+use Rattle.scq_collect.specs.Exports.{messages_to, part_answers, without_way, members_of}
+use Rattle.scq_files.specs.Exports.{AreGiven, HasMoved, StopsAtFaults, all_left, messages_in}
+use Rattle.scq_files.specs.Exports.{IsWhole, SourceOf}
 use Rattle.scq_work.specs.AllWorkers.{HasWorked, NothingIsStranded}
 use Rattle.scq_worker.specs.declared.job.Job.{Job}
 use Rattle.scq_work.specs.declared.worked.Worked.{Worked}
 use Rattle.scq_desk.specs.declared.end.End.{End}
-use Rattle.scq_desk.specs.Faults.{HasCause, MemoryIsFirst}
+use Rattle.scq_desk.specs.Exports.{HasCause, MemoryIsFirst}
 use Rattle.scq_desk.specs.declared.fault.EndFault.TheVariants.{NoMemory}
 
 -- what is known of the end of a job's work on these sources, which come back in their order in

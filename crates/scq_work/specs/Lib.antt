@@ -1,2 +1,3 @@
 pub mod AllWorkers
 pub mod Ends
+pub mod Exports

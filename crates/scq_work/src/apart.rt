@@ -1,12 +1,10 @@
 //! Workers that leave early in place of waiting.
 ghost use Rattle.std.specs.Prelude.{◌≡◌, ℕ, ◌+◌, ◌<◌, ◌≤◌, None, length, slice_index_or};
 ghost use Rattle.std.specs.List.{All};
-ghost use Rattle.scq_block.specs.Frames.{bytes_of};
-ghost use Rattle.scq_passes.specs.Leaving.{HasLeftSwept};
-ghost use Rattle.scq_passes.specs.Records.{IsReturn};
-ghost use Rattle.scq_worker.specs.Seats.{IsToBegin};
-ghost use Rattle.scq_files.specs.OwnFiles.{IsNew, ids_of};
-ghost use Rattle.scq_worker.specs.Desks.{HasRunAt};
+ghost use Rattle.scq_block.specs.Exports.{bytes_of};
+ghost use Rattle.scq_passes.specs.Exports.{HasLeftSwept, IsReturn};
+ghost use Rattle.scq_worker.specs.Exports.{IsToBegin, HasRunAt};
+ghost use Rattle.scq_files.specs.Exports.{IsNew, ids_of};
 
 use scq_block::Frame;
 use scq_files::work_apart;

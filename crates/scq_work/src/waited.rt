@@ -2,14 +2,13 @@
 ghost use Rattle.std.specs.Prelude.{◌≡◌, ◌+◌, ◌^◌, ◌≤◌, None, length, vec_len, IfOk, IfSome};
 ghost use Rattle.std.specs.Prelude.{IsErrOf, IsSome, IsSomeAnd, OnSome};
 ghost use Rattle.std.specs.List.{All};
-ghost use Rattle.scq_block.specs.Blocks.{AreAllOf};
-ghost use Rattle.scq_queue.specs.Passes.{first_passes};
+ghost use Rattle.scq_block.specs.Exports.{AreAllOf};
+ghost use Rattle.scq_queue.specs.Exports.{first_passes};
 ghost use Rattle.scq_work.specs.Ends.{EndsWork};
-ghost use Rattle.scq_desk.specs.Rooms.{IsRoomFor};
-ghost use Rattle.scq_park.specs.Crews.{first_posts};
-ghost use Rattle.scq_rest.specs.Resting.{HasRoom};
-ghost use Rattle.scq_rest.specs.Waiting.{HaveWaited};
-ghost use Rattle.scq_worker.specs.Opening.{takes_behind};
+ghost use Rattle.scq_desk.specs.Exports.{IsRoomFor};
+ghost use Rattle.scq_park.specs.Exports.{first_posts};
+ghost use Rattle.scq_rest.specs.Exports.{HasRoom, HaveWaited};
+ghost use Rattle.scq_worker.specs.Exports.{takes_behind};
 
 use crate::WorkEnd;
 use crate::winding::wind_up;

@@ -2,12 +2,12 @@
 ghost use Rattle.std.specs.Prelude.{◌≡◌, ℕ, ◌+◌, ◌^◌, ◌<◌, ◌≤◌, length, map};
 ghost use Rattle.std.specs.Prelude.{slice_index_or, IfSome, IsSome};
 ghost use Rattle.std.specs.List.{All};
-ghost use Rattle.scq_block.specs.Blocks.{AreAllOf};
-ghost use Rattle.scq_queue.specs.Passes.{was_told};
-ghost use Rattle.scq_files.specs.Desks.{AreDealt};
-ghost use Rattle.scq_desk.specs.Rooms.{IsLaid};
-ghost use Rattle.scq_worker.specs.Desks.{HasRunAt};
-ghost use Rattle.scq_work.specs.Ends.{EndsWork};
+ghost use Rattle.scq_block.specs.Exports.{AreAllOf};
+ghost use Rattle.scq_queue.specs.Exports.{was_told};
+ghost use Rattle.scq_files.specs.Exports.{AreDealt};
+ghost use Rattle.scq_desk.specs.Exports.{IsLaid};
+ghost use Rattle.scq_worker.specs.Exports.{HasRunAt};
+ghost use Rattle.scq_work.specs.Exports.{EndsWork};
 
 use crate::{WorkEnd, Worked};
 use scq_block::{Block, Frame};

@@ -1,9 +1,8 @@
 //! The work of all workers together.
 ghost use Rattle.std.specs.Prelude.{◌≡◌, ◌+◌, ◌^◌, ◌≤◌, length, vec_len, IfSome};
 ghost use Rattle.std.specs.List.{All};
-ghost use Rattle.scq_block.specs.Frames.{bytes_of};
-ghost use Rattle.scq_passes.specs.Leaving.{HasLeftSwept};
-ghost use Rattle.scq_passes.specs.Records.{IsReturn};
+ghost use Rattle.scq_block.specs.Exports.{bytes_of};
+ghost use Rattle.scq_passes.specs.Exports.{HasLeftSwept, IsReturn};
 ghost use Rattle.scq_work.specs.Ends.{EndsWork};
 
 use crate::WorkEnd;

@@ -3,10 +3,11 @@ use Rattle.std.proofs.Common.{◌≡◌, refl, sym, ◌∙◌, ap, subst, suc, �
 use Rattle.std.proofs.lemmas.List.{append_assoc, append-nil}
 use Rattle.scq_core.specs.declared.ended.Ended.{Ended}
 use Rattle.scq_core.specs.declared.ended.Ended.TheVariants.{Done, Got, Nothing}
-use Rattle.scq_frames.specs.Parts.{Part}
-use Rattle.scq_queue.specs.Lists.{sent_by}
-use Rattle.scq_passes.specs.Records.{AreTakesFollowed, IsReturn, none, and_got, and_found_none}
-use Rattle.scq_worker.specs.Passing.{Sends, FollowsCalls, by_send, by_other}
+use Rattle.scq_frames.specs.Exports.{Part}
+use Rattle.scq_queue.specs.Exports.{sent_by}
+use Rattle.scq_passes.specs.Exports.{AreTakesFollowed, IsReturn, and_got, and_found_none}
+use Rattle.scq_passes.specs.Records.{none}
+use Rattle.scq_worker.specs.Exports.{Sends, FollowsCalls, by_send, by_other}
 
 -- a batch was sent
 pub follows-sent : (bs : List (List Part)) (b : List Part) (xs : List Ended) (from topic place : ℕ) (over bytes : List ℕ) → FollowsCalls bs xs

@@ -7,13 +7,9 @@ use Rattle.std.proofs.lemmas.Grind.{flat_map-append}
 use Rattle.std.proofs.lemmas.List.{append-nil, length-append, map-append, length-set, get_or-set_same, get_or-set_other}
 use Rattle.std.proofs.lemmas.List.Elements.{filter-append, All-nil, All-push}
 use Rattle.std.proofs.lemmas.List.Sums.{length-filter, sum_by-append}
-use Rattle.scq_frames.specs.Parts.{Part}
-use Rattle.scq_frames.specs.Encoded.{IsEncodable, message_bytes}
-use Rattle.scq_frames.specs.Batches.{batch_bytes}
+use Rattle.scq_frames.specs.Exports.{Part, IsEncodable, message_bytes, batch_bytes}
 use Rattle.scq_frames.proofs.BatchLemmas.{length-message_bytes}
-use Rattle.scq_worker.specs.Opening.{open_on, IsOpen, AreOpen, NoneIsOpen, PartsAreGathered}
-use Rattle.scq_worker.specs.Members.{IsBatch}
-use Rattle.scq_worker.specs.Passing.{parts_among, parts_on, AreBatchesOf}
+use Rattle.scq_worker.specs.Exports.{open_on, IsOpen, AreOpen, NoneIsOpen, PartsAreGathered, IsBatch, parts_among, parts_on, AreBatchesOf}
 
 -- those on their topic are all of them, and on another there are none
 on-own : (t : ℕ) (b : List Part) → All (λ p. p.topic ≡ t) b → parts_on t b ≡ b

@@ -3,16 +3,13 @@ use Rattle.std.proofs.Common.{◌≡◌, refl, sym, ◌∙◌, ap, subst, arith,
 use Rattle.std.specs.Prelude.{IfErr, OnOk}
 use Rattle.std.proofs.lemmas.List.{append-nil, length-append}
 use Rattle.scq_topics.specs.declared.kind.Kind.{Kind}
-use Rattle.scq_frames.specs.Parts.{Part}
-use Rattle.scq_park.specs.Crews.{Post}
-use Rattle.scq_band.specs.Standing.{Identity}
-use Rattle.scq_queue.specs.Passes.{HeldStanding, PassStanding}
-use Rattle.scq_passes.specs.Calls.{Suits}
-use Rattle.scq_passes.specs.Waiting.{HelpsInVain}
-use Rattle.scq_worker.specs.Bells.{RingsOn}
-use Rattle.scq_worker.specs.Opening.{PartsAreGathered, AreOpen, open_on, takes_behind}
-use Rattle.scq_worker.specs.Reading.{KeepsCalling, goes-along, HasGathered, HasPassedOn, HasStoppedBehind, HasStoppedIn, IsSameWorker, IsWorking}
-use Rattle.scq_worker.specs.Sweeping.{HasTakenAll, KeepsItsOwn}
+use Rattle.scq_frames.specs.Exports.{Part}
+use Rattle.scq_park.specs.Exports.{Post}
+use Rattle.scq_band.specs.Exports.{Identity}
+use Rattle.scq_queue.specs.Exports.{HeldStanding, PassStanding}
+use Rattle.scq_passes.specs.Exports.{Suits, HelpsInVain}
+use Rattle.scq_worker.specs.Exports.{RingsOn, PartsAreGathered, AreOpen, open_on, takes_behind, KeepsCalling, goes-along, HasGathered, HasPassedOn}
+use Rattle.scq_worker.specs.Exports.{HasStoppedBehind, HasStoppedIn, IsSameWorker, IsWorking, HasTakenAll, KeepsItsOwn}
 use Rattle.scq_worker.specs.declared.job.Job.{Job}
 use Rattle.scq_worker.specs.declared.worker.Worker.{Worker}
 use Rattle.scq_passes.proofs.PassLemmas.{taken-along, taken-nothing}

@@ -4,8 +4,6 @@ use Rattle.std.specs.List.{All}
 use Rattle.std.proofs.lemmas.List.{append-nil, length-take}
 use Rattle.std.proofs.lemmas.List.Elements.{All-nil, All-push}
 use Rattle.scq_frames.specs.declared.message.Message.{Message}
-use Rattle.scq_frames.specs.Batches.{parts_at}
-use Rattle.scq_frames.specs.Encoded.{IsEncodable, BeginsWith, message_bytes}
-use Rattle.scq_frames.specs.Parts.{Part, IsNumbered, parts_of, part_of, part_bytes}
+use Rattle.scq_frames.specs.Exports.{parts_at, IsEncodable, BeginsWith, message_bytes, Part, IsNumbered, parts_of, part_of, part_bytes}
 use Rattle.scq_frames.proofs.PayloadParts.{few-parts}
-use Rattle.scq_worker.specs.Members.{CarriesParts}
+use Rattle.scq_worker.specs.Exports.{CarriesParts}

@@ -7,12 +7,13 @@ use Rattle.std.proofs.lemmas.Grind.{flat_map-append}
 use Rattle.std.proofs.lemmas.List.{append-nil}
 use Rattle.std.proofs.lemmas.List.Elements.{filter-append, recursion_from_All}
 use Rattle.scq_topics.specs.declared.kind.Kind.{Kind}
-use Rattle.scq_frames.specs.Parts.{Part}
+use Rattle.scq_frames.specs.Exports.{Part}
 use Rattle.scq_collect.specs.declared.answered.Answered.{Answered}
 use Rattle.scq_collect.specs.declared.answered.Way.{Way}
 use Rattle.scq_collect.specs.declared.answered.Way.TheVariants.{Taken, Direct}
-use Rattle.scq_queue.specs.Lists.{Placed}
-use Rattle.scq_worker.specs.Members.{answered, answers_from, answers_by, answers_to_take, answers_to_takes, numbered_way, is_taken, is_direct, AnswersSoFar}
+use Rattle.scq_queue.specs.Exports.{Placed}
+use Rattle.scq_worker.specs.Exports.{answered, answers_from, answers_by, answers_to_take, answers_to_takes, numbered_way, is_taken, is_direct}
+use Rattle.scq_worker.specs.Exports.{AnswersSoFar}
 
 module _ (topics : List (List ℕ × Kind)) where
   -- a test of ways that these answers all pass, and one that none does

@@ -5,9 +5,9 @@ use Rattle.std.specs.List.{All, range_with_len}
 use Rattle.std.proofs.lemmas.Grind.{flat_map-append}
 use Rattle.std.proofs.lemmas.List.Elements.{All-nil, All-append, All-map}
 use Rattle.scq_frames.specs.declared.message.Message.{Message}
-use Rattle.scq_frames.specs.Parts.{Part, all_parts, part_of, parts_of}
-use Rattle.scq_files.specs.Files.{is_of, own_of}
-use Rattle.scq_worker.specs.Passing.{parts_in}
+use Rattle.scq_frames.specs.Exports.{Part, all_parts, part_of, parts_of}
+use Rattle.scq_files.specs.Exports.{is_of, own_of}
+use Rattle.scq_worker.specs.Exports.{parts_in}
 use Rattle.std.proofs.lemmas.List.Folds.{flat_map-map}
 
 -- they are on the topics of their messages

@@ -3,18 +3,14 @@ use Rattle.std.proofs.Common.{◌≡◌, sym, ◌∙◌, ap, subst, arith, suc, 
 use Rattle.std.specs.Prelude.{count_by, IfSome, IsSome}
 use Rattle.std.proofs.lemmas.List.{length-append}
 use Rattle.scq_topics.specs.declared.kind.Kind.{Kind}
-use Rattle.scq_frames.specs.Parts.{Part}
+use Rattle.scq_frames.specs.Exports.{Part}
 use Rattle.scq_collect.specs.declared.answered.Answered.{Answered}
 use Rattle.scq_collect.specs.declared.answered.Way.TheVariants.{Direct}
-use Rattle.scq_band.specs.Standing.{Identity}
-use Rattle.scq_queue.specs.Passes.{PassStanding, HeldStanding, WasLent, after_spent_put, having_seen}
-use Rattle.scq_passes.specs.Records.{is_take}
-use Rattle.scq_worker.specs.Members.{answered}
-use Rattle.scq_passes.specs.Calls.{Suits, HasTaken, HasFoundFull, HasLeft, HasFewCalls, index_of}
-use Rattle.scq_worker.specs.Opening.{open_on}
-use Rattle.scq_worker.specs.Reading.{IsWorking}
+use Rattle.scq_band.specs.Exports.{Identity}
+use Rattle.scq_queue.specs.Exports.{PassStanding, HeldStanding, WasLent, after_spent_put, having_seen}
+use Rattle.scq_passes.specs.Exports.{is_take, Suits, HasTaken, HasFoundFull, HasLeft, HasFewCalls, index_of}
+use Rattle.scq_worker.specs.Exports.{answered, open_on, IsWorking, HasSent, HasAnswered, HasListed, HasPassed, HasStopped}
 use Rattle.scq_worker.specs.declared.worker.Worker.{Worker}
-use Rattle.scq_worker.specs.Working.{HasSent, HasAnswered, HasListed, HasPassed, HasStopped}
 use Rattle.scq_passes.proofs.LeftLemmas.{left-at-send}
 use Rattle.scq_passes.proofs.Kept.{few_calls-full, few_calls-taken}
 use Rattle.scq_worker.proofs.Gathered.{gathered-same}

@@ -2,21 +2,13 @@
 use Rattle.std.proofs.Common.{◌≡◌, sym, ◌∙◌, ap, subst, arith, ℕ, ◌+◌, ◌<◌, List, [], length, Option, Some, None, Bool}
 use Rattle.scq_topics.specs.declared.kind.Kind.{Kind}
 use Rattle.scq_collect.specs.declared.answered.Answered.{Answered}
-use Rattle.scq_band.specs.Standing.{Identity}
-use Rattle.scq_queue.specs.Passes.{PassStanding, HeldStanding, first_pass, known_on}
-use Rattle.scq_files.specs.OwnFiles.{StopsAtAFault, all_given}
-use Rattle.scq_files.specs.Reading.{SourceOf}
-use Rattle.scq_worker.specs.Desks.{IsToSweep, HasProduced, HasRun}
-use Rattle.scq_worker.specs.Opening.{takes_behind}
-use Rattle.scq_worker.specs.Passing.{parts_in}
-use Rattle.scq_passes.specs.Leaving.{HasLeftSwept, HasSweptLast}
-use Rattle.scq_passes.specs.Records.{IsReturn}
-use Rattle.scq_passes.specs.Waiting.{HelpsInVain}
-use Rattle.scq_passes.specs.Calls.{Suits, HasTaken, HasLeft, after_retire}
-use Rattle.scq_worker.specs.Working.{HasAnswered, IsAtWork, HasStopped}
+use Rattle.scq_band.specs.Exports.{Identity}
+use Rattle.scq_queue.specs.Exports.{PassStanding, HeldStanding, first_pass, known_on}
+use Rattle.scq_files.specs.Exports.{StopsAtAFault, all_given, SourceOf}
+use Rattle.scq_worker.specs.Exports.{IsToSweep, HasProduced, HasRun, takes_behind, parts_in, HasAnswered, IsAtWork, HasStopped, Seated}
+use Rattle.scq_worker.specs.Exports.{HasAnsweredAll}
+use Rattle.scq_passes.specs.Exports.{HasLeftSwept, HasSweptLast, IsReturn, HelpsInVain, Suits, HasTaken, HasLeft, after_retire}
 use Rattle.scq_files.specs.declared.own_file.OwnFile.{OwnFile}
-use Rattle.scq_worker.specs.Seats.{Seated}
-use Rattle.scq_worker.specs.Sweeping.{HasAnsweredAll}
 use Rattle.scq_worker.specs.declared.job.Job.{Job}
 use Rattle.scq_worker.specs.declared.worker.Worker.{Worker}
 use Rattle.scq_worker.proofs.RunLemmas.{AllRead, run-left, run-late, run-stopped}

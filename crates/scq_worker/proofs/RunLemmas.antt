@@ -5,23 +5,17 @@ use Rattle.std.specs.List.{All}
 use Rattle.scq_core.specs.declared.ended.Ended.{Ended}
 use Rattle.scq_core.specs.declared.ended.Ended.TheVariants.{Nothing}
 use Rattle.scq_topics.specs.declared.kind.Kind.{Kind}
-use Rattle.scq_frames.specs.Parts.{Part}
+use Rattle.scq_frames.specs.Exports.{Part}
 use Rattle.scq_collect.specs.declared.answered.Answered.{Answered}
-use Rattle.scq_band.specs.Standing.{Identity}
+use Rattle.scq_band.specs.Exports.{Identity}
 use Rattle.scq_band.proofs.Opening.{numbers_length}
-use Rattle.scq_queue.specs.Passes.{PassStanding, HeldStanding, first_pass, known_on}
-use Rattle.scq_files.specs.OwnFiles.{StopsAtAFault, all_given}
-use Rattle.scq_worker.specs.Desks.{HasRun}
-use Rattle.scq_files.specs.Given.{given_in}
+use Rattle.scq_queue.specs.Exports.{PassStanding, HeldStanding, first_pass, known_on}
+use Rattle.scq_files.specs.Exports.{StopsAtAFault, all_given, given_in, IsRead, SourceOf}
+use Rattle.scq_worker.specs.Exports.{HasRun, no_call, parts_in, PartsAreGathered, HasAnswered, IsSweeping, HasPassed, IsAtWork, HasStopped}
 use Rattle.scq_passes.specs.PassedOn as passing
-use Rattle.scq_worker.specs.Passing.{no_call, parts_in}
-use Rattle.scq_passes.specs.Records.{HelpsOnceAfterEachFull}
+use Rattle.scq_passes.specs.Exports.{HelpsOnceAfterEachFull, Suits, HasTaken, HasLeft, HasFewCalls, index_of, after_retire}
 use Rattle.scq_passes.proofs.Blocks.{returns}
 use Rattle.scq_passes.proofs.Retired.{retired-taken}
-use Rattle.scq_files.specs.Reading.{IsRead, SourceOf}
-use Rattle.scq_passes.specs.Calls.{Suits, HasTaken, HasLeft, HasFewCalls, index_of, after_retire}
-use Rattle.scq_worker.specs.Opening.{PartsAreGathered}
-use Rattle.scq_worker.specs.Working.{HasAnswered, IsSweeping, HasPassed, IsAtWork, HasStopped}
 use Rattle.scq_files.specs.declared.own_file.OwnFile.{OwnFile}
 use Rattle.scq_passes.proofs.Kept.{swept, few_calls-taken}
 use Rattle.scq_worker.proofs.Gathered.{batches-of, few-batches, gathered-first}

@@ -1,15 +1,12 @@
 -- Whom a worker has woken, after a send and after a Full.
 use Rattle.std.proofs.Common.{◌≡◌, ◌∙◌, sym, ap, subst, arith, ℕ, ◌+◌, suc, zero, refl, List, [], ◌∷◌, length, if◌then◌else◌, Bool, true, false, ◌==◌}
 use Rattle.std.proofs.lemmas.List.{length-append}
-use Rattle.scq_frames.specs.Parts.{Part}
+use Rattle.scq_frames.specs.Exports.{Part}
 use Rattle.scq_passes.proofs.Kept.{taken-sends, sent-sends, placed, full-sends}
-use Rattle.scq_passes.specs.Calls.{HasTaken, HasFoundFull, after_retire}
-use Rattle.scq_queue.specs.Lists.{sends_of}
-use Rattle.scq_band.specs.Standing.{Identity}
-use Rattle.scq_queue.specs.Passes.{PassStanding, first_pass}
-use Rattle.scq_worker.specs.Bells.{next_of, woken_once_more, more_often, others_more, RingsEachSend, RingsOn, HasRung}
-use Rattle.scq_worker.specs.Passing.{Sends}
-use Rattle.scq_worker.specs.Working.{HasSent}
+use Rattle.scq_passes.specs.Exports.{HasTaken, HasFoundFull, after_retire}
+use Rattle.scq_queue.specs.Exports.{sends_of, PassStanding, first_pass}
+use Rattle.scq_band.specs.Exports.{Identity}
+use Rattle.scq_worker.specs.Exports.{next_of, woken_once_more, more_often, others_more, RingsEachSend, RingsOn, HasRung, Sends, HasSent}
 
 module _ {B : Type 0} (number workers : ℕ) where
   -- a batch was sent, and the next worker woken; then topics were taken from

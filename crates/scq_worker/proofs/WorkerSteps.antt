@@ -9,20 +9,16 @@ use Rattle.std.proofs.lemmas.List.Sums.{sum_by-append}
 use Rattle.std.proofs.lemmas.Slice.Zip.{all_zipped_more}
 use Rattle.scq_core.specs.declared.ended.Ended.{Ended}
 use Rattle.scq_core.specs.declared.ended.Ended.TheVariants.{Done, Got, Nothing}
-use Rattle.scq_law.specs.Bounds.{tally, was_put}
+use Rattle.scq_law.specs.Exports.{tally, was_put}
 use Rattle.scq_law.proofs.Base.SeatSums.{tally-append}
 use Rattle.scq_topics.specs.declared.kind.Kind.{Kind}
-use Rattle.scq_frames.specs.Parts.{Part}
+use Rattle.scq_frames.specs.Exports.{Part}
 use Rattle.scq_collect.specs.declared.answered.Answered.{Answered}
 use Rattle.scq_collect.specs.declared.answered.Way.TheVariants.{Direct}
-use Rattle.scq_queue.specs.Lists.{sends_of, takes_of}
-use Rattle.scq_queue.specs.Passes.{PassStanding}
-use Rattle.scq_passes.specs.Records.{is_take, HelpsAfterEachFull, HelpsOnceAfterEachFull}
-use Rattle.scq_worker.specs.Members.{answered, is_taken, is_direct, AnswersSoFar, AnswersFull, AnswersItsFulls}
-use Rattle.scq_passes.specs.PassedOn.{and_sent, and_made}
-use Rattle.scq_worker.specs.Passing.{BatchesArePassedOn, Sends, FollowsCalls, by_full}
-use Rattle.scq_passes.specs.Calls.{HasTaken, HasFoundFull, HasFewCalls}
-use Rattle.scq_worker.specs.Working.{HasSent, IsProducing, IsSweeping, HasListed, HasAnswered}
+use Rattle.scq_queue.specs.Exports.{sends_of, takes_of, PassStanding}
+use Rattle.scq_passes.specs.Exports.{is_take, HelpsAfterEachFull, HelpsOnceAfterEachFull, and_sent, and_made, HasTaken, HasFoundFull, HasFewCalls}
+use Rattle.scq_worker.specs.Exports.{answered, is_taken, is_direct, AnswersSoFar, AnswersFull, AnswersItsFulls, BatchesArePassedOn, Sends}
+use Rattle.scq_worker.specs.Exports.{FollowsCalls, by_full, HasSent, IsProducing, IsSweeping, HasListed, HasAnswered}
 use Rattle.scq_passes.proofs.Kept.{at_most, taken-calls, taken-sends, sent-calls, sent-sends, sent-takes, placed, full-calls, full-sends, full-takes}
 use Rattle.scq_passes.proofs.Between.{between-sent, between-full, between-taken}
 use Rattle.scq_worker.proofs.Following.{follows-sent, follows-taken}

@@ -2,9 +2,8 @@
 use Rattle.std.proofs.Common.{subst}
 use Rattle.std.specs.Prelude.{◌≡◌, ℕ, zero, suc, ◌+◌, ◌==◌, if◌then◌else◌, List, [], length}
 use Rattle.std.specs.Prelude.{nat_lt, slice_index, slice_set}
-use Rattle.scq_park.specs.Crews.{Post, post}
-use Rattle.scq_queue.specs.Lists.{sends_of}
-use Rattle.scq_queue.specs.Passes.{PassStanding}
+use Rattle.scq_park.specs.Exports.{Post, post}
+use Rattle.scq_queue.specs.Exports.{sends_of, PassStanding}
 
 -- a stand, but for whom it woke
 abbrev pub but_wakes : Post → Post

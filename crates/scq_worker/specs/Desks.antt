@@ -4,17 +4,13 @@ use Rattle.std.specs.Prelude.{◌≡◌, ℕ, ◌+◌, false, Bool, List, [], le
 use Rattle.std.specs.Prelude.{IfSome}
 use Rattle.scq_topics.specs.declared.kind.Kind.{Kind}
 use Rattle.scq_collect.specs.declared.answered.Answered.{Answered}
-use Rattle.scq_band.specs.Standing.{Identity}
-use Rattle.scq_queue.specs.Passes.{PassStanding, HeldStanding}
-use Rattle.scq_files.specs.Given.{given_in}
-use Rattle.scq_files.specs.OwnFiles.{StopsAtAFault, all_given}
+use Rattle.scq_band.specs.Exports.{Identity}
+use Rattle.scq_queue.specs.Exports.{PassStanding, HeldStanding}
+use Rattle.scq_files.specs.Exports.{given_in, StopsAtAFault, all_given, IsRead, SourceOf}
 use Rattle.scq_worker.specs.Opening.{takes_behind}
 use Rattle.scq_worker.specs.Passing.{parts_in}
-use Rattle.scq_files.specs.Reading.{IsRead, SourceOf}
-use Rattle.scq_passes.specs.Records.{HelpsOnceAfterEachFull}
-use Rattle.scq_passes.specs.Together.{HasRetired, HasSwept}
-use Rattle.scq_passes.specs.Waiting.{HelpsInVain}
-use Rattle.scq_passes.specs.Calls.{Suits, HasFewCalls, index_of, after_retire}
+use Rattle.scq_passes.specs.Exports.{HelpsOnceAfterEachFull, HasRetired, HasSwept, HelpsInVain}
+use Rattle.scq_passes.specs.Exports.{Suits, HasFewCalls, index_of, after_retire}
 use Rattle.scq_worker.specs.Working.{IsAtWork, IsSweeping, HasListedAll}
 use Rattle.scq_files.specs.declared.desk.Desk.{Desk}
 use Rattle.scq_files.specs.declared.own_file.OwnFile.{OwnFile}

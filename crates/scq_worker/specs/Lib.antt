@@ -8,3 +8,4 @@ pub mod Sweeping
 pub mod Desks
 pub mod Seats
 pub mod Bells
+pub mod Exports

@@ -1,6 +1,6 @@
 -- What is to go in one value.
 use Rattle.std.specs.Prelude.{◌≡◌, ◌<◌, ◌≤◌, ℕ, List, [], ◌∷◌, length}
-use Rattle.scq_frames.specs.Parts.{Part, IsNumbered, parts_of, part_of}
+use Rattle.scq_frames.specs.Exports.{Part, IsNumbered, parts_of, part_of}
 use Rattle.scq_worker.specs.Opening.{IsOpen}
 use Rattle.scq_worker.specs.declared.worker.load.Load.{Load}
 use Rattle.scq_worker.specs.declared.worker.load.Load.TheVariants.{Alone, Together}

@@ -4,15 +4,13 @@ use Rattle.std.specs.Prelude.{◌≡◌, ◌⊎◌, ℕ, ◌+◌, ◌<◌, ◌�
 use Rattle.std.specs.Prelude.{List, [], ◌∷◌, ◌++◌, length, filter, flat_map}
 use Rattle.std.specs.List.{All, AllZip}
 use Rattle.scq_topics.specs.declared.kind.Kind.{Kind}
-use Rattle.scq_frames.specs.Parts.{Part}
-use Rattle.scq_frames.specs.Encoded.{IsEncodable}
-use Rattle.scq_frames.specs.Batches.{batch_bytes, parts_at}
-use Rattle.scq_collect.specs.Joined.{text_of_part}
+use Rattle.scq_frames.specs.Exports.{Part, IsEncodable, batch_bytes, parts_at}
+use Rattle.scq_collect.specs.Exports.{text_of_part}
 pub use Rattle.scq_collect.specs.Ways.{is_taken, is_direct}
 use Rattle.scq_collect.specs.declared.answered.Answered.{Answered}
 use Rattle.scq_collect.specs.declared.answered.Way.{Way}
 use Rattle.scq_collect.specs.declared.answered.Way.TheVariants.{Taken, Direct}
-use Rattle.scq_queue.specs.Lists.{Placed}
+use Rattle.scq_queue.specs.Exports.{Placed}
 
 -- the answer to this part, come by in this way
 abbrev pub answered : List (List ℕ × Kind) → Way → Part → Answered

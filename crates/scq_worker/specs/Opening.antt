@@ -2,9 +2,7 @@
 -- lie in its own memory, so that it holds no buffer meanwhile.
 use Rattle.std.specs.Prelude.{◌≡◌, ◌+◌, ◌≤◌, ℕ, Bool, List, [], ◌∷◌, ◌++◌, length, map, min}
 use Rattle.std.specs.Prelude.{if◌then◌else◌, slice_index_or, All}
-use Rattle.scq_frames.specs.Parts.{Part}
-use Rattle.scq_frames.specs.Encoded.{IsEncodable}
-use Rattle.scq_frames.specs.Batches.{batch_bytes}
+use Rattle.scq_frames.specs.Exports.{Part, IsEncodable, batch_bytes}
 use Rattle.scq_worker.specs.Members.{IsBatch}
 use Rattle.scq_worker.specs.Passing.{parts_among, parts_on}
 

@@ -6,10 +6,10 @@ use Rattle.scq_core.specs.declared.ended.Ended.{Ended}
 use Rattle.scq_core.specs.declared.ended.Ended.TheVariants.{Done, Nothing}
 use Rattle.scq_topics.specs.declared.kind.Kind.{Kind}
 use Rattle.scq_frames.specs.declared.message.Message.{Message}
-use Rattle.scq_frames.specs.Parts.{Part, all_parts}
+use Rattle.scq_frames.specs.Exports.{Part, all_parts}
 use Rattle.scq_collect.specs.declared.answered.Answered.{Answered}
 use Rattle.scq_collect.specs.declared.answered.Way.TheVariants.{Direct}
-use Rattle.scq_queue.specs.Lists.{Placed, sent_by, was_full}
+use Rattle.scq_queue.specs.Exports.{Placed, sent_by, was_full}
 use Rattle.scq_passes.specs.PassedOn as passed
 use Rattle.scq_worker.specs.Members.{answered, CarriesParts, IsBatch}
 

@@ -3,12 +3,11 @@ use Rattle.std.proofs.Common.{◌≡◌, refl, sym, ◌∙◌, subst, ℕ, ◌+�
 use Rattle.std.proofs.Common.{length, append_assoc, Option, None}
 use Rattle.std.proofs.lemmas.List.{append-nil}
 use Rattle.scq_topics.specs.declared.kind.Kind.{Kind}
-use Rattle.scq_frames.specs.Parts.{Part}
-use Rattle.scq_band.specs.Standing.{Identity}
-use Rattle.scq_park.specs.Crews.{Post}
-use Rattle.scq_queue.specs.Passes.{HeldStanding}
-use Rattle.scq_passes.specs.Calls.{Suits}
-use Rattle.scq_passes.specs.Waiting.{HelpsInVain}
+use Rattle.scq_frames.specs.Exports.{Part}
+use Rattle.scq_band.specs.Exports.{Identity}
+use Rattle.scq_park.specs.Exports.{Post}
+use Rattle.scq_queue.specs.Exports.{HeldStanding}
+use Rattle.scq_passes.specs.Exports.{Suits, HelpsInVain}
 use Rattle.scq_worker.specs.Bells.{RingsOn, rings-along}
 use Rattle.scq_worker.specs.Opening.{AreOpen, takes_behind}
 use Rattle.scq_worker.specs.Working.{IsAtWork, HasPassed, HasStopped}

@@ -1,6 +1,6 @@
 -- Workers at their desks.
 use Rattle.std.specs.Prelude.{◌≡◌, []}
-use Rattle.scq_band.specs.Standing.{Identity}
+use Rattle.scq_band.specs.Exports.{Identity}
 use Rattle.scq_desk.specs.Seats as seats
 use Rattle.scq_desk.specs.declared.seat.Seat.{Seat}
 use Rattle.scq_worker.specs.declared.worker.Worker.{Worker}

@@ -1,9 +1,8 @@
 -- What sweeps make of a worker.
 use Rattle.std.specs.Prelude.{◌≡◌, ℕ, false, List, Option}
 use Rattle.scq_topics.specs.declared.kind.Kind.{Kind}
-use Rattle.scq_queue.specs.Passes.{HeldStanding}
-use Rattle.scq_passes.specs.Calls.{HasLeft, HasTaken}
-use Rattle.scq_passes.specs.Waiting.{TookInVain}
+use Rattle.scq_queue.specs.Exports.{HeldStanding}
+use Rattle.scq_passes.specs.Exports.{HasLeft, HasTaken, TookInVain}
 use Rattle.scq_worker.specs.Working.{HasAnswered}
 use Rattle.scq_worker.specs.declared.worker.Worker.{Worker}
 

@@ -2,13 +2,12 @@
 use Rattle.std.specs.Prelude.{◌≡◌, ℕ, ◌+◌, Bool, false, List, length, filter, flat_map, Option}
 use Rattle.std.specs.Prelude.{Some, None, IfSome}
 use Rattle.scq_topics.specs.declared.kind.Kind.{Kind}
-use Rattle.scq_frames.specs.Parts.{Part}
+use Rattle.scq_frames.specs.Exports.{Part}
 use Rattle.scq_collect.specs.declared.answered.Answered.{Answered}
-use Rattle.scq_queue.specs.Lists.{sends_of, takes_of}
-use Rattle.scq_band.specs.Standing.{Identity}
-use Rattle.scq_queue.specs.Passes.{PassStanding, HeldStanding}
-use Rattle.scq_passes.specs.Records.{HelpsOnceAfterEachFull, HelpsAfterEachFull}
-use Rattle.scq_passes.specs.Calls.{HasSentSo, IsBetweenParts, HasFewCalls, index_of}
+use Rattle.scq_queue.specs.Exports.{sends_of, takes_of, PassStanding, HeldStanding}
+use Rattle.scq_band.specs.Exports.{Identity}
+use Rattle.scq_passes.specs.Exports.{HelpsOnceAfterEachFull, HelpsAfterEachFull, HasSentSo}
+use Rattle.scq_passes.specs.Exports.{IsBetweenParts, HasFewCalls, index_of}
 use Rattle.scq_worker.specs.Members.{AnswersSoFar, AnswersItsFulls, is_taken, is_direct}
 use Rattle.scq_worker.specs.Opening.{PartsAreGathered}
 use Rattle.scq_worker.specs.Passing.{AreBatchesOf, BatchesArePassedOn, FollowsCalls, Sends}

@@ -1,6 +1,6 @@
 //! Whom a worker wakes, and when.
 ghost use Rattle.std.specs.Prelude.{◌≡◌, ℕ, ◌<◌, List, [], length};
-ghost use Rattle.scq_park.specs.Crews.{Post, post};
+ghost use Rattle.scq_park.specs.Exports.{Post, post};
 ghost use Rattle.scq_worker.specs.Bells.{but_wakes, next_of, woken_once_more, others_more};
 
 use scq_park::{Crew, Stand};

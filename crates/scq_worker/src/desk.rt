@@ -1,17 +1,15 @@
 //! What a worker does at its desk: all that one thread does.
 ghost use Rattle.std.specs.Prelude.{◌≡◌, ◌≤◌, ◌+◌, [], length, None, IfErr, OnOk, All};
-ghost use Rattle.scq_block.specs.Frames.{bytes_of};
-ghost use Rattle.scq_files.specs.Given.{given_in};
-ghost use Rattle.scq_files.specs.OwnFiles.{IsNew, StopsAtAFault, ids_of, all_given};
-ghost use Rattle.scq_files.specs.Reading.{IsRead};
+ghost use Rattle.scq_block.specs.Exports.{bytes_of};
+ghost use Rattle.scq_files.specs.Exports.{given_in, IsNew, StopsAtAFault, ids_of, all_given};
+ghost use Rattle.scq_files.specs.Exports.{IsRead};
 ghost use Rattle.scq_worker.specs.Bells.{HasRung};
 ghost use Rattle.scq_worker.specs.Opening.{NoneIsOpen};
 ghost use Rattle.scq_worker.specs.Passing.{parts_in};
 ghost use Rattle.scq_worker.specs.Reading.{HasGathered, HasStoppedIn, IsSameWorker};
 ghost use Rattle.scq_worker.specs.Seats.{IsToBegin};
 ghost use Rattle.scq_worker.specs.Desks.{HasProducedAt, IsToSweepAt, HasRunAt};
-ghost use Rattle.scq_passes.specs.Leaving.{HasLeftSwept};
-ghost use Rattle.scq_passes.specs.Records.{IsReturn};
+ghost use Rattle.scq_passes.specs.Exports.{HasLeftSwept, IsReturn};
 
 use crate::bell::{Bell, NoBell};
 use crate::worker::{Calls, Takes, Worker};

@@ -1,5 +1,5 @@
 ghost use Rattle.std.specs.Prelude.{◌≡◌, ◌≤◌, ◌+◌, ◌^◌};
-ghost use Rattle.scq_passes.specs.Jobs.{IsJob};
+ghost use Rattle.scq_passes.specs.Exports.{IsJob};
 ghost use Rattle.scq_worker.specs.Opening.{most_together};
 
 use scq_topics::Topics;

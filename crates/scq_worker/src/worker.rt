@@ -1,22 +1,17 @@
 ghost use Rattle.std.specs.Prelude.{◌≡◌, ◌≤◌, ◌<◌, ◌+◌, ◌++◌, ◌∷◌, ◌==◌, ℕ, suc, List, true, false};
 ghost use Rattle.std.specs.Prelude.{[], length, filter, count_by, Some, None, Ok, if◌then◌else◌};
 ghost use Rattle.std.specs.Prelude.{IfOk, IfErr, IfSome, IsSome, OnOk, map, All};
-ghost use Rattle.scq_collect.specs.Joined.{text_of_part};
-ghost use Rattle.scq_frames.specs.Batches.{parts_at};
-ghost use Rattle.scq_frames.specs.Views.{part_of_view};
-ghost use Rattle.scq_queue.specs.Lists.{Placed};
-ghost use Rattle.scq_queue.specs.Passes.{IsHeldBy, after_put, after_spent_put};
-ghost use Rattle.scq_queue.specs.Passes.{having_seen};
-ghost use Rattle.scq_passes.specs.Records.{is_take};
+ghost use Rattle.scq_collect.specs.Exports.{text_of_part};
+ghost use Rattle.scq_frames.specs.Exports.{parts_at, part_of_view};
+ghost use Rattle.scq_queue.specs.Exports.{Placed, IsHeldBy, after_put, after_spent_put};
+ghost use Rattle.scq_queue.specs.Exports.{having_seen};
+ghost use Rattle.scq_passes.specs.Exports.{is_take, HasOnlyCalled, TookNothing, HasEmptied};
+ghost use Rattle.scq_passes.specs.Exports.{HasTakenFrom, TookInVain, Suits, HasTaken, HasLeft};
 ghost use Rattle.scq_worker.specs.Members.{answered, answers_by, numbered_way};
 ghost use Rattle.scq_worker.specs.Members.{is_taken, is_direct, AnswersSoFar, CarriesParts};
 ghost use Rattle.scq_worker.specs.Loads.{parts_of_load, IsLoad};
 ghost use Rattle.scq_worker.specs.Passing.{Sends};
 ghost use Rattle.scq_worker.specs.Sweeping.{HasLeftAt, HasTakenAll, KeepsItsOwn};
-ghost use Rattle.scq_passes.specs.Leaving.{HasOnlyCalled, TookNothing};
-ghost use Rattle.scq_passes.specs.Taking.{HasEmptied, HasTakenFrom};
-ghost use Rattle.scq_passes.specs.Waiting.{TookInVain};
-ghost use Rattle.scq_passes.specs.Calls.{Suits, HasTaken, HasLeft};
 ghost use Rattle.scq_worker.specs.Working.{HasAnswered};
 
 mod load;

@@ -3,12 +3,12 @@
 use Rattle.std.proofs.Common.{◌≡◌, ℕ, suc, ◌≤◌, List, [], ◌∷◌, ◌++◌, length, append-nil, append_assoc, refl, ap, sym, ◌∙◌, subst, inl, inr, arith, eq-eqb, ne_eqb}
 use Rattle.std.specs.Prelude.{◌==◌, if◌then◌else◌, Option, Some, None, slice_get}
 use Rattle.std.proofs.lemmas.Bool.{cases_eq}
-use Rattle.scq_hist.specs.Calls.{under_way, IsCall}
+use Rattle.scq_hist.specs.Exports.{under_way, IsCall}
 use Rattle.scq_hist.specs.declared.events.Call.{Call}
 use Rattle.scq_hist.specs.declared.events.Event.{Event}
 use Rattle.scq_hist.specs.declared.events.Event.TheVariants.{Start, End}
 use Rattle.scq_hist.specs.declared.events.Reply.{Reply}
-use Rattle.scq_law.specs.ShownCalls.{calls_from}
+use Rattle.scq_law.specs.Exports.{calls_from}
 use Rattle.scq_law.proofs.Aspects.GrowingHistory.{length_grown}
 use Rattle.scq_law.proofs.Aspects.RecordsShown.{pending_in}
 

@@ -3,14 +3,12 @@
 use Rattle.std.proofs.Common.{◌≡◌, ◌≢◌, ℕ, ◌+◌, inl, inr, List, [], ◌∷◌, ◌++◌, length, refl, sym, ◌∙◌, arith, eq-eqb, ne_eqb}
 use Rattle.std.specs.Prelude.{Some, None, slice_get}
 use Rattle.std.proofs.lemmas.Bool.{cases_eq}
-use Rattle.scq_hist.specs.Calls.{IsPut}
-use Rattle.scq_hist.specs.Aspects.{SuitsCall, IsLawful, IsAnswer}
+use Rattle.scq_hist.specs.Exports.{IsPut, SuitsCall, IsLawful, IsAnswer}
 use Rattle.scq_hist.specs.declared.events.Call.TheVariants.{Put, Get}
 use Rattle.scq_hist.specs.declared.events.Event.{Event}
 use Rattle.scq_hist.specs.declared.events.Event.TheVariants.{Start, End}
 use Rattle.scq_hist.specs.declared.events.Reply.{Reply}
-use Rattle.scq_core.specs.Updated.{updated}
-use Rattle.scq_core.specs.Stances.{Stance, resting, drawing, putting, landed, asking, seeking, trying, gave_up}
+use Rattle.scq_core.specs.Exports.{updated, Stance, resting, drawing, putting, landed, asking, seeking, trying, gave_up}
 use Rattle.scq_law.proofs.Aspects.GrowingHistory.{under_now, puts_now, new_at, kept_at, under_old, puts_old, puts_grown, put_grown, lawful_grown, seat_of, under_else, under_start, under_end}
 
 -- a put that the seat has under way, its latest

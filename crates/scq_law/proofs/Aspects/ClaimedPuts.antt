@@ -4,19 +4,16 @@ use Rattle.std.proofs.Common.{◌≡◌, ℕ, ◌<◌, ◌≤◌, ◌⊎◌, inl
 use Rattle.std.specs.Prelude.{Some, slice_get}
 use Rattle.std.proofs.lemmas.Bool.{cases_lt}
 use Rattle.scq_word.specs.declared.setup.Setup.{Setup}
-use Rattle.scq_core.specs.Table.{ring_slots}
-use Rattle.scq_hist.specs.Calls.{IsCall, Names, IsGot, IsGetOf}
-use Rattle.scq_hist.specs.Aspects.{IsFresh, IsOnce, IsBegun, IsClaimed, AllClaimed}
+use Rattle.scq_core.specs.Exports.{ring_slots, trying}
+use Rattle.scq_hist.specs.Exports.{IsCall, Names, IsGot, IsGetOf, IsFresh, IsOnce, IsBegun, IsClaimed, AllClaimed}
 use Rattle.scq_hist.specs.declared.events.Call.TheVariants.{Get}
 use Rattle.scq_hist.specs.declared.events.Event as history
 use Rattle.scq_hist.specs.declared.events.Event.TheVariants.{Start, End}
 use Rattle.scq_hist.specs.declared.events.PutName.{PutName}
 use Rattle.scq_hist.specs.declared.events.PutName.TheVariants.{Opening, Of}
 use Rattle.scq_hist.specs.declared.events.Reply.TheVariants.{Got}
-use Rattle.scq_law.specs.Run.{Recorded}
-use Rattle.scq_law.specs.Places.{Maker}
+use Rattle.scq_law.specs.Exports.{Recorded, Maker}
 use Rattle.scq_law.proofs.Base.Ghosts.{Ghost, GetState, placed, unopened, opened, dead, took, is_placed}
-use Rattle.scq_core.specs.Stances.{trying}
 use Rattle.scq_law.proofs.Base.EventFacts.{stance}
 use Rattle.scq_law.proofs.Base.Based.{IsBased, based}
 use Rattle.scq_law.proofs.Places.SeatTickets.{IsRooted}

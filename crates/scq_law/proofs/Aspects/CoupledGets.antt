@@ -2,17 +2,15 @@
 -- takes there.
 use Rattle.std.proofs.Common.{◌≡◌, ◌≢◌, ℕ, ◌≤◌, inl, inr, false, List, [], ◌∷◌, ◌++◌, length, refl, ap, sym, ◌∙◌, arith}
 use Rattle.scq_word.specs.declared.setup.Setup.{Setup}
-use Rattle.scq_core.specs.Updated.{updated}
-use Rattle.scq_core.specs.Machine.{updated_entry}
+use Rattle.scq_core.specs.Exports.{updated, updated_entry, Stance, resting, seeking, trying, gave_up}
 use Rattle.scq_core.proofs.UpdatedLemmas.{updated_entry_or, updated_entry_same}
 use Rattle.scq_hist.proofs.UnderWay.{started_within}
 use Rattle.scq_hist.specs.declared.events.Event as history
 use Rattle.scq_hist.specs.declared.events.Event.TheVariants.{End}
 use Rattle.scq_hist.specs.declared.events.PutName.{PutName}
 use Rattle.scq_hist.specs.declared.events.Reply.TheVariants.{Got}
-use Rattle.scq_law.specs.Places.{Maker}
+use Rattle.scq_law.specs.Exports.{Maker}
 use Rattle.scq_law.proofs.Base.Ghosts.{Ghost, pending, placed, unopened, opened, dead, took, with_get}
-use Rattle.scq_core.specs.Stances.{Stance, resting, seeking, trying, gave_up}
 use Rattle.scq_law.proofs.Aspects.CallsUnderWay.{GetsNow, called_end, called_on, get_answer}
 use Rattle.scq_law.proofs.Aspects.PlacedPuts.{placed_grown, placed_on}
 use Rattle.scq_law.proofs.Base.BaseGroup.{updated_entry_else}

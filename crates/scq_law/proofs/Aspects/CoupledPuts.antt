@@ -4,10 +4,9 @@ use Rattle.std.proofs.Common.{◌≡◌, ℕ, ◌<◌, ◌≤◌, inl, inr, true
 use Rattle.std.specs.Prelude.{Some}
 use Rattle.std.proofs.lemmas.Bool.{cases_eq}
 use Rattle.scq_word.specs.declared.setup.Setup.{Setup}
-use Rattle.scq_core.specs.Updated.{updated}
-use Rattle.scq_core.specs.Machine.{updated_entry}
+use Rattle.scq_core.specs.Exports.{updated, updated_entry, Stance, resting, drawing, putting, landed}
 use Rattle.scq_core.proofs.UpdatedLemmas.{updated_else, updated_entry_here}
-use Rattle.scq_hist.specs.Calls.{IsPut}
+use Rattle.scq_hist.specs.Exports.{IsPut}
 use Rattle.scq_hist.proofs.Puts.{one_start}
 use Rattle.scq_hist.proofs.UnderWay.{started_within}
 use Rattle.scq_hist.specs.declared.events.Event as history
@@ -15,9 +14,8 @@ use Rattle.scq_hist.specs.declared.events.Event.TheVariants.{End}
 use Rattle.scq_hist.specs.declared.events.PutName.{PutName}
 use Rattle.scq_hist.specs.declared.events.PutName.TheVariants.{Of}
 use Rattle.scq_hist.specs.declared.events.Reply.TheVariants.{Done}
-use Rattle.scq_law.specs.Places.{call_of}
+use Rattle.scq_law.specs.Exports.{call_of}
 use Rattle.scq_law.proofs.Base.Ghosts.{Ghost, fresh, pending, failed, placed, is_placed, with_put}
-use Rattle.scq_core.specs.Stances.{Stance, resting, drawing, putting, landed}
 use Rattle.scq_law.proofs.Aspects.GrowingHistory.{under_now, under_old}
 use Rattle.scq_law.proofs.Aspects.CallsUnderWay.{PutsNow, called_end, called_on, put_answer}
 use Rattle.scq_law.proofs.Aspects.PlacedPuts.{NamesPut, Landing, placed_grown, placed_on, placed_drawn, placed_laid}

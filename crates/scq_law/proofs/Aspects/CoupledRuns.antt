@@ -5,24 +5,20 @@ use Rattle.std.specs.Prelude.{nat_le, nat_lt, ◌&&◌, ◌==◌, Some, None, sl
 use Rattle.std.proofs.lemmas.Bool.{cases_Bool, cases_eq, and_parts, and_from}
 use Rattle.std.proofs.lemmas.Option.{slice_get-get_or}
 use Rattle.scq_word.specs.declared.setup.Setup.{Setup}
-use Rattle.scq_word.specs.Sizes.{n_of}
+use Rattle.scq_word.specs.Exports.{n_of}
 use Rattle.scq_core.specs.declared.phase.Phase.{Phase}
 use Rattle.scq_core.specs.declared.phase.Phase.TheVariants.{Idle}
 use Rattle.scq_core.specs.declared.step.Step.{Step}
-use Rattle.scq_core.specs.Updated.{updated}
+use Rattle.scq_core.specs.Exports.{updated, SeatPart, read, beside, ring_slots, zero_level, turn_of, moved, location_of, Stance, resting, stance_of}
 use Rattle.scq_core.specs.declared.ended.Ended.{Ended}
-use Rattle.scq_core.specs.Machine.{SeatPart, read, beside}
-use Rattle.scq_core.specs.Table.{ring_slots, zero_level, turn_of, moved, location_of}
 use Rattle.scq_core.proofs.UpdatedLemmas.{updated_here, updated_else}
 use Rattle.scq_core.proofs.Turns.{Begins, begins_put, begins_get, begins, awake}
 use Rattle.scq_hist.specs.declared.events.Event as history
 use Rattle.scq_hist.specs.declared.events.PutName.{PutName}
 use Rattle.scq_hist.specs.declared.events.PutName.TheVariants.{Opening}
-use Rattle.scq_law.specs.Acts.{ended_in}
-use Rattle.scq_law.specs.Run.{Recorded, placer_after, starts, end_of, end_if_idle, puts_after, recorded_after, recorded_first, first_placer, name_of_none, IsRun}
-use Rattle.scq_law.specs.Places.{opening_put}
+use Rattle.scq_law.specs.Exports.{ended_in, Recorded, placer_after, starts, end_of, end_if_idle, puts_after, recorded_after, recorded_first}
+use Rattle.scq_law.specs.Exports.{first_placer, name_of_none, IsRun, opening_put}
 use Rattle.scq_law.proofs.Base.Ghosts.{Ghost, placed, is_placed, stood, start_ghost}
-use Rattle.scq_core.specs.Stances.{Stance, resting, stance_of}
 use Rattle.scq_law.proofs.Base.TicketEvents.{TicketEvent, stance_by, ended_by, event}
 use Rattle.scq_law.proofs.Base.Traces.{Trace, trace_start, trace_step, ghost_after}
 use Rattle.scq_law.proofs.Base.EventFacts.{stance}

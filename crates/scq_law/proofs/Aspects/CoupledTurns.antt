@@ -4,20 +4,18 @@ use Rattle.std.proofs.Common.{◌≡◌, ◌≢◌, ℕ, ◌+◌, ◌<◌, ◌�
 use Rattle.std.specs.Prelude.{None}
 use Rattle.std.proofs.lemmas.Bool.{cases_eq}
 use Rattle.scq_word.specs.declared.setup.Setup.{Setup}
-use Rattle.scq_word.specs.Sizes.{n_of}
+use Rattle.scq_word.specs.Exports.{n_of}
 use Rattle.scq_core.specs.declared.phase.Phase.{Phase}
 use Rattle.scq_core.specs.declared.phase.Phase.TheVariants.{Idle}
-use Rattle.scq_core.specs.Updated.{updated}
-use Rattle.scq_core.specs.Machine.{Machine, SeatPart}
+use Rattle.scq_core.specs.Exports.{updated, SeatPart, Stance, resting, drawing, putting, landed, asking, seeking, trying, gave_up, stance_of}
+use Rattle.scq_core.specs.Machine.{Machine}
 use Rattle.scq_core.proofs.UpdatedLemmas.{updated_here, updated_else, updated_same}
 use Rattle.scq_core.proofs.Turns.{Begins, begins_put, begins_get}
 use Rattle.scq_hist.specs.declared.events.Event as history
 use Rattle.scq_hist.specs.declared.events.PutName.{PutName}
 use Rattle.scq_hist.specs.declared.events.Reply.TheVariants.{Nothing, Spent}
-use Rattle.scq_law.specs.Run.{starts, puts_after}
-use Rattle.scq_law.specs.Places.{call_of}
+use Rattle.scq_law.specs.Exports.{starts, puts_after, call_of, IsFinished}
 use Rattle.scq_law.proofs.Base.Ghosts.{Ghost, placed, is_placed}
-use Rattle.scq_core.specs.Stances.{Stance, resting, drawing, putting, landed, asking, seeking, trying, gave_up, stance_of}
 use Rattle.scq_law.proofs.Base.TicketEvents.{TicketEvent, calm, drew, fell, laid, finished, entered, refused, began, died, saw_end, lifted, taken, lowered, emptied, overran, stance_by, ended_by}
 use Rattle.scq_law.proofs.Base.EventFacts.{stance, EventFacts}
 use Rattle.scq_law.proofs.Base.EventSteps.{EventStep, event_step, ghost_next}
@@ -29,7 +27,6 @@ use Rattle.scq_law.proofs.Aspects.CoupledPuts.{tied_done, tied_drew, tied_fell, 
 use Rattle.scq_law.proofs.Aspects.CoupledGets.{tied_began, tied_died, tied_taken}
 use Rattle.scq_law.proofs.Aspects.EventRecording.{Within, starts_none, puts_none, ends_by, placer_by}
 use Rattle.scq_hist.specs.declared.events.Event.TheVariants.{End}
-use Rattle.scq_law.specs.Bounds.{IsFinished}
 use Rattle.scq_law.proofs.Threshold.EmptyDecisions.{DecidesEmpty, by_refusal, by_end, by_level}
 use Rattle.scq_law.proofs.Aspects.GrowingHistory.{kept_at, under_old}
 use Rattle.scq_law.proofs.Aspects.SeenEmpty.{Emptying, finished_old}

@@ -3,10 +3,10 @@
 use Rattle.std.proofs.Common.{◌≡◌, ◌≢◌, ℕ, ◌+◌, ◌≤◌, inl, inr, true, List, [], ◌∷◌, ◌++◌, length, refl, ap, sym, ◌∙◌, subst, arith, eq-eqb, ne_eqb}
 use Rattle.std.proofs.lemmas.Bool.{cases_eq}
 use Rattle.scq_word.specs.declared.setup.Setup.{Setup}
-use Rattle.scq_core.specs.Updated.{updated}
+use Rattle.scq_core.specs.Exports.{updated, Stance, resting, drawing, landed, asking, gave_up}
 use Rattle.scq_core.specs.Machine.{Machine}
 use Rattle.scq_core.proofs.UpdatedLemmas.{updated_else}
-use Rattle.scq_hist.specs.Aspects.{IsAnswer}
+use Rattle.scq_hist.specs.Exports.{IsAnswer}
 use Rattle.scq_hist.specs.declared.events.Call.TheVariants.{Put, Get}
 use Rattle.scq_hist.specs.declared.events.Event as history
 use Rattle.scq_hist.specs.declared.events.Event.TheVariants.{Start, End}
@@ -15,7 +15,6 @@ use Rattle.scq_hist.specs.declared.events.PutName.TheVariants.{Of}
 use Rattle.scq_hist.specs.declared.events.Reply.{Reply}
 use Rattle.scq_hist.specs.declared.events.Reply.TheVariants.{Done, Got, Nothing}
 use Rattle.scq_law.proofs.Base.Ghosts.{Ghost, pending, opened}
-use Rattle.scq_core.specs.Stances.{Stance, resting, drawing, landed, asking, gave_up}
 use Rattle.scq_law.proofs.Aspects.CallsUnderWay.{Doing, IsCalled, called_put, called_get, called_end, called_on}
 use Rattle.scq_law.proofs.Aspects.PlacedPuts.{due, PutsArePlaced, placed_grown, placed_on}
 use Rattle.scq_law.proofs.Aspects.SeenEmpty.{Emptying, Emptied, IsEmptied, emptied_grown, emptied_kept}

@@ -1,19 +1,18 @@
 -- Where a get decides that its ring is empty, each finished put's place has been drawn by a get that had started.
 use Rattle.std.proofs.Common.{◌≡◌, ℕ, ◌<◌, inl, inr, List, length, ap, arith}
 use Rattle.scq_word.specs.declared.setup.Setup.{Setup}
-use Rattle.scq_word.specs.Sizes.{n_of}
+use Rattle.scq_word.specs.Exports.{n_of}
 use Rattle.scq_core.specs.Machine.{Machine}
-use Rattle.scq_core.specs.Table.{ring_slots}
+use Rattle.scq_core.specs.Exports.{ring_slots, Stance}
 use Rattle.scq_hist.specs.declared.events.Event as history
 use Rattle.scq_hist.specs.declared.events.PutName.{PutName}
 use Rattle.scq_law.proofs.Base.Ghosts.{Ghost, is_placed}
-use Rattle.scq_core.specs.Stances.{Stance}
 use Rattle.scq_law.proofs.Aspects.CallsUnderWay.{GetsNow}
 use Rattle.scq_law.proofs.Aspects.Coupling.{calls_of, IsTied}
 use Rattle.std.proofs.lemmas.Bool.{cases_lt}
-use Rattle.scq_hist.specs.Calls.{IsFinishedAt}
+use Rattle.scq_hist.specs.Exports.{IsFinishedAt}
 use Rattle.scq_hist.proofs.UnderWay.{started_within}
-use Rattle.scq_law.specs.Bounds.{IsFinished}
+use Rattle.scq_law.specs.Exports.{IsFinished}
 use Rattle.scq_law.proofs.Aspects.SeenEmpty.{Passed, Emptying}
 use Rattle.scq_law.proofs.Aspects.FinishedPuts.{settled}
 use Rattle.scq_law.proofs.Places.RecordsAgree.{RecordsAgree}

@@ -12,10 +12,7 @@ use Rattle.scq_hist.specs.declared.events.Event.{Event}
 use Rattle.scq_hist.specs.declared.events.PutName.{PutName}
 use Rattle.scq_hist.specs.declared.events.Reply.{Reply}
 use Rattle.scq_hist.specs.declared.events.Reply.TheVariants.{Nothing}
-use Rattle.scq_law.specs.Run.{Recorded, recorded_reply}
-use Rattle.scq_law.specs.ShownCalls.{calls_from, calls_shown, AskedFor, AllShown}
-use Rattle.scq_law.specs.Prefixes.{IsPrefix, IsRecordAfter}
-use Rattle.scq_law.specs.EmptyCalls.{IsEmptyAtCall}
+use Rattle.scq_law.specs.Exports.{Recorded, recorded_reply, calls_from, calls_shown, AskedFor, AllShown, IsPrefix, IsRecordAfter, IsEmptyAtCall}
 use Rattle.scq_law.proofs.Aspects.CallPositions.{Since, since_on, Stood, first_call}
 use Rattle.scq_law.proofs.Aspects.CoupledRuns.{tied_run}
 use Rattle.scq_law.proofs.Aspects.EmptyRight.{empty_right}

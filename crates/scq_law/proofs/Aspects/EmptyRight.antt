@@ -3,11 +3,10 @@
 use Rattle.std.proofs.Common.{◌≡◌, ℕ, inl, inr, List, length, subst}
 use Rattle.std.proofs.lemmas.Bool.{cases_lt}
 use Rattle.scq_word.specs.declared.setup.Setup.{Setup}
-use Rattle.scq_word.specs.Sizes.{n_of}
-use Rattle.scq_hist.specs.Calls.{IsFinishedAt}
-use Rattle.scq_hist.specs.Aspects.{IsEmptyRight, IsRightWithin, HasAspects}
+use Rattle.scq_word.specs.Exports.{n_of}
+use Rattle.scq_hist.specs.Exports.{IsFinishedAt, IsEmptyRight, IsRightWithin, HasAspects}
 use Rattle.scq_hist.specs.declared.events.PutName.{PutName}
-use Rattle.scq_law.specs.Run.{Recorded}
+use Rattle.scq_law.specs.Exports.{Recorded}
 use Rattle.scq_law.proofs.Aspects.CoupledRuns.{IsTiedRun}
 use Rattle.scq_law.proofs.Aspects.ClaimedPuts.{base, fresh, once, Ahead, all_claimed}
 use Rattle.scq_law.proofs.Aspects.InOrder.{in_order}

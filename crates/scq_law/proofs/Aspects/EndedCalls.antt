@@ -7,10 +7,8 @@ use Rattle.scq_core.specs.declared.ended.Ended.{Ended}
 use Rattle.scq_core.specs.declared.phase.Phase.{Phase}
 use Rattle.scq_core.specs.declared.phase.Phase.TheVariants.{Idle}
 use Rattle.scq_core.specs.declared.step.Step.{Step}
-use Rattle.scq_core.specs.Machine.{SeatPart}
-use Rattle.scq_core.specs.Stances.{Stance, resting, stance_of}
-use Rattle.scq_core.specs.Table.{turn_of}
-use Rattle.scq_law.specs.Acts.{ended_in}
+use Rattle.scq_core.specs.Exports.{SeatPart, Stance, resting, stance_of, turn_of}
+use Rattle.scq_law.specs.Exports.{ended_in}
 use Rattle.scq_law.proofs.Aspects.EventRecording.{Within}
 use Rattle.scq_law.proofs.Base.TicketEvents.{TicketEvent, calm, drew, fell, laid, finished, entered, refused, began, died, saw_end, lifted, taken, lowered, emptied, overran, event, ended_by, stance_by}
 use Rattle.scq_law.proofs.Base.TurnEvents.{own_stance}

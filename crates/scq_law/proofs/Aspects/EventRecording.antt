@@ -3,18 +3,17 @@ use Rattle.std.proofs.Common.{◌≡◌, ◌≢◌, ℕ, ◌+◌, true, false, �
 use Rattle.std.specs.Prelude.{◌==◌, nat_lt, nat_le}
 use Rattle.std.proofs.lemmas.Bool.{cases_Bool}
 use Rattle.scq_word.specs.declared.setup.Setup.{Setup}
-use Rattle.scq_word.specs.Words.{cycle_in, is_none_in}
+use Rattle.scq_word.specs.Exports.{cycle_in, is_none_in}
 use Rattle.scq_core.specs.declared.ended.Ended.{Ended}
 use Rattle.scq_core.specs.declared.phase.Phase.{Phase}
 use Rattle.scq_core.specs.declared.phase.Phase.TheVariants.{Idle, AtE1, AtE2, AtE3, AtE4, AtE5, AtE6, AtD1, AtD2, AtD3, AtD4, AtD5, AtD6, AtD7, AtD8, AtD9, AtD10}
-use Rattle.scq_core.specs.Machine.{updated_entry}
-use Rattle.scq_core.specs.Table.{zero_level, reset_level, ring_slots, cycle}
+use Rattle.scq_core.specs.Exports.{updated_entry, zero_level, reset_level, ring_slots, cycle, Stance, resting, drawing, putting, landed, asking}
+use Rattle.scq_core.specs.Exports.{seeking, trying, gave_up, stance_of}
 use Rattle.scq_hist.specs.declared.events.Event as history
 use Rattle.scq_hist.specs.declared.events.Event.TheVariants.{End}
 use Rattle.scq_hist.specs.declared.events.PutName.{PutName}
 use Rattle.scq_hist.specs.declared.events.PutName.TheVariants.{Of}
-use Rattle.scq_law.specs.Run.{recorded_reply, starts, puts_after, placer_after}
-use Rattle.scq_core.specs.Stances.{Stance, resting, drawing, putting, landed, asking, seeking, trying, gave_up, stance_of}
+use Rattle.scq_law.specs.Exports.{recorded_reply, starts, puts_after, placer_after}
 use Rattle.scq_law.proofs.Base.TicketEvents.{TicketEvent, calm, drew, fell, laid, finished, entered, refused, began, died, saw_end, lifted, taken, lowered, emptied, overran, event}
 
 -- what a seat is in the middle of at its turn, by the turn's event

@@ -4,20 +4,18 @@ use Rattle.std.specs.Prelude.{Some, slice_get}
 use Rattle.std.proofs.lemmas.Bool.{cases_lt}
 use Rattle.std.proofs.lemmas.Option.{slice_get_within, get_or_from_slice_get}
 use Rattle.scq_word.specs.declared.setup.Setup.{Setup}
-use Rattle.scq_word.specs.Sizes.{n_of}
+use Rattle.scq_word.specs.Exports.{n_of}
 use Rattle.scq_core.specs.declared.ended.Ended.TheVariants as ended
-use Rattle.scq_core.specs.Table.{ring_slots}
+use Rattle.scq_core.specs.Exports.{ring_slots, Stance}
 use Rattle.scq_core.specs.Machine.{Machine}
-use Rattle.scq_hist.specs.Calls.{puts_before, IsPut, IsDoneAt, IsFinishedAt}
+use Rattle.scq_hist.specs.Exports.{puts_before, IsPut, IsDoneAt, IsFinishedAt}
 use Rattle.scq_hist.specs.declared.events.Call.TheVariants.{Put}
 use Rattle.scq_hist.specs.declared.events.Event as history
 use Rattle.scq_hist.specs.declared.events.Event.TheVariants.{Start}
 use Rattle.scq_hist.specs.declared.events.PutName.{PutName}
 use Rattle.scq_hist.specs.declared.events.PutName.TheVariants.{Opening, Of}
-use Rattle.scq_law.specs.Places.{call_of}
-use Rattle.scq_law.specs.Bounds.{IsFinished}
+use Rattle.scq_law.specs.Exports.{call_of, IsFinished}
 use Rattle.scq_law.proofs.Base.Ghosts.{Ghost, is_placed}
-use Rattle.scq_core.specs.Stances.{Stance}
 use Rattle.scq_law.proofs.Base.Based.{IsBased}
 use Rattle.scq_law.proofs.Places.RecordsAgree.{RecordsAgree}
 use Rattle.scq_law.proofs.Aspects.PlacedPuts.{NamesPut}

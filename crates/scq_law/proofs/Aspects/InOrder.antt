@@ -3,13 +3,12 @@
 use Rattle.std.proofs.Common.{◌≡◌, ℕ, ◌<◌, inl, inr, List, length, ap, sym, subst, arith}
 use Rattle.std.proofs.lemmas.Bool.{cases_lt}
 use Rattle.scq_word.specs.declared.setup.Setup.{Setup}
-use Rattle.scq_word.specs.Sizes.{n_of}
-use Rattle.scq_hist.specs.Calls.{IsPut}
-use Rattle.scq_hist.specs.Aspects.{IsInOrder, Precedes, AllClaimed}
+use Rattle.scq_word.specs.Exports.{n_of}
+use Rattle.scq_hist.specs.Exports.{IsPut, IsInOrder, Precedes, AllClaimed}
 use Rattle.scq_hist.proofs.Puts.{same_put}
 use Rattle.scq_hist.specs.declared.events.PutName.{PutName}
 use Rattle.scq_hist.specs.declared.events.PutName.TheVariants.{Of}
-use Rattle.scq_law.specs.Run.{Recorded}
+use Rattle.scq_law.specs.Exports.{Recorded}
 use Rattle.scq_law.proofs.Base.Ghosts.{is_placed}
 use Rattle.scq_law.proofs.Aspects.PlacedPuts.{NamesPut}
 use Rattle.scq_law.proofs.Base.Based.{IsBased}

@@ -5,21 +5,18 @@ use Rattle.std.specs.Prelude.{Some, slice_get}
 use Rattle.std.proofs.lemmas.Bool.{cases_eq}
 use Rattle.std.proofs.lemmas.Option.{slice_get_within}
 use Rattle.scq_word.specs.declared.setup.Setup.{Setup}
-use Rattle.scq_word.specs.Sizes.{n_of}
-use Rattle.scq_core.specs.Updated.{updated}
-use Rattle.scq_core.specs.Machine.{updated_entry}
-use Rattle.scq_core.specs.Table.{ring_slots}
+use Rattle.scq_word.specs.Exports.{n_of}
+use Rattle.scq_core.specs.Exports.{updated, updated_entry, ring_slots, Stance, drawing, putting}
 use Rattle.scq_core.proofs.UpdatedLemmas.{updated_entry_or, updated_entry_here}
-use Rattle.scq_hist.specs.Calls.{under_way, IsPut}
+use Rattle.scq_hist.specs.Exports.{under_way, IsPut}
 use Rattle.scq_hist.specs.declared.events.Event.{Event}
 use Rattle.scq_hist.specs.declared.events.Event.TheVariants.{End}
 use Rattle.scq_hist.specs.declared.events.PutName.{PutName}
 use Rattle.scq_hist.specs.declared.events.PutName.TheVariants.{Opening, Of}
 use Rattle.scq_hist.specs.declared.events.Reply.TheVariants.{Done}
-use Rattle.scq_law.specs.Places.{Maker, call_of}
+use Rattle.scq_law.specs.Exports.{Maker, call_of}
 use Rattle.scq_law.proofs.Base.BaseGroup.{updated_entry_else}
 use Rattle.scq_law.proofs.Base.Ghosts.{PutState, pending, placed, is_placed}
-use Rattle.scq_core.specs.Stances.{Stance, drawing, putting}
 use Rattle.scq_law.proofs.Aspects.GrowingHistory.{under_now, at_grown, under_old, length_grown, put_grown, seat_of, under_else}
 
 -- the put of this name is an opening token of queue 0 with this content, or a seat's put of this queue that starts at s

@@ -4,17 +4,16 @@
 use Rattle.std.proofs.Common.{◌≡◌, ◌≢◌, ℕ, suc, ◌+◌, ◌-◌, true, false, ◌&&◌, List, [], ◌∷◌, ◌++◌, length, length-append, append-nil, append_assoc, refl, sym, ◌∙◌, ap, subst, inl, inr, arith, eq-eqb, ne_eqb}
 use Rattle.std.specs.Prelude.{◌==◌, nat_lt, nat_le, if◌then◌else◌, Option, Some, None, slice_get}
 use Rattle.scq_word.specs.declared.setup.Setup.{Setup}
-use Rattle.scq_word.specs.Words.{safe_in, cycle_in, is_none_in}
+use Rattle.scq_word.specs.Exports.{safe_in, cycle_in, is_none_in}
 use Rattle.scq_core.specs.declared.ended.Ended.{Ended}
 use Rattle.scq_core.specs.declared.ended.Ended.TheVariants as ended
 use Rattle.scq_core.specs.declared.phase.Phase.{Phase}
 use Rattle.scq_core.specs.declared.phase.Phase.TheVariants.{Idle, AtE1, AtE2, AtE3, AtE4, AtE5, AtE6, AtD1, AtD2, AtD3, AtD4, AtD5, AtD6, AtD7, AtD8, AtD9, AtD10}
 use Rattle.scq_core.specs.declared.step.Step.{Step}
-use Rattle.scq_core.specs.Machine.{SeatPart, read, beside, updated_entry}
-use Rattle.scq_core.specs.Table.{ring_slots, cycle, zero_level, reset_level, turn_of, location_of, after}
+use Rattle.scq_core.specs.Exports.{SeatPart, read, beside, updated_entry, ring_slots, cycle, zero_level, reset_level, turn_of, location_of, after}
+use Rattle.scq_core.specs.Exports.{stance_of}
 use Rattle.scq_core.proofs.Steady.{either_way}
 use Rattle.scq_core.proofs.Turns.{Begins, begins_put, begins_get, begins, awake}
-use Rattle.scq_core.specs.Stances.{stance_of}
 use Rattle.scq_core.proofs.UpdatedLemmas.{updated_here, updated_else, updated_entry_or}
 use Rattle.std.proofs.lemmas.Bool.{cases_eq}
 use Rattle.scq_hist.specs.declared.events.Call.{Call}
@@ -25,9 +24,8 @@ use Rattle.scq_hist.specs.declared.events.PutName.{PutName}
 use Rattle.scq_hist.specs.declared.events.PutName.TheVariants.{Of}
 use Rattle.scq_hist.specs.declared.events.Reply.{Reply}
 use Rattle.scq_hist.specs.declared.events.Reply.TheVariants.{Got}
-use Rattle.scq_law.specs.Places.{Maker}
-use Rattle.scq_law.specs.Run.{Recorded, recorded_reply, starts, end_if_idle, placer_after, recorded_after, recorded_first, IsRun}
-use Rattle.scq_law.specs.ShownCalls.{ended_call, calls_from, AskedFor, AllShown, HistoryShowsRecords}
+use Rattle.scq_law.specs.Exports.{Maker, Recorded, recorded_reply, starts, end_if_idle, placer_after, recorded_after, recorded_first, IsRun}
+use Rattle.scq_law.specs.Exports.{ended_call, calls_from, AskedFor, AllShown, HistoryShowsRecords}
 use Rattle.scq_law.proofs.Aspects.CoupledRuns.{IsTiedRun, tied_run_first, tied_run_turn}
 use Rattle.scq_law.proofs.Aspects.EventRecording.{starts_none}
 use Rattle.scq_law.proofs.Base.Based.{turn_claims, based}

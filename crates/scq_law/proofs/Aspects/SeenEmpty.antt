@@ -3,7 +3,7 @@
 use Rattle.std.proofs.Common.{◌≡◌, ◌≢◌, ℕ, suc, ◌<◌, ◌≤◌, ◌⊎◌, inl, inr, true, List, [], ◌∷◌, ◌++◌, length, ap, sym, ◌∙◌, subst, arith}
 use Rattle.std.specs.Prelude.{Some, slice_get}
 use Rattle.std.proofs.lemmas.Option.{slice_get_within}
-use Rattle.scq_hist.specs.Calls.{under_way, IsDoneAt, IsFinishedAt}
+use Rattle.scq_hist.specs.Exports.{under_way, IsDoneAt, IsFinishedAt}
 use Rattle.scq_hist.proofs.UnderWay.{started}
 use Rattle.scq_hist.specs.declared.events.Call.TheVariants.{Get}
 use Rattle.scq_hist.specs.declared.events.Event.{Event}
@@ -12,7 +12,7 @@ use Rattle.scq_hist.specs.declared.events.PutName.{PutName}
 use Rattle.scq_hist.specs.declared.events.PutName.TheVariants.{Opening, Of}
 use Rattle.scq_hist.specs.declared.events.Reply.TheVariants.{Nothing}
 use Rattle.scq_law.proofs.Base.Ghosts.{PutState, GetState, unopened, is_placed}
-use Rattle.scq_core.specs.Stances.{Stance, gave_up}
+use Rattle.scq_core.specs.Exports.{Stance, gave_up}
 use Rattle.scq_law.proofs.Aspects.GrowingHistory.{under_now, at_grown, old_at, kept_at, under_old, puts_old, length_grown, seat_of, under_else}
 
 -- what is finished at an old moment was so before

@@ -2,16 +2,16 @@
 -- was placed there, and all tickets up to it were drawn by gets that had started.
 use Rattle.std.proofs.Common.{◌≡◌, ◌≢◌, ℕ, ◌<◌, ◌≤◌, ◌⊎◌, inl, inr, true, List, [], ◌∷◌, ◌++◌, length, ap, sym, ◌∙◌, subst, arith}
 use Rattle.std.specs.Prelude.{Some, slice_get}
-use Rattle.scq_core.specs.Machine.{updated_entry}
+use Rattle.scq_core.specs.Exports.{updated_entry}
 use Rattle.scq_core.proofs.UpdatedLemmas.{updated_entry_or, updated_entry_here}
-use Rattle.scq_hist.specs.Calls.{IsCall}
+use Rattle.scq_hist.specs.Exports.{IsCall}
 use Rattle.scq_hist.proofs.UnderWay.{started_within}
 use Rattle.scq_hist.specs.declared.events.Call.TheVariants.{Get}
 use Rattle.scq_hist.specs.declared.events.Event.{Event}
 use Rattle.scq_hist.specs.declared.events.Event.TheVariants.{Start, End}
 use Rattle.scq_hist.specs.declared.events.PutName.{PutName}
 use Rattle.scq_hist.specs.declared.events.Reply.TheVariants.{Got}
-use Rattle.scq_law.specs.Places.{Maker}
+use Rattle.scq_law.specs.Exports.{Maker}
 use Rattle.scq_law.proofs.Base.Ghosts.{PutState, GetState, placed, is_placed, opened, took}
 use Rattle.scq_law.proofs.Aspects.GrowingHistory.{under_now, at_grown, new_at, kept_at, under_old, length_grown, call_grown, seat_of, under_else}
 use Rattle.scq_law.proofs.Base.BaseGroup.{updated_entry_else}

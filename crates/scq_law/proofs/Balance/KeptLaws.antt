@@ -3,23 +3,18 @@
 use Rattle.std.proofs.Common.{◌≡◌, ◌≢◌, ℕ, zero, suc, ◌+◌, ◌<◌, ◌≤◌, true, false, List, [], ◌∷◌, ◌++◌, length, length-append, refl, ap, ◌∙◌, inl, inr, arith, eq-eqb, ne_eqb}
 use Rattle.std.proofs.lemmas.Bool.{cases_eq, cases_lt}
 use Rattle.scq_word.specs.declared.setup.Setup.{Setup}
-use Rattle.scq_word.specs.Sizes.{n_of}
+use Rattle.scq_word.specs.Exports.{n_of}
 use Rattle.scq_word.proofs.TicketLemmas.{slot_of_small}
-use Rattle.scq_core.specs.Machine.{Cells, SeatPart, Machine}
-use Rattle.scq_core.specs.Table.{ring_slots, slot, hand_without, moved}
-use Rattle.scq_core.specs.Start.{unused, filled, start_cells, start_of}
-use Rattle.scq_core.specs.Reach.{IsReachable}
-use Rattle.scq_core.specs.Laws.{total}
+use Rattle.scq_core.specs.Exports.{Cells, SeatPart, ring_slots, slot, hand_without, moved, unused, filled, start_cells, start_of, IsReachable, total}
+use Rattle.scq_core.specs.Exports.{Stance, putting, trying, placed_ring, one_on}
+use Rattle.scq_core.specs.Machine.{Machine}
 use Rattle.scq_core.proofs.Steady.{has}
 use Rattle.scq_core.proofs.Counts.{total_none, total_one}
 use Rattle.scq_core.proofs.Entries.{some_slots, below_mark, none_in-marked, none_in-filled}
 use Rattle.scq_core.proofs.Starts.{fills}
-use Rattle.scq_law.specs.Hands.{times}
-use Rattle.scq_law.specs.Bounds.{tally, openings}
-use Rattle.scq_law.specs.Sums.{sum_to}
-use Rattle.scq_law.specs.Kept.{has_index, left_in, left_below, was_done, was_got, gets_of, puts_of, Balanced, AllKept}
+use Rattle.scq_law.specs.Exports.{times, tally, openings, sum_to, has_index, left_in, left_below, was_done, was_got, gets_of, puts_of, Balanced}
+use Rattle.scq_law.specs.Exports.{AllKept}
 use Rattle.scq_law.proofs.Base.Ghosts.{Ghost}
-use Rattle.scq_core.specs.Stances.{Stance, putting, trying, placed_ring, one_on}
 use Rattle.scq_law.proofs.Base.TicketEvents.{TicketEvent, calm, drew, fell, laid, finished, entered, refused, began, died, saw_end, lifted, taken, lowered, emptied, overran, ended_by}
 use Rattle.scq_law.proofs.Base.EventFacts.{stance}
 use Rattle.scq_law.proofs.Base.Traces.{Trace, trace_start, trace_step, has_trace, event_of}

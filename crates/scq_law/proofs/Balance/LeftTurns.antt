@@ -4,18 +4,16 @@ use Rattle.std.proofs.Common.{◌≡◌, ℕ, ◌+◌, true, false, ◌&&◌, Li
 use Rattle.std.specs.Prelude.{◌==◌, nat_lt, nat_le, if◌then◌else◌}
 use Rattle.std.proofs.lemmas.Bool.{cases_Bool, cases_eq}
 use Rattle.scq_word.specs.declared.setup.Setup.{Setup}
-use Rattle.scq_word.specs.Words.{packed, mark_of, index_in, safe_in, cycle_in, is_none_in}
+use Rattle.scq_word.specs.Exports.{packed, mark_of, index_in, safe_in, cycle_in, is_none_in}
 use Rattle.scq_word.proofs.TicketLemmas.{slot_of_small}
 use Rattle.scq_core.specs.declared.phase.Phase.{Phase}
 use Rattle.scq_core.specs.declared.phase.Phase.TheVariants.{Idle, AtE1, AtE2, AtE3, AtE4, AtE5, AtE6, AtD1, AtD2, AtD3, AtD4, AtD5, AtD6, AtD7, AtD8, AtD9, AtD10}
-use Rattle.scq_core.specs.Machine.{Cells, read, beside, updated_entry}
-use Rattle.scq_core.specs.Table.{ring_slots, cycle, slot, zero_level, reset_level, passed, location_of, cells_after}
-use Rattle.scq_core.specs.Laws.{Busy, word_at}
+use Rattle.scq_core.specs.Exports.{Cells, read, beside, updated_entry, ring_slots, cycle, slot, zero_level, reset_level, passed, location_of}
+use Rattle.scq_core.specs.Exports.{cells_after, Busy, word_at}
 use Rattle.scq_core.proofs.UpdatedLemmas.{written_same}
 use Rattle.scq_core.proofs.Steady.{either_way}
 use Rattle.scq_core.proofs.Entries.{some_slots, below_mark, none_in-marked, none_in-filled, index_below}
-use Rattle.scq_law.specs.Kept.{has_index, left_in}
-use Rattle.scq_law.specs.Sums.{sum_to}
+use Rattle.scq_law.specs.Exports.{has_index, left_in, sum_to}
 use Rattle.scq_law.proofs.Base.Ghosts.{Ghost}
 use Rattle.scq_law.proofs.Base.TicketEvents.{TicketEvent, laid, taken, event}
 use Rattle.scq_law.proofs.Base.BaseGroup.{Knows}

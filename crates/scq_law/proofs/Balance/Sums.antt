@@ -1,8 +1,8 @@
 -- Sums of numbers, and sums that belong to a ring, when one number changes.
 use Rattle.std.proofs.Common.{◌≡◌, ◌≢◌, ℕ, zero, suc, ◌+◌, ◌<◌, ◌⊎◌, refl, inl, inr, ap, arith}
 use Rattle.std.proofs.lemmas.Bool.{cases_eq}
-use Rattle.scq_core.specs.Machine.{updated_entry}
-use Rattle.scq_law.specs.Sums.{sum_to}
+use Rattle.scq_core.specs.Exports.{updated_entry}
+use Rattle.scq_law.specs.Exports.{sum_to}
 use Rattle.scq_core.proofs.UpdatedLemmas.{updated_entry_or}
 
 pub sum_same : (f h : ℕ → ℕ) (n : ℕ) → ((j : ℕ) → j < n → h j ≡ f j) → sum_to h n ≡ sum_to f n

@@ -2,17 +2,13 @@
 use Rattle.std.proofs.Common.{inl, inr}
 use Rattle.std.specs.Prelude.{◌≡◌, ◌≢◌, ℕ, ◌<◌, ◌≤◌, ◌⊎◌, true, false, List}
 use Rattle.scq_word.specs.declared.setup.Setup.{Setup}
-use Rattle.scq_word.specs.Sizes.{n_of}
-use Rattle.scq_word.specs.Words.{index_in, safe_in, cycle_in, is_none_in}
+use Rattle.scq_word.specs.Exports.{n_of, index_in, safe_in, cycle_in, is_none_in}
 use Rattle.scq_core.specs.declared.phase.Phase.{Phase}
 use Rattle.scq_core.specs.declared.phase.Phase.TheVariants.{AtE4, AtD4}
-use Rattle.scq_core.specs.Machine.{Entries, updated_entry}
+use Rattle.scq_core.specs.Exports.{Entries, updated_entry, ring_slots, cycle, slot, Lags, Stance, putting, landed, trying, gave_up}
 use Rattle.scq_core.proofs.UpdatedLemmas.{updated_entry_or}
-use Rattle.scq_core.specs.Table.{ring_slots, cycle, slot}
-use Rattle.scq_core.specs.Laws.{Lags}
-use Rattle.scq_law.specs.Places.{Maker, call_of}
+use Rattle.scq_law.specs.Exports.{Maker, call_of}
 use Rattle.scq_law.proofs.Base.Ghosts.{Ghost, GetState, fresh, pending, placed, unopened, opened, dead, took, is_placed, waiting}
-use Rattle.scq_core.specs.Stances.{Stance, putting, landed, trying, gave_up}
 
 -- elsewhere a changed function of two arguments is as it was
 pub updated_entry_else : {A : Type 0} → (f : ℕ → ℕ → A) (r s : ℕ) (x : A) (q z : ℕ) → (q ≡ r → z ≡ s → ⊥) → updated_entry f r s x q z ≡ f q z

@@ -6,14 +6,13 @@ use Rattle.scq_word.specs.declared.setup.Setup.{Setup}
 use Rattle.scq_core.specs.declared.phase.Phase.{Phase}
 use Rattle.scq_core.specs.declared.phase.Phase.TheVariants.{AtE4, AtD4}
 use Rattle.scq_core.specs.declared.step.Step.{Step}
-use Rattle.scq_core.specs.Machine.{Cells, Entries, SeatPart, Machine}
-use Rattle.scq_core.specs.Table.{turn_of, cells_after, moved}
-use Rattle.scq_core.specs.Laws.{Busy, IsSteady}
+use Rattle.scq_core.specs.Exports.{Cells, Entries, SeatPart, turn_of, cells_after, moved, Busy, IsSteady, Stance, putting, landed, trying, gave_up}
+use Rattle.scq_core.specs.Exports.{stance_of}
+use Rattle.scq_core.specs.Machine.{Machine}
 use Rattle.scq_core.proofs.UpdatedLemmas.{updated_cases}
 use Rattle.scq_core.proofs.Turns.{Begins, begins_put, begins_get, begins, awake}
 use Rattle.scq_core.proofs.Steady.{has, steady_turn, steady_start}
 use Rattle.scq_law.proofs.Base.Ghosts.{Ghost}
-use Rattle.scq_core.specs.Stances.{Stance, putting, landed, trying, gave_up, stance_of}
 use Rattle.scq_law.proofs.Base.Traces.{Trace, trace_start, trace_step, ghost_after}
 use Rattle.scq_law.proofs.Base.BaseGroup.{IsBooked, IsDrawn, Claims, Knows, Moves}
 use Rattle.scq_law.proofs.Base.TurnOutcomes.{OutcomeOf, outcome}

@@ -1,7 +1,7 @@
 -- A dequeue draws a ticket, and no entry changes: the books stay, and what the other seats have.
 use Rattle.std.proofs.Common.{◌≡◌, ℕ, inl, inr, sym, ◌∙◌, refl}
 use Rattle.scq_word.specs.declared.setup.Setup.{Setup}
-use Rattle.scq_core.specs.Machine.{Entries}
+use Rattle.scq_core.specs.Exports.{Entries}
 use Rattle.scq_core.proofs.UpdatedLemmas.{updated_entry_or, updated_entry_cases}
 use Rattle.scq_law.proofs.Base.Ghosts.{Ghost, unopened, opened, dead, took, waiting, with_get}
 use Rattle.scq_law.proofs.Base.BaseGroup.{IsBooked, Moves, Effect}

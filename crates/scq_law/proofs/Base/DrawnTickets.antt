@@ -1,8 +1,7 @@
 -- Which tickets are drawn, over a turn: counters only rise, and a ticket whose state changes is below its counter.
 use Rattle.std.proofs.Common.{◌≡◌, ℕ, ◌⊎◌, inl, inr, refl, ◌∙◌, arith}
 use Rattle.scq_word.specs.declared.setup.Setup.{Setup}
-use Rattle.scq_core.specs.Machine.{Cells}
-use Rattle.scq_core.specs.Laws.{CountersRise, Drawn}
+use Rattle.scq_core.specs.Exports.{Cells, CountersRise, Drawn}
 use Rattle.scq_core.proofs.UpdatedLemmas.{updated_entry_or}
 use Rattle.scq_law.proofs.Base.Ghosts.{Ghost, PutState, GetState, with_put, with_get}
 use Rattle.scq_law.proofs.Base.BaseGroup.{IsDrawn}

@@ -2,11 +2,9 @@
 use Rattle.std.proofs.Common.{◌≡◌, ℕ, ◌<◌, inl, inr, true, false, refl, ap, sym, ◌∙◌, arith}
 use Rattle.std.proofs.lemmas.Bool.{cases_Bool}
 use Rattle.scq_word.specs.declared.setup.Setup.{Setup}
-use Rattle.scq_word.specs.Sizes.{n_of}
-use Rattle.scq_word.specs.Words.{mark_of, packed, index_in, safe_in, cycle_in, is_none_in}
+use Rattle.scq_word.specs.Exports.{n_of, mark_of, packed, index_in, safe_in, cycle_in, is_none_in}
 use Rattle.scq_word.proofs.WordLemmas.{index_in-packed, safe_in-packed, cycle_in-packed, safe_in_bit, index_in_small}
-use Rattle.scq_core.specs.Table.{ring_slots, cycle, passed}
-use Rattle.scq_core.specs.Laws.{IsAbove}
+use Rattle.scq_core.specs.Exports.{ring_slots, cycle, passed, IsAbove}
 use Rattle.scq_core.proofs.Entries.{some_slots, some_indices, above_same, none_in-marked, none_in-filled, index_below, below_mark, passing_rises, taking_rises}
 use Rattle.scq_law.proofs.Base.GiveUpEffects.{Closes}
 use Rattle.scq_law.proofs.Base.TakeEffects.{Empties}

@@ -1,12 +1,11 @@
 -- What is known of a turn by its event alone: what must have held before it, and how each part of the state changes.
 use Rattle.std.specs.Prelude.{◌≡◌, ◌≢◌, ℕ, ◌+◌, ◌<◌, ◌≤◌, ◌⊎◌, true, false, List, ◌++◌, length, None}
 use Rattle.scq_word.specs.declared.setup.Setup.{Setup}
-use Rattle.scq_word.specs.Sizes.{n_of}
+use Rattle.scq_word.specs.Exports.{n_of}
 use Rattle.scq_core.specs.Machine.{Machine}
-use Rattle.scq_core.specs.Table.{zero_level, holds_index, slot}
-use Rattle.scq_law.specs.Places.{Maker, call_of}
+use Rattle.scq_core.specs.Exports.{zero_level, holds_index, slot, Stance, resting, drawing, putting, landed, seeking, trying, gave_up, stance_of}
+use Rattle.scq_law.specs.Exports.{Maker, call_of}
 use Rattle.scq_law.proofs.Base.Ghosts.{Ghost, fresh, pending, placed, unopened, opened, dead, is_placed, waiting}
-use Rattle.scq_core.specs.Stances.{Stance, resting, drawing, putting, landed, seeking, trying, gave_up, stance_of}
 use Rattle.scq_law.proofs.Base.TicketEvents.{TicketEvent, calm, drew, fell, laid, finished, entered, refused, began, died, saw_end, lifted, taken, lowered, emptied, overran, stance_by, hand_by, ended_by, kept_by, tail_by, head_by, threshold_by}
 
 abbrev pub stance : Machine → ℕ → Stance

@@ -2,12 +2,11 @@
 use Rattle.std.proofs.Common.{◌≡◌, ℕ, ◌+◌, ◌<◌, List, length}
 use Rattle.std.specs.Prelude.{Some}
 use Rattle.scq_word.specs.declared.setup.Setup.{Setup}
-use Rattle.scq_word.specs.Sizes.{n_of}
+use Rattle.scq_word.specs.Exports.{n_of}
 use Rattle.scq_core.specs.declared.phase.Phase.{Phase}
 use Rattle.scq_core.specs.declared.step.Step.{Step}
 use Rattle.scq_core.specs.Machine.{Machine}
-use Rattle.scq_core.specs.Table.{turn_of, moved}
-use Rattle.scq_core.specs.Start.{start_of}
+use Rattle.scq_core.specs.Exports.{turn_of, moved, start_of}
 use Rattle.scq_law.proofs.Base.Ghosts.{Ghost, start_ghost}
 use Rattle.scq_law.proofs.Base.TicketEvents.{TicketEvent, ghost_by}
 use Rattle.scq_law.proofs.Base.Traces.{Trace, trace_start, trace_step, event_of}

@@ -1,10 +1,9 @@
 -- The proofs' own view of a run: what became of each ticket of each ring. It is no part of the machine.
 use Rattle.std.specs.Prelude.{ℕ, ◌+◌, ◌-◌, Bool, true, false, ◌==◌, ◌&&◌, nat_le, nat_lt, if◌then◌else◌, List, [], slice_index_or}
 use Rattle.scq_word.specs.declared.setup.Setup.{Setup}
-use Rattle.scq_word.specs.Sizes.{n_of}
-use Rattle.scq_core.specs.Machine.{updated_entry}
-use Rattle.scq_core.specs.Table.{ring_slots}
-use Rattle.scq_law.specs.Places.{Maker, opening_put}
+use Rattle.scq_word.specs.Exports.{n_of}
+use Rattle.scq_core.specs.Exports.{updated_entry, ring_slots}
+use Rattle.scq_law.specs.Exports.{Maker, opening_put}
 
 -- what became of a ticket of a put: nobody drew it below the limit; a seat has drawn it for an index and neither placed
 -- that nor failed; its drawer failed with it, at this step of the run, and found an index; an index stands or stood there

@@ -2,12 +2,10 @@
 -- Plan: what such a write does to a word is one record; from it each fact of the books by where its place is.
 use Rattle.std.proofs.Common.{◌≡◌, ◌≢◌, ℕ, List, ◌<◌, ◌≤◌, ◌⊎◌, inl, inr, true, false, ap, sym, ◌∙◌, refl, arith}
 use Rattle.scq_word.specs.declared.setup.Setup.{Setup}
-use Rattle.scq_word.specs.Words.{index_in, safe_in, cycle_in, is_none_in}
-use Rattle.scq_core.specs.Machine.{Entries, updated_entry}
-use Rattle.scq_core.specs.Table.{ring_slots, cycle, slot}
-use Rattle.scq_core.specs.Laws.{IsAbove}
+use Rattle.scq_word.specs.Exports.{index_in, safe_in, cycle_in, is_none_in}
+use Rattle.scq_core.specs.Exports.{Entries, updated_entry, ring_slots, cycle, slot, IsAbove}
 use Rattle.scq_core.proofs.UpdatedLemmas.{updated_entry_cases}
-use Rattle.scq_law.specs.Places.{Maker}
+use Rattle.scq_law.specs.Exports.{Maker}
 use Rattle.scq_law.proofs.Base.Ghosts.{Ghost, PutState, fresh, pending, failed, GetState, opened, dead, took, placed, is_placed, waiting, with_get}
 use Rattle.scq_law.proofs.Base.BaseGroup.{updated_entry_else, IsBooked, Holds, Stands, Shut, Passed, Loaded, Moves, Effect, at_ticket}
 use Rattle.scq_law.proofs.Base.SlotFacts.{came_back, below_cycle}

@@ -2,8 +2,7 @@
 use Rattle.std.proofs.Common.{◌≡◌, ◌≢◌, ℕ, ◌⊎◌, inl, inr, ap}
 use Rattle.scq_word.specs.declared.setup.Setup.{Setup}
 use Rattle.scq_word.proofs.TicketLemmas.{same_ticket}
-use Rattle.scq_core.specs.Machine.{updated_entry}
-use Rattle.scq_core.specs.Table.{cycle, slot}
+use Rattle.scq_core.specs.Exports.{updated_entry, cycle, slot}
 use Rattle.scq_core.proofs.UpdatedLemmas.{updated_entry_or}
 
 -- the ticket itself

@@ -2,13 +2,11 @@
 -- Plan: first the ticket's own get can neither have been given up nor taken; then the books by where a place is.
 use Rattle.std.proofs.Common.{◌≡◌, ℕ, List, ◌<◌, ◌⊎◌, inl, inr, true, false, ap, sym, ◌∙◌, refl, arith}
 use Rattle.scq_word.specs.declared.setup.Setup.{Setup}
-use Rattle.scq_word.specs.Sizes.{n_of}
-use Rattle.scq_word.specs.Words.{index_in, cycle_in, is_none_in}
+use Rattle.scq_word.specs.Exports.{n_of, index_in, cycle_in, is_none_in}
 use Rattle.scq_word.proofs.TicketLemmas.{lower_ticket}
-use Rattle.scq_core.specs.Machine.{Entries, updated_entry}
-use Rattle.scq_core.specs.Table.{ring_slots, cycle, slot}
+use Rattle.scq_core.specs.Exports.{Entries, updated_entry, ring_slots, cycle, slot}
 use Rattle.scq_core.proofs.UpdatedLemmas.{updated_entry_here, updated_entry_or}
-use Rattle.scq_law.specs.Places.{Maker}
+use Rattle.scq_law.specs.Exports.{Maker}
 use Rattle.scq_law.proofs.Base.Ghosts.{Ghost, PutState, GetState, unopened, opened, dead, took, placed, pending, is_placed, waiting, with_put}
 use Rattle.scq_law.proofs.Base.BaseGroup.{updated_entry_else, IsBooked, Holds, Stands, Passed, Moves, Effect, at_ticket}
 use Rattle.scq_law.proofs.Base.PlaceCases.{Here, Beside, IsOtherSlot, places}

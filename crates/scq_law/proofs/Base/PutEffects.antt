@@ -3,7 +3,7 @@
 use Rattle.std.proofs.Common.{◌≡◌, ℕ, Bool, true, false, inl, inr, eqb-true, ap, sym, ◌∙◌, refl}
 use Rattle.std.specs.Prelude.{◌==◌}
 use Rattle.scq_word.specs.declared.setup.Setup.{Setup}
-use Rattle.scq_core.specs.Machine.{Entries}
+use Rattle.scq_core.specs.Exports.{Entries}
 use Rattle.scq_core.proofs.UpdatedLemmas.{updated_entry_or, updated_entry_cases}
 use Rattle.scq_law.proofs.Base.Ghosts.{Ghost, PutState, fresh, pending, failed, placed, is_placed, with_put}
 use Rattle.scq_law.proofs.Base.BaseGroup.{updated_entry_else, IsBooked, Moves, Effect}

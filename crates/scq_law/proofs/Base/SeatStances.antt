@@ -1,13 +1,13 @@
 -- What a seat has by its stance, and that the other seats' stances stay.
 use Rattle.std.proofs.Common.{◌≡◌, ◌≢◌, ℕ, ◌<◌, List, ap}
 use Rattle.scq_word.specs.declared.setup.Setup.{Setup}
-use Rattle.scq_word.specs.Sizes.{n_of}
+use Rattle.scq_word.specs.Exports.{n_of}
 use Rattle.scq_core.specs.declared.phase.Phase.{Phase}
 use Rattle.scq_core.specs.declared.phase.Phase.TheVariants.{Idle, AtE1, AtE2, AtE3, AtE4, AtE5, AtE6, AtD1, AtD2, AtD3, AtD4, AtD5, AtD6, AtD7, AtD8, AtD9, AtD10}
-use Rattle.scq_core.specs.Machine.{Cells, SeatPart, Machine}
-use Rattle.scq_core.specs.Laws.{Offers, Drawn, Busy}
+use Rattle.scq_core.specs.Exports.{Cells, SeatPart, Offers, Drawn, Busy, Stance, resting, drawing, putting, landed, asking, seeking, trying, gave_up}
+use Rattle.scq_core.specs.Exports.{stance_of}
+use Rattle.scq_core.specs.Machine.{Machine}
 use Rattle.scq_law.proofs.Base.Ghosts.{Ghost}
-use Rattle.scq_core.specs.Stances.{Stance, resting, drawing, putting, landed, asking, seeking, trying, gave_up, stance_of}
 use Rattle.scq_law.proofs.Base.TicketEvents.{TicketEvent}
 use Rattle.scq_law.proofs.Base.EventFacts.{stance, EventFacts}
 use Rattle.scq_law.proofs.Base.Based.{IsBased}

@@ -4,9 +4,8 @@ use Rattle.std.specs.List.{Contains}
 use Rattle.std.proofs.lemmas.Bool.{cases_eq}
 use Rattle.std.proofs.lemmas.List.Elements.{Contains-push_cases}
 use Rattle.scq_core.specs.declared.ended.Ended.{Ended}
-use Rattle.scq_core.specs.Machine.{SeatPart}
-use Rattle.scq_core.specs.Laws.{total}
-use Rattle.scq_law.specs.Bounds.{tally}
+use Rattle.scq_core.specs.Exports.{SeatPart, total}
+use Rattle.scq_law.specs.Exports.{tally}
 
 -- seats that no change reaches
 total_still : (f : SeatPart → ℕ) (part later : ℕ → SeatPart) (k n : ℕ) → n ≤ k → ((j : ℕ) → j ≢ k → later j ≡ part j) → total f later n ≡ total f part n

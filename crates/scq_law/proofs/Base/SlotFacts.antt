@@ -2,10 +2,9 @@
 use Rattle.std.proofs.Common.{◌≡◌, ℕ, ◌<◌, ◌≤◌, inl, inr, ap, arith}
 use Rattle.std.proofs.lemmas.Bool.{cases_lt}
 use Rattle.scq_word.specs.declared.setup.Setup.{Setup}
-use Rattle.scq_word.specs.Words.{rank_in}
+use Rattle.scq_word.specs.Exports.{rank_in}
 use Rattle.scq_word.proofs.TicketLemmas.{cycle_of_mono}
-use Rattle.scq_core.specs.Table.{ring_slots, cycle}
-use Rattle.scq_core.specs.Laws.{IsAbove}
+use Rattle.scq_core.specs.Exports.{ring_slots, cycle, IsAbove}
 use Rattle.scq_core.proofs.Entries.{some_slots}
 
 -- a loaded word that stands in the entry after a change stood there before it

@@ -4,15 +4,13 @@ use Rattle.std.proofs.Common.{◌≡◌, ℕ, ◌+◌, ◌-◌, ◌<◌, ◌≤�
 use Rattle.std.specs.Prelude.{◌==◌, nat_lt, nat_le, slice_index_or}
 use Rattle.std.proofs.lemmas.Bool.{cases_Bool, cases_eq, and_parts, and_from}
 use Rattle.scq_word.specs.declared.setup.Setup.{Setup}
-use Rattle.scq_word.specs.Sizes.{n_of}
-use Rattle.scq_word.specs.Words.{mark_of, packed, cycle_in, is_none_in}
+use Rattle.scq_word.specs.Exports.{n_of, mark_of, packed, cycle_in, is_none_in}
 use Rattle.scq_word.proofs.TicketLemmas.{same_ticket, cycle_of_mono}
 use Rattle.scq_word.proofs.WordLemmas.{index_in-packed, cycle_in-packed}
-use Rattle.scq_core.specs.Table.{ring_slots, cycle, slot}
-use Rattle.scq_core.specs.Start.{unused, filled, start_cells}
+use Rattle.scq_core.specs.Exports.{ring_slots, cycle, slot, unused, filled, start_cells}
 use Rattle.scq_core.proofs.Starts.{opening_cycle, Filled, fills}
 use Rattle.scq_core.proofs.Entries.{some_slots, some_indices, below_mark, none_in-marked, none_in-filled}
-use Rattle.scq_law.specs.Places.{Maker, opening_put}
+use Rattle.scq_law.specs.Exports.{Maker, opening_put}
 use Rattle.scq_law.proofs.Base.Ghosts.{fresh, placed, is_placed, stood, start_ghost}
 use Rattle.scq_law.proofs.Base.BaseGroup.{IsBooked, IsDrawn, Holds, Stands, at_ticket}
 

@@ -1,12 +1,10 @@
 -- A dequeue takes the index that stands at its ticket, and the entry keeps its cycle and safe bit.
 use Rattle.std.proofs.Common.{◌≡◌, ℕ, List, ◌⊎◌, inl, inr, true, false, sym, ◌∙◌, refl}
 use Rattle.scq_word.specs.declared.setup.Setup.{Setup}
-use Rattle.scq_word.specs.Words.{safe_in, cycle_in, is_none_in}
-use Rattle.scq_core.specs.Machine.{Entries}
-use Rattle.scq_core.specs.Table.{ring_slots, cycle, slot}
-use Rattle.scq_core.specs.Laws.{IsAbove}
+use Rattle.scq_word.specs.Exports.{safe_in, cycle_in, is_none_in}
+use Rattle.scq_core.specs.Exports.{Entries, ring_slots, cycle, slot, IsAbove}
 use Rattle.scq_core.proofs.UpdatedLemmas.{updated_entry_cases}
-use Rattle.scq_law.specs.Places.{Maker}
+use Rattle.scq_law.specs.Exports.{Maker}
 use Rattle.scq_law.proofs.Base.Ghosts.{Ghost, GetState, opened, dead, took, placed, is_placed, waiting, with_get}
 use Rattle.scq_law.proofs.Base.BaseGroup.{updated_entry_else, IsBooked, Holds, Stands, Shut, Passed, Loaded, Moves, Effect, at_ticket}
 use Rattle.scq_law.proofs.Base.SlotFacts.{came_back}

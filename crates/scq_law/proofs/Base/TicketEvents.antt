@@ -2,15 +2,14 @@
 -- events and at stances, and never at the step table.
 use Rattle.std.specs.Prelude.{ℕ, ◌+◌, ◌-◌, Bool, true, false, ◌==◌, ◌&&◌, nat_le, nat_lt, if◌then◌else◌, List, [], ◌∷◌, ◌++◌, Option, Some}
 use Rattle.scq_word.specs.declared.setup.Setup.{Setup}
-use Rattle.scq_word.specs.Words.{index_in, cycle_in, is_none_in}
+use Rattle.scq_word.specs.Exports.{index_in, cycle_in, is_none_in}
 use Rattle.scq_core.specs.declared.ended.Ended.{Ended}
 use Rattle.scq_core.specs.declared.ended.Ended.TheVariants.{Done, Got, Nothing, Spent}
 use Rattle.scq_core.specs.declared.phase.Phase.{Phase}
 use Rattle.scq_core.specs.declared.phase.Phase.TheVariants.{Idle, AtE1, AtE2, AtE3, AtE4, AtE5, AtE6, AtD1, AtD2, AtD3, AtD4, AtD5, AtD6, AtD7, AtD8, AtD9, AtD10}
-use Rattle.scq_core.specs.Stances.{Stance, resting, drawing, putting, landed, seeking, trying, gave_up}
-use Rattle.scq_core.specs.Updated.{updated}
-use Rattle.scq_core.specs.Table.{zero_level, reset_level, ring_slots, cycle, hand_without}
-use Rattle.scq_law.specs.Places.{call_of}
+use Rattle.scq_core.specs.Exports.{Stance, resting, drawing, putting, landed, seeking, trying, gave_up, updated, zero_level, reset_level, ring_slots}
+use Rattle.scq_core.specs.Exports.{cycle, hand_without}
+use Rattle.scq_law.specs.Exports.{call_of}
 use Rattle.scq_law.proofs.Base.Ghosts.{Ghost, pending, failed, placed, opened, dead, took, with_put, with_get}
 
 -- calm: nothing but what the seat is in the middle of. The others: an enqueue draws a ticket, fails with it, places its

@@ -3,15 +3,12 @@ use Rattle.std.proofs.Common.{◌≡◌, ◌+◌, true, false, ◌&&◌, [], ◌
 use Rattle.std.specs.Prelude.{◌==◌, nat_lt, nat_le}
 use Rattle.std.proofs.lemmas.Bool.{cases_Bool}
 use Rattle.scq_word.specs.declared.setup.Setup.{Setup}
-use Rattle.scq_word.specs.Words.{safe_in, cycle_in, is_none_in}
+use Rattle.scq_word.specs.Exports.{safe_in, cycle_in, is_none_in}
 use Rattle.scq_core.specs.declared.phase.Phase.{Phase}
 use Rattle.scq_core.specs.declared.phase.Phase.TheVariants.{Idle, AtE1, AtE2, AtE3, AtE4, AtE5, AtE6, AtD1, AtD2, AtD3, AtD4, AtD5, AtD6, AtD7, AtD8, AtD9, AtD10}
-use Rattle.scq_core.specs.Machine.{Cells, SeatPart}
-use Rattle.scq_core.specs.Table.{ring_slots, cycle, zero_level, reset_level, after, cells_after}
-use Rattle.scq_core.specs.Laws.{word_at}
+use Rattle.scq_core.specs.Exports.{Cells, SeatPart, ring_slots, cycle, zero_level, reset_level, after, cells_after, word_at, stance_of}
 use Rattle.scq_core.proofs.UpdatedLemmas.{updated_same}
 use Rattle.scq_core.proofs.Turns.{awake}
-use Rattle.scq_core.specs.Stances.{stance_of}
 use Rattle.scq_law.proofs.Base.TicketEvents.{TicketEvent, event, stance_by, hand_by, ended_by, kept_by, tail_by, head_by, threshold_by}
 use Rattle.scq_law.proofs.Base.TurnOutcomes.{found, content}
 

@@ -3,19 +3,18 @@ use Rattle.std.proofs.Common.{◌≡◌, ℕ, ◌+◌, ◌<◌, true, false, ◌
 use Rattle.std.specs.Prelude.{◌==◌, nat_lt, nat_le, Some}
 use Rattle.std.proofs.lemmas.Bool.{cases_Bool, cases_eq, leb-false, ltb-false}
 use Rattle.scq_word.specs.declared.setup.Setup.{Setup}
-use Rattle.scq_word.specs.Words.{packed, cycle_in, is_none_in}
+use Rattle.scq_word.specs.Exports.{packed, cycle_in, is_none_in}
 use Rattle.scq_core.specs.declared.phase.Phase.{Phase}
 use Rattle.scq_core.specs.declared.phase.Phase.TheVariants.{Idle, AtE1, AtE2, AtE3, AtE4, AtE5, AtE6, AtD1, AtD2, AtD3, AtD4, AtD5, AtD6, AtD7, AtD8, AtD9, AtD10}
 use Rattle.scq_core.specs.declared.step.Step.{Step}
-use Rattle.scq_core.specs.Machine.{SeatPart, Machine}
-use Rattle.scq_core.specs.Table.{ring_slots, cycle, zero_level, reset_level, after, turn_of, moved, passed}
-use Rattle.scq_core.specs.Laws.{Busy, word_at}
+use Rattle.scq_core.specs.Exports.{SeatPart, ring_slots, cycle, zero_level, reset_level, after, turn_of, moved, passed, Busy, word_at, Stance}
+use Rattle.scq_core.specs.Exports.{stance_of}
+use Rattle.scq_core.specs.Machine.{Machine}
 use Rattle.scq_core.proofs.UpdatedLemmas.{updated_here, updated_else}
 use Rattle.scq_core.proofs.Turns.{awake}
 use Rattle.scq_core.proofs.Steady.{has}
-use Rattle.scq_law.specs.Places.{call_of, opening_put}
+use Rattle.scq_law.specs.Exports.{call_of, opening_put}
 use Rattle.scq_law.proofs.Base.Ghosts.{Ghost, pending, placed, opened, dead}
-use Rattle.scq_core.specs.Stances.{Stance, stance_of}
 use Rattle.scq_law.proofs.Base.TicketEvents.{event, stance_by}
 use Rattle.scq_law.proofs.Base.Traces.{event_of}
 use Rattle.scq_law.proofs.Base.EventFacts.{Rests, Proper, EventFacts}

@@ -5,10 +5,8 @@ use Rattle.scq_word.specs.declared.setup.Setup.{Setup}
 use Rattle.scq_core.specs.declared.phase.Phase.{Phase}
 use Rattle.scq_core.specs.declared.phase.Phase.TheVariants.{AtE1, AtD1}
 use Rattle.scq_core.specs.declared.step.Step.{Step}
-use Rattle.scq_core.specs.Machine.{SeatPart}
-use Rattle.scq_core.specs.Table.{turn_of, next_step}
+use Rattle.scq_core.specs.Exports.{SeatPart, turn_of, next_step, resting, stance_of}
 use Rattle.scq_core.proofs.Turns.{Begins, begins_put, begins_get, begins, Enables, new_put, new_get, continues, enables}
-use Rattle.scq_core.specs.Stances.{resting, stance_of}
 
 -- a first step of a call; a dequeue's never is what a seat rests at
 abbrev pub is_first_step : Phase → Bool

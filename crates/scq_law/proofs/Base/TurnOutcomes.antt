@@ -4,18 +4,15 @@ use Rattle.std.proofs.Common.{◌≡◌, ℕ, ◌+◌, ◌<◌, true, false, ◌
 use Rattle.std.specs.Prelude.{[], ◌==◌, nat_lt, nat_le}
 use Rattle.std.proofs.lemmas.Bool.{cases_Bool, cases_eq, cases_lt, leb-false, ltb-false}
 use Rattle.scq_word.specs.declared.setup.Setup.{Setup}
-use Rattle.scq_word.specs.Words.{packed, safe_in, cycle_in, is_none_in}
+use Rattle.scq_word.specs.Exports.{packed, safe_in, cycle_in, is_none_in}
 use Rattle.scq_core.specs.declared.phase.Phase.{Phase}
 use Rattle.scq_core.specs.declared.phase.Phase.TheVariants.{Idle, AtE1, AtE2, AtE3, AtE4, AtE5, AtE6, AtD1, AtD2, AtD3, AtD4, AtD5, AtD6, AtD7, AtD8, AtD9, AtD10}
-use Rattle.scq_core.specs.Updated.{updated}
-use Rattle.scq_core.specs.Machine.{Cells, Entries, SeatPart, tail_of, head_of, entry_of, read, beside, written}
-use Rattle.scq_core.specs.Table.{ring_slots, cycle, slot, zero_level, reset_level, location_of, after, cells_after, passed, goes_on}
-use Rattle.scq_core.specs.Laws.{Drawn, Busy, word_at}
+use Rattle.scq_core.specs.Exports.{updated, Cells, Entries, SeatPart, tail_of, head_of, entry_of, read, beside, written, ring_slots, cycle, slot}
+use Rattle.scq_core.specs.Exports.{zero_level, reset_level, location_of, after, cells_after, passed, goes_on, Drawn, Busy, word_at, stance_of}
 use Rattle.scq_core.proofs.UpdatedLemmas.{updated_here, updated_same, updated_entry_here, updated_entry_same}
 use Rattle.scq_core.proofs.Ranks.{counters_rise}
-use Rattle.scq_law.specs.Places.{call_of}
+use Rattle.scq_law.specs.Exports.{call_of}
 use Rattle.scq_law.proofs.Base.Ghosts.{Ghost, pending, failed, placed, opened, dead, waiting, with_put, with_get}
-use Rattle.scq_core.specs.Stances.{stance_of}
 use Rattle.scq_law.proofs.Base.TicketEvents.{event, ghost_by}
 use Rattle.scq_law.proofs.Base.BaseGroup.{IsBooked, IsDrawn, Claims, Knows, Passed, Holds, Effect}
 use Rattle.scq_law.proofs.Base.PutEffects.{is_ours, put_effect, no_effect}

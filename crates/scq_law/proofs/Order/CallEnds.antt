@@ -5,25 +5,22 @@ use Rattle.std.proofs.lemmas.Bool.{cases_Bool, cases_lt}
 use Rattle.std.proofs.lemmas.List.{length-append}
 use Rattle.std.proofs.lemmas.Option.{slice_get_within}
 use Rattle.scq_word.specs.declared.setup.Setup.{Setup}
-use Rattle.scq_word.specs.Words.{cycle_in, is_none_in}
+use Rattle.scq_word.specs.Exports.{cycle_in, is_none_in}
 use Rattle.scq_core.specs.declared.ended.Ended.{Ended}
 use Rattle.scq_core.specs.declared.ended.Ended.TheVariants.{Done, Nothing, Spent}
 use Rattle.scq_core.specs.declared.phase.Phase.{Phase}
 use Rattle.scq_core.specs.declared.phase.Phase.TheVariants.{Idle, AtE1, AtE2, AtE3, AtE4, AtE5, AtE6, AtD1, AtD2, AtD3, AtD4, AtD5, AtD6, AtD7, AtD8, AtD9, AtD10}
-use Rattle.scq_core.specs.Machine.{Machine, read, beside}
-use Rattle.scq_core.specs.Stances.{stance_of}
-use Rattle.scq_core.specs.Table.{zero_level, reset_level, ring_slots, cycle, location_of}
+use Rattle.scq_core.specs.Exports.{read, beside, stance_of, zero_level, reset_level, ring_slots, cycle, location_of}
+use Rattle.scq_core.specs.Machine.{Machine}
 use Rattle.scq_core.proofs.Turns.{awake}
-use Rattle.scq_law.specs.Acts.{ended_in}
-use Rattle.scq_law.specs.Run.{Recorded, IsRun}
+use Rattle.scq_law.specs.Exports.{ended_in, Recorded, IsRun, Decides, state_before, recorded_before}
 use Rattle.scq_law.proofs.Aspects.EventRecording.{within}
 use Rattle.scq_law.proofs.Aspects.EndedCalls.{first_of_calls, seen_end, turn_stance}
 use Rattle.scq_law.proofs.Base.TicketEvents.{TicketEvent, calm, saw_end, event, ended_by}
 use Rattle.scq_law.proofs.Base.Traces.{event_of}
 use Rattle.scq_law.proofs.Places.RecordsAgree.{call_stays}
 use Rattle.scq_law.proofs.Replays.LastingPlaces.{places_last_throughout}
-use Rattle.scq_law.specs.Points.{Decides}
-use Rattle.scq_law.specs.RunSteps.{Run, state_before, recorded_before}
+use Rattle.scq_law.specs.RunSteps.{Run}
 use Rattle.scq_law.proofs.Order.RunStates.{StepFacts, moment_run}
 
 pub step_end : (run : Run) (i : ℕ) (f : StepFacts run i)

@@ -8,11 +8,9 @@ use Rattle.std.proofs.lemmas.Bool.{cases_lt}
 use Rattle.std.proofs.lemmas.Option.{slice_get_within}
 use Rattle.scq_core.specs.declared.ended.Ended.{Ended}
 use Rattle.scq_core.specs.declared.step.Step.{Step}
-use Rattle.scq_law.specs.Run.{Recorded, recorded_after, recorded_of, recorded_first, IsRun}
-use Rattle.scq_law.specs.Prefixes.{IsPrefix, IsRecordAfter}
-use Rattle.scq_law.specs.Order.{EndedBefore}
-use Rattle.scq_law.specs.RunSteps.{Run, IsStepOf, recorded_before, state_before}
-use Rattle.scq_law.specs.Spans.{RestsAt, CallsApart}
+use Rattle.scq_law.specs.Exports.{Recorded, recorded_after, recorded_of, recorded_first, IsRun, IsPrefix, IsRecordAfter, EndedBefore, IsStepOf}
+use Rattle.scq_law.specs.Exports.{recorded_before, state_before, RestsAt, CallsApart}
+use Rattle.scq_law.specs.RunSteps.{Run}
 use Rattle.scq_law.proofs.Replays.RunLaws.{run_reaches}
 use Rattle.scq_law.proofs.Replays.RunPrefixes.{prefix_trans}
 use Rattle.scq_law.proofs.Retries.StepLaws.{most, steps_taken, steps_made, made_step}

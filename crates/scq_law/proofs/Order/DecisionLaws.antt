@@ -7,17 +7,16 @@ use Rattle.scq_word.specs.declared.setup.Setup.{Setup}
 use Rattle.scq_core.specs.declared.ended.Ended.{Ended}
 use Rattle.scq_core.specs.declared.ended.Ended.TheVariants.{Nothing}
 use Rattle.scq_core.specs.declared.phase.Phase.{Phase}
-use Rattle.scq_core.specs.Machine.{SeatPart, Machine}
-use Rattle.scq_core.specs.Stances.{resting, drawing, landed, seeking, trying, gave_up, stance_of}
-use Rattle.scq_law.specs.Run.{Recorded, IsRun}
+use Rattle.scq_core.specs.Exports.{SeatPart, resting, drawing, landed, seeking, trying, gave_up, stance_of}
+use Rattle.scq_core.specs.Machine.{Machine}
+use Rattle.scq_law.specs.Exports.{Recorded, IsRun, Decides, IsDecidingStep, Makes, IsFinishedRun, HasEnded, state_before, last_state}
 use Rattle.scq_law.proofs.Base.EventFacts.{stance, EventFacts}
 use Rattle.scq_law.proofs.Base.TicketEvents.{TicketEvent, calm, drew, fell, laid, finished, entered, refused, began, died, saw_end, lifted, taken, lowered, emptied, overran, ended_by}
 use Rattle.scq_law.proofs.Base.Traces.{event_of}
 use Rattle.scq_law.proofs.Base.TurnOrigins.{came_from, goes_from}
 use Rattle.scq_law.proofs.Places.RecordsAgree.{call_last}
 use Rattle.scq_law.proofs.Threshold.EmptyDecisions as law
-use Rattle.scq_law.specs.Points.{Decides, IsDecidingStep}
-use Rattle.scq_law.specs.RunSteps.{Run, Makes, IsFinishedRun, HasEnded, state_before, last_state}
+use Rattle.scq_law.specs.RunSteps.{Run}
 use Rattle.scq_law.proofs.Order.RunStates.{StepFacts, step_facts}
 use Rattle.scq_law.proofs.Order.RunDraws.{CallEnd, call_end, makes_is, follow_run}
 use Rattle.scq_law.proofs.Order.Decisions.{deciding, within}

@@ -11,10 +11,8 @@ use Rattle.scq_core.specs.declared.ended.Ended.TheVariants.{Done}
 use Rattle.scq_core.specs.declared.phase.Phase.{Phase}
 use Rattle.scq_core.specs.declared.phase.Phase.TheVariants.{AtD1, AtD6, AtD10}
 use Rattle.scq_core.specs.Machine.{Machine}
-use Rattle.scq_core.specs.Stances.{Stance, gave_up, stance_of}
-use Rattle.scq_core.specs.Table.{zero_level}
-use Rattle.scq_law.specs.Bounds.{IsFinished}
-use Rattle.scq_law.specs.Run.{Recorded, IsRun}
+use Rattle.scq_core.specs.Exports.{Stance, gave_up, stance_of, zero_level}
+use Rattle.scq_law.specs.Exports.{IsFinished, Recorded, IsRun, Makes, HasEnded, state_before, recorded_before, Decides, IsDecidingStep, DecidesBefore}
 use Rattle.scq_law.proofs.Base.EventFacts.{stance}
 use Rattle.scq_law.proofs.Base.TicketEvents.{TicketEvent, ended_by}
 use Rattle.scq_law.proofs.Base.TurnOrigins.{came_from, goes_from}
@@ -22,8 +20,7 @@ use Rattle.scq_law.proofs.Base.Traces.{event_of}
 use Rattle.scq_law.proofs.Places.RecordsAgree.{call_last}
 use Rattle.scq_law.proofs.Replays.LastingPlaces.{places_last_throughout}
 use Rattle.scq_law.proofs.Threshold.EmptyDecisions as law
-use Rattle.scq_law.specs.RunSteps.{Run, Makes, HasEnded, state_before, recorded_before}
-use Rattle.scq_law.specs.Points.{Decides, IsDecidingStep, DecidesBefore}
+use Rattle.scq_law.specs.RunSteps.{Run}
 use Rattle.scq_law.proofs.Order.RunStates.{step_facts, ghost_before, moment_run}
 use Rattle.scq_law.proofs.Order.RunDraws.{CallEnd, call_end, makes_is}
 

@@ -2,19 +2,18 @@
 use Rattle.std.proofs.Common.{◌≡◌, ℕ, ◌+◌, ◌<◌, ◌≤◌, inl, inr, false, List, [], ◌∷◌, length, refl, ap, sym, ◌∙◌, subst, arith}
 use Rattle.std.specs.Prelude.{nat_le}
 use Rattle.std.proofs.lemmas.Bool.{cases_lt, lt-leb}
-use Rattle.scq_word.specs.Sizes.{n_of}
+use Rattle.scq_word.specs.Exports.{n_of}
 use Rattle.scq_core.specs.declared.ended.Ended.TheVariants.{Done, Got}
 use Rattle.scq_core.specs.declared.phase.Phase.TheVariants.{AtE1, AtD2}
-use Rattle.scq_core.specs.Table.{ring_slots}
+use Rattle.scq_core.specs.Exports.{ring_slots}
 use Rattle.scq_core.proofs.UpdatedLemmas.{updated_here}
-use Rattle.scq_law.specs.Places.{Maker, call_of, opening_put}
-use Rattle.scq_law.specs.Run.{Recorded, IsRun}
+use Rattle.scq_law.specs.Exports.{Maker, call_of, opening_put, Recorded, IsRun, DrawsPut, DrawsGet, IsStepOf, HasEnded, state_before}
 use Rattle.scq_law.proofs.Base.Ghosts.{placed, opened}
 use Rattle.scq_law.proofs.Base.TicketEvents.{TicketEvent, calm, drew, began, taken, ended_by, tail_by, head_by}
 use Rattle.scq_law.proofs.Base.EventFacts.{Proper, Taken}
 use Rattle.scq_law.proofs.Base.Traces.{event_of}
 use Rattle.scq_law.proofs.Places.Throughout.{records_agree}
-use Rattle.scq_law.specs.RunSteps.{Run, DrawsPut, DrawsGet, IsStepOf, HasEnded, state_before}
+use Rattle.scq_law.specs.RunSteps.{Run}
 use Rattle.scq_law.proofs.Order.RunStates.{step_facts, ghost_before, traced}
 use Rattle.scq_law.proofs.Order.CallDraws.{by_placed, by_opened}
 use Rattle.scq_law.proofs.Order.RunDraws.{PutDraw, put_draw, GetDraw, get_draw, call_end, makes_is, rise}

@@ -3,20 +3,19 @@ use Rattle.std.proofs.Common.{◌≡◌, ℕ, ◌+◌, ◌<◌, inl, inr, List, 
 use Rattle.std.specs.Prelude.{◌-◌, Some, max}
 use Rattle.std.proofs.lemmas.Bool.{cases_lt}
 use Rattle.std.proofs.lemmas.List.{take_all}
-use Rattle.scq_word.specs.Sizes.{n_of}
+use Rattle.scq_word.specs.Exports.{n_of}
 use Rattle.scq_core.specs.declared.ended.Ended.TheVariants.{Done, Got}
 use Rattle.scq_core.specs.declared.step.Step.{Step}
-use Rattle.scq_core.specs.Table.{ring_slots}
-use Rattle.scq_core.specs.Reach.{IsReachable}
-use Rattle.scq_law.specs.Places.{at_opening, in_record, call_of, opening_put, AllIdle}
-use Rattle.scq_law.specs.Run.{Recorded, recorded_of}
+use Rattle.scq_core.specs.Exports.{ring_slots, IsReachable}
+use Rattle.scq_law.specs.Exports.{at_opening, in_record, call_of, opening_put, AllIdle, Recorded, recorded_of, IsFinishedRun, DrawsGet, HasEnded}
+use Rattle.scq_law.specs.Exports.{state_before, recorded_before, last_state, IsDecidingStep, IsPointOfPlace, of_call, IsGetPoint, Key, key, IsEarlier}
+use Rattle.scq_law.specs.Exports.{HasKey, of_nothing, of_put, of_get}
 use Rattle.scq_law.proofs.Places.PlaceLaws.{got_below, places_once}
 use Rattle.scq_law.proofs.Replays.RunLaws.{run_reaches}
 use Rattle.scq_law.specs.declared.ordered.Ordered.{Ordered}
 use Rattle.scq_law.specs.declared.ordered.Ordered.TheVariants.{Opening, Call}
-use Rattle.scq_law.specs.RunSteps.{Run, IsFinishedRun, DrawsGet, HasEnded, state_before, recorded_before, last_state}
-use Rattle.scq_law.specs.Points.{IsDecidingStep, IsPointOfPlace, of_opening, of_call, IsGetPoint}
-use Rattle.scq_law.specs.Order.{Key, key, IsEarlier, HasKey, of_nothing, of_put, of_get}
+use Rattle.scq_law.specs.RunSteps.{Run}
+use Rattle.scq_law.specs.Points.{of_opening}
 use Rattle.scq_law.specs.Order as order
 use Rattle.scq_law.proofs.Order.RunStates.{moment, moment_run}
 use Rattle.scq_law.proofs.Order.RunDraws.{rise}

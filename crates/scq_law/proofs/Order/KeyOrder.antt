@@ -5,7 +5,7 @@ use Rattle.std.specs.List.Sorted.{IsSortedByKey}
 use Rattle.std.specs.Ordering.{is_lt, nat_cmp, ordering_then}
 use Rattle.std.proofs.lemmas.Bool.{cases_lt, cases_eq, lt-ltb, le-ltb}
 use Rattle.scq_law.specs.declared.marks.Member.{Member}
-use Rattle.scq_law.specs.Notes.{IsNoLater, AreInKeyOrder}
+use Rattle.scq_law.specs.Exports.{IsNoLater, AreInKeyOrder}
 
 -- two numbers, by their order
 cmp_cases : (x y : ℕ) → ((x < y) × (nat_cmp x y ≡ Less)) ⊎ ((x ≡ y) × (nat_cmp x y ≡ Equal)) ⊎ (y < x)

@@ -4,23 +4,21 @@ use Rattle.std.specs.Prelude.{Option, Some, slice_get}
 use Rattle.std.proofs.lemmas.Bool.{cases_lt, cases_eq}
 use Rattle.std.proofs.lemmas.List.{length-append}
 use Rattle.scq_word.specs.declared.setup.Setup.{Setup}
-use Rattle.scq_word.specs.Sizes.{n_of}
+use Rattle.scq_word.specs.Exports.{n_of}
 use Rattle.scq_core.specs.declared.ended.Ended.TheVariants.{Done, Got, Nothing}
 use Rattle.scq_core.specs.declared.step.Step.{Step}
-use Rattle.scq_core.specs.Machine.{SeatPart, Machine}
-use Rattle.scq_core.specs.Stances.{resting, drawing, putting, landed, seeking, trying, gave_up, stance_of}
-use Rattle.scq_core.specs.Table.{ring_slots}
-use Rattle.scq_law.specs.Places.{call_of, in_record}
-use Rattle.scq_law.specs.Run.{Recorded, IsRun}
+use Rattle.scq_core.specs.Exports.{SeatPart, resting, drawing, putting, landed, seeking, trying, gave_up, stance_of, ring_slots}
+use Rattle.scq_core.specs.Machine.{Machine}
+use Rattle.scq_law.specs.Exports.{call_of, in_record, Recorded, IsRun, IsFinishedRun, HasEnded, state_before, last_state, IsDecidingStep, IsPutPoint}
+use Rattle.scq_law.specs.Exports.{Key, key, HasKey, of_nothing, of_put, of_get}
 use Rattle.scq_law.proofs.Base.EventFacts.{stance, EventFacts}
 use Rattle.scq_law.proofs.Base.TicketEvents.{TicketEvent, calm, drew, fell, laid, finished, entered, refused, began, died, saw_end, lifted, taken, lowered, emptied, overran}
 use Rattle.scq_law.proofs.Places.PlaceLaws.{places_once}
 use Rattle.scq_law.proofs.Threshold.EmptyDecisions as law
 use Rattle.scq_law.specs.declared.ordered.Ordered.{Ordered}
 use Rattle.scq_law.specs.declared.ordered.Ordered.TheVariants.{Opening, Call}
-use Rattle.scq_law.specs.RunSteps.{Run, IsFinishedRun, HasEnded, state_before, last_state}
-use Rattle.scq_law.specs.Points.{IsDecidingStep, IsPutPoint}
-use Rattle.scq_law.specs.Order.{Key, key, HasKey, of_opening, of_nothing, of_put, of_get}
+use Rattle.scq_law.specs.RunSteps.{Run}
+use Rattle.scq_law.specs.Order.{of_opening}
 use Rattle.scq_law.proofs.Order.RunStates.{step_facts}
 use Rattle.scq_law.proofs.Order.RunDraws.{makes_is, follow_run}
 use Rattle.scq_law.proofs.Order.Decisions.{deciding, within}

@@ -12,9 +12,8 @@ use Rattle.std.proofs.lemmas.Option.{slice_get_within, slice_get-get_or, get_or_
 use Rattle.scq_law.specs.declared.marks.Member.{Member}
 use Rattle.scq_law.specs.declared.ordered.Ordered.{Ordered}
 use Rattle.scq_law.specs.declared.ordered.Ordered.TheVariants.{Opening, Call}
-use Rattle.scq_law.specs.Notes.{IsNoLater, AreInKeyOrder, HoldsOrder}
-use Rattle.scq_law.specs.Order.{Key, key, IsEarlier, HasKey, IsLinearization}
-use Rattle.scq_law.specs.RunSteps.{Run, IsFinishedRun}
+use Rattle.scq_law.specs.Exports.{IsNoLater, AreInKeyOrder, HoldsOrder, Key, key, IsEarlier, HasKey, IsLinearization, IsFinishedRun}
+use Rattle.scq_law.specs.RunSteps.{Run}
 use Rattle.scq_law.proofs.Order.Decisions.{stands_in}
 use Rattle.scq_law.proofs.Order.KeyUnique.{one_key, one_member}
 

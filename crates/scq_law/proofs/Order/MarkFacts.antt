@@ -3,18 +3,16 @@ use Rattle.std.proofs.Common.{◌≡◌, ℕ, zero, suc, ◌+◌, ◌<◌, ◌�
 use Rattle.std.specs.Prelude.{Some, None, Option, slice_get, max}
 use Rattle.std.specs.List.{Contains}
 use Rattle.std.proofs.lemmas.Bool.{cases_lt}
-use Rattle.scq_word.specs.Sizes.{n_of}
+use Rattle.scq_word.specs.Exports.{n_of}
 use Rattle.scq_core.specs.declared.ended.Ended.{Ended}
 use Rattle.scq_core.specs.declared.ended.Ended.TheVariants.{Done, Got}
 use Rattle.scq_core.specs.declared.phase.Phase.{Phase}
 use Rattle.scq_core.specs.declared.phase.Phase.TheVariants.{Idle}
-use Rattle.scq_core.specs.Machine.{SeatPart}
-use Rattle.scq_core.specs.Table.{ring_slots}
-use Rattle.scq_core.specs.Stances.{gave_up}
+use Rattle.scq_core.specs.Exports.{SeatPart, ring_slots, gave_up}
 use Rattle.scq_core.proofs.UpdatedLemmas.{updated_or}
-use Rattle.scq_law.specs.Places.{Maker, IsPlacedBy, at_opening, in_record, under_way, HasLanded}
-use Rattle.scq_law.specs.Replay.{Counts}
-use Rattle.scq_law.specs.Run.{Recorded}
+use Rattle.scq_law.specs.Exports.{Maker, IsPlacedBy, at_opening, in_record, under_way, HasLanded, Counts, Recorded, marked, puts_by, gets_by}
+use Rattle.scq_law.specs.Exports.{decided_by, mark_or, is_on, Rise, IsPutMark, key, HasKey, IsDecidingStep, DecidesBefore, IsPutPoint, of_call}
+use Rattle.scq_law.specs.Exports.{IsGetPoint, IsFinishedRun, DrawsPut, DrawsGet, HasEnded, state_before, last_state}
 use Rattle.scq_law.proofs.Base.EventFacts.{stance}
 use Rattle.scq_law.proofs.Places.PlaceLaws.{places_once}
 use Rattle.scq_law.proofs.Places.Throughout.{reached}
@@ -24,10 +22,8 @@ use Rattle.scq_law.specs.declared.marks.Member.{Member}
 use Rattle.scq_law.specs.declared.note.Note.{Note}
 use Rattle.scq_law.specs.declared.note.Note.TheVariants as note
 use Rattle.scq_law.specs.declared.ordered.Ordered.TheVariants.{Opening, Call}
-use Rattle.scq_law.specs.Notes.{marked, puts_by, gets_by, decided_by, mark_or, is_on, Rise, IsPutMark}
-use Rattle.scq_law.specs.Order.{key, HasKey}
-use Rattle.scq_law.specs.Points.{IsDecidingStep, DecidesBefore, IsPutPoint, of_opening, of_call, IsGetPoint}
-use Rattle.scq_law.specs.RunSteps.{Run, IsFinishedRun, DrawsPut, DrawsGet, HasEnded, state_before, last_state}
+use Rattle.scq_law.specs.Points.{of_opening}
+use Rattle.scq_law.specs.RunSteps.{Run}
 use Rattle.scq_law.proofs.Order.RunStates.{ghost_before, traced}
 use Rattle.scq_law.proofs.Order.RunDraws.{PutDraw}
 use Rattle.scq_law.proofs.Order.Decisions.{decides_before}

@@ -8,27 +8,25 @@ use Rattle.std.proofs.lemmas.List.{take_all, length-append, length-set, length-r
 use Rattle.std.proofs.lemmas.List.Elements.{Contains-push, Contains-append_left}
 use Rattle.std.proofs.lemmas.Option.{slice_get-get_or}
 use Rattle.scq_word.specs.declared.setup.Setup.{Setup}
-use Rattle.scq_word.specs.Sizes.{n_of}
+use Rattle.scq_word.specs.Exports.{n_of}
 use Rattle.scq_core.specs.declared.ended.Ended.{Ended}
 use Rattle.scq_core.specs.declared.ended.Ended.TheVariants.{Done, Got, Nothing}
 use Rattle.scq_core.specs.declared.phase.Phase.{Phase}
 use Rattle.scq_core.specs.declared.step.Step.{Step}
 use Rattle.scq_core.specs.Machine.{Machine}
-use Rattle.scq_core.specs.Start.{start_of}
-use Rattle.scq_core.specs.StateLists.{machine_of}
-use Rattle.scq_core.specs.Table.{ring_slots, turn_of, moved, step_of}
+use Rattle.scq_core.specs.Exports.{start_of, machine_of, ring_slots, turn_of, moved, step_of}
 use Rattle.scq_core.proofs.Turns.{turned}
-use Rattle.scq_law.specs.Replay.{StopsAt}
-use Rattle.scq_law.specs.Run.{Recorded, recorded_after, recorded_by, recorded_first, recorded_of, IsRun}
+use Rattle.scq_law.specs.Exports.{StopsAt, Recorded, recorded_after, recorded_by, recorded_first, recorded_of, IsRun, AddsStep, IsUnmarked}
+use Rattle.scq_law.specs.Exports.{IsMarkedRun, HoldsOrder, token, tokens_below, tokens_of, calls_by, IsOrderable, by_done, by_got, by_nothing}
+use Rattle.scq_law.specs.Exports.{IsFinishedRun, recorded_before, state_before}
 use Rattle.scq_law.proofs.Replays.LongerRuns.{run_first, run_last, run_stops}
 use Rattle.scq_law.proofs.Replays.StepsRecorded.{more}
 use Rattle.scq_law.specs.declared.marking.Marking.{Marking}
 use Rattle.scq_law.specs.declared.marks.Marks.{Marks}
 use Rattle.scq_law.specs.declared.marks.Member.{Member}
 use Rattle.scq_law.specs.declared.ordered.Ordered.TheVariants.{Opening, Call}
-use Rattle.scq_law.specs.Notes.{AddsStep, IsUnmarked, IsMarkedRun, HoldsOrder, token, tokens_below, tokens_of, calls_by}
-use Rattle.scq_law.specs.Order.{of_opening, IsOrderable, by_done, by_got, by_nothing}
-use Rattle.scq_law.specs.RunSteps.{Run, IsFinishedRun, recorded_before, state_before}
+use Rattle.scq_law.specs.Order.{of_opening}
+use Rattle.scq_law.specs.RunSteps.{Run}
 use Rattle.scq_law.proofs.Order.MarkFacts.{IsMarked}
 use Rattle.scq_law.proofs.Order.MarkedSteps.{marked_step, pushed_cases}
 use Rattle.scq_law.proofs.Order.RunStates.{step_facts}

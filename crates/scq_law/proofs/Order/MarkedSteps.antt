@@ -12,12 +12,12 @@ use Rattle.scq_word.specs.declared.setup.Setup.{Setup}
 use Rattle.scq_core.specs.declared.ended.Ended.{Ended}
 use Rattle.scq_core.specs.declared.ended.Ended.TheVariants.{Done, Got, Nothing, Spent}
 use Rattle.scq_core.specs.declared.phase.Phase.{Phase}
-use Rattle.scq_core.specs.Machine.{SeatPart, Machine}
-use Rattle.scq_core.specs.Stances.{resting, gave_up, stance_of}
+use Rattle.scq_core.specs.Exports.{SeatPart, resting, gave_up, stance_of}
+use Rattle.scq_core.specs.Machine.{Machine}
 use Rattle.scq_core.proofs.UpdatedLemmas.{updated_here, updated_else}
-use Rattle.scq_law.specs.Acts.{ended_in}
-use Rattle.scq_law.specs.Replay.{Counts}
-use Rattle.scq_law.specs.Run.{Recorded}
+use Rattle.scq_law.specs.Exports.{ended_in, Counts, Recorded, marked, note_of, puts_by, gets_by, decided_by, decisions_by, calls_by, mark_or, is_on}
+use Rattle.scq_law.specs.Exports.{Rise, IsMarkedKey, AddsMember, AddsStep, key, HasKey, of_nothing, of_put, of_get, Decides, IsDecidingStep}
+use Rattle.scq_law.specs.Exports.{IsFinishedRun, DrawsPut, DrawsGet, HasEnded, state_before}
 use Rattle.scq_law.proofs.Base.EventFacts.{stance, EventFacts}
 use Rattle.scq_law.proofs.Base.TicketEvents.{TicketEvent, calm, drew, fell, laid, finished, entered, refused, began, died, saw_end, lifted, taken, lowered, emptied, overran, ended_by}
 use Rattle.scq_law.proofs.Base.Traces.{event_of}
@@ -31,10 +31,7 @@ use Rattle.scq_law.specs.declared.marks.Member.{Member}
 use Rattle.scq_law.specs.declared.note.Note.{Note}
 use Rattle.scq_law.specs.declared.note.Note.TheVariants as note
 use Rattle.scq_law.specs.declared.ordered.Ordered.TheVariants.{Call}
-use Rattle.scq_law.specs.Notes.{marked, note_of, puts_by, gets_by, decided_by, decisions_by, calls_by, mark_or, is_on, Rise, IsMarkedKey, AddsMember, AddsStep}
-use Rattle.scq_law.specs.Order.{key, HasKey, of_nothing, of_put, of_get}
-use Rattle.scq_law.specs.Points.{Decides, IsDecidingStep}
-use Rattle.scq_law.specs.RunSteps.{Run, IsFinishedRun, DrawsPut, DrawsGet, HasEnded, state_before}
+use Rattle.scq_law.specs.RunSteps.{Run}
 use Rattle.scq_law.proofs.Order.RunStates.{StepFacts, step_facts}
 use Rattle.scq_law.proofs.Order.RunDraws.{makes_is, rise}
 use Rattle.scq_law.proofs.Order.Decisions.{deciding, stands_in}

@@ -6,14 +6,14 @@ use Rattle.scq_word.specs.declared.setup.Setup.{Setup}
 use Rattle.scq_core.specs.declared.phase.Phase.{Phase}
 use Rattle.scq_core.specs.declared.phase.Phase.TheVariants.{Idle, AtE1, AtD1, AtD2, AtD6, AtD10}
 use Rattle.scq_core.specs.declared.step.Step.{Step}
-use Rattle.scq_core.specs.Machine.{Machine, Cells}
-use Rattle.scq_core.specs.Table.{zero_level, next_step}
+use Rattle.scq_core.specs.Exports.{Cells, zero_level, next_step}
+use Rattle.scq_core.specs.Machine.{Machine}
 use Rattle.scq_core.proofs.Turns.{Enables, new_put, new_get, continues, enables}
 use Rattle.scq_law.specs.declared.note.Note.{Note}
 use Rattle.scq_law.specs.declared.note.Note.TheVariants as note
-use Rattle.scq_law.specs.Notes.{note_of, put_note, get_note, refusal_note, end_note, level_note}
-use Rattle.scq_law.specs.Points.{Decides, IsDecidingStep}
-use Rattle.scq_law.specs.RunSteps.{Run, DrawsPut, DrawsGet, state_before}
+use Rattle.scq_law.specs.Exports.{note_of, put_note, get_note, refusal_note, end_note, level_note, Decides, IsDecidingStep, DrawsPut, DrawsGet}
+use Rattle.scq_law.specs.Exports.{state_before}
+use Rattle.scq_law.specs.RunSteps.{Run}
 use Rattle.scq_law.proofs.Order.RunStates.{StepFacts}
 use Rattle.scq_law.proofs.Order.RunDraws.{makes_is}
 

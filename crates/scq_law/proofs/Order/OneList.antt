@@ -4,7 +4,8 @@ use Rattle.std.specs.Prelude.{Some, slice_get}
 use Rattle.std.specs.List.{Contains}
 use Rattle.std.proofs.lemmas.Option.{slice_get-get_or}
 use Rattle.scq_law.specs.declared.ordered.Ordered.{Ordered}
-use Rattle.scq_law.specs.Order.{Key, IsEarlier, HasKey, of_opening, of_nothing, of_put, of_get, by_done, by_got, by_nothing, IsLinearization}
+use Rattle.scq_law.specs.Exports.{Key, IsEarlier, HasKey, of_nothing, of_put, of_get, by_done, by_got, by_nothing, IsLinearization}
+use Rattle.scq_law.specs.Order.{of_opening}
 use Rattle.scq_law.specs.RunSteps.{Run}
 use Rattle.scq_law.proofs.Order.Decisions.{stands_in}
 use Rattle.scq_law.proofs.Order.KeyLemmas.{before_apart}

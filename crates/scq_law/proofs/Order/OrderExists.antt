@@ -5,21 +5,20 @@ use Rattle.std.specs.Prelude.{Option, Some, None, slice_get, max}
 use Rattle.std.specs.List.{Contains}
 use Rattle.std.proofs.lemmas.Bool.{cases_lt, cases_eq}
 use Rattle.std.proofs.lemmas.Option.{slice_get-get_or, slice_get_within}
-use Rattle.scq_word.specs.Sizes.{n_of}
+use Rattle.scq_word.specs.Exports.{n_of}
 use Rattle.scq_core.specs.declared.ended.Ended.{Ended}
 use Rattle.scq_core.specs.declared.ended.Ended.TheVariants.{Done, Got, Nothing, Spent}
-use Rattle.scq_core.specs.Machine.{SeatPart}
-use Rattle.scq_core.specs.Table.{ring_slots}
-use Rattle.scq_law.specs.Run.{Recorded}
+use Rattle.scq_core.specs.Exports.{SeatPart, ring_slots}
+use Rattle.scq_law.specs.Exports.{Recorded, note_of, decisions_by, Key, key, IsEarlier, HasKey, of_nothing, of_put, of_get, IsOrderable, by_done}
+use Rattle.scq_law.specs.Exports.{by_got, by_nothing, IsLinearization, IsDecidingStep, IsPutPoint, IsPointOfPlace, IsFinishedRun, HasEnded}
+use Rattle.scq_law.specs.Exports.{state_before, last_state}
 use Rattle.scq_law.proofs.Places.Throughout.{reached}
 use Rattle.scq_law.specs.declared.marks.Decision.{Decision}
 use Rattle.scq_law.specs.declared.ordered.Ordered.{Ordered}
 use Rattle.scq_law.specs.declared.ordered.Ordered.TheVariants.{Opening, Call}
-use Rattle.scq_law.specs.Notes.{note_of, decisions_by}
-use Rattle.scq_law.specs.Order.{Key, key, IsEarlier, HasKey, of_opening, of_nothing, of_put, of_get, IsOrderable, by_done, by_got, by_nothing, IsLinearization}
-use Rattle.scq_law.specs.Points.{IsDecidingStep, IsPutPoint, IsPointOfPlace}
+use Rattle.scq_law.specs.Order.{of_opening}
 use Rattle.scq_law.specs.Points as points
-use Rattle.scq_law.specs.RunSteps.{Run, IsFinishedRun, HasEnded, state_before, last_state}
+use Rattle.scq_law.specs.RunSteps.{Run}
 use Rattle.scq_law.proofs.Order.RunStates.{step_facts, ghost_before, traced}
 use Rattle.scq_law.proofs.Order.RunDraws.{follow_run}
 use Rattle.scq_law.proofs.Order.Decisions.{decides_before, stands_in, within}

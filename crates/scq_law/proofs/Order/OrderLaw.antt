@@ -5,9 +5,9 @@ use Rattle.std.specs.Prelude.{Some, slice_get, slice_index_or, ◌-◌}
 use Rattle.std.specs.List.{Contains}
 use Rattle.std.proofs.lemmas.Bool.{cases_lt, cases_eq}
 use Rattle.std.proofs.lemmas.Option.{slice_get-get_or}
-use Rattle.scq_word.specs.Sizes.{n_of}
+use Rattle.scq_word.specs.Exports.{n_of}
 use Rattle.scq_core.specs.declared.ended.Ended.TheVariants.{Done, Got, Nothing}
-use Rattle.scq_core.specs.Table.{ring_slots}
+use Rattle.scq_core.specs.Exports.{ring_slots}
 use Rattle.scq_hist.specs.declared.events.PutName.{PutName}
 use Rattle.scq_hist.specs.declared.events.PutName.TheVariants.{Opening as Token}
 use Rattle.scq_hist.specs.declared.events.Reply.TheVariants.{Got as GotReply}
@@ -16,10 +16,11 @@ use Rattle.scq_law.proofs.Places.RecordsAgree.{RecordsAgree}
 use Rattle.scq_law.proofs.Places.Throughout.{records_agree}
 use Rattle.scq_law.specs.declared.ordered.Ordered.{Ordered}
 use Rattle.scq_law.specs.declared.ordered.Ordered.TheVariants.{Opening, Call}
-use Rattle.scq_law.specs.RunSteps.{Run, IsFinishedRun, HasEnded, state_before, recorded_last, last_state}
-use Rattle.scq_law.specs.Points.{IsDecidingStep}
-use Rattle.scq_law.specs.Plain.{name_of_put}
-use Rattle.scq_law.specs.Order.{Key, key, IsEarlier, HasKey, of_opening, of_nothing, of_put, of_get, IsOrderable, by_done, by_got, by_nothing, IsLinearization, EndedBefore, AnswersPlainly, IsOneOrder}
+use Rattle.scq_law.specs.Exports.{IsFinishedRun, HasEnded, state_before, recorded_last, last_state, IsDecidingStep, name_of_put, Key, key, IsEarlier}
+use Rattle.scq_law.specs.Exports.{HasKey, of_nothing, of_put, of_get, IsOrderable, by_done, by_got, by_nothing, IsLinearization, EndedBefore}
+use Rattle.scq_law.specs.Exports.{AnswersPlainly, IsOneOrder}
+use Rattle.scq_law.specs.RunSteps.{Run}
+use Rattle.scq_law.specs.Order.{of_opening}
 use Rattle.scq_law.proofs.Order.RunStates.{ghost_before, traced, step_facts}
 use Rattle.scq_law.proofs.Order.RunDraws.{follow_run}
 use Rattle.scq_law.proofs.Order.Decisions.{stands_in}

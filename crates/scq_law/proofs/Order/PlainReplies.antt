@@ -6,9 +6,8 @@ use Rattle.std.specs.Prelude.{Some, slice_get, max}
 use Rattle.std.proofs.lemmas.Bool.{cases_lt}
 use Rattle.scq_law.specs.declared.ordered.Ordered.{Ordered}
 use Rattle.scq_law.specs.declared.ordered.Ordered.TheVariants.{Call}
-use Rattle.scq_law.specs.RunSteps.{Run, IsFinishedRun}
-use Rattle.scq_law.specs.Points.{IsDecidingStep}
-use Rattle.scq_law.specs.Order.{Key, key, IsEarlier, HasKey}
+use Rattle.scq_law.specs.Exports.{IsFinishedRun, IsDecidingStep, Key, key, IsEarlier, HasKey}
+use Rattle.scq_law.specs.RunSteps.{Run}
 use Rattle.scq_law.proofs.Order.PointLemmas.{place_points_rise, get_points_rise, put_before_get}
 use Rattle.scq_law.proofs.Order.KeyLemmas.{get_of, put_of, place_keyed, same_kind, before_apart, lower_got, got_before, got_once}
 

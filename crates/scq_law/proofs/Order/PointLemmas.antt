@@ -2,13 +2,12 @@
 use Rattle.std.proofs.Common.{◌≡◌, ℕ, ◌+◌, ◌<◌, ◌≤◌, inl, inr, List, refl, ap, sym, subst, arith}
 use Rattle.std.specs.Prelude.{max}
 use Rattle.scq_core.specs.declared.ended.Ended.TheVariants.{Done, Got, Nothing}
-use Rattle.scq_law.specs.Bounds.{IsFinished}
-use Rattle.scq_law.specs.Run.{Recorded, IsRun}
+use Rattle.scq_law.specs.Exports.{IsFinished, Recorded, IsRun, DrawsPut, DrawsGet, HasEnded, state_before, IsDecidingStep, IsPutPoint, IsPointOfPlace}
+use Rattle.scq_law.specs.Exports.{of_call, IsGetPoint, Key, key, HasKey, of_nothing, of_put, of_get, LiesWithin}
 use Rattle.scq_law.specs.declared.ordered.Ordered.{Ordered}
 use Rattle.scq_law.specs.declared.ordered.Ordered.TheVariants.{Call}
-use Rattle.scq_law.specs.RunSteps.{Run, DrawsPut, DrawsGet, HasEnded, state_before}
-use Rattle.scq_law.specs.Points.{IsDecidingStep, IsPutPoint, IsPointOfPlace, of_opening, of_call, IsGetPoint}
-use Rattle.scq_law.specs.Order.{Key, key, HasKey, of_nothing, of_put, of_get, LiesWithin}
+use Rattle.scq_law.specs.RunSteps.{Run}
+use Rattle.scq_law.specs.Points.{of_opening}
 use Rattle.scq_law.specs.Order as order
 use Rattle.scq_law.proofs.Order.Decisions.{decided_below, decides_before}
 use Rattle.scq_law.proofs.Order.DrawOrder.{put_draws_rise, get_draws_rise, drawn_later, drawn_past, done_draw, got_end, put_before_got}

@@ -5,7 +5,7 @@ use Rattle.std.specs.List.{Contains}
 use Rattle.std.specs.List.Sorted.{IsPartitionPoint}
 use Rattle.std.proofs.lemmas.Bool.{cases_lt, leb-true, leb-false}
 use Rattle.scq_law.specs.declared.marks.Decision.{Decision}
-use Rattle.scq_law.specs.Notes.{Rise, IsPutMark}
+use Rattle.scq_law.specs.Exports.{Rise, IsPutMark}
 use Rattle.scq_law.proofs.Order.RunStates.{get_or_any}
 
 -- the decisions before this position have a Head no further than the place, and the others have

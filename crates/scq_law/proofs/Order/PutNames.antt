@@ -7,21 +7,20 @@ use Rattle.std.proofs.lemmas.List.{take_all, take-append-le, length-append}
 use Rattle.std.proofs.lemmas.List.Sums.{sum_by-append}
 use Rattle.std.proofs.lemmas.Option.{slice_get_within}
 use Rattle.scq_word.specs.declared.setup.Setup.{Setup}
-use Rattle.scq_word.specs.Sizes.{n_of}
+use Rattle.scq_word.specs.Exports.{n_of}
 use Rattle.scq_core.specs.declared.ended.Ended.{Ended}
 use Rattle.scq_core.specs.declared.ended.Ended.TheVariants.{Done, Nothing, Spent}
 use Rattle.scq_core.specs.declared.phase.Phase.{Phase}
 use Rattle.scq_core.specs.declared.phase.Phase.TheVariants.{Idle, AtE1}
-use Rattle.scq_core.specs.Machine.{SeatPart, Machine, read, beside}
-use Rattle.scq_core.specs.Stances.{Stance, resting, drawing, putting, landed, stance_of}
-use Rattle.scq_core.specs.Table.{ring_slots, zero_level, location_of}
-use Rattle.scq_core.specs.Updated.{updated}
+use Rattle.scq_core.specs.Exports.{SeatPart, read, beside, Stance, resting, drawing, putting, landed, stance_of, ring_slots, zero_level, location_of}
+use Rattle.scq_core.specs.Exports.{updated}
+use Rattle.scq_core.specs.Machine.{Machine}
 use Rattle.scq_core.proofs.Turns.{Begins, begins_put, begins_get, begins, awake}
 use Rattle.scq_core.proofs.UpdatedLemmas.{updated_here, updated_else, updated_entry_or}
 use Rattle.scq_hist.specs.declared.events.PutName.{PutName}
 use Rattle.scq_hist.specs.declared.events.PutName.TheVariants.{Opening, Of}
-use Rattle.scq_law.specs.Places.{call_of}
-use Rattle.scq_law.specs.Run.{Recorded, IsRun, puts_after, placer_after}
+use Rattle.scq_law.specs.Exports.{call_of, Recorded, IsRun, puts_after, placer_after, ends_put, name_of_put, HasEnded, state_before, recorded_before}
+use Rattle.scq_law.specs.Exports.{recorded_last, last_state}
 use Rattle.scq_law.proofs.Aspects.CoupledRuns.{tied_run}
 use Rattle.scq_law.proofs.Aspects.EventRecording.{Within, within, puts_none, placer_by, placer_turn}
 use Rattle.scq_law.proofs.Base.EventFacts.{stance, EventFacts}
@@ -30,8 +29,7 @@ use Rattle.scq_law.proofs.Base.TicketEvents.{TicketEvent, calm, drew, fell, laid
 use Rattle.scq_law.proofs.Base.Traces.{event_of}
 use Rattle.scq_law.proofs.Places.RecordsAgree.{call_was, ended_few}
 use Rattle.scq_law.proofs.Places.Throughout.{records_agree}
-use Rattle.scq_law.specs.Plain.{ends_put, name_of_put}
-use Rattle.scq_law.specs.RunSteps.{Run, HasEnded, state_before, recorded_before, recorded_last, last_state}
+use Rattle.scq_law.specs.RunSteps.{Run}
 use Rattle.scq_law.proofs.Order.RunStates.{step_facts, ghost_before, moment_run}
 use Rattle.scq_law.proofs.Order.RunDraws.{follow_run}
 

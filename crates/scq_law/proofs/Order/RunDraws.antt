@@ -7,10 +7,8 @@ use Rattle.scq_core.specs.declared.ended.Ended.{Ended}
 use Rattle.scq_core.specs.declared.phase.Phase.{Phase}
 use Rattle.scq_core.specs.declared.phase.Phase.TheVariants.{AtE1, AtD2}
 use Rattle.scq_core.specs.declared.step.Step.{Step}
-use Rattle.scq_core.specs.Machine.{SeatPart, read, beside}
-use Rattle.scq_core.specs.Table.{location_of, turn_of}
-use Rattle.scq_core.specs.Laws.{CountersRise}
-use Rattle.scq_law.specs.Run.{Recorded, IsRun}
+use Rattle.scq_core.specs.Exports.{SeatPart, read, beside, location_of, turn_of, CountersRise}
+use Rattle.scq_law.specs.Exports.{Recorded, IsRun, Makes, DrawsPut, DrawsGet, IsStepOf, state_before, recorded_before}
 use Rattle.scq_law.proofs.Base.Ghosts.{start_ghost}
 use Rattle.scq_law.proofs.Base.TicketEvents.{TicketEvent, drew, began, ended_by}
 use Rattle.scq_law.proofs.Base.StartTickets.{stands_at}
@@ -19,7 +17,7 @@ use Rattle.scq_law.proofs.Places.RecordsAgree.{call_was, ended_few}
 use Rattle.scq_law.proofs.Places.SeatTickets.{IsRooted}
 use Rattle.scq_law.proofs.Places.Throughout.{rooted}
 use Rattle.scq_law.proofs.Replays.RisingWords.{rises_throughout}
-use Rattle.scq_law.specs.RunSteps.{Run, Makes, DrawsPut, DrawsGet, IsStepOf, state_before, recorded_before}
+use Rattle.scq_law.specs.RunSteps.{Run}
 use Rattle.scq_law.proofs.Order.RunStates.{StepFacts, step_facts, ghost_before, moment_run}
 use Rattle.scq_law.proofs.Order.TicketDraws.{draws_any, DrawsBy, draws_put, draws_get, draws_none, draws_by}
 use Rattle.scq_law.proofs.Order.CallDraws.{OwnsPut, by_pending, by_placed, OwnsGet, by_opened, by_took, put_was, get_was}

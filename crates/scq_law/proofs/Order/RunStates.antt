@@ -9,8 +9,9 @@ use Rattle.scq_core.specs.declared.phase.Phase.{Phase}
 use Rattle.scq_core.specs.declared.phase.Phase.TheVariants.{Idle}
 use Rattle.scq_core.specs.declared.step.Step.{Step}
 use Rattle.scq_core.specs.declared.step.Step.TheVariants.{D2}
-use Rattle.scq_core.specs.Table.{turn_of, moved}
-use Rattle.scq_law.specs.Run.{Recorded, recorded_after, recorded_by, recorded_first, recorded_along, recorded_of, IsRun}
+use Rattle.scq_core.specs.Exports.{turn_of, moved}
+use Rattle.scq_law.specs.Exports.{Recorded, recorded_after, recorded_by, recorded_first, recorded_along, recorded_of, IsRun, recorded_before}
+use Rattle.scq_law.specs.Exports.{state_before}
 use Rattle.scq_law.proofs.Base.Ghosts.{Ghost, start_ghost}
 use Rattle.scq_law.proofs.Base.Traces.{Trace, trace_start, trace_step, event_of, ghost_after}
 use Rattle.scq_law.proofs.Base.Based.{based}
@@ -19,7 +20,7 @@ use Rattle.scq_law.proofs.Replays.RecordedRuns.{RecordedStep, recorded_step, cha
 use Rattle.scq_law.proofs.Replays.StepsRecorded.{more}
 use Rattle.scq_law.proofs.Replays.LongerRuns.{along_last}
 use Rattle.scq_law.proofs.Replays.RisingWords.{recorded_along-append}
-use Rattle.scq_law.specs.RunSteps.{Run, recorded_before, state_before}
+use Rattle.scq_law.specs.RunSteps.{Run}
 
 abbrev pub item_at : Run → ℕ → ℕ × Step
 item_at run i = get_or run.steps i (0, D2)

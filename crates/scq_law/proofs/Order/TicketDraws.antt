@@ -4,13 +4,12 @@ use Rattle.std.proofs.Common.{◌≡◌, ℕ, ◌+◌, ◌<◌, inl, inr, true, 
 use Rattle.std.specs.Prelude.{Bool, nat_le, nat_lt, ◌&&◌, ◌==◌}
 use Rattle.std.proofs.lemmas.Bool.{cases_Bool, cases_eq, leb-false}
 use Rattle.scq_word.specs.declared.setup.Setup.{Setup}
-use Rattle.scq_word.specs.Words.{cycle_in, is_none_in}
+use Rattle.scq_word.specs.Exports.{cycle_in, is_none_in}
 use Rattle.scq_core.specs.declared.phase.Phase.{Phase}
 use Rattle.scq_core.specs.declared.phase.Phase.TheVariants.{Idle, AtE1, AtE2, AtE3, AtE4, AtE5, AtE6, AtD1, AtD2, AtD3, AtD4, AtD5, AtD6, AtD7, AtD8, AtD9, AtD10}
-use Rattle.scq_core.specs.Machine.{SeatPart, Machine}
-use Rattle.scq_core.specs.Table.{zero_level, reset_level, ring_slots, cycle}
+use Rattle.scq_core.specs.Exports.{SeatPart, zero_level, reset_level, ring_slots, cycle, resting, drawing, putting, landed, seeking, trying, gave_up}
+use Rattle.scq_core.specs.Machine.{Machine}
 use Rattle.scq_core.specs.declared.ended.Ended.{Ended}
-use Rattle.scq_core.specs.Stances.{resting, drawing, putting, landed, seeking, trying, gave_up}
 use Rattle.scq_law.proofs.Base.Ghosts.{Ghost}
 use Rattle.scq_law.proofs.Base.TicketEvents.{TicketEvent, calm, drew, fell, laid, finished, entered, refused, began, died, saw_end, lifted, taken, lowered, emptied, overran, event, ended_by}
 use Rattle.scq_law.proofs.Base.EventFacts.{stance, EventFacts}

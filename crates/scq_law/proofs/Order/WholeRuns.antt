@@ -4,14 +4,11 @@ use Rattle.std.specs.List.Sorted.{IsPermutation}
 use Rattle.scq_word.specs.declared.setup.Setup.{Setup}
 use Rattle.scq_core.specs.declared.step.Step.{Step}
 use Rattle.scq_core.specs.Machine.{Machine}
-use Rattle.scq_core.specs.StateLists.{machine_of}
-use Rattle.scq_law.specs.Places.{AllIdle}
+use Rattle.scq_core.specs.Exports.{machine_of}
+use Rattle.scq_law.specs.Exports.{AllIdle, IsMarkedRun, HoldsOrder, AreInKeyOrder, IsLinearization, run_of, IsFinishedRun}
 use Rattle.scq_law.specs.declared.marking.Marking.{Marking}
 use Rattle.scq_law.specs.declared.marks.Member.{Member}
 use Rattle.scq_law.specs.declared.ordered.Ordered.{Ordered}
-use Rattle.scq_law.specs.Notes.{IsMarkedRun, HoldsOrder, AreInKeyOrder}
-use Rattle.scq_law.specs.Order.{IsLinearization}
-use Rattle.scq_law.specs.RunSteps.{run_of, IsFinishedRun}
 use Rattle.scq_law.proofs.Order.Linear.{linear}
 
 module _ (c : Setup) (opening : List (List ℕ)) (steps : List (ℕ × Step)) (r : ℕ) (v : Marking) (marked : IsMarkedRun c opening steps r v)

@@ -3,17 +3,14 @@
 use Rattle.std.specs.Prelude.{Some}
 use Rattle.std.proofs.Common.{◌≡◌, ℕ, ◌<◌, true, false, List, refl, ap, sym, ◌∙◌, ◌⊎◌, inl, inr}
 use Rattle.scq_word.specs.declared.setup.Setup.{Setup}
-use Rattle.scq_word.specs.Words.{is_none_in}
+use Rattle.scq_word.specs.Exports.{is_none_in}
 use Rattle.scq_core.specs.declared.phase.Phase.{Phase}
 use Rattle.scq_core.specs.declared.phase.Phase.TheVariants.{AtD4}
 use Rattle.scq_core.specs.declared.step.Step.{Step}
-use Rattle.scq_core.specs.Machine.{SeatPart, Machine}
-use Rattle.scq_core.specs.Table.{ring_slots, turn_of}
-use Rattle.scq_core.specs.Laws.{word_at}
-use Rattle.scq_core.specs.Reach.{IsReachable}
+use Rattle.scq_core.specs.Exports.{SeatPart, ring_slots, turn_of, word_at, IsReachable}
+use Rattle.scq_core.specs.Machine.{Machine}
 use Rattle.scq_core.proofs.Turns.{Begins, begins_put, begins_get, begins}
-use Rattle.scq_law.specs.Places.{Maker, IsPlacedBy, IsTaken, IsUntaken}
-use Rattle.scq_law.specs.Standing.{StandsInSlot, StandsFor, EntriesMatchPlaces}
+use Rattle.scq_law.specs.Exports.{Maker, IsPlacedBy, IsTaken, IsUntaken, StandsInSlot, StandsFor, EntriesMatchPlaces}
 use Rattle.scq_law.proofs.Base.Ghosts.{Ghost, GetState, unopened, opened, dead, took, waiting}
 use Rattle.scq_law.proofs.Base.Traces.{has_trace}
 use Rattle.scq_law.proofs.Base.Based.{IsBased, based}

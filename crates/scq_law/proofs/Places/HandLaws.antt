@@ -2,14 +2,12 @@
 use Rattle.std.proofs.Common.{◌≡◌, ℕ, ◌<◌, false, refl, ap, sym, ◌∙◌, inl, inr, arith, ne_eqb}
 use Rattle.std.proofs.lemmas.Bool.{cases_lt}
 use Rattle.scq_word.specs.declared.setup.Setup.{Setup}
-use Rattle.scq_word.specs.Sizes.{n_of}
-use Rattle.scq_word.specs.Words.{index_in, cycle_in, is_none_in}
+use Rattle.scq_word.specs.Exports.{n_of, index_in, cycle_in, is_none_in}
 use Rattle.scq_word.proofs.TicketLemmas.{ticket_in, slot_of_small, slot_of-onto, slot_of-ticket_in, cycle_of-ticket_in}
-use Rattle.scq_core.specs.Machine.{SeatPart, Machine}
-use Rattle.scq_core.specs.Table.{ring_slots, cycle, slot, holds_index}
-use Rattle.scq_core.specs.Reach.{IsReachable}
+use Rattle.scq_core.specs.Exports.{SeatPart, ring_slots, cycle, slot, holds_index, IsReachable}
+use Rattle.scq_core.specs.Machine.{Machine}
 use Rattle.scq_core.proofs.Entries.{some_slots, below_mark}
-use Rattle.scq_law.specs.Hands.{Home, hand_of, in_slot, IsHome, IsSeen, OneHand}
+use Rattle.scq_law.specs.Exports.{Home, hand_of, in_slot, IsHome, IsSeen, OneHand}
 use Rattle.scq_law.proofs.Base.Ghosts.{Ghost}
 use Rattle.scq_law.proofs.Base.Traces.{has_trace}
 use Rattle.scq_law.proofs.Base.EventFacts.{Live}

@@ -2,8 +2,8 @@
 use Rattle.std.proofs.Common.{◌≡◌, ◌≢◌, ℕ, ◌+◌, ◌<◌, ◌≤◌, true, false, ◌||◌, List, [], ◌∷◌, ◌++◌, refl, sym, ◌∙◌, ◌⊎◌, inl, inr, arith, eqb-true, eq-eqb, ne_eqb}
 use Rattle.std.specs.Prelude.{◌==◌}
 use Rattle.std.proofs.lemmas.Bool.{cases_Bool, cases_eq, or_cases, or_left, or_right}
-use Rattle.scq_core.specs.Table.{hand_without, holds_index}
-use Rattle.scq_law.specs.Hands.{times}
+use Rattle.scq_core.specs.Exports.{hand_without, holds_index}
+use Rattle.scq_law.specs.Exports.{times}
 
 pub holds_without : (hand : List ℕ) (i x : ℕ) → holds_index (hand_without i hand) x ≡ true → (holds_index hand x ≡ true) × (x ≢ i)
 holds_without [] i x has = absurd (cc)

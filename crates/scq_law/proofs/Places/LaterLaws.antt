@@ -6,14 +6,10 @@ use Rattle.std.proofs.lemmas.List.Elements.{Contains-append_left}
 use Rattle.scq_word.specs.declared.setup.Setup.{Setup}
 use Rattle.scq_core.specs.declared.ended.Ended.TheVariants.{Done, Got}
 use Rattle.scq_core.specs.Machine.{Machine}
-use Rattle.scq_core.specs.Laws.{RecordsGrow}
-use Rattle.scq_core.specs.Reach.{IsReachable}
+use Rattle.scq_core.specs.Exports.{RecordsGrow, IsReachable}
 use Rattle.scq_core.proofs.Records.{grows_by_none, grows_on, records_grow}
 use Rattle.scq_core.proofs.Turns.{turned}
-use Rattle.scq_law.specs.Later.{IsLater, at_once, by_step}
-use Rattle.scq_law.specs.Places.{Maker, GaveUp, IsPlacedBy, IsTakenBy}
-use Rattle.scq_law.specs.Bounds.{IsFinished}
-use Rattle.scq_law.specs.Lasting.{PlacesLast}
+use Rattle.scq_law.specs.Exports.{IsLater, at_once, by_step, Maker, GaveUp, IsPlacedBy, IsTakenBy, IsFinished, PlacesLast}
 use Rattle.scq_law.proofs.Base.Ghosts.{Ghost, placed, dead}
 use Rattle.scq_law.proofs.Base.Traces.{Trace, has_trace, trace_by, ghost_after}
 use Rattle.scq_law.proofs.Base.Based.{based}

@@ -4,13 +4,11 @@ use Rattle.std.proofs.Common.{◌≡◌, ◌≢◌, ℕ, ◌+◌, ◌-◌, ◌<�
 use Rattle.std.specs.Prelude.{slice_index_or, ◌==◌}
 use Rattle.std.proofs.lemmas.Bool.{cases_Bool, cases_eq}
 use Rattle.scq_word.specs.declared.setup.Setup.{Setup}
-use Rattle.scq_word.specs.Sizes.{n_of}
-use Rattle.scq_core.specs.Machine.{SeatPart, Machine}
-use Rattle.scq_core.specs.Table.{ring_slots, hand_without, holds_index}
-use Rattle.scq_core.specs.Start.{start_of}
+use Rattle.scq_word.specs.Exports.{n_of}
+use Rattle.scq_core.specs.Exports.{SeatPart, ring_slots, hand_without, holds_index, start_of}
+use Rattle.scq_core.specs.Machine.{Machine}
 use Rattle.scq_core.proofs.UpdatedLemmas.{updated_entry_or, updated_entry_here}
-use Rattle.scq_law.specs.Places.{Maker, call_of, opening_put}
-use Rattle.scq_law.specs.Hands.{times}
+use Rattle.scq_law.specs.Exports.{Maker, call_of, opening_put, times}
 use Rattle.scq_law.proofs.Base.Ghosts.{Ghost, pending, failed, placed, opened, dead, took, is_placed, waiting, start_ghost, with_put, with_get}
 use Rattle.scq_law.proofs.Base.TicketEvents.{TicketEvent, drew, fell, laid, began, died, taken, hand_by}
 use Rattle.scq_law.proofs.Base.EventFacts.{Live, EventFacts}

@@ -3,16 +3,14 @@
 use Rattle.std.proofs.Common.{◌≡◌, ℕ, ◌-◌, ◌<◌, ◌≤◌, true, false, List, length, refl, ap, sym, subst, ◌∙◌, ◌⊎◌, inl, inr, arith}
 use Rattle.std.proofs.lemmas.Bool.{cases_lt}
 use Rattle.scq_word.specs.declared.setup.Setup.{Setup}
-use Rattle.scq_word.specs.Words.{is_none_in}
+use Rattle.scq_word.specs.Exports.{is_none_in}
 use Rattle.scq_core.specs.declared.phase.Phase.{Phase}
 use Rattle.scq_core.specs.declared.phase.Phase.TheVariants.{Idle, AtD4}
-use Rattle.scq_core.specs.Machine.{SeatPart, Machine}
-use Rattle.scq_core.specs.Table.{ring_slots, slot}
-use Rattle.scq_core.specs.Laws.{word_at}
-use Rattle.scq_core.specs.Reach.{IsReachable}
-use Rattle.scq_law.specs.Places.{Maker, opening_put, call_of, LooksAt, GaveUp, IsPlacedBy, at_opening, in_record, under_way, IsTakenBy, IsTaken, IsUntaken, OneLooks, AllIdle, PlacesOnce}
+use Rattle.scq_core.specs.Exports.{SeatPart, ring_slots, slot, word_at, IsReachable, resting, trying, stance_of}
+use Rattle.scq_core.specs.Machine.{Machine}
+use Rattle.scq_law.specs.Exports.{Maker, opening_put, call_of, LooksAt, GaveUp, IsPlacedBy, at_opening, in_record, under_way, IsTakenBy, IsTaken}
+use Rattle.scq_law.specs.Exports.{IsUntaken, OneLooks, AllIdle, PlacesOnce}
 use Rattle.scq_law.proofs.Base.Ghosts.{Ghost, GetState, placed, unopened, opened, dead, took, is_placed}
-use Rattle.scq_core.specs.Stances.{resting, trying, stance_of}
 use Rattle.scq_law.proofs.Base.Traces.{has_trace}
 use Rattle.scq_law.proofs.Base.EventFacts.{stance}
 use Rattle.scq_law.proofs.Base.BaseGroup.{Claims, Knows}

@@ -3,12 +3,10 @@
 use Rattle.std.proofs.Common.{◌≡◌, ◌≢◌, ℕ, ◌+◌, ◌<◌, ◌≤◌, true, false, inl, inr, refl, sym, ◌∙◌, arith, List, length}
 use Rattle.scq_word.specs.declared.setup.Setup.{Setup}
 use Rattle.scq_core.specs.Machine.{Machine}
-use Rattle.scq_core.specs.Table.{ring_slots}
-use Rattle.scq_core.specs.Start.{start_of, idle_part}
+use Rattle.scq_core.specs.Exports.{ring_slots, start_of, idle_part, putting}
 use Rattle.scq_core.proofs.UpdatedLemmas.{updated_entry_or, updated_entry_cases, updated_or}
-use Rattle.scq_law.specs.Places.{call_of}
+use Rattle.scq_law.specs.Exports.{call_of}
 use Rattle.scq_law.proofs.Base.Ghosts.{Ghost, PutState, GetState, fresh, pending, failed, placed, unopened, opened, dead, took, start_ghost, with_put, with_get}
-use Rattle.scq_core.specs.Stances.{putting}
 use Rattle.scq_law.proofs.Base.TicketEvents.{TicketEvent, drew, fell, laid, began, died, taken, overran}
 use Rattle.scq_law.proofs.Base.EventFacts.{EventFacts}
 use Rattle.scq_law.proofs.Base.StartTickets.{stands_at}

@@ -2,12 +2,11 @@
 use Rattle.std.proofs.Common.{◌≡◌, ℕ, ◌-◌, ◌<◌, refl, true, List, ◌++◌, [], ◌∷◌, length, inl, inr, ap, sym, ◌∙◌, arith}
 use Rattle.std.proofs.lemmas.Bool.{cases_eq}
 use Rattle.scq_word.specs.declared.setup.Setup.{Setup}
-use Rattle.scq_word.specs.Sizes.{n_of}
+use Rattle.scq_word.specs.Exports.{n_of}
 use Rattle.scq_core.specs.Machine.{Machine}
-use Rattle.scq_core.specs.Table.{ring_slots, hand_without, holds_index}
-use Rattle.scq_core.specs.Start.{start_of}
+use Rattle.scq_core.specs.Exports.{ring_slots, hand_without, holds_index, start_of}
 use Rattle.scq_core.proofs.UpdatedLemmas.{updated_entry_or}
-use Rattle.scq_law.specs.Places.{Maker, call_of}
+use Rattle.scq_law.specs.Exports.{Maker, call_of}
 use Rattle.scq_law.proofs.Base.Ghosts.{Ghost, PutState, pending, failed, placed, start_ghost, with_put}
 use Rattle.scq_law.proofs.Base.TicketEvents.{TicketEvent, drew, fell, laid, taken}
 use Rattle.scq_law.proofs.Base.StartTickets.{stands_at}

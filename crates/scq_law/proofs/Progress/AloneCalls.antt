@@ -10,13 +10,11 @@ use Rattle.scq_word.specs.declared.setup.Setup.{Setup}
 use Rattle.scq_core.specs.declared.phase.Phase.{Phase}
 use Rattle.scq_core.specs.declared.phase.Phase.TheVariants.{Idle}
 use Rattle.scq_core.specs.declared.step.Step.{Step}
-use Rattle.scq_core.specs.Machine.{SeatPart, Machine}
-use Rattle.scq_core.specs.Table.{turn_of, ring_of, moved}
-use Rattle.scq_core.specs.Reach.{IsReachable}
+use Rattle.scq_core.specs.Exports.{SeatPart, turn_of, ring_of, moved, IsReachable}
+use Rattle.scq_core.specs.Machine.{Machine}
 use Rattle.scq_core.proofs.UpdatedLemmas.{updated_here}
 use Rattle.scq_core.proofs.Turns.{begins, awake}
-use Rattle.scq_law.specs.Run.{Recorded, recorded_along}
-use Rattle.scq_law.specs.Progress.{alone_steps, EndsAlone}
+use Rattle.scq_law.specs.Exports.{Recorded, recorded_along, alone_steps, EndsAlone}
 use Rattle.scq_law.proofs.Replays.RecordedRuns.{first_step, turn_reaches}
 use Rattle.scq_law.proofs.Tickets.TicketLaws.{within_window}
 use Rattle.scq_law.proofs.Progress.Potential.{part_after}

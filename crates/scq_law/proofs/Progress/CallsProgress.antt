@@ -7,24 +7,20 @@ use Rattle.std.specs.List.{All}
 use Rattle.std.proofs.lemmas.Bool.{cases_eq}
 use Rattle.std.proofs.lemmas.List.Sums.{sum_by-append}
 use Rattle.scq_word.specs.declared.setup.Setup.{Setup}
-use Rattle.scq_word.specs.Words.{safe_in, cycle_in, is_none_in}
+use Rattle.scq_word.specs.Exports.{safe_in, cycle_in, is_none_in}
 use Rattle.scq_core.specs.declared.ended.Ended.{Ended}
 use Rattle.scq_core.specs.declared.ended.Ended.TheVariants.{Done, Got, Nothing, Spent}
 use Rattle.scq_core.specs.declared.phase.Phase.{Phase}
 use Rattle.scq_core.specs.declared.phase.Phase.TheVariants.{Idle, AtE1, AtE2, AtE3, AtE4, AtE5, AtE6, AtD1, AtD2, AtD3, AtD4, AtD5, AtD6, AtD7, AtD8, AtD9, AtD10}
 use Rattle.scq_core.specs.declared.step.Step.{Step}
-use Rattle.scq_core.specs.Machine.{SeatPart, Machine, read, beside}
-use Rattle.scq_core.specs.Table.{ring_slots, cycle, zero_level, reset_level, turn_of, ring_of, location_of, after, moved}
-use Rattle.scq_core.specs.Reach.{IsReachable}
+use Rattle.scq_core.specs.Exports.{SeatPart, read, beside, ring_slots, cycle, zero_level, reset_level, turn_of, ring_of, location_of, after, moved}
+use Rattle.scq_core.specs.Exports.{IsReachable}
+use Rattle.scq_core.specs.Machine.{Machine}
 use Rattle.scq_core.proofs.UpdatedLemmas.{updated_here, updated_else}
 use Rattle.scq_core.proofs.Turns.{begins, awake}
 use Rattle.scq_core.proofs.Steady.{steady, either_way}
 use Rattle.scq_core.proofs.Counts.{total_updated}
-use Rattle.scq_law.specs.Bounds.{tally}
-use Rattle.scq_law.specs.CallSteps.{steps_of}
-use Rattle.scq_law.specs.Run.{Recorded, recorded_along, IsRun}
-use Rattle.scq_law.specs.Prefixes.{IsPrefix}
-use Rattle.scq_law.specs.Progress.{quiet_steps, ring_ended, end_delay, delay_on, delays}
+use Rattle.scq_law.specs.Exports.{tally, steps_of, Recorded, recorded_along, IsRun, IsPrefix, quiet_steps, ring_ended, end_delay, delay_on, delays}
 use Rattle.scq_law.proofs.Base.SeatSums.{tally-append}
 use Rattle.scq_law.proofs.Replays.RecordedRuns.{FirstStep, first_step, turn_reaches}
 use Rattle.scq_law.proofs.Retries.StepLaws.{steps-first}

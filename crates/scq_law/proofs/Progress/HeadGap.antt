@@ -5,17 +5,13 @@ use Rattle.std.proofs.Common.{◌≡◌, ℕ, zero, suc, ◌+◌, ◌-◌, ◌<�
 use Rattle.std.specs.Prelude.{◌==◌, nat_lt, nat_le, if◌then◌else◌, Option, Some, None}
 use Rattle.std.proofs.lemmas.Bool.{cases_Bool, cases_eq, cases_lt}
 use Rattle.scq_word.specs.declared.setup.Setup.{Setup}
-use Rattle.scq_word.specs.Sizes.{n_of}
-use Rattle.scq_word.specs.Words.{cycle_in}
+use Rattle.scq_word.specs.Exports.{n_of, cycle_in}
 use Rattle.scq_core.specs.declared.phase.Phase.{Phase}
 use Rattle.scq_core.specs.declared.phase.Phase.TheVariants.{AtE3, AtD2, AtD3, AtD4, AtD5, AtD6, AtD7, AtD8, AtD9, AtD10}
 use Rattle.scq_core.specs.declared.step.Step.{Step}
-use Rattle.scq_core.specs.Updated.{updated}
-use Rattle.scq_core.specs.Machine.{Cells, SeatPart, Machine, read, beside}
-use Rattle.scq_core.specs.Table.{ring_slots, cycle, turn_of, location_of, after, cells_after, moved}
-use Rattle.scq_core.specs.Stances.{Stance, trying, gave_up, stance_of}
-use Rattle.scq_core.specs.Reach.{IsReachable, at_start, by_step}
-use Rattle.scq_core.specs.Laws.{word_at, total}
+use Rattle.scq_core.specs.Exports.{updated, Cells, SeatPart, read, beside, ring_slots, cycle, turn_of, location_of, after, cells_after, moved, Stance}
+use Rattle.scq_core.specs.Exports.{trying, gave_up, stance_of, IsReachable, at_start, by_step, word_at, total}
+use Rattle.scq_core.specs.Machine.{Machine}
 use Rattle.scq_core.proofs.UpdatedLemmas.{updated_here, updated_else, updated_or}
 use Rattle.scq_core.proofs.Turns.{turned, begins}
 use Rattle.scq_core.proofs.Steady.{has, steady, keeps_none, either_way}

@@ -7,16 +7,14 @@ use Rattle.std.proofs.lemmas.Bool.{cases_eq}
 use Rattle.scq_word.specs.declared.setup.Setup.{Setup}
 use Rattle.scq_core.specs.declared.phase.Phase.{Phase}
 use Rattle.scq_core.specs.declared.phase.Phase.TheVariants.{Idle, AtE1, AtE2, AtE3, AtE4, AtE5, AtE6, AtD1, AtD2, AtD3, AtD4, AtD5, AtD6, AtD7, AtD8, AtD9, AtD10}
-use Rattle.scq_core.specs.Machine.{Cells, SeatPart, Machine}
-use Rattle.scq_core.specs.Table.{ring_of}
-use Rattle.scq_core.specs.Stances.{Stance, trying, gave_up, stance_of, put_ring}
-use Rattle.scq_core.specs.Reach.{IsReachable}
+use Rattle.scq_core.specs.Exports.{Cells, SeatPart, ring_of, Stance, trying, gave_up, stance_of, put_ring, IsReachable}
+use Rattle.scq_core.specs.Machine.{Machine}
 use Rattle.scq_core.proofs.Counts.{total_few, total_less}
 use Rattle.scq_core.proofs.Entries.{some_indices, some_seats, reset_covers}
 use Rattle.scq_core.proofs.Floor.{threshold_floor}
 use Rattle.scq_core.proofs.Steady.{steady, either_way}
-use Rattle.scq_word.specs.Bounds.{reset_value}
-use Rattle.scq_law.specs.Progress.{quiet_steps}
+use Rattle.scq_word.specs.Exports.{reset_value}
+use Rattle.scq_law.specs.Exports.{quiet_steps}
 use Rattle.scq_law.proofs.Base.SeatSums.{total_plus}
 use Rattle.scq_law.proofs.Progress.HeadGap.{ticket_held, ticket_on, is_any, head_gap}
 use Rattle.scq_law.proofs.Progress.Potential.{draw_of, draw_on, change_of, change_on, draws_on, changes_on, spare_at, put_draws, changes, behind, rounds, lag, left_to_seat}

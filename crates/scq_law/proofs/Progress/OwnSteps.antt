@@ -5,12 +5,11 @@ use Rattle.std.proofs.Common.{◌≡◌, ℕ, ◌+◌, ◌-◌, ◌<◌, ◌≤�
 use Rattle.std.specs.Prelude.{◌==◌, nat_lt, nat_le, min}
 use Rattle.std.proofs.lemmas.Bool.{cases_Bool, cases_eq, leb-false}
 use Rattle.scq_word.specs.declared.setup.Setup.{Setup}
-use Rattle.scq_word.specs.Words.{safe_in, cycle_in, is_none_in}
+use Rattle.scq_word.specs.Exports.{safe_in, cycle_in, is_none_in}
 use Rattle.scq_core.specs.declared.phase.Phase.{Phase}
 use Rattle.scq_core.specs.declared.phase.Phase.TheVariants.{Idle, AtE1, AtE2, AtE3, AtE4, AtE5, AtE6, AtD1, AtD2, AtD3, AtD4, AtD5, AtD6, AtD7, AtD8, AtD9, AtD10}
-use Rattle.scq_core.specs.Machine.{Cells, SeatPart, read, beside}
-use Rattle.scq_core.specs.Table.{ring_slots, cycle, slot, zero_level, reset_level, ring_of, location_of, after, cells_after}
-use Rattle.scq_core.specs.Laws.{Busy, word_at}
+use Rattle.scq_core.specs.Exports.{Cells, SeatPart, read, beside, ring_slots, cycle, slot, zero_level, reset_level, ring_of, location_of, after}
+use Rattle.scq_core.specs.Exports.{cells_after, Busy, word_at}
 use Rattle.scq_core.proofs.UpdatedLemmas.{updated_here, updated_entry_here}
 use Rattle.scq_law.proofs.Progress.Potential.{stale_fresh, lag, left_to_seat, Leaves}
 use Rattle.scq_law.proofs.Progress.SeatCounts.{own_change}

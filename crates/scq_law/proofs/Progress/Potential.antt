@@ -9,11 +9,10 @@ use Rattle.std.proofs.lemmas.Bool.{cases_eq}
 use Rattle.scq_word.specs.declared.setup.Setup.{Setup}
 use Rattle.scq_core.specs.declared.phase.Phase.{Phase}
 use Rattle.scq_core.specs.declared.phase.Phase.TheVariants.{Idle, AtE1, AtE2, AtE3, AtE4, AtE5, AtE6, AtD1, AtD2, AtD3, AtD4, AtD5, AtD6, AtD7, AtD8, AtD9, AtD10}
-use Rattle.scq_core.specs.Machine.{Cells, SeatPart, Machine, read, beside}
-use Rattle.scq_core.specs.Table.{zero_level, ring_slots, slot, ring_of, location_of, after}
-use Rattle.scq_core.specs.Stances.{Stance, gave_up, stance_of, placed_ring, put_ring, attempt_ring, one_on}
-use Rattle.scq_core.specs.Laws.{Busy, word_at, total}
-use Rattle.scq_law.specs.Progress.{quiet_steps}
+use Rattle.scq_core.specs.Exports.{Cells, SeatPart, read, beside, zero_level, ring_slots, slot, ring_of, location_of, after, Stance, gave_up}
+use Rattle.scq_core.specs.Exports.{stance_of, placed_ring, put_ring, attempt_ring, one_on, Busy, word_at, total}
+use Rattle.scq_core.specs.Machine.{Machine}
+use Rattle.scq_law.specs.Exports.{quiet_steps}
 
 -- a seat's part after its turn
 abbrev pub part_after : Setup → Machine → ℕ → Phase → SeatPart

@@ -10,16 +10,14 @@ use Rattle.scq_word.specs.declared.setup.Setup.{Setup}
 use Rattle.scq_core.specs.declared.phase.Phase.{Phase}
 use Rattle.scq_core.specs.declared.phase.Phase.TheVariants.{Idle}
 use Rattle.scq_core.specs.declared.step.Step.{Step}
-use Rattle.scq_core.specs.Machine.{SeatPart, Machine, read, beside}
-use Rattle.scq_core.specs.Table.{turn_of, ring_of, location_of, after, moved}
-use Rattle.scq_core.specs.Reach.{IsReachable}
+use Rattle.scq_core.specs.Exports.{SeatPart, read, beside, turn_of, ring_of, location_of, after, moved, IsReachable}
+use Rattle.scq_core.specs.Machine.{Machine}
 use Rattle.scq_core.proofs.UpdatedLemmas.{updated_here, updated_else}
 use Rattle.scq_core.proofs.Turns.{begins, awake}
 use Rattle.scq_core.proofs.Steady.{has, steady}
 use Rattle.scq_core.proofs.Counts.{total_updated}
-use Rattle.scq_law.specs.Run.{Recorded, recorded_first, recorded_along, recorded_of, IsRun}
-use Rattle.scq_law.specs.Sums.{sum_to}
-use Rattle.scq_law.specs.Progress.{quiet_steps, progress_bound, ended_calls, HasProgress}
+use Rattle.scq_law.specs.Exports.{Recorded, recorded_first, recorded_along, recorded_of, IsRun, sum_to, quiet_steps, progress_bound, ended_calls}
+use Rattle.scq_law.specs.Exports.{HasProgress}
 use Rattle.scq_law.proofs.Replays.RecordedRuns.{chained, first_step, turn_reaches}
 use Rattle.scq_law.proofs.Replays.RisingWords.{recorded_along-append}
 use Rattle.scq_law.proofs.Replays.RunLaws.{run_reaches}

@@ -10,11 +10,9 @@ use Rattle.scq_core.specs.declared.phase.Phase.TheVariants.{Idle}
 use Rattle.scq_core.specs.declared.slot.Cell.{Cell}
 use Rattle.scq_core.specs.declared.slot.Cell.TheVariants.{Tail, Head, Threshold, Entry}
 use Rattle.scq_core.specs.declared.step.Step.{Step}
-use Rattle.scq_core.specs.Machine.{Cells, SeatPart, Machine, location_at, read, beside, written}
-use Rattle.scq_core.specs.Table.{slot, zero_level, turn_of, ring_of, cell_of, location_of, cells_after, moved, writes, stores}
-use Rattle.scq_core.specs.Stances.{stance_of}
-use Rattle.scq_core.specs.Reach.{IsReachable}
-use Rattle.scq_core.specs.Laws.{CountersRise, word_at}
+use Rattle.scq_core.specs.Exports.{Cells, SeatPart, location_at, read, beside, written, slot, zero_level, turn_of, ring_of, cell_of, location_of}
+use Rattle.scq_core.specs.Exports.{cells_after, moved, writes, stores, stance_of, IsReachable, CountersRise, word_at}
+use Rattle.scq_core.specs.Machine.{Machine}
 use Rattle.scq_core.proofs.UpdatedLemmas.{updated_else, updated_entry_or}
 use Rattle.scq_core.proofs.Turns.{Begins, begins_put, begins_get, begins, awake}
 use Rattle.scq_core.proofs.Steady.{has, steady, keeps_none, kept_after, either_way}

@@ -4,8 +4,7 @@ use Rattle.std.proofs.Common.{◌≡◌, ◌≢◌, ℕ, ◌≤◌, refl, arith,
 use Rattle.std.specs.Prelude.{Option, Some, None}
 use Rattle.scq_core.specs.declared.phase.Phase.{Phase}
 use Rattle.scq_core.specs.declared.phase.Phase.TheVariants.{Idle, AtE1, AtE2, AtE3, AtE4, AtE5, AtE6, AtD1, AtD2, AtD3, AtD4, AtD5, AtD6, AtD7, AtD8, AtD9, AtD10}
-use Rattle.scq_core.specs.Table.{ring_of}
-use Rattle.scq_core.specs.Stances.{Stance, stance_of}
+use Rattle.scq_core.specs.Exports.{ring_of, Stance, stance_of}
 use Rattle.scq_law.proofs.Progress.Potential.{draw_of, change_of}
 
 -- what a phase counts on its own ring

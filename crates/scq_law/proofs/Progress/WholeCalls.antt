@@ -11,15 +11,12 @@ use Rattle.scq_core.specs.declared.ended.Ended.{Ended}
 use Rattle.scq_core.specs.declared.phase.Phase.{Phase}
 use Rattle.scq_core.specs.declared.phase.Phase.TheVariants.{Idle}
 use Rattle.scq_core.specs.declared.step.Step.{Step}
-use Rattle.scq_core.specs.Machine.{SeatPart, Machine, read, beside}
-use Rattle.scq_core.specs.Table.{turn_of, ring_of, location_of, after, moved}
-use Rattle.scq_core.specs.Reach.{IsReachable}
+use Rattle.scq_core.specs.Exports.{SeatPart, read, beside, turn_of, ring_of, location_of, after, moved, IsReachable}
+use Rattle.scq_core.specs.Machine.{Machine}
 use Rattle.scq_core.proofs.UpdatedLemmas.{updated_here, updated_else}
 use Rattle.scq_core.proofs.Turns.{begins, awake}
-use Rattle.scq_law.specs.CallSteps.{steps_of}
-use Rattle.scq_law.specs.Run.{Recorded, recorded_along}
-use Rattle.scq_law.specs.Prefixes.{IsPrefix, IsRecordAfter}
-use Rattle.scq_law.specs.Progress.{ring_ended, end_delay, delays, WholeCallIsDelayedByEnds, DelayedByEnds}
+use Rattle.scq_law.specs.Exports.{steps_of, Recorded, recorded_along, IsPrefix, IsRecordAfter, ring_ended, end_delay, delays}
+use Rattle.scq_law.specs.Exports.{WholeCallIsDelayedByEnds, DelayedByEnds}
 use Rattle.scq_law.proofs.Replays.RecordedRuns.{first_step}
 use Rattle.scq_law.proofs.Retries.StepLaws.{steps-first}
 use Rattle.scq_law.proofs.Progress.Potential.{part_after, draws_on, changes_on}

@@ -2,9 +2,9 @@
 use Rattle.std.proofs.Common.{◌≡◌, ℕ, ◌<◌, List, length}
 use Rattle.std.specs.List.{All}
 use Rattle.scq_word.specs.declared.setup.Setup.{Setup}
-use Rattle.scq_word.specs.Sizes.{n_of}
+use Rattle.scq_word.specs.Exports.{n_of}
 use Rattle.scq_core.specs.declared.step.Step.{Step}
-use Rattle.scq_law.specs.Lasting.{PlacesLastThroughout}
+use Rattle.scq_law.specs.Exports.{PlacesLastThroughout}
 use Rattle.scq_law.proofs.Replays.RisingWords.{moments_later, moment_reached}
 use Rattle.scq_law.proofs.Places.LaterLaws.{places_last}
 

@@ -3,10 +3,10 @@ use Rattle.std.proofs.Common.{◌≡◌, ℕ, ◌<◌, List, [], ◌∷◌, ◌+
 use Rattle.std.specs.Prelude.{Option, Some, None}
 use Rattle.std.specs.Option.{option_and_then}
 use Rattle.std.proofs.lemmas.List.Elements.{All-push}
-use Rattle.scq_word.specs.Sizes.{n_of}
+use Rattle.scq_word.specs.Exports.{n_of}
 use Rattle.scq_word.specs.declared.setup.Setup.{Setup}
 use Rattle.scq_core.specs.declared.step.Step.{Step}
-use Rattle.scq_law.specs.Run.{Recorded, recorded_by, recorded_first, recorded_along, recorded_of, IsRun}
+use Rattle.scq_law.specs.Exports.{Recorded, recorded_by, recorded_first, recorded_along, recorded_of, IsRun}
 
 then_some : {A : Type 0} (o : Option A) → option_and_then (λ (a : A). Some a) o ≡ o
 then_some None = refl

@@ -8,9 +8,8 @@ use Rattle.scq_word.specs.declared.setup.Setup.{Setup}
 use Rattle.scq_core.specs.declared.phase.Phase.{Phase}
 use Rattle.scq_core.specs.declared.step.Step.{Step}
 use Rattle.scq_core.specs.Machine.{Machine}
-use Rattle.scq_core.specs.Table.{turn_of, moved}
-use Rattle.scq_core.specs.Reach.{IsReachable, by_step}
-use Rattle.scq_law.specs.Run.{Recorded, recorded_after, recorded_by, recorded_along}
+use Rattle.scq_core.specs.Exports.{turn_of, moved, IsReachable, by_step}
+use Rattle.scq_law.specs.Exports.{Recorded, recorded_after, recorded_by, recorded_along}
 
 -- what is recorded after one more step: the seat's turn is enabled
 pub record RecordedStep (c : Setup) (recorded : Recorded) (x : ℕ × Step) (next : Recorded) : Type 0 where

@@ -3,20 +3,15 @@ use Rattle.std.proofs.Common.{◌≡◌, ℕ, ◌+◌, ◌<◌, ◌≤◌, List,
 use Rattle.std.specs.List.{All}
 use Rattle.std.proofs.lemmas.List.Elements.{All-from_get_or}
 use Rattle.scq_word.specs.declared.setup.Setup.{Setup}
-use Rattle.scq_word.specs.Bounds.{reset_value}
-use Rattle.scq_word.specs.Sizes.{n_of}
+use Rattle.scq_word.specs.Exports.{reset_value, n_of}
 use Rattle.scq_core.specs.declared.step.Step.{Step}
 use Rattle.scq_core.specs.Machine.{Machine}
-use Rattle.scq_core.specs.StateLists.{machine_of}
-use Rattle.scq_core.specs.Reach.{IsReachable}
+use Rattle.scq_core.specs.Exports.{machine_of, IsReachable}
 use Rattle.scq_core.proofs.Limits.{counters_bounded}
 use Rattle.scq_core.proofs.Floor.{threshold_floor}
-use Rattle.scq_hist.specs.Aspects.{HasAspects}
+use Rattle.scq_hist.specs.Exports.{HasAspects}
 use Rattle.scq_law.specs.declared.replayed.Replayed.{Replayed}
-use Rattle.scq_law.specs.Begun.{EnqueuesBegun}
-use Rattle.scq_law.specs.CallSteps.{FewSteps}
-use Rattle.scq_law.specs.Replay.{ReplaysRun}
-use Rattle.scq_law.specs.ReplayLaws.{ObeysStateLaws, CountsHold, ObeysLaws, ObeysRunLaws}
+use Rattle.scq_law.specs.Exports.{EnqueuesBegun, FewSteps, ReplaysRun, ObeysStateLaws, CountsHold, ObeysLaws, ObeysRunLaws}
 use Rattle.scq_law.proofs.Aspects.CoupledRuns.{tied_run}
 use Rattle.scq_law.proofs.Aspects.EmptyRight.{has_aspects}
 use Rattle.scq_law.proofs.Balance.KeptLaws.{balanced, all_kept}

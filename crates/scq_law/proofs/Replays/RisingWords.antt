@@ -6,15 +6,12 @@ use Rattle.std.specs.List.{All}
 use Rattle.std.proofs.Math.Seq.{take-add}
 use Rattle.std.proofs.lemmas.List.Elements.{All-take, All-drop}
 use Rattle.scq_word.specs.declared.setup.Setup.{Setup}
-use Rattle.scq_word.specs.Sizes.{n_of}
+use Rattle.scq_word.specs.Exports.{n_of}
 use Rattle.scq_core.specs.declared.step.Step.{Step}
-use Rattle.scq_core.specs.Table.{moved}
-use Rattle.scq_core.specs.Reach.{IsReachable}
+use Rattle.scq_core.specs.Exports.{moved, IsReachable}
 use Rattle.scq_core.proofs.Fits.{catch_up_lags}
-use Rattle.scq_law.specs.Later.{IsLater, at_once}
+use Rattle.scq_law.specs.Exports.{IsLater, at_once, Recorded, recorded_by, recorded_first, recorded_along, recorded_of, IsMoment, RisesThroughout}
 use Rattle.scq_law.specs.Later as later
-use Rattle.scq_law.specs.Run.{Recorded, recorded_by, recorded_first, recorded_along, recorded_of}
-use Rattle.scq_law.specs.Moments.{IsMoment, RisesThroughout}
 use Rattle.scq_law.proofs.Replays.RecordedRuns.{all_along}
 use Rattle.scq_law.proofs.Replays.RunLaws.{run_reaches, later_rises, never_back}
 

@@ -6,18 +6,14 @@ use Rattle.std.proofs.lemmas.Bool.{cases_eq}
 use Rattle.scq_word.specs.declared.setup.Setup.{Setup}
 use Rattle.scq_core.specs.declared.step.Step.{Step}
 use Rattle.scq_core.specs.Machine.{Machine}
-use Rattle.scq_core.specs.Table.{turn_of, ring_slots}
-use Rattle.scq_core.specs.Laws.{RankRises, CountersRise}
-use Rattle.scq_core.specs.Reach.{IsReachable, at_start}
+use Rattle.scq_core.specs.Exports.{turn_of, ring_slots, RankRises, CountersRise, IsReachable, at_start}
 use Rattle.scq_core.specs.Reach as reach
 use Rattle.scq_core.proofs.Entries.{above_apart}
 use Rattle.scq_core.proofs.Fits.{step_rises}
 use Rattle.scq_core.proofs.Ranks.{ranks_same, ranks_trans, counters_same, counters_trans}
 use Rattle.scq_core.proofs.Turns.{turned}
-use Rattle.scq_law.specs.Later.{IsLater, at_once}
+use Rattle.scq_law.specs.Exports.{IsLater, at_once, Recorded, recorded_after, recorded_first, IsRun, EndsRun}
 use Rattle.scq_law.specs.Later as later
-use Rattle.scq_law.specs.Run.{Recorded, recorded_after, recorded_first, IsRun}
-use Rattle.scq_law.specs.Runs.{EndsRun}
 use Rattle.scq_law.proofs.Replays.LongerRuns.{run_first, run_last}
 use Rattle.scq_law.proofs.Replays.RecordedRuns.{all_along, turn_reaches}
 

@@ -7,8 +7,8 @@ use Rattle.std.proofs.lemmas.List.Elements.{All-take, All-drop}
 use Rattle.scq_word.specs.declared.setup.Setup.{Setup}
 use Rattle.scq_core.specs.declared.step.Step.{Step}
 use Rattle.scq_hist.specs.declared.events.Event.{Event}
-use Rattle.scq_law.specs.Run.{Recorded, starts, end_if_idle, recorded_after, recorded_first, recorded_along, recorded_of, IsRun}
-use Rattle.scq_law.specs.Prefixes.{IsPrefix, AllPrefixes, IsPrefixOfRun}
+use Rattle.scq_law.specs.Exports.{Recorded, starts, end_if_idle, recorded_after, recorded_first, recorded_along, recorded_of, IsRun, IsPrefix}
+use Rattle.scq_law.specs.Exports.{AllPrefixes, IsPrefixOfRun}
 use Rattle.scq_law.proofs.Replays.RecordedRuns.{chained, all_along}
 use Rattle.scq_law.proofs.Replays.RisingWords.{recorded_along-append}
 

@@ -5,20 +5,17 @@ use Rattle.std.specs.Global.{Global}
 use Rattle.std.specs.List.{All}
 use Rattle.std.specs.Option.{option_and_then}
 use Rattle.std.proofs.lemmas.List.{take_more, length-take-le}
-use Rattle.scq_word.specs.Sizes.{n_of}
+use Rattle.scq_word.specs.Exports.{n_of}
 use Rattle.scq_word.specs.declared.setup.Setup.{Setup}
 use Rattle.scq_core.specs.declared.phase.Phase.{Phase}
 use Rattle.scq_core.specs.declared.phase.Phase.TheVariants.{Idle, AtE1, AtD10}
 use Rattle.scq_core.specs.declared.step.Step.{Step}
-use Rattle.scq_core.specs.StateLists.{machine_of}
-use Rattle.scq_core.specs.Updated.{updated}
+use Rattle.scq_core.specs.Exports.{machine_of, updated}
 use Rattle.scq_core.proofs.UpdatedLemmas.{updated_cases}
 use Rattle.scq_law.specs.declared.recording.Recording.{Recording}
 use Rattle.scq_law.specs.declared.replayed.Replayed.{Replayed}
-use Rattle.scq_law.specs.Run.{Recorded, puts_after, resets_after, fails_after, recorded_after, recorded_by, recorded_first, recorded_along, recorded_of, IsRun}
-use Rattle.scq_law.specs.RecordedSteps.{IsRecording}
-use Rattle.scq_law.specs.Replay.{Counts, StopsAt, ReplaysRun}
-use Rattle.scq_law.specs.Recording.{Shows, CountsCanRise}
+use Rattle.scq_law.specs.Exports.{Recorded, puts_after, resets_after, fails_after, recorded_after, recorded_by, recorded_first, recorded_along}
+use Rattle.scq_law.specs.Exports.{recorded_of, IsRun, IsRecording, Counts, StopsAt, ReplaysRun, Shows, CountsCanRise}
 use Rattle.scq_law.proofs.Replays.RecordedRuns.{recorded_step}
 use Rattle.scq_law.proofs.Replays.LongerRuns.{run_first, run_last, run_stops}
 

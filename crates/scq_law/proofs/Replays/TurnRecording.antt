@@ -12,12 +12,9 @@ use Rattle.scq_core.specs.declared.phase.Phase.{Phase}
 use Rattle.scq_core.specs.declared.phase.Phase.TheVariants.{Idle, AtE1, AtE4, AtE5, AtE6, AtD1, AtD10}
 use Rattle.scq_core.specs.declared.step.Step.{Step}
 use Rattle.scq_core.specs.declared.step.Step.TheVariants.{E1, E4, D1}
-use Rattle.scq_core.specs.Updated.{updated}
-use Rattle.scq_core.specs.Machine.{Cells, Machine, SeatPart, read, beside, updated_entry}
-use Rattle.scq_core.specs.Table.{turn_at, turn_of, next_step, step_of, moved, after, location_of}
-use Rattle.scq_core.specs.StateLists.{machine_of}
-use Rattle.scq_core.specs.Laws.{Busy}
-use Rattle.scq_core.specs.Reach.{IsReachable}
+use Rattle.scq_core.specs.Exports.{updated, Cells, SeatPart, read, beside, updated_entry, turn_at, turn_of, next_step, step_of, moved, after}
+use Rattle.scq_core.specs.Exports.{location_of, machine_of, Busy, IsReachable}
+use Rattle.scq_core.specs.Machine.{Machine}
 use Rattle.scq_core.proofs.UpdatedLemmas.{updated_here, updated_entry_or, updated_entry_cases}
 use Rattle.scq_core.proofs.ListedTurns.{set_is}
 use Rattle.scq_core.proofs.Turns.{turned, Enables, new_put, new_get, continues, enables}
@@ -29,11 +26,9 @@ use Rattle.scq_law.specs.declared.act.Act.{Act}
 use Rattle.scq_law.specs.declared.act.Act.TheVariants.{Exchanges, Settles}
 use Rattle.scq_core.specs.StateLists.{StateLists}
 use Rattle.scq_law.specs.declared.recording.Recording.{Recording}
-use Rattle.scq_law.specs.Run.{Recorded, first_placer, starts, end_of, end_if_idle, puts_after, placer_after, is_reset, resets_after, fails_after, recorded_after, recorded_by}
-use Rattle.scq_law.specs.Acts.{act_of, IsOnRing, starts_by, puts_after_act, names_by, resets_by, fails_by, ended_in}
-use Rattle.scq_law.specs.Names.{name_at, placer_in}
-use Rattle.scq_law.specs.Replay.{Counts}
-use Rattle.scq_law.specs.Recording.{Shows, AddsTurn, finishes_by}
+use Rattle.scq_law.specs.Exports.{Recorded, first_placer, starts, end_of, end_if_idle, puts_after, placer_after, is_reset, resets_after, fails_after}
+use Rattle.scq_law.specs.Exports.{recorded_after, recorded_by, act_of, IsOnRing, starts_by, puts_after_act, names_by, resets_by, fails_by, ended_in}
+use Rattle.scq_law.specs.Exports.{name_at, placer_in, Counts, Shows, AddsTurn, finishes_by}
 
 -- the turn of a step that is enabled in a phase: it begins a call, or is the phase
 pub data Taken : Phase → Step → Phase → Type 0 where

@@ -5,18 +5,17 @@ use Rattle.std.specs.Prelude.{◌==◌, nat_lt, nat_le}
 use Rattle.std.proofs.Math.Nat.{mul-le-mul_right}
 use Rattle.std.proofs.lemmas.Bool.{cases_Bool, cases_eq}
 use Rattle.scq_word.specs.declared.setup.Setup.{Setup}
-use Rattle.scq_word.specs.Words.{safe_in, cycle_in, is_none_in, rank_in}
+use Rattle.scq_word.specs.Exports.{safe_in, cycle_in, is_none_in, rank_in}
 use Rattle.scq_core.specs.declared.phase.Phase.{Phase}
 use Rattle.scq_core.specs.declared.phase.Phase.TheVariants.{Idle, AtE1, AtE2, AtE3, AtE4, AtE5, AtE6, AtD1, AtD2, AtD3, AtD4, AtD5, AtD6, AtD7, AtD8, AtD9, AtD10}
-use Rattle.scq_core.specs.Machine.{Cells, SeatPart, Machine, read, beside}
-use Rattle.scq_core.specs.Table.{ring_slots, cycle, zero_level, reset_level, location_of, after}
-use Rattle.scq_core.specs.Reach.{IsReachable}
-use Rattle.scq_core.specs.Laws.{Busy, word_at}
+use Rattle.scq_core.specs.Exports.{Cells, SeatPart, read, beside, ring_slots, cycle, zero_level, reset_level, location_of, after, IsReachable, Busy}
+use Rattle.scq_core.specs.Exports.{word_at}
+use Rattle.scq_core.specs.Machine.{Machine}
 use Rattle.scq_core.proofs.Turns.{awake}
 use Rattle.scq_core.proofs.Entries.{some_slots, cycle_below_limit}
 use Rattle.scq_core.proofs.Steady.{has, steady}
 use Rattle.scq_core.proofs.Limits.{counters_bounded}
-use Rattle.scq_law.specs.CallSteps.{top, ticket_steps, steps_past, ticket_steps_from, call_steps, steps_left, CallsEnd}
+use Rattle.scq_law.specs.Exports.{top, ticket_steps, steps_past, ticket_steps_from, call_steps, steps_left, CallsEnd}
 use Rattle.scq_law.proofs.Retries.RetryLaws.{earlier_rank, risen}
 
 module _ (c : Setup) where

@@ -6,19 +6,19 @@ use Rattle.std.specs.List.{All}
 use Rattle.std.proofs.lemmas.List.Elements.{All-head, All-tail}
 use Rattle.std.proofs.lemmas.List.Sums.{sum_by-append}
 use Rattle.scq_word.specs.declared.setup.Setup.{Setup}
-use Rattle.scq_word.specs.Words.{safe_in, cycle_in, is_none_in}
+use Rattle.scq_word.specs.Exports.{safe_in, cycle_in, is_none_in}
 use Rattle.scq_core.specs.declared.ended.Ended.{Ended}
 use Rattle.scq_core.specs.declared.phase.Phase.{Phase}
 use Rattle.scq_core.specs.declared.phase.Phase.TheVariants.{Idle, AtE1, AtE2, AtE3, AtE4, AtE5, AtE6, AtD1, AtD2, AtD3, AtD4, AtD5, AtD6, AtD7, AtD8, AtD9, AtD10}
 use Rattle.scq_core.specs.declared.step.Step.{Step}
-use Rattle.scq_core.specs.Machine.{SeatPart, Machine, read, beside}
-use Rattle.scq_core.specs.Table.{ring_slots, cycle, zero_level, reset_level, turn_of, location_of, after}
-use Rattle.scq_core.specs.Reach.{IsReachable, at_start}
+use Rattle.scq_core.specs.Exports.{SeatPart, read, beside, ring_slots, cycle, zero_level, reset_level, turn_of, location_of, after, IsReachable}
+use Rattle.scq_core.specs.Exports.{at_start}
+use Rattle.scq_core.specs.Machine.{Machine}
 use Rattle.scq_core.proofs.UpdatedLemmas.{updated_or}
 use Rattle.scq_core.proofs.Steady.{either_way}
 use Rattle.scq_core.proofs.Turns.{begins, awake}
-use Rattle.scq_law.specs.Run.{Recorded, recorded_after, recorded_by, recorded_first, recorded_along, IsRun}
-use Rattle.scq_law.specs.CallSteps.{call_steps, steps_left, steps_of, CallsEnd, FewSteps}
+use Rattle.scq_law.specs.Exports.{Recorded, recorded_after, recorded_by, recorded_first, recorded_along, IsRun, call_steps, steps_left, steps_of}
+use Rattle.scq_law.specs.Exports.{CallsEnd, FewSteps}
 use Rattle.scq_law.proofs.Retries.CallLaws.{calls_end}
 use Rattle.scq_law.proofs.Replays.RecordedRuns.{chained, recorded_step, turn_reaches}
 

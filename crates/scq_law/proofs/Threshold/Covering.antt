@@ -5,16 +5,13 @@ use Rattle.std.specs.Prelude.{◌==◌, if◌then◌else◌}
 use Rattle.std.proofs.lemmas.Bool.{cases_eq, cases_lt}
 use Rattle.scq_word.specs.declared.setup.Setup.{Setup}
 use Rattle.scq_core.specs.declared.ended.Ended.TheVariants.{Done}
-use Rattle.scq_core.specs.Machine.{SeatPart, Machine}
-use Rattle.scq_core.specs.Updated.{updated}
-use Rattle.scq_core.specs.Table.{ring_slots, zero_level, reset_level}
-use Rattle.scq_core.specs.Start.{start_of}
+use Rattle.scq_core.specs.Exports.{SeatPart, updated, ring_slots, zero_level, reset_level, start_of, Stance, stance_of, attempt_ring, one_on}
+use Rattle.scq_core.specs.Machine.{Machine}
 use Rattle.scq_core.proofs.UpdatedLemmas.{updated_or, updated_here}
 use Rattle.scq_core.proofs.Counts.{total_none, total_less, one_on_bit}
 use Rattle.scq_core.proofs.Entries.{reset_covers, reset_reaches}
-use Rattle.scq_law.specs.Bounds.{in_flight, attempts_in_flight, IsFinished, ThresholdCovers}
+use Rattle.scq_law.specs.Exports.{in_flight, attempts_in_flight, IsFinished, ThresholdCovers}
 use Rattle.scq_law.proofs.Base.Ghosts.{Ghost, is_placed}
-use Rattle.scq_core.specs.Stances.{Stance, stance_of, attempt_ring, one_on}
 use Rattle.scq_law.proofs.Base.TicketEvents.{TicketEvent, finished, began, died, saw_end, lifted, lowered, emptied, overran}
 use Rattle.scq_law.proofs.Base.EventFacts.{stance}
 use Rattle.scq_law.proofs.Window.FailCauses.{placement}

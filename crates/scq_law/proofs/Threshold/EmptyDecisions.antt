@@ -3,10 +3,9 @@ use Rattle.std.proofs.Common.{◌≡◌, ℕ, false, ◌<◌, ◌≤◌, inl, in
 use Rattle.std.proofs.lemmas.Bool.{cases_lt}
 use Rattle.scq_word.specs.declared.setup.Setup.{Setup}
 use Rattle.scq_core.specs.Machine.{Machine}
-use Rattle.scq_core.specs.Table.{zero_level}
-use Rattle.scq_law.specs.Bounds.{IsFinished}
+use Rattle.scq_core.specs.Exports.{zero_level, gave_up}
+use Rattle.scq_law.specs.Exports.{IsFinished}
 use Rattle.scq_law.proofs.Base.Ghosts.{Ghost}
-use Rattle.scq_core.specs.Stances.{gave_up}
 use Rattle.scq_law.proofs.Base.TicketEvents.{TicketEvent, refused, saw_end, emptied}
 use Rattle.scq_law.proofs.Base.EventFacts.{stance}
 use Rattle.scq_law.proofs.Window.FailCauses.{placement}

@@ -5,21 +5,17 @@ use Rattle.std.specs.Prelude.{◌==◌, Some}
 use Rattle.std.specs.List.{All}
 use Rattle.std.proofs.lemmas.Bool.{cases_Bool}
 use Rattle.scq_word.specs.declared.setup.Setup.{Setup}
-use Rattle.scq_word.specs.Sizes.{n_of}
+use Rattle.scq_word.specs.Exports.{n_of}
 use Rattle.scq_core.specs.declared.phase.Phase.{Phase}
 use Rattle.scq_core.specs.declared.phase.Phase.TheVariants.{Idle, AtE5, AtE6, AtD1, AtD10}
 use Rattle.scq_core.specs.declared.step.Step.{Step}
-use Rattle.scq_core.specs.Machine.{Cells, SeatPart, read, beside}
-use Rattle.scq_core.specs.Updated.{updated}
-use Rattle.scq_core.specs.Table.{turn_of, location_of, after, cells_after, moved, reset_level}
-use Rattle.scq_core.specs.Start.{start_of}
-use Rattle.scq_core.specs.Reach.{IsReachable, at_start}
+use Rattle.scq_core.specs.Exports.{Cells, SeatPart, read, beside, updated, turn_of, location_of, after, cells_after, moved, reset_level, start_of}
+use Rattle.scq_core.specs.Exports.{IsReachable, at_start}
 use Rattle.scq_core.proofs.UpdatedLemmas.{updated_here, updated_or}
 use Rattle.scq_core.proofs.Turns.{awake}
 use Rattle.scq_core.proofs.Fits.{words_fit}
 use Rattle.scq_core.proofs.Floor.{threshold_floor}
-use Rattle.scq_law.specs.Run.{Recorded, is_reset, fails_after, recorded_after, recorded_first, recorded_of}
-use Rattle.scq_law.specs.Bounds.{FailsBounded}
+use Rattle.scq_law.specs.Exports.{Recorded, is_reset, fails_after, recorded_after, recorded_first, recorded_of, FailsBounded}
 use Rattle.scq_law.proofs.Replays.RecordedRuns.{all_along, turn_reaches}
 
 -- the phase of a seat after its turn

@@ -7,8 +7,8 @@ use Rattle.std.proofs.lemmas.List.Elements.{Contains-append_cases}
 use Rattle.scq_word.specs.declared.setup.Setup.{Setup}
 use Rattle.scq_core.specs.declared.ended.Ended.TheVariants.{Done, Got, Nothing, Spent}
 use Rattle.scq_core.specs.Machine.{Machine}
-use Rattle.scq_core.specs.Start.{start_of}
-use Rattle.scq_law.specs.Bounds.{SomePutEndedAt, IsFinished}
+use Rattle.scq_core.specs.Exports.{start_of}
+use Rattle.scq_law.specs.Exports.{SomePutEndedAt, IsFinished}
 use Rattle.scq_law.proofs.Base.Ghosts.{Ghost, is_placed, start_ghost}
 use Rattle.scq_law.proofs.Base.TicketEvents.{TicketEvent, finished, refused, taken, emptied, overran, ended_by}
 use Rattle.scq_law.proofs.Base.EventFacts.{EventFacts}

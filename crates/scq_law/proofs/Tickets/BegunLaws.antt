@@ -5,23 +5,20 @@ use Rattle.std.proofs.Common.{◌≡◌, ℕ, ◌+◌, ◌<◌, true, false, ◌
 use Rattle.std.specs.Prelude.{◌==◌, nat_lt, nat_le, if◌then◌else◌, Option, Some, None}
 use Rattle.std.proofs.lemmas.List.Sums.{sum_by-append}
 use Rattle.scq_word.specs.declared.setup.Setup.{Setup}
-use Rattle.scq_word.specs.Words.{safe_in, cycle_in, is_none_in}
+use Rattle.scq_word.specs.Exports.{safe_in, cycle_in, is_none_in}
 use Rattle.scq_core.specs.declared.ended.Ended.{Ended}
 use Rattle.scq_core.specs.declared.ended.Ended.TheVariants.{Done, Got, Nothing, Spent}
 use Rattle.scq_core.specs.declared.phase.Phase.{Phase}
 use Rattle.scq_core.specs.declared.phase.Phase.TheVariants.{Idle, AtE1, AtE2, AtE3, AtE4, AtE5, AtE6, AtD1, AtD2, AtD3, AtD4, AtD5, AtD6, AtD7, AtD8, AtD9, AtD10}
 use Rattle.scq_core.specs.declared.step.Step.{Step}
-use Rattle.scq_core.specs.Machine.{SeatPart, read, beside}
-use Rattle.scq_core.specs.Table.{ring_slots, cycle, zero_level, reset_level, turn_of, location_of, after}
-use Rattle.scq_core.specs.Start.{start_of}
+use Rattle.scq_core.specs.Exports.{SeatPart, read, beside, ring_slots, cycle, zero_level, reset_level, turn_of, location_of, after, start_of}
 use Rattle.scq_core.proofs.Steady.{either_way}
 use Rattle.scq_core.proofs.Counts.{total_updated, total_none}
 use Rattle.scq_core.proofs.Turns.{Begins, begins_put, begins_get, begins, awake}
 use Rattle.scq_hist.specs.declared.events.Event.{Event}
 use Rattle.scq_hist.specs.declared.events.PutName.{PutName}
-use Rattle.scq_law.specs.Run.{Recorded, starts, end_of, end_if_idle, recorded_after, recorded_first, IsRun}
-use Rattle.scq_law.specs.Bounds.{tally, was_put, is_putting, enqueues, openings}
-use Rattle.scq_law.specs.Begun.{starts_put, puts_started, EnqueuesBegun}
+use Rattle.scq_law.specs.Exports.{Recorded, starts, end_of, end_if_idle, recorded_after, recorded_first, IsRun, tally, was_put, is_putting, enqueues}
+use Rattle.scq_law.specs.Exports.{openings, starts_put, puts_started, EnqueuesBegun}
 use Rattle.scq_law.proofs.Base.SeatSums.{tally-append}
 use Rattle.scq_law.proofs.Replays.RecordedRuns.{all_along}
 

@@ -2,21 +2,16 @@
 use Rattle.std.proofs.Common.{◌≡◌, ◌≢◌, ℕ, ◌+◌, ◌*◌, ◌≤◌, ◌⊎◌, Bool, true, false, List, length, refl, inl, inr, ap, sym, ◌∙◌, arith}
 use Rattle.std.specs.Prelude.{Option, Some, None}
 use Rattle.scq_word.specs.declared.setup.Setup.{Setup}
-use Rattle.scq_word.specs.Sizes.{n_of}
+use Rattle.scq_word.specs.Exports.{n_of, reset_value}
 use Rattle.scq_core.specs.declared.ended.Ended.{Ended}
-use Rattle.scq_core.specs.Machine.{SeatPart, Machine}
-use Rattle.scq_core.specs.Updated.{updated}
-use Rattle.scq_core.specs.Table.{ring_slots, reset_level}
-use Rattle.scq_core.specs.Start.{start_of}
-use Rattle.scq_core.specs.Reach.{IsReachable, at_start}
-use Rattle.scq_core.specs.Laws.{total, spent_of}
+use Rattle.scq_core.specs.Exports.{SeatPart, updated, ring_slots, reset_level, start_of, IsReachable, at_start, total, spent_of, Stance, resting}
+use Rattle.scq_core.specs.Exports.{seeking, stance_of}
+use Rattle.scq_core.specs.Machine.{Machine}
 use Rattle.scq_core.proofs.UpdatedLemmas.{updated_or}
 use Rattle.scq_core.proofs.Fits.{words_fit}
 use Rattle.scq_core.proofs.Floor.{threshold_floor}
-use Rattle.scq_law.specs.Bounds.{tally}
-use Rattle.scq_law.specs.Kept.{was_done, was_got}
+use Rattle.scq_law.specs.Exports.{tally, was_done, was_got}
 use Rattle.scq_law.proofs.Base.Ghosts.{Ghost, start_ghost}
-use Rattle.scq_core.specs.Stances.{Stance, resting, seeking, stance_of}
 use Rattle.scq_law.proofs.Base.TicketEvents.{TicketEvent, finished, overran, ended_by}
 use Rattle.scq_law.proofs.Base.EventFacts.{stance, EventFacts}
 use Rattle.scq_law.proofs.Base.Traces.{Trace, trace_start, trace_step}
@@ -28,7 +23,6 @@ use Rattle.scq_law.proofs.Replays.RecordedRuns.{turn_reaches}
 use Rattle.scq_law.proofs.Threshold.FinishedPlaced.{is_finish}
 use Rattle.scq_law.proofs.Threshold.Covering.{here_one, there_none, flying}
 use Rattle.scq_law.proofs.Tickets.EventCounts.{spend_event}
-use Rattle.scq_word.specs.Bounds.{reset_value}
 
 -- a state of a run is reachable
 pub trace_reaches : (c : Setup) (time : ℕ) (g : Ghost) (m : Machine) → Trace c time g m → IsReachable c m

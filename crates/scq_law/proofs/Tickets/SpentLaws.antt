@@ -7,13 +7,11 @@ use Rattle.std.proofs.lemmas.Bool.{cases_eq, cases_lt}
 use Rattle.std.proofs.lemmas.List.Elements.{Contains-push}
 use Rattle.scq_word.specs.declared.setup.Setup.{Setup}
 use Rattle.scq_core.specs.declared.ended.Ended.TheVariants.{Spent}
-use Rattle.scq_core.specs.Machine.{SeatPart, Machine}
-use Rattle.scq_core.specs.Table.{moved}
-use Rattle.scq_core.specs.Reach.{IsReachable}
+use Rattle.scq_core.specs.Exports.{SeatPart, moved, IsReachable}
+use Rattle.scq_core.specs.Machine.{Machine}
 use Rattle.scq_core.proofs.Steady.{keeps_none}
-use Rattle.scq_word.specs.Bounds.{ticket_bound}
-use Rattle.scq_law.specs.Bounds.{enqueues}
-use Rattle.scq_law.specs.Spent.{EndedSpent, SpentKept}
+use Rattle.scq_word.specs.Exports.{ticket_bound}
+use Rattle.scq_law.specs.Exports.{enqueues, EndedSpent, SpentKept}
 use Rattle.scq_law.proofs.Base.Ghosts.{Ghost}
 use Rattle.scq_law.proofs.Base.TicketEvents.{TicketEvent, overran, ended_by}
 use Rattle.scq_law.proofs.Base.EventFacts.{EventFacts}

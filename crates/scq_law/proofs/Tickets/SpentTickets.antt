@@ -8,12 +8,10 @@ use Rattle.scq_word.specs.declared.setup.Setup.{Setup}
 use Rattle.scq_core.specs.declared.ended.Ended.{Ended}
 use Rattle.scq_core.specs.declared.ended.Ended.TheVariants.{Done, Got, Nothing, Spent}
 use Rattle.scq_core.specs.Machine.{Machine}
-use Rattle.scq_core.specs.Start.{start_of}
-use Rattle.scq_core.specs.Reach.{IsReachable}
+use Rattle.scq_core.specs.Exports.{start_of, IsReachable, seeking}
 use Rattle.scq_core.proofs.UpdatedLemmas.{updated_here}
-use Rattle.scq_law.specs.Bounds.{enqueues, TicketsBounded, NoneSpentWithinLimit}
+use Rattle.scq_law.specs.Exports.{enqueues, TicketsBounded, NoneSpentWithinLimit}
 use Rattle.scq_law.proofs.Base.Ghosts.{Ghost, start_ghost}
-use Rattle.scq_core.specs.Stances.{seeking}
 use Rattle.scq_law.proofs.Base.TicketEvents.{TicketEvent, finished, refused, taken, emptied, overran, ended_by}
 use Rattle.scq_law.proofs.Base.EventFacts.{EventFacts}
 use Rattle.scq_law.proofs.Base.Traces.{Trace, has_trace}
@@ -22,7 +20,7 @@ use Rattle.scq_law.proofs.Base.SeatStances.{stance_has}
 use Rattle.scq_law.proofs.Window.TicketFlows.{advances}
 use Rattle.scq_law.proofs.Base.SeatSums.{contains_none, contains_one}
 use Rattle.scq_law.proofs.Tickets.TicketLaws.{tickets_bounded}
-use Rattle.scq_word.specs.Bounds.{ticket_bound}
+use Rattle.scq_word.specs.Exports.{ticket_bound}
 
 -- a ticket at or past the limit that was drawn from this counter of a ring
 pub record Overran (c : Setup) (counter r t : ℕ) : Type 0 where

@@ -6,19 +6,17 @@ use Rattle.std.specs.Prelude.{min}
 use Rattle.std.proofs.Math.Nat.{mul-le-mul_right}
 use Rattle.std.proofs.lemmas.Bool.{cases_lt}
 use Rattle.scq_word.specs.declared.setup.Setup.{Setup}
-use Rattle.scq_word.specs.Sizes.{n_of}
+use Rattle.scq_word.specs.Exports.{n_of, reset_value, ticket_bound}
 use Rattle.scq_core.specs.declared.ended.Ended.{Ended}
 use Rattle.scq_core.specs.declared.ended.Ended.TheVariants.{Done}
-use Rattle.scq_core.specs.Machine.{SeatPart, Machine}
-use Rattle.scq_core.specs.Reach.{IsReachable}
-use Rattle.scq_core.specs.Laws.{total, dequeues, dequeues_of, spent_of}
+use Rattle.scq_core.specs.Exports.{SeatPart, IsReachable, total, dequeues, dequeues_of, spent_of, Stance, drawing, seeking, stance_of, placed_ring}
+use Rattle.scq_core.specs.Exports.{put_ring, entered_ring, one_on}
+use Rattle.scq_core.specs.Machine.{Machine}
 use Rattle.scq_core.proofs.Entries.{some_indices}
 use Rattle.scq_core.proofs.Floor.{threshold_floor}
 use Rattle.scq_core.proofs.Limits.{counters_bounded}
-use Rattle.scq_law.specs.Bounds.{WithinWindow, ThresholdCovers, tally, was_put, is_putting, enqueues, TicketsBounded}
-use Rattle.scq_law.specs.Kept.{was_done, gets_of, puts_of}
+use Rattle.scq_law.specs.Exports.{WithinWindow, ThresholdCovers, tally, was_put, is_putting, enqueues, TicketsBounded, was_done, gets_of, puts_of}
 use Rattle.scq_law.proofs.Base.Ghosts.{Ghost}
-use Rattle.scq_core.specs.Stances.{Stance, drawing, seeking, stance_of, placed_ring, put_ring, entered_ring, one_on}
 use Rattle.scq_law.proofs.Base.Traces.{Trace, has_trace}
 use Rattle.scq_law.proofs.Base.Based.{based}
 use Rattle.scq_law.proofs.Window.CoverThroughout.{windowed}
@@ -26,7 +24,6 @@ use Rattle.scq_law.proofs.Base.SeatSums.{total_le, total_plus}
 use Rattle.scq_law.proofs.Threshold.Covering.{flying, covers}
 use Rattle.scq_law.proofs.Balance.KeptLaws.{balanced}
 use Rattle.scq_law.proofs.Tickets.RunCounts.{done_of, tallied, trace_reaches}
-use Rattle.scq_word.specs.Bounds.{reset_value, ticket_bound}
 
 -- the window and the threshold's cover on every reachable state
 pub within_window : (c : Setup) (m : Machine) → IsReachable c m → WithinWindow c m

@@ -5,8 +5,7 @@ use Rattle.std.proofs.Common.{◌≡◌, ◌≢◌, ℕ, ◌+◌, ◌<◌, ◌�
 use Rattle.std.proofs.lemmas.Bool.{cases_lt, cases_order}
 use Rattle.scq_word.specs.declared.setup.Setup.{Setup}
 use Rattle.scq_word.proofs.TicketLemmas.{earlier_cycle, lower_ticket}
-use Rattle.scq_core.specs.Machine.{Entries}
-use Rattle.scq_core.specs.Table.{ring_slots, slot}
+use Rattle.scq_core.specs.Exports.{Entries, ring_slots, slot}
 use Rattle.scq_law.proofs.Base.Ghosts.{Ghost, PutState, fresh, pending, failed, placed, waiting}
 use Rattle.scq_law.proofs.Base.BaseGroup.{IsBooked, IsDrawn}
 use Rattle.scq_law.proofs.Window.FailedTickets.{StandsAtMostOnce, TicketsAreDrawn, IsAfter, Bars, FailedTickets, IsWindow}

@@ -3,13 +3,10 @@
 use Rattle.std.proofs.Common.{◌≡◌, ℕ, ◌+◌, ◌<◌, List, inl, inr, ap, sym, ◌∙◌, arith, eq-eqb, ne_eqb}
 use Rattle.std.proofs.lemmas.Bool.{cases_eq}
 use Rattle.scq_word.specs.declared.setup.Setup.{Setup}
-use Rattle.scq_word.specs.Sizes.{n_of}
+use Rattle.scq_word.specs.Exports.{n_of}
 use Rattle.scq_core.specs.Machine.{Machine}
-use Rattle.scq_core.specs.Table.{ring_slots}
-use Rattle.scq_core.specs.Start.{start_of}
-use Rattle.scq_core.specs.Laws.{Offers}
+use Rattle.scq_core.specs.Exports.{ring_slots, start_of, Offers, putting}
 use Rattle.scq_law.proofs.Base.Ghosts.{Ghost, pending, failed, start_ghost}
-use Rattle.scq_core.specs.Stances.{putting}
 use Rattle.scq_law.proofs.Base.TicketEvents.{TicketEvent}
 use Rattle.scq_law.proofs.Base.EventFacts.{stance}
 use Rattle.scq_law.proofs.Base.Traces.{Trace}

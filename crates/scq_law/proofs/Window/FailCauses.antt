@@ -5,12 +5,11 @@ use Rattle.std.proofs.Common.{◌≡◌, ◌≢◌, ℕ, ◌<◌, ◌≤◌, tru
 use Rattle.std.specs.Prelude.{nat_lt}
 use Rattle.std.proofs.lemmas.Bool.{cases_Bool, cases_lt, and_from}
 use Rattle.scq_word.specs.declared.setup.Setup.{Setup}
-use Rattle.scq_word.specs.Words.{index_in, cycle_in, is_none_in}
+use Rattle.scq_word.specs.Exports.{index_in, cycle_in, is_none_in}
 use Rattle.scq_word.proofs.TicketLemmas.{ticket_in, slot_of-ticket_in, cycle_of-ticket_in, lower_ticket}
-use Rattle.scq_core.specs.Machine.{Entries}
-use Rattle.scq_core.specs.Table.{ring_slots, cycle, slot}
+use Rattle.scq_core.specs.Exports.{Entries, ring_slots, cycle, slot}
 use Rattle.scq_core.proofs.Entries.{some_slots}
-use Rattle.scq_law.specs.Places.{Maker}
+use Rattle.scq_law.specs.Exports.{Maker}
 use Rattle.scq_law.proofs.Base.Ghosts.{Ghost, PutState, fresh, pending, failed, placed, is_placed, waiting}
 use Rattle.scq_law.proofs.Base.EventFacts.{Live, Blocks}
 use Rattle.scq_law.proofs.Base.BaseGroup.{IsBooked, IsDrawn, Holds, at_ticket}

@@ -1,8 +1,8 @@
 -- The book of failed tickets, what is drawn between Head and Tail, and the window that follows from both.
 use Rattle.std.specs.Prelude.{◌≡◌, ◌≢◌, ℕ, ◌+◌, ◌<◌, ◌≤◌, ◌⊎◌}
 use Rattle.scq_word.specs.declared.setup.Setup.{Setup}
-use Rattle.scq_word.specs.Sizes.{n_of}
-use Rattle.scq_core.specs.Table.{ring_slots, slot}
+use Rattle.scq_word.specs.Exports.{n_of}
+use Rattle.scq_core.specs.Exports.{ring_slots, slot}
 use Rattle.scq_law.proofs.Base.Ghosts.{Ghost, fresh, pending, failed}
 use Rattle.scq_law.proofs.Base.EventFacts.{Live}
 

@@ -3,9 +3,9 @@ use Rattle.std.proofs.Common.{◌≡◌, ◌≢◌, ℕ, ◌+◌, ◌<◌, ◌�
 use Rattle.std.proofs.lemmas.Bool.{cases_Bool, cases_lt}
 use Rattle.scq_word.specs.declared.setup.Setup.{Setup}
 use Rattle.scq_core.specs.Machine.{Machine}
-use Rattle.scq_core.specs.Updated.{updated}
+use Rattle.scq_core.specs.Exports.{updated}
 use Rattle.scq_core.proofs.UpdatedLemmas.{updated_or, updated_entry_or, updated_entry_here}
-use Rattle.scq_law.specs.Places.{Maker, call_of}
+use Rattle.scq_law.specs.Exports.{Maker, call_of}
 use Rattle.scq_law.proofs.Base.Ghosts.{Ghost, PutState, GetState, fresh, pending, failed, placed, opened, dead, took, is_placed, waiting, with_put, with_get}
 use Rattle.scq_law.proofs.Base.TicketEvents.{TicketEvent, drew, fell, laid, began, died, lifted, taken, overran}
 use Rattle.scq_law.proofs.Base.EventFacts.{Live, Blocks}

@@ -4,9 +4,8 @@
 use Rattle.std.proofs.Common.{◌≡◌, ◌≢◌, ℕ, zero, suc, ◌+◌, ◌<◌, ◌≤◌, ◌⊎◌, inl, inr, refl, ap, sym, ◌∙◌, true, arith}
 use Rattle.std.proofs.lemmas.Bool.{cases_eq, cases_lt}
 use Rattle.scq_word.specs.declared.setup.Setup.{Setup}
-use Rattle.scq_word.specs.Sizes.{n_of}
-use Rattle.scq_core.specs.Machine.{Entries}
-use Rattle.scq_core.specs.Table.{ring_slots}
+use Rattle.scq_word.specs.Exports.{n_of}
+use Rattle.scq_core.specs.Exports.{Entries, ring_slots}
 use Rattle.scq_core.proofs.Entries.{some_indices}
 use Rattle.scq_law.proofs.Base.Ghosts.{Ghost, PutState, fresh, pending, failed, placed, waiting}
 use Rattle.scq_law.proofs.Base.EventFacts.{Live}

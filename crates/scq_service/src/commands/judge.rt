@@ -2,9 +2,7 @@
 
 ghost use Rattle.std.specs.Prelude.{◌≡◌, ◌≤◌, ◌==◌, ℕ, List, Some, None, length, map};
 ghost use Rattle.std.specs.Prelude.{string_bytes, IfOk, IfErr};
-ghost use Rattle.scq_judge.specs.Files.{HaveContents};
-ghost use Rattle.scq_judge.specs.Judged.{IsJudged};
-ghost use Rattle.scq_judge.specs.Reads.{AreReadWhole};
+ghost use Rattle.scq_judge.specs.Exports.{HaveContents, IsJudged, AreReadWhole};
 ghost use Rattle.scq_service.specs.Answers.{HasNoWorkers};
 ghost use Rattle.scq_service.specs.Ends.{EndsJudged, HasGotSources, HaveAll, IsUnwritten, Wrote};
 ghost use Rattle.scq_service.specs.Ends.{inputs_of, wrote_of};

@@ -2,14 +2,11 @@
 ghost use Rattle.std.specs.Prelude.{◌≡◌, ℕ, ◌+◌, ◌≤◌, List, Some, length, map, string_bytes, IfOk};
 ghost use Rattle.std.specs.Prelude.{IfSome, IsNone, IsSome, IsSomeAnd, OnSome, All};
 ghost use Rattle.std.specs.List.Sorted.{IsPermutation};
-ghost use Rattle.scq_collect.specs.Collected.{messages_to};
-ghost use Rattle.scq_collect.specs.Joined.{part_answers, without_way};
-ghost use Rattle.scq_collect.specs.Merging.{members_of};
-ghost use Rattle.scq_collect.specs.Output.{one_thread_output};
-ghost use Rattle.scq_rest.specs.Waiting.{HaveWaited};
-ghost use Rattle.scq_worker.specs.Opening.{takes_behind};
-ghost use Rattle.scq_service.specs.Answers.{TellsWork};
-ghost use Rattle.scq_service.specs.Ends.{EndsOver, inputs_of, wrote_of};
+ghost use Rattle.scq_collect.specs.Exports.{messages_to, part_answers, without_way, members_of};
+ghost use Rattle.scq_collect.specs.Exports.{one_thread_output};
+ghost use Rattle.scq_rest.specs.Exports.{HaveWaited};
+ghost use Rattle.scq_worker.specs.Exports.{takes_behind};
+ghost use Rattle.scq_service.specs.Exports.{TellsWork, EndsOver, inputs_of, wrote_of};
 
 use crate::reading::{run_work, run_work_waiting};
 use crate::writing::write_text;

@@ -2,13 +2,11 @@ ghost use Rattle.std.specs.Prelude.{◌≡◌, ℕ, ◌+◌, ◌<◌, ◌≤◌,
 ghost use Rattle.std.specs.Prelude.{IsSomeAnd, length, map};
 ghost use Rattle.std.specs.List.{All};
 ghost use Rattle.std.specs.List.Sorted.{IsPermutation};
-ghost use Rattle.scq_collect.specs.Collected.{messages_to};
-ghost use Rattle.scq_collect.specs.Joined.{part_answers, without_way};
-ghost use Rattle.scq_collect.specs.Merging.{members_of};
-ghost use Rattle.scq_self.specs.Generated.{generated as the_file, self_topics as the_topics};
-ghost use Rattle.scq_self.specs.Summary.{self_summary};
-ghost use Rattle.scq_work.specs.AllWorkers.{HasWorked, NothingIsStranded};
-ghost use Rattle.scq_files.specs.Ends.{messages_in};
+ghost use Rattle.scq_collect.specs.Exports.{messages_to, part_answers, without_way, members_of};
+ghost use Rattle.scq_self.specs.Exports.{generated as the_file, self_topics as the_topics};
+ghost use Rattle.scq_self.specs.Exports.{self_summary};
+ghost use Rattle.scq_work.specs.Exports.{HasWorked, NothingIsStranded};
+ghost use Rattle.scq_files.specs.Exports.{messages_in};
 ghost use Rattle.scq_service.specs.Answers.{TellsSelf};
 ghost use Rattle.scq_service.specs.Ends.{EndsWithoutFiles, wrote_of};
 

@@ -1,11 +1,10 @@
 //! The run over files whose messages go through two stages.
 ghost use Rattle.std.specs.Prelude.{◌≡◌, ℕ, ◌≤◌, List, length, map, string_bytes, IfOk};
 ghost use Rattle.std.specs.List.Sorted.{IsPermutation};
-ghost use Rattle.scq_stages.specs.Ends.{EndsStages};
-ghost use Rattle.scq_stages.specs.Output.{finished_in, one_thread_stage_output, all_handled};
-ghost use Rattle.scq_stages.specs.Output.{without_way};
-ghost use Rattle.scq_service.specs.Answers.{HaveAllCome, HaveCome, TellsStages};
-ghost use Rattle.scq_service.specs.Ends.{EndsOver, ReadsOver, inputs_of, wrote_of};
+ghost use Rattle.scq_stages.specs.Exports.{EndsStages, finished_in, one_thread_stage_output};
+ghost use Rattle.scq_stages.specs.Exports.{all_handled, without_way};
+ghost use Rattle.scq_service.specs.Exports.{HaveAllCome, HaveCome, TellsStages, EndsOver};
+ghost use Rattle.scq_service.specs.Exports.{ReadsOver, inputs_of, wrote_of};
 
 use crate::reading::get_sources;
 use crate::writing::write_all;

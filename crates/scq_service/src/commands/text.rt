@@ -1,6 +1,6 @@
 //! The commands that read one whole file, `check` and `replay`.
 ghost use Rattle.std.specs.Prelude.{◌≡◌, ◌⊎◌, None, Ok, Err, IfOk, IfErr};
-ghost use Rattle.scq_lines.specs.Lines.{lines_of};
+ghost use Rattle.scq_lines.specs.Exports.{lines_of};
 ghost use Rattle.scq_words.specs.declared.text_request.TextCommand.{TextCommand as TheCommand};
 ghost use Rattle.scq_service.specs.Answers.{HasNoWorkers};
 ghost use Rattle.scq_service.specs.Ends.{Wrote, IsUnwritten, EndsWhole, IfContent, FileIsReadWhole};

@@ -2,9 +2,9 @@
 //! several in one value where they fit.
 ghost use Rattle.std.specs.Prelude.{◌≡◌, ◌≤◌, ◌<◌, ◌+◌, ◌++◌, ◌∷◌, ◌==◌, ℕ, true, false, []};
 ghost use Rattle.std.specs.Prelude.{count_by, length, max, None, IfErr, OnOk, All, if◌then◌else◌};
-ghost use Rattle.scq_frames.specs.Parts.{IsNumbered, all_parts, parts_of as the_parts_of, part_of};
-ghost use Rattle.scq_passes.specs.Records.{is_take};
-ghost use Rattle.scq_passes.specs.Calls.{Suits};
+ghost use Rattle.scq_frames.specs.Exports.{IsNumbered, all_parts, parts_of as the_parts_of};
+ghost use Rattle.scq_frames.specs.Exports.{part_of};
+ghost use Rattle.scq_passes.specs.Exports.{is_take, Suits};
 ghost use Rattle.scq_worker.specs.Loads.{parts_of_load, IsLoad};
 ghost use Rattle.scq_worker.specs.Opening.{AreOpen, IsOpen, NoneIsOpen, open_on, takes_behind};
 ghost use Rattle.scq_worker.specs.Reading.{KeepsCalling, HasGathered, HasPassedOn};

@@ -1,6 +1,6 @@
 //! How a worker retires, and how it takes where it sweeps.
 ghost use Rattle.std.specs.Prelude.{◌≡◌, length, None};
-ghost use Rattle.scq_passes.specs.Calls.{after_retire};
+ghost use Rattle.scq_passes.specs.Exports.{after_retire};
 ghost use Rattle.scq_worker.specs.Bells.{others_more};
 
 use crate::bell::Bell;

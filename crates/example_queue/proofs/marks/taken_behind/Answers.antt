@@ -1,10 +1,7 @@
 use Rattle.std.proofs.Common.{◌≡◌, ℕ, List, [], ◌∷◌, ◌∙◌, ap, subst}
 use Rattle.std.specs.Prelude.{Result, Ok, Err, Some, None, IfOk, IfErr}
-use Rattle.scq_band.specs.Buffers.{opening_of}
-use Rattle.scq_band.specs.RunSeen.{IsCallInRun}
-use Rattle.scq_band.specs.Standing.{Identity}
-use Rattle.scq_queue.specs.Passes.{PassStanding, HeldStanding, having_seen, caller_of}
-use Rattle.scq_queue.specs.Calls.{CameOff, FoundTopicEmpty, GetWasSpent}
+use Rattle.scq_band.specs.Exports.{opening_of, IsCallInRun, Identity}
+use Rattle.scq_queue.specs.Exports.{PassStanding, HeldStanding, having_seen, caller_of, CameOff, FoundTopicEmpty, GetWasSpent}
 use Rattle.scq_queue.specs.HoldsJust.{HoldsJust}
 use Rattle.scq_queue.specs.declared.calls.TakeRefusal.{TakeRefusal}
 use Rattle.scq_queue.specs.declared.calls.TakeRefusal.TheVariants.{Empty, Spent}

@@ -1,6 +1,6 @@
 use Rattle.std.proofs.Common.{◌≤◌, length}
 use Rattle.std.specs.List.{All}
-use Rattle.scq_collect.specs.Merging.{members_of}
+use Rattle.scq_collect.specs.Exports.{members_of}
 use Rattle.rows_calls.proofs.answers.merged.Given as goal
 
 -- each topic so far is declared, or the number behind the last

@@ -2,7 +2,7 @@ use Rattle.std.proofs.Common.{◌≤◌, ◌∙◌, sym, ap, subst, List, length
 use Rattle.std.specs.List.{All}
 use Rattle.std.proofs.lemmas.List.Elements.{All-append}
 use Rattle.scq_collect.specs.declared.answered.Answered.{Answered}
-use Rattle.scq_collect.specs.Merging.{members_of}
+use Rattle.scq_collect.specs.Exports.{members_of}
 use Rattle.scq_collect.proofs.InChunks.{flat-push}
 use Rattle.rows_calls.proofs.answers.push_list.Goals as goal
 

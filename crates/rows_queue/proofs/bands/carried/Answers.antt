@@ -1,7 +1,8 @@
 use Rattle.std.proofs.Common.{◌∙◌, ap}
 use Rattle.std.specs.Prelude.{Some, None}
 use Rattle.scq_queue.specs.declared.heap_buffer.HeapBuffer.{HeapBuffer}
-use Rattle.scq_band.specs.Standing.{Standing, in_hand}
+use Rattle.scq_band.specs.Exports.{in_hand}
+use Rattle.scq_band.specs.Standing.{Standing}
 use Rattle.scq_band.proofs.Starting.{in_hand-come}
 use Rattle.rows_queue.proofs.Lifting.{now_there}
 use Rattle.rows_queue.proofs.bands.carried.Goals as goal

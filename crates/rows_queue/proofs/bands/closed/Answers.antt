@@ -1,7 +1,7 @@
 use Rattle.std.proofs.Common.{ℕ, List, map, subst, sym}
 use Rattle.scq_queue.specs.declared.heap_buffer.HeapBuffer.{HeapBuffer}
 use Rattle.scq_queue.specs.contracts.heap_buffer.HeapBufferBuffer.TheImpl as buffer
-use Rattle.scq_band.specs.Closing.{AreTheLifted}
+use Rattle.scq_band.specs.Exports.{AreTheLifted}
 use Rattle.rows_queue.proofs.NoneLent.{none_out}
 use Rattle.rows_queue.proofs.bands.closed.Goals as goal
 

@@ -2,7 +2,7 @@ use Rattle.std.proofs.Common.{◌≡◌, List, [], length, sym, ◌∙◌, ap, s
 use Rattle.std.specs.Prelude.{All}
 use Rattle.scq_queue.specs.declared.heap_buffer.HeapBuffer.{HeapBuffer}
 use Rattle.scq_band.specs.Standing.{Standing}
-use Rattle.scq_band.specs.Closing.{lifted_of}
+use Rattle.scq_band.specs.Exports.{lifted_of}
 use Rattle.rows_queue.proofs.NewSeats.{how_many, none_lifted}
 use Rattle.rows_queue.proofs.bands.made.Goals as goal
 

@@ -1,7 +1,6 @@
 use Rattle.std.proofs.Common.{◌≡◌, ◌<◌, List, length, false, true, sym, ◌∙◌, ap, subst, arith}
 use Rattle.std.specs.Prelude.{All, vec_len}
-use Rattle.scq_queue.specs.Passes.{PassStanding, HeldStanding}
-use Rattle.scq_queue.specs.Closing.{AreTheHeld}
+use Rattle.scq_queue.specs.Exports.{PassStanding, HeldStanding, AreTheHeld}
 use Rattle.scq_queue.specs.HoldsJust.{HoldsJust}
 use Rattle.rows_queue.proofs.LastPass.{last_pass, how_many, as_many, holds_none, own_all, held_last}
 use Rattle.rows_queue.proofs.calls.run.Goals as goal

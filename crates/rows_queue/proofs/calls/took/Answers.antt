@@ -1,5 +1,5 @@
 use Rattle.std.proofs.Common.{suc, List, sym, subst}
-use Rattle.scq_queue.specs.Passes.{HeldStanding}
+use Rattle.scq_queue.specs.Exports.{HeldStanding}
 use Rattle.scq_queue.specs.HoldsJust.{HoldsJust}
 use Rattle.scq_queue.proofs.HeldOnce.{holds_more, holds_same, take_refused}
 use Rattle.rows_queue.proofs.calls.took.Goals as goal

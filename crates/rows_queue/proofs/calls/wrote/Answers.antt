@@ -1,5 +1,5 @@
 use Rattle.std.proofs.Common.{List, refl, sym, subst}
-use Rattle.scq_queue.specs.Passes.{HeldStanding}
+use Rattle.scq_queue.specs.Exports.{HeldStanding}
 use Rattle.scq_queue.specs.HoldsJust.{HoldsJust}
 use Rattle.scq_queue.proofs.HeldOnce.{holds_written}
 use Rattle.rows_queue.proofs.calls.wrote.Goals as goal

@@ -1,7 +1,7 @@
 use Rattle.std.proofs.Common.{◌≡◌, List, [], ◌∷◌, ◌++◌, sym, ◌∙◌, ap, subst}
 use Rattle.std.specs.Prelude.{All}
 use Rattle.std.proofs.lemmas.List.Elements.{All-nil, All-cons}
-use Rattle.scq_park.specs.Crews.{Post, AreAll}
+use Rattle.scq_park.specs.Exports.{Post, AreAll}
 use Rattle.rows_queue.proofs.crews.close_two.Goals as goal
 
 pub close-requires : goal.close-requires

@@ -2,7 +2,7 @@ use Rattle.std.proofs.Common.{◌≡◌, [], All}
 use Rattle.std.specs.Prelude.{vec_len}
 use Rattle.scq_queue.specs.declared.heap_buffer.HeapBuffer.{HeapBuffer}
 use Rattle.scq_band.specs.Standing.{Standing}
-use Rattle.scq_band.specs.Closing.{lifted_of}
+use Rattle.scq_band.specs.Exports.{lifted_of}
 use Rattle.rows_queue.proofs.moves.replies.Given as goal
 
 abbrev pub invariant-loop-text : goal.invariant-loop-text

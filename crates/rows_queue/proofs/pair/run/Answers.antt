@@ -1,8 +1,7 @@
 use Rattle.std.proofs.Common.{◌≡◌, List, [], ◌∷◌, ◌++◌, length, sym, ◌∙◌, ap, subst, rules}
 use Rattle.std.specs.Prelude.{All}
 use Rattle.std.proofs.lemmas.List.Elements.{All-nil, All-cons}
-use Rattle.scq_queue.specs.Passes.{PassStanding}
-use Rattle.scq_queue.specs.Closing.{AreTheHeld}
+use Rattle.scq_queue.specs.Exports.{PassStanding, AreTheHeld}
 use Rattle.scq_queue.proofs.HeldOnce.{none_before, none_held, held_two}
 use Rattle.rows_queue.proofs.pair.run.Goals as goal
 

@@ -1,5 +1,5 @@
 use Rattle.std.proofs.Common.{◌≡◌, []}
-use Rattle.scq_band.specs.Closing.{lifted_of}
+use Rattle.scq_band.specs.Exports.{lifted_of}
 use Rattle.rows_queue.proofs.threads.circulate.Given as goal
 
 abbrev pub invariant-loop : goal.invariant-loop

@@ -2,7 +2,8 @@ use Rattle.std.proofs.Common.{refl, ◌∙◌, ap}
 use Rattle.std.specs.Prelude.{Err}
 use Rattle.scq_queue.specs.declared.heap_buffer.HeapBuffer.{HeapBuffer}
 use Rattle.scq_queue.specs.contracts.heap_buffer.HeapBufferBuffer.TheImpl as buffer
-use Rattle.scq_band.specs.Standing.{Standing, in_hand, bytes_in_hand, having_seen, seat_after_spent_put, seat_after_spent_get}
+use Rattle.scq_band.specs.Exports.{in_hand, bytes_in_hand, having_seen, seat_after_spent_put, seat_after_spent_get}
+use Rattle.scq_band.specs.Standing.{Standing}
 use Rattle.scq_band.proofs.Starting.{in_hand-come}
 use Rattle.rows_queue.proofs.NoneLent.{lent_after_get, lent_after_nothing, lent_after_put, lent_after_spent}
 use Rattle.rows_queue.proofs.threads.moved.Goals as goal

@@ -1,5 +1,5 @@
 use Rattle.std.proofs.Common.{◌≡◌, ◌∙◌, sym, [], ◌∷◌}
-use Rattle.scq_band.specs.Steps.{my}
+use Rattle.scq_band.specs.Exports.{my}
 use Rattle.scq_band.proofs.badges.learn.Goals as goal
 
 pub take_in-requires-clause-own : goal.take_in-requires-clause-own

@@ -1,6 +1,5 @@
 use Rattle.std.proofs.Common.{refl}
-use Rattle.scq_band.specs.Buffers.{LiesIn}
-use Rattle.scq_band.specs.Sights.{note_sight}
+use Rattle.scq_band.specs.Exports.{LiesIn, note_sight}
 use Rattle.scq_band.proofs.RunShown.{splits_run}
 use Rattle.scq_band.proofs.Views.{copies}
 use Rattle.scq_band.proofs.badges.note.Goals as goal

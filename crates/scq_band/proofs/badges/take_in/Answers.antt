@@ -1,6 +1,5 @@
 use Rattle.std.proofs.Common.{refl}
-use Rattle.scq_band.specs.Buffers.{LiesIn}
-use Rattle.scq_band.specs.Sights.{both_sight, spent_sight}
+use Rattle.scq_band.specs.Exports.{LiesIn, both_sight, spent_sight}
 use Rattle.scq_band.proofs.RunShown.{joins_run}
 use Rattle.scq_band.proofs.Views.{joins}
 use Rattle.scq_band.proofs.badges.take_in.Goals as goal

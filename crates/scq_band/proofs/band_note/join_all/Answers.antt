@@ -1,7 +1,7 @@
 use Rattle.std.proofs.Common.{◌<◌, List, length, refl, ◌∙◌, ap, ℕ, arith}
 use Rattle.std.specs.Prelude.{slice_set, slice_index_or, vec_len}
 use Rattle.scq_band.specs.declared.numbers.Numbers.{Numbers}
-use Rattle.scq_band.specs.Numbers.{known_of}
+use Rattle.scq_band.specs.Exports.{known_of}
 use Rattle.scq_band.proofs.Joining.{joined_below, joined_next, joined_all, one_more}
 use Rattle.scq_band.proofs.band_note.join_all.Goals as goal
 

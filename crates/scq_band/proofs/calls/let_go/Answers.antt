@@ -2,7 +2,7 @@ use Rattle.std.proofs.Common.{◌≡◌, ◌<◌, ◌≤◌, ◌++◌, ℕ, sym,
 use Rattle.std.specs.Prelude.{slice_set}
 use Rattle.std.proofs.lemmas.List.{length-append}
 use Rattle.scq_band.specs.declared.numbers.Numbers.{Numbers}
-use Rattle.scq_band.specs.Numbers.{finishes}
+use Rattle.scq_band.specs.Exports.{finishes}
 use Rattle.scq_band.proofs.Slots.{take_front}
 use Rattle.scq_band.proofs.Keeping.{known_read}
 use Rattle.scq_band.proofs.calls.let_go.Goals as goal

@@ -1,9 +1,6 @@
 use Rattle.std.proofs.Common.{◌≡◌, ◌∙◌, refl, sym, ap, subst, ℕ, List, map, length, arith}
-use Rattle.scq_band.specs.Buffers.{LiesIn}
+use Rattle.scq_band.specs.Exports.{LiesIn, Sight, known_in, known_me, front_bytes, times_lifted, MayBring, MayLeave}
 use Rattle.scq_band.specs.Known.{Known}
-use Rattle.scq_band.specs.Sights.{Sight, known_in, known_me}
-use Rattle.scq_band.specs.Steps.{front_bytes}
-use Rattle.scq_band.specs.Homes.{times_lifted, MayBring, MayLeave}
 use Rattle.scq_band.proofs.GoingHome.{first_slot, is_out, leaves, goes_on, none_left, went_none, went_more}
 use Rattle.scq_band.proofs.closing.bring_all.Goals as goal
 

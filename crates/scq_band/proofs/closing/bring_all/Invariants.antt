@@ -1,8 +1,6 @@
 use Rattle.std.proofs.Common.{◌≡◌, ℕ, ◌+◌, map, vec_len}
-use Rattle.scq_law.specs.Hands.{times}
-use Rattle.scq_band.specs.Sights.{known_me}
-use Rattle.scq_band.specs.Closing.{indices_of}
-use Rattle.scq_band.specs.Homes.{times_lifted, WentHome, MayLeave}
+use Rattle.scq_law.specs.Exports.{times}
+use Rattle.scq_band.specs.Exports.{known_me, indices_of, times_lifted, WentHome, MayLeave}
 use Rattle.scq_band.proofs.closing.bring_all.Given as goal
 
 abbrev pub invariant-loop-index : goal.invariant-loop-index

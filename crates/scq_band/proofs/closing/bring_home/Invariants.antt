@@ -1,8 +1,6 @@
 use Rattle.std.proofs.Common.{◌≡◌, [], ◌∷◌}
 use Rattle.atomic_table.specs.Table.{rest}
-use Rattle.scq_band.specs.Sights.{known_me}
-use Rattle.scq_band.specs.Steps.{front_index, front_bytes}
-use Rattle.scq_band.specs.Homes.{at_home}
+use Rattle.scq_band.specs.Exports.{known_me, front_index, front_bytes, at_home}
 use Rattle.scq_band.proofs.closing.bring_home.Given as goal
 
 abbrev pub ghosts-load : goal.ghosts-load

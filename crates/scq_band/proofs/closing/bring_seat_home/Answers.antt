@@ -1,12 +1,9 @@
 use Rattle.std.proofs.Common.{◌≡◌, ◌≤◌, ◌∙◌, sym, ap, subst, map, length, arith}
 use Rattle.std.specs.Prelude.{vec_capacity}
-use Rattle.scq_law.specs.Hands.{times}
+use Rattle.scq_law.specs.Exports.{times}
 use Rattle.scq_band.specs.Known.{Known}
-use Rattle.scq_band.specs.Sights.{known_me}
-use Rattle.scq_band.specs.Steps.{my}
-use Rattle.scq_band.specs.Standing.{Standing, Identity}
-use Rattle.scq_band.specs.Closing.{indices_of, lifted_of}
-use Rattle.scq_band.specs.Homes.{times_lifted, IsMemberOf}
+use Rattle.scq_band.specs.Exports.{known_me, my, Identity, indices_of, lifted_of, times_lifted, IsMemberOf}
+use Rattle.scq_band.specs.Standing.{Standing}
 use Rattle.scq_band.proofs.SeatsHome.{lifted_as, may_leave, leaves_alone, is_member, out_or_home}
 use Rattle.scq_band.proofs.closing.bring_seat_home.Goals as goal
 

@@ -3,14 +3,10 @@ use Rattle.std.specs.Prelude.{Some}
 use Rattle.std.proofs.lemmas.List.{length-map}
 use Rattle.std.proofs.lemmas.List.Elements.{All-pop}
 use Rattle.atomic_table.specs.Table.{Me}
-use Rattle.scq_law.specs.Hands.{times}
+use Rattle.scq_law.specs.Exports.{times}
 use Rattle.scq_band.specs.declared.slot.Slot.{Slot}
-use Rattle.scq_band.specs.Known.{Member}
-use Rattle.scq_band.specs.Sights.{Sight}
+use Rattle.scq_band.specs.Exports.{Member, Sight, identity_of, indices_of, lifted_of, OutOrHome, SeatsAreGathered}
 use Rattle.scq_band.specs.Standing.{Standing}
-use Rattle.scq_band.specs.Kept.{identity_of}
-use Rattle.scq_band.specs.Closing.{indices_of, lifted_of}
-use Rattle.scq_band.specs.Homes.{OutOrHome, SeatsAreGathered}
 use Rattle.scq_band.proofs.Gathering.{gathered_first, gathered_more, out_joined, all_home_then, out_some, out_less, none_left_out, all_gathered}
 use Rattle.scq_band.proofs.closing.gather.Goals as goal
 

@@ -1,9 +1,7 @@
 use Rattle.std.proofs.Common.{◌≡◌, ℕ, map, vec_len, sum_by, All}
-use Rattle.scq_law.specs.Hands.{times}
+use Rattle.scq_law.specs.Exports.{times}
 use Rattle.scq_band.specs.Standing.{Standing}
-use Rattle.scq_band.specs.Kept.{identity_of}
-use Rattle.scq_band.specs.Closing.{indices_of, lifted_of}
-use Rattle.scq_band.specs.Homes.{AllOutGiven, OutOrHome, SeatsAreGathered}
+use Rattle.scq_band.specs.Exports.{identity_of, indices_of, lifted_of, AllOutGiven, OutOrHome, SeatsAreGathered}
 use Rattle.scq_band.proofs.closing.gather.Given as goal
 
 abbrev pub invariant-loop-seat : goal.invariant-loop-seat

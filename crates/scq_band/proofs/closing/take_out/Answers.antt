@@ -1,7 +1,7 @@
 use Rattle.std.proofs.Common.{◌≡◌, ◌<◌, ◌∙◌, sym, map, arith}
 use Rattle.scq_band.proofs.OutBuffers.{found, none_up_to, none_of}
-use Rattle.scq_law.specs.Hands.{times}
-use Rattle.scq_band.specs.Closing.{indices_of}
+use Rattle.scq_law.specs.Exports.{times}
+use Rattle.scq_band.specs.Exports.{indices_of}
 use Rattle.scq_band.proofs.closing.take_out.Goals as goal
 
 pub returns-then-index : goal.returns-then-index

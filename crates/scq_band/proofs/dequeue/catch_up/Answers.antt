@@ -2,12 +2,7 @@ use Rattle.std.proofs.Common.{◌≡◌, true, ◌∙◌, refl, sym, inr, ap, su
 use Rattle.scq_core.specs.declared.phase.Phase.{Phase}
 use Rattle.scq_core.specs.declared.phase.Phase.TheVariants.{AtD7, AtD8, AtD9, AtD10}
 use Rattle.scq_core.specs.declared.step.Step.TheVariants.{D7, D8, D9}
-use Rattle.scq_band.specs.Sights.{known_me}
-use Rattle.scq_band.specs.Layout.{ring_of_word}
-use Rattle.scq_band.specs.Buffers.{LiesIn}
-use Rattle.scq_band.specs.Turns.{Carries}
-use Rattle.scq_band.specs.Steps.{my_phase, loading, load_turn, Exchanges}
-use Rattle.scq_band.specs.Seats.{IsAlone, goes_to}
+use Rattle.scq_band.specs.Exports.{known_me, ring_of_word, LiesIn, Carries, my_phase, loading, load_turn, Exchanges, IsAlone, goes_to}
 use Rattle.scq_band.proofs.RingLemmas.{tail_fits, tail_low, head_low}
 use Rattle.scq_band.proofs.Outcomes.{may_load, may_phase, load_kind, load_word, phase_word, alone_at, turned_as}
 use Rattle.scq_band.proofs.Leaving.{lift_hit, lift_missed, saw_head_again, saw_tail_again, saw_tail_past}

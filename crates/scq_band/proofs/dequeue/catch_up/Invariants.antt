@@ -1,8 +1,6 @@
 use Rattle.std.proofs.Common.{◌≡◌, ◌-◌, ◌^◌}
 use Rattle.scq_core.specs.declared.phase.Phase.TheVariants.{AtD7}
-use Rattle.scq_band.specs.Buffers.{opening_of}
-use Rattle.scq_band.specs.Sights.{GoesOn}
-use Rattle.scq_band.specs.Seats.{goes_to}
+use Rattle.scq_band.specs.Exports.{opening_of, GoesOn, goes_to}
 use Rattle.scq_band.proofs.dequeue.catch_up.Given as goal
 
 abbrev pub invariant-tries : goal.invariant-tries

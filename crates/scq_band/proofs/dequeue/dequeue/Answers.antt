@@ -2,19 +2,14 @@ use Rattle.std.proofs.Common.{◌≡◌, ◌<◌, ◌≤◌, ◌+◌, ℕ, refl,
 use Rattle.std.specs.Prelude.{Option, Some, None, Result, Err}
 use Rattle.scq_band.specs.declared.dequeue.Without.{Without}
 use Rattle.scq_band.specs.declared.dequeue.Without.TheVariants.{Nothing, Spent}
-use Rattle.scq_core.specs.Machine.{threshold_of}
+use Rattle.scq_core.specs.Exports.{threshold_of, location_of}
 use Rattle.scq_core.specs.declared.phase.Phase.{Phase}
 use Rattle.scq_core.specs.declared.phase.Phase.TheVariants.{AtD1, AtD2, AtD3, AtD6}
 use Rattle.scq_core.specs.declared.step.Step.TheVariants.{D2}
-use Rattle.scq_core.specs.Table.{location_of}
 use Rattle.scq_core.proofs.Entries.{zero_level_is}
-use Rattle.scq_band.specs.Sights.{known_me}
-use Rattle.scq_band.specs.Layout.{at, ring_of_word}
-use Rattle.scq_band.specs.Numbers.{changed, passes}
-use Rattle.scq_band.specs.Buffers.{LiesIn}
-use Rattle.scq_band.specs.Turns.{MayTurn}
-use Rattle.scq_band.specs.Steps.{my, my_phase, front_index, front_bytes, loading, drawing, draw_turn, OnlyReads, IsDraw}
-use Rattle.scq_band.specs.Seats.{IsAlone, at_phase, goes_to, nothing_at, to_draw, drew_head, least_of, HasFoundNone, HasSpentGet}
+use Rattle.scq_band.specs.Exports.{known_me, at, ring_of_word, changed, passes, LiesIn, MayTurn, my, my_phase, front_index, front_bytes, loading}
+use Rattle.scq_band.specs.Exports.{drawing, draw_turn, OnlyReads, IsDraw, IsAlone, at_phase, goes_to, nothing_at, to_draw, drew_head, least_of}
+use Rattle.scq_band.specs.Exports.{HasFoundNone, HasSpentGet}
 use Rattle.scq_band.proofs.Layouts.{ring_of_word-at}
 use Rattle.scq_band.proofs.RingLemmas.{tail_fits, head_low, threshold_low}
 use Rattle.scq_band.proofs.Grounds.{threshold_location}

@@ -1,8 +1,5 @@
 use Rattle.std.proofs.Common.{◌≡◌, ◌-◌}
-use Rattle.scq_band.specs.Buffers.{opening_of}
-use Rattle.scq_band.specs.Sights.{GoesOn}
-use Rattle.scq_band.specs.Steps.{my_phase}
-use Rattle.scq_band.specs.Seats.{to_draw, least_of}
+use Rattle.scq_band.specs.Exports.{opening_of, GoesOn, my_phase, to_draw, least_of}
 use Rattle.scq_band.proofs.dequeue.dequeue.Given as goal
 
 abbrev pub invariant-draws : goal.invariant-draws

@@ -1,14 +1,10 @@
 use Rattle.std.proofs.Common.{◌≡◌, ◌<◌, ◌≤◌, ◌+◌, refl, sym, ◌∙◌, ap, subst, arith, leb-true, leb-false, true, false}
 use Rattle.scq_core.specs.declared.phase.Phase.TheVariants.{AtD2, AtD6, AtD7, AtD10}
 use Rattle.scq_core.specs.declared.step.Step.TheVariants.{D6, D10}
-use Rattle.scq_core.specs.Table.{zero_level}
+use Rattle.scq_core.specs.Exports.{zero_level}
 use Rattle.scq_core.proofs.Entries.{zero_level_is}
-use Rattle.scq_band.specs.Sights.{known_me}
-use Rattle.scq_band.specs.Layout.{ring_of_word}
-use Rattle.scq_band.specs.Numbers.{changed, empties}
-use Rattle.scq_band.specs.Buffers.{LiesIn}
-use Rattle.scq_band.specs.Steps.{my, my_phase, loading, load_turn, IsCountDown}
-use Rattle.scq_band.specs.Seats.{IsAlone, at_phase, seated, goes_to, nothing_at}
+use Rattle.scq_band.specs.Exports.{known_me, ring_of_word, changed, empties, LiesIn, my, my_phase, loading, load_turn, IsCountDown, IsAlone, at_phase}
+use Rattle.scq_band.specs.Exports.{seated, goes_to, nothing_at}
 use Rattle.scq_band.proofs.RingLemmas.{tail_fits, tail_low, threshold_low}
 use Rattle.scq_band.proofs.Outcomes.{may_load, may_phase, load_kind, load_word, phase_word, alone_at, alone_seated, turned_as}
 use Rattle.scq_band.proofs.Leaving.{saw_tail_low, saw_tail_high, left, ran_out, goes_round}

@@ -1,16 +1,12 @@
 use Rattle.std.proofs.Common.{◌≡◌, ◌≢◌, ℕ, ◌≤◌, refl, inr, sym, ◌∙◌, ap, subst, arith}
-use Rattle.scq_word.specs.Words.{cycle_in, rank_in}
+use Rattle.scq_word.specs.Exports.{cycle_in, rank_in}
 use Rattle.scq_core.specs.declared.phase.Phase.{Phase}
 use Rattle.scq_core.specs.declared.phase.Phase.TheVariants.{AtD3, AtD4, AtD5, AtD6}
 use Rattle.scq_core.specs.declared.step.Step.TheVariants.{D3, D4, D5}
-use Rattle.scq_core.specs.Table.{ring_slots, cycle}
+use Rattle.scq_core.specs.Exports.{ring_slots, cycle}
 use Rattle.scq_core.proofs.Packing.{cycle_fits}
-use Rattle.scq_band.specs.Sights.{known_me}
-use Rattle.scq_band.specs.Layout.{ring_of_word}
-use Rattle.scq_band.specs.Buffers.{LiesIn}
-use Rattle.scq_band.specs.Turns.{Carries}
-use Rattle.scq_band.specs.Steps.{my_phase, loading, load_turn, Exchanges, IsTakingTurn}
-use Rattle.scq_band.specs.Seats.{IsAlone, SeatHasGot, goes_to, least_of}
+use Rattle.scq_band.specs.Exports.{known_me, ring_of_word, LiesIn, Carries, my_phase, loading, load_turn, Exchanges, IsTakingTurn, IsAlone}
+use Rattle.scq_band.specs.Exports.{SeatHasGot, goes_to, least_of}
 use Rattle.scq_band.proofs.RingLemmas.{tail_fits, entry_low}
 use Rattle.scq_band.proofs.Outcomes.{may_load, may_phase, load_kind, load_word, phase_word, alone_at, turned_as}
 use Rattle.scq_band.proofs.Placing.{rank_fits}

@@ -1,9 +1,6 @@
 use Rattle.std.proofs.Common.{◌≡◌, ◌-◌, ◌^◌}
 use Rattle.scq_core.specs.declared.phase.Phase.TheVariants.{AtD3}
-use Rattle.scq_band.specs.Buffers.{opening_of}
-use Rattle.scq_band.specs.Sights.{GoesOn}
-use Rattle.scq_band.specs.Steps.{my_phase}
-use Rattle.scq_band.specs.Seats.{goes_to, least_of}
+use Rattle.scq_band.specs.Exports.{opening_of, GoesOn, my_phase, goes_to, least_of}
 use Rattle.scq_band.proofs.dequeue.try_take.Given as goal
 
 abbrev pub invariant-tries : goal.invariant-tries

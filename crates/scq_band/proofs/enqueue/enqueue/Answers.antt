@@ -2,14 +2,10 @@ use Rattle.std.proofs.Common.{◌≡◌, ℕ, List, ◌+◌, ◌<◌, ◌≤◌,
 use Rattle.scq_core.specs.declared.phase.Phase.{Phase}
 use Rattle.scq_core.specs.declared.phase.Phase.TheVariants.{AtE1, AtE2, AtE5}
 use Rattle.scq_band.specs.declared.slot.Slot.{Slot}
-use Rattle.scq_core.specs.Table.{location_of}
-use Rattle.scq_band.specs.Sights.{known_me}
-use Rattle.scq_band.specs.Layout.{at}
-use Rattle.scq_band.specs.Buffers.{LiesIn}
-use Rattle.scq_band.specs.Turns.{MayTurn, Fronts}
+use Rattle.scq_core.specs.Exports.{location_of}
+use Rattle.scq_band.specs.Exports.{known_me, at, LiesIn, MayTurn, Fronts, my_phase, front_bytes, IsAlone, goes_to, done_at, placed_to, put_index}
+use Rattle.scq_band.specs.Exports.{content_of, least_of}
 use Rattle.atomic_table.specs.Table.{rest}
-use Rattle.scq_band.specs.Steps.{my_phase, front_bytes}
-use Rattle.scq_band.specs.Seats.{IsAlone, goes_to, done_at, placed_to, put_index, content_of, least_of}
 use Rattle.scq_band.proofs.Outcomes.{alone_at, alone_seated, turned_as}
 use Rattle.scq_band.proofs.RingLemmas.{tail_low}
 use Rattle.scq_band.proofs.Drawing.{DrewFromTail, drew_from_tail, turn_of_draw, may_draw, looks_as}

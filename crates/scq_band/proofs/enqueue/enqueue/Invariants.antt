@@ -1,8 +1,5 @@
 use Rattle.std.proofs.Common.{◌≡◌, ◌-◌}
-use Rattle.scq_band.specs.Buffers.{opening_of}
-use Rattle.scq_band.specs.Sights.{GoesOn}
-use Rattle.scq_band.specs.Steps.{my_phase, front_bytes}
-use Rattle.scq_band.specs.Seats.{IsToDraw, goes_to, least_of}
+use Rattle.scq_band.specs.Exports.{opening_of, GoesOn, my_phase, front_bytes, IsToDraw, goes_to, least_of}
 use Rattle.scq_band.proofs.enqueue.enqueue.Given as goal
 
 abbrev pub invariant-draws : goal.invariant-draws

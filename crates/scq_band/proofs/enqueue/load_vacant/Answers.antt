@@ -1,12 +1,7 @@
 use Rattle.std.proofs.Common.{◌≡◌, refl, sym, ap, ◌∙◌}
 use Rattle.scq_core.specs.declared.phase.Phase.TheVariants.{AtE2, AtE3}
-use Rattle.scq_band.specs.Turns.{Turned}
+use Rattle.scq_band.specs.Exports.{Turned, known_me, ring_of_word, LiesIn, my_phase, loading, load_turn, goes_to, put_index, content_of, least_of}
 use Rattle.scq_core.specs.declared.step.Step.TheVariants.{E2, E3}
-use Rattle.scq_band.specs.Sights.{known_me}
-use Rattle.scq_band.specs.Layout.{ring_of_word}
-use Rattle.scq_band.specs.Buffers.{LiesIn}
-use Rattle.scq_band.specs.Steps.{my_phase, loading, load_turn}
-use Rattle.scq_band.specs.Seats.{goes_to, put_index, content_of, least_of}
 use Rattle.scq_band.proofs.RingLemmas.{tail_fits, head_low, entry_low}
 use Rattle.scq_band.proofs.Outcomes.{may_load, load_kind, load_word, alone_seated, turned_as}
 use Rattle.scq_band.proofs.PutOutcomes.{takes_one, is_unsafe, saw_unsafe, saw_vacant, saw_head_past}

@@ -1,10 +1,7 @@
 use Rattle.std.proofs.Common.{◌≡◌, ◌≢◌, refl, sym, ◌∙◌, ap, subst}
 use Rattle.scq_core.specs.declared.phase.Phase.TheVariants.{AtE5, AtE6}
 use Rattle.scq_core.specs.declared.step.Step.TheVariants.{E5, E6}
-use Rattle.scq_band.specs.Sights.{known_me}
-use Rattle.scq_band.specs.Layout.{ring_of_word}
-use Rattle.scq_band.specs.Steps.{my_phase, loading, load_turn, IsReset}
-use Rattle.scq_band.specs.Seats.{goes_to, put_index, content_of}
+use Rattle.scq_band.specs.Exports.{known_me, ring_of_word, my_phase, loading, load_turn, IsReset, goes_to, put_index, content_of}
 use Rattle.scq_band.proofs.RingLemmas.{tail_fits, threshold_low}
 use Rattle.scq_band.proofs.Outcomes.{may_load, may_phase, load_kind, load_word, phase_word, alone_at, turned_as}
 use Rattle.scq_band.proofs.Ending.{saw_other_level, saw_own_level, was_reset}

@@ -1,16 +1,12 @@
 use Rattle.std.proofs.Common.{◌∙◌, ◌≡◌, ℕ, List, refl, sym, inr, ap, subst, arith}
 use Rattle.atomic_table.specs.Table.{rest}
-use Rattle.scq_word.specs.Words.{rank_in}
+use Rattle.scq_word.specs.Exports.{rank_in}
 use Rattle.scq_core.specs.declared.phase.Phase.{Phase}
 use Rattle.scq_core.specs.declared.phase.Phase.TheVariants.{AtE2, AtE4}
 use Rattle.scq_core.specs.declared.step.Step.TheVariants.{E4}
-use Rattle.scq_core.specs.Table.{ring_slots}
-use Rattle.scq_band.specs.Sights.{known_me}
+use Rattle.scq_core.specs.Exports.{ring_slots}
+use Rattle.scq_band.specs.Exports.{known_me, LiesIn, Fronts, Carries, my_phase, Exchanges, IsAlone, goes_to, content_of, least_of}
 use Rattle.scq_band.specs.declared.slot.Slot.{Slot}
-use Rattle.scq_band.specs.Buffers.{LiesIn}
-use Rattle.scq_band.specs.Turns.{Fronts, Carries}
-use Rattle.scq_band.specs.Steps.{my_phase, Exchanges}
-use Rattle.scq_band.specs.Seats.{IsAlone, goes_to, content_of, least_of}
 use Rattle.scq_band.proofs.RingLemmas.{tail_fits, entry_low}
 use Rattle.scq_band.proofs.Outcomes.{may_phase, phase_word, alone_at}
 use Rattle.scq_band.proofs.Drawing.{looks_as}

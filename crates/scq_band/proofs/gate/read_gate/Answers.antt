@@ -1,4 +1,4 @@
-use Rattle.scq_band.specs.Buffers.{LiesIn}
+use Rattle.scq_band.specs.Exports.{LiesIn}
 use Rattle.scq_band.proofs.RunShown.{looks_run}
 use Rattle.scq_band.proofs.gate.read_gate.Goals as goal
 

@@ -1,9 +1,5 @@
 use Rattle.std.proofs.Common.{◌≡◌}
-use Rattle.scq_band.specs.Buffers.{opening_of}
-use Rattle.scq_band.specs.Sights.{Looked}
-use Rattle.scq_band.specs.Standing.{IsReading}
-use Rattle.scq_band.specs.Steps.{my}
-use Rattle.scq_band.specs.Seats.{looked}
+use Rattle.scq_band.specs.Exports.{opening_of, Looked, IsReading, my, looked}
 use Rattle.scq_band.proofs.gate.read_gate.Given as goal
 
 abbrev pub ghosts-load : goal.ghosts-load

@@ -1,7 +1,5 @@
 use Rattle.std.proofs.Common.{◌≡◌, length}
-use Rattle.scq_band.specs.RunSeen.{with_retiree}
-use Rattle.scq_band.specs.Steps.{my}
-use Rattle.scq_band.specs.Seats.{retired_at}
+use Rattle.scq_band.specs.Exports.{with_retiree, my, retired_at}
 use Rattle.scq_band.proofs.gate.retire.Given as goal
 
 abbrev pub ghosts-fetch_sub : goal.ghosts-fetch_sub

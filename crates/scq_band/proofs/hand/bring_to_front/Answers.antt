@@ -1,7 +1,7 @@
 use Rattle.std.proofs.Common.{◌≡◌, ◌-◌, ◌<◌, refl, subst, sym, ◌∙◌, ap, arith, ℕ, List, []}
 use Rattle.std.specs.Prelude.{vec_len, slice_index_or}
 use Rattle.std.proofs.lemmas.List.{append-nil}
-use Rattle.scq_law.specs.Hands.{times}
+use Rattle.scq_law.specs.Exports.{times}
 use Rattle.scq_band.proofs.Slots.{sought_first, sought_hand}
 use Rattle.scq_band.proofs.hand.bring_to_front.Goals as goal
 

@@ -1,7 +1,7 @@
 use Rattle.std.proofs.Common.{◌≡◌, ◌≢◌, ◌+◌, ◌-◌, ◌<◌, refl, subst, sym, ◌∙◌, ap, arith, ℕ, List}
 use Rattle.std.specs.Prelude.{vec_len, slice_index_or}
-use Rattle.scq_law.specs.Hands.{times}
-use Rattle.scq_band.specs.Steps.{front_index}
+use Rattle.scq_law.specs.Exports.{times}
+use Rattle.scq_band.specs.Exports.{front_index}
 use Rattle.scq_band.specs.declared.slot.Slot.{Slot}
 use Rattle.scq_band.proofs.Slots.{Sought, SoughtHand, sought_first, sought_next, sought_hand}
 use Rattle.scq_band.proofs.hand.turn_to_front.Goals as goal

@@ -1,4 +1,4 @@
-use Rattle.scq_band.specs.Buffers.{LiesIn, opening_of}
+use Rattle.scq_band.specs.Exports.{LiesIn, opening_of}
 use Rattle.scq_band.proofs.Knowing.{each_knows}
 use Rattle.scq_band.proofs.laws.each_view_knows_the_truth.Goals as goal
 

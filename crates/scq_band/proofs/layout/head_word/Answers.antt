@@ -1,5 +1,5 @@
 use Rattle.std.proofs.Common.{refl, arith}
-use Rattle.scq_core.specs.Machine.{head_of}
+use Rattle.scq_core.specs.Exports.{head_of}
 use Rattle.scq_band.proofs.Layouts.{from_tail}
 use Rattle.scq_band.proofs.layout.head_word.Goals as goal
 

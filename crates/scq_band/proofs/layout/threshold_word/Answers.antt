@@ -1,5 +1,5 @@
 use Rattle.std.proofs.Common.{refl, arith}
-use Rattle.scq_core.specs.Machine.{threshold_of}
+use Rattle.scq_core.specs.Exports.{threshold_of}
 use Rattle.scq_band.proofs.Layouts.{from_tail}
 use Rattle.scq_band.proofs.layout.threshold_word.Goals as goal
 

@@ -1,8 +1,8 @@
 use Rattle.std.proofs.Common.{◌≡◌, ℕ, ◌<◌, length, slice_index, vec_capacity}
 use Rattle.std.specs.Mem.Slots.{slots_items}
-use Rattle.scq_core.specs.Machine.{Cells}
-use Rattle.scq_law.specs.Kept.{left_in}
-use Rattle.scq_band.specs.Shown.{ShowsWords}
+use Rattle.scq_core.specs.Exports.{Cells}
+use Rattle.scq_law.specs.Exports.{left_in}
+use Rattle.scq_band.specs.Exports.{ShowsWords}
 use Rattle.scq_band.proofs.leftovers.count_left.Given as goal
 
 abbrev pub invariant-loop-ring : goal.invariant-loop-ring

@@ -1,11 +1,10 @@
 use Rattle.std.proofs.Common.{◌≡◌, ◌∙◌, sym, ap, subst, arith, ℕ, true, false}
 use Rattle.std.specs.Prelude.{is_some}
 use Rattle.std.specs.Mem.Slots.{slots_items, slots_len}
-use Rattle.scq_word.specs.Entries.{index_unless_mark, IsIndexOrMark}
-use Rattle.scq_word.specs.Sizes.{slots_of}
+use Rattle.scq_word.specs.Exports.{index_unless_mark, IsIndexOrMark, slots_of}
 use Rattle.scq_word.specs.declared.entry.Entry.{Entry}
-use Rattle.scq_core.specs.Table.{ring_slots}
-use Rattle.scq_law.specs.Sums.{sum_to}
+use Rattle.scq_core.specs.Exports.{ring_slots}
+use Rattle.scq_law.specs.Exports.{sum_to}
 use Rattle.scq_band.proofs.LeftWords.{index_count, word_has, counts_next, counts_all, slot_word_low}
 use Rattle.scq_band.proofs.leftovers.left_in_ring.Goals as goal
 use Rattle.scq_band.proofs.leftovers.left_in_ring.Goals.{then-is_some, else-is_some}

@@ -1,6 +1,6 @@
 use Rattle.std.proofs.Common.{◌≡◌, ◌≤◌}
 use Rattle.std.specs.Mem.Slots.{slots_items}
-use Rattle.scq_law.specs.Sums.{sum_to}
+use Rattle.scq_law.specs.Exports.{sum_to}
 use Rattle.scq_band.proofs.LeftWords.{index_count}
 use Rattle.scq_band.proofs.leftovers.left_in_ring.Given as goal
 

@@ -2,7 +2,7 @@ use Rattle.std.proofs.Common.{◌≡◌, ◌<◌, ◌∙◌, ap, sym, subst, len
 use Rattle.std.specs.Prelude.{Some, slice_get}
 use Rattle.std.specs.Mem.Slots.{slots_items, slots_filled, slots_len}
 use Rattle.scq_band.specs.declared.slot.Slot.{Slot}
-use Rattle.scq_band.specs.Homes.{full_slot}
+use Rattle.scq_band.specs.Exports.{full_slot}
 use Rattle.scq_band.proofs.Unloading.{read_some, length_next, empty_next, full_next, not_empty, buffers_next}
 use Rattle.scq_band.proofs.leftovers.unload.Goals as goal
 

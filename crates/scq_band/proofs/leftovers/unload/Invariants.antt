@@ -1,7 +1,7 @@
 use Rattle.std.proofs.Common.{◌≡◌, ℕ, ◌-◌, ◌<◌, ◌≤◌, true, false, map, take, length, vec_capacity}
 use Rattle.std.specs.Prelude.{slice_index_or}
 use Rattle.std.specs.Mem.Slots.{slots_items, slots_filled, slots_len}
-use Rattle.scq_band.specs.Homes.{full_slot}
+use Rattle.scq_band.specs.Exports.{full_slot}
 use Rattle.scq_band.proofs.leftovers.unload.Given as goal
 
 abbrev pub invariant-loop-i : goal.invariant-loop-i

@@ -1,4 +1,4 @@
-use Rattle.scq_band.specs.Making.{WordsAreOpened}
+use Rattle.scq_band.specs.Exports.{WordsAreOpened}
 use Rattle.scq_band.proofs.making.first_words.Given as goal
 
 abbrev pub invariant-loop-ring : goal.invariant-loop-ring

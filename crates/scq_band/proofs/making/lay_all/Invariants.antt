@@ -1,7 +1,7 @@
 use Rattle.std.proofs.Common.{◌≡◌, ◌+◌, ◌≤◌, ◌++◌, map}
 use Rattle.std.specs.Prelude.{vec_len, vec_capacity}
 use Rattle.std.specs.Prelude.{reverse}
-use Rattle.scq_band.specs.Homes.{full_slot}
+use Rattle.scq_band.specs.Exports.{full_slot}
 use Rattle.scq_band.proofs.making.lay_all.Given as goal
 
 abbrev pub invariant-loop-buffer : goal.invariant-loop-buffer

@@ -1,6 +1,6 @@
 use Rattle.std.proofs.Common.{◌≡◌, ◌++◌, [], ◌∷◌, reverse, sym, ◌∙◌, ap, subst, arith}
 use Rattle.std.proofs.lemmas.List.{reverse-append, append_assoc}
-use Rattle.scq_band.specs.Making.{lifted, AllLaid}
+use Rattle.scq_band.specs.Exports.{lifted, AllLaid}
 use Rattle.scq_band.proofs.StartWords.{laid-prefix, laid-last, lifted-snoc}
 use Rattle.scq_band.proofs.making.lift_all.Goals as goal
 

@@ -1,7 +1,7 @@
 use Rattle.std.proofs.Common.{◌≡◌, ◌+◌, ◌≤◌, ◌++◌}
 use Rattle.std.specs.Prelude.{vec_len, vec_capacity}
 use Rattle.std.specs.Prelude.{reverse}
-use Rattle.scq_band.specs.Making.{lifted, AllLaid}
+use Rattle.scq_band.specs.Exports.{lifted, AllLaid}
 use Rattle.scq_band.proofs.making.lift_all.Given as goal
 
 abbrev pub invariant-loop-slot : goal.invariant-loop-slot

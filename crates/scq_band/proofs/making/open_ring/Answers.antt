@@ -1,12 +1,10 @@
 use Rattle.std.proofs.Common.{◌≡◌, suc, ◌+◌, ◌<◌, [], refl, ◌∙◌, ap, subst, arith}
 use Rattle.std.specs.Prelude.{slice_set}
 use Rattle.scq_word.specs.declared.setup.Setup.{Setup}
-use Rattle.scq_word.specs.Sizes.{slots_of}
-use Rattle.scq_core.specs.Machine.{Machine, tail_of, head_of, threshold_of, entry_of, read}
-use Rattle.scq_core.specs.Start.{start_cells}
-use Rattle.scq_core.specs.Table.{ring_slots}
-use Rattle.scq_band.specs.Layout.{at}
-use Rattle.scq_band.specs.Making.{WordsAreOpened}
+use Rattle.scq_word.specs.Exports.{slots_of}
+use Rattle.scq_core.specs.Exports.{tail_of, head_of, threshold_of, entry_of, read, start_cells, ring_slots}
+use Rattle.scq_core.specs.Machine.{Machine}
+use Rattle.scq_band.specs.Exports.{at, WordsAreOpened}
 use Rattle.scq_band.proofs.Layouts.{at_low}
 use Rattle.scq_band.proofs.StartWords.{opens_next}
 use Rattle.scq_band.proofs.making.open_ring.Goals as goal

@@ -1,5 +1,5 @@
 use Rattle.std.proofs.Common.{◌+◌}
-use Rattle.scq_band.specs.Making.{WordsAreOpened}
+use Rattle.scq_band.specs.Exports.{WordsAreOpened}
 use Rattle.scq_band.proofs.making.open_ring.Given as goal
 
 abbrev pub invariant-loop-slot : goal.invariant-loop-slot

@@ -1,6 +1,6 @@
 use Rattle.std.proofs.Common.{◌+◌, List, sym, subst}
 use Rattle.scq_band.specs.declared.ring.Ring.{Ring}
-use Rattle.scq_band.specs.Rings.{AreRings}
+use Rattle.scq_band.specs.Exports.{AreRings}
 use Rattle.scq_band.proofs.RingLists.{rings_next}
 use Rattle.scq_band.proofs.making.rings.Goals as goal
 

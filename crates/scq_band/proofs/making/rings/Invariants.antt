@@ -1,4 +1,4 @@
-use Rattle.scq_band.specs.Rings.{AreRings}
+use Rattle.scq_band.specs.Exports.{AreRings}
 use Rattle.scq_band.proofs.making.rings.Given as goal
 
 abbrev pub invariant-loop-number : goal.invariant-loop-number

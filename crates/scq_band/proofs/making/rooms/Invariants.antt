@@ -1,6 +1,6 @@
 use Rattle.std.proofs.Common.{◌≡◌, All}
 use Rattle.std.specs.Prelude.{vec_len}
-use Rattle.scq_band.specs.Making.{IsRoom}
+use Rattle.scq_band.specs.Exports.{IsRoom}
 use Rattle.scq_band.proofs.making.rooms.Given as goal
 
 abbrev pub invariant-loop : goal.invariant-loop

@@ -1,6 +1,5 @@
 use Rattle.std.proofs.Common.{refl}
-use Rattle.scq_band.specs.Buffers.{LiesIn}
-use Rattle.scq_band.specs.Sights.{mark_sight}
+use Rattle.scq_band.specs.Exports.{LiesIn, mark_sight}
 use Rattle.scq_band.proofs.RunShown.{splits_run}
 use Rattle.scq_band.proofs.Views.{marks}
 use Rattle.scq_band.proofs.marks.copy_seen.Goals as goal

@@ -1,6 +1,5 @@
 use Rattle.std.proofs.Common.{◌≡◌}
-use Rattle.scq_band.specs.Buffers.{opening_of}
-use Rattle.scq_band.specs.Sights.{HasFound}
+use Rattle.scq_band.specs.Exports.{opening_of, HasFound}
 use Rattle.scq_band.proofs.marks.find.Given as goal
 
 abbrev pub ghosts-load : goal.ghosts-load

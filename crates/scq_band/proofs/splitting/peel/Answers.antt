@@ -1,10 +1,7 @@
 use Rattle.std.proofs.Common.{◌≡◌, suc, [], refl, ◌∙◌, ap}
 use Rattle.std.specs.Prelude.{None}
-use Rattle.scq_core.specs.Start.{idle_part}
-use Rattle.scq_band.specs.Buffers.{LiesIn}
-use Rattle.scq_band.specs.Shown.{first_members}
-use Rattle.scq_band.specs.Making.{sight_below}
-use Rattle.scq_band.specs.Sights.{Sight, others_sight, first_sight_of}
+use Rattle.scq_core.specs.Exports.{idle_part}
+use Rattle.scq_band.specs.Exports.{LiesIn, first_members, sight_below, Sight, others_sight, first_sight_of}
 use Rattle.scq_band.proofs.RunShown.{splits_run}
 use Rattle.scq_band.proofs.Views.{peels}
 use Rattle.scq_band.proofs.Starting.{first_kept}

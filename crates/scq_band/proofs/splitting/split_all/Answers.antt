@@ -2,9 +2,8 @@ use Rattle.std.proofs.Common.{◌≡◌, suc, ◌++◌, List, [], ◌∷◌, All
 use Rattle.std.specs.Prelude.{vec_len}
 use Rattle.std.proofs.lemmas.List.{reverse-append, append_assoc}
 use Rattle.scq_band.specs.declared.making.Room.{Room}
-use Rattle.scq_band.specs.Standing.{Standing, first_standing, first_standings}
-use Rattle.scq_band.specs.Kept.{identity_of}
-use Rattle.scq_band.specs.Making.{IsRoom, sight_below}
+use Rattle.scq_band.specs.Exports.{first_standing, first_standings, identity_of, IsRoom, sight_below}
+use Rattle.scq_band.specs.Standing.{Standing}
 use Rattle.scq_band.proofs.Starting.{all_last, all_prefix}
 use Rattle.scq_band.proofs.splitting.split_all.Goals as goal
 

@@ -1,8 +1,6 @@
 use Rattle.std.proofs.Common.{◌≡◌, ◌+◌, ◌≤◌, ◌++◌, All, reverse}
 use Rattle.std.specs.Prelude.{vec_len, vec_capacity}
-use Rattle.scq_band.specs.Standing.{first_standings}
-use Rattle.scq_band.specs.Kept.{identity_of}
-use Rattle.scq_band.specs.Making.{IsRoom, sight_below}
+use Rattle.scq_band.specs.Exports.{first_standings, identity_of, IsRoom, sight_below}
 use Rattle.scq_band.proofs.splitting.split_all.Given as goal
 
 abbrev pub invariant-loop-room : goal.invariant-loop-room

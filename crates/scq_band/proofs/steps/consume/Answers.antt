@@ -1,6 +1,5 @@
 use Rattle.std.specs.Prelude.{bit_or}
-use Rattle.scq_band.specs.Buffers.{LiesIn}
-use Rattle.scq_band.specs.Steps.{my_phase}
+use Rattle.scq_band.specs.Exports.{LiesIn, my_phase}
 use Rattle.scq_band.proofs.RunShown.{moves}
 use Rattle.scq_band.proofs.Grounds.{ground}
 use Rattle.scq_band.proofs.Operations.{consume_says, consume_carries}

@@ -1,7 +1,6 @@
 use Rattle.std.proofs.Common.{◌+◌, ◌-◌, ◌%◌, ◌^◌}
 use Rattle.scq_core.proofs.Fits.{words_fit}
-use Rattle.scq_band.specs.Buffers.{LiesIn}
-use Rattle.scq_band.specs.Steps.{my_phase}
+use Rattle.scq_band.specs.Exports.{LiesIn, my_phase}
 use Rattle.scq_band.proofs.RunShown.{moves}
 use Rattle.scq_band.proofs.Grounds.{ground}
 use Rattle.scq_band.proofs.Operations.{count_says, count_carries}

@@ -1,8 +1,6 @@
 use Rattle.std.proofs.Common.{◌+◌, ◌%◌, ◌^◌}
 use Rattle.scq_core.proofs.Fits.{words_fit}
-use Rattle.scq_band.specs.Buffers.{LiesIn}
-use Rattle.scq_band.specs.Sights.{known_me}
-use Rattle.scq_band.specs.Steps.{draw_turn}
+use Rattle.scq_band.specs.Exports.{LiesIn, known_me, draw_turn}
 use Rattle.scq_band.proofs.RunShown.{moves}
 use Rattle.scq_band.proofs.Grounds.{ground}
 use Rattle.scq_band.proofs.Operations.{draw_says, draw_carries}

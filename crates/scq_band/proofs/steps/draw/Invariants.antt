@@ -1,5 +1,4 @@
-use Rattle.scq_band.specs.Sights.{known_me}
-use Rattle.scq_band.specs.Steps.{draw_turn}
+use Rattle.scq_band.specs.Exports.{known_me, draw_turn}
 use Rattle.scq_band.proofs.Operations.{Tells}
 use Rattle.scq_band.proofs.steps.draw.Given as goal
 

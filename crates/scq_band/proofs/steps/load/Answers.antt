@@ -1,5 +1,4 @@
-use Rattle.scq_band.specs.Buffers.{LiesIn}
-use Rattle.scq_band.specs.Steps.{load_turn}
+use Rattle.scq_band.specs.Exports.{LiesIn, load_turn}
 use Rattle.scq_band.proofs.RunShown.{moves}
 use Rattle.scq_band.proofs.Grounds.{ground}
 use Rattle.scq_band.proofs.Operations.{load_says, load_carries}

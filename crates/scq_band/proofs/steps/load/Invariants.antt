@@ -1,4 +1,4 @@
-use Rattle.scq_band.specs.Steps.{load_turn}
+use Rattle.scq_band.specs.Exports.{load_turn}
 use Rattle.scq_band.proofs.Operations.{Tells}
 use Rattle.scq_band.proofs.steps.load.Given as goal
 

@@ -1,7 +1,4 @@
-use Rattle.scq_band.specs.Buffers.{LiesIn, opening_of}
-use Rattle.scq_band.specs.Sights.{known_me, Went, ShowsRun}
-use Rattle.scq_band.specs.Turns.{Turned}
-use Rattle.scq_band.specs.Steps.{my_phase}
+use Rattle.scq_band.specs.Exports.{LiesIn, opening_of, known_me, Went, ShowsRun, Turned, my_phase}
 use Rattle.scq_band.proofs.RunShown.{moves}
 use Rattle.scq_band.proofs.Grounds.{ground}
 use Rattle.scq_band.proofs.Operations.{reset_says, reset_carries, reset_tells, allows_map}

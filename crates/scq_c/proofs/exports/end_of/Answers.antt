@@ -1,9 +1,9 @@
 use Rattle.std.proofs.Common.{◌≡◌, List, map, ap, inl, inr, sym, subst, ◌∙◌, arith}
 use Rattle.scq_queue.specs.declared.counts.Counts.{Counts}
-use Rattle.scq_port.specs.Ports.{buffer_bytes}
+use Rattle.scq_port.specs.Exports.{buffer_bytes}
 use Rattle.scq_c.specs.declared.exports.End.{End}
 use Rattle.scq_c.specs.declared.tally.Tally.{Tally}
-use Rattle.scq_c.specs.Tallies.{AreWritten}
+use Rattle.scq_c.specs.Exports.{AreWritten}
 use Rattle.scq_c.proofs.Somes.{if_some_at}
 use Rattle.scq_c.proofs.exports.end_of.Goals as goal
 use Rattle.scq_c.proofs.exports.end_of.Goals.{in-Some, in-None}

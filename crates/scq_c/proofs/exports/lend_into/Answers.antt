@@ -3,7 +3,7 @@ use Rattle.std.specs.Prelude.{Err}
 use Rattle.scq_port.specs.declared.refusals.LendRefusal.{LendRefusal}
 use Rattle.scq_port.specs.declared.refusals.LendRefusal.TheVariants.{NoRoom, Full, Spent}
 use Rattle.scq_c.specs.declared.exports.Held.{Held}
-use Rattle.scq_c.specs.Answers.{OfLend}
+use Rattle.scq_c.specs.Exports.{OfLend}
 use Rattle.scq_c.proofs.Codes.{lend_lent, lend_full, lend_spent, lend_no_room}
 use Rattle.scq_c.proofs.exports.lend_into.Goals as goal
 

@@ -1,6 +1,6 @@
 use Rattle.std.proofs.Common.{sym, ◌∙◌, subst}
-use Rattle.scq_port.specs.Ports.{PortStanding}
-use Rattle.scq_c.specs.Answers.{OfCount}
+use Rattle.scq_port.specs.Exports.{PortStanding}
+use Rattle.scq_c.specs.Exports.{OfCount}
 use Rattle.scq_c.proofs.Somes.{same_value}
 use Rattle.scq_c.proofs.exports.scq_count.Goals as goal
 

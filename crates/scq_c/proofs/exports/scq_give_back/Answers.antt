@@ -1,6 +1,6 @@
 use Rattle.std.proofs.Common.{sym, ◌∙◌, subst}
-use Rattle.scq_port.specs.Ports.{PortStanding}
-use Rattle.scq_c.specs.Answers.{OfGiveBack}
+use Rattle.scq_port.specs.Exports.{PortStanding}
+use Rattle.scq_c.specs.Exports.{OfGiveBack}
 use Rattle.scq_c.proofs.Somes.{same_value}
 use Rattle.scq_c.proofs.exports.scq_give_back.Goals as goal
 

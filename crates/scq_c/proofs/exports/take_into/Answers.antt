@@ -3,7 +3,7 @@ use Rattle.std.specs.Prelude.{Err}
 use Rattle.scq_port.specs.declared.refusals.TakeRefusal.{TakeRefusal}
 use Rattle.scq_port.specs.declared.refusals.TakeRefusal.TheVariants.{NoTopic, NoRoom, Empty, Spent}
 use Rattle.scq_c.specs.declared.exports.Held.{Held}
-use Rattle.scq_c.specs.Answers.{OfTake}
+use Rattle.scq_c.specs.Exports.{OfTake}
 use Rattle.scq_c.proofs.Codes.{take_taken, take_empty, take_spent, take_no_topic, take_no_room}
 use Rattle.scq_c.proofs.exports.take_into.Goals as goal
 

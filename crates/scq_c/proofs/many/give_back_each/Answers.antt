@@ -1,5 +1,5 @@
 use Rattle.std.proofs.Common.{refl, arith}
-use Rattle.scq_c.specs.Many.{OfSlotGiveBack}
+use Rattle.scq_c.specs.Exports.{OfSlotGiveBack}
 use Rattle.scq_c.proofs.Rows.{none_went, read_next, all_done, stopped_at}
 use Rattle.scq_c.proofs.many.give_back_each.Goals as goal
 

@@ -1,5 +1,5 @@
 use Rattle.std.proofs.Common.{◌-◌, length}
-use Rattle.scq_c.specs.Many.{OfSlotGiveBack}
+use Rattle.scq_c.specs.Exports.{OfSlotGiveBack}
 use Rattle.scq_c.proofs.Rows.{WentSoFar}
 use Rattle.scq_c.proofs.many.give_back_each.Given as goal
 

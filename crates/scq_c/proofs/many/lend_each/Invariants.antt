@@ -1,5 +1,5 @@
 use Rattle.std.proofs.Common.{◌-◌, length}
-use Rattle.scq_c.specs.Answers.{OfLend}
+use Rattle.scq_c.specs.Exports.{OfLend}
 use Rattle.scq_c.proofs.Rows.{WentSoFar}
 use Rattle.scq_c.proofs.many.lend_each.Given as goal
 

@@ -1,7 +1,6 @@
 use Rattle.std.proofs.Common.{sym, ◌∙◌, subst}
-use Rattle.scq_port.specs.Ports.{PortStanding}
-use Rattle.scq_c.specs.Answers.{OfLend}
-use Rattle.scq_c.specs.Many.{OfMany}
+use Rattle.scq_port.specs.Exports.{PortStanding}
+use Rattle.scq_c.specs.Exports.{OfLend, OfMany}
 use Rattle.scq_c.proofs.Somes.{same_value}
 use Rattle.scq_c.proofs.many.scq_lend_index_many.Goals as goal
 

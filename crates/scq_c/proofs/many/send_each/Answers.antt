@@ -1,5 +1,5 @@
 use Rattle.std.proofs.Common.{refl, arith}
-use Rattle.scq_c.specs.Many.{OfSlotSend}
+use Rattle.scq_c.specs.Exports.{OfSlotSend}
 use Rattle.scq_c.proofs.Rows.{none_went, set_next, all_done, stopped_at}
 use Rattle.scq_c.proofs.many.send_each.Goals as goal
 

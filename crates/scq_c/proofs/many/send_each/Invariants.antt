@@ -1,5 +1,5 @@
 use Rattle.std.proofs.Common.{◌-◌, length}
-use Rattle.scq_c.specs.Many.{OfSlotSend}
+use Rattle.scq_c.specs.Exports.{OfSlotSend}
 use Rattle.scq_c.proofs.Rows.{WentSoFar}
 use Rattle.scq_c.proofs.many.send_each.Given as goal
 

@@ -1,5 +1,5 @@
 use Rattle.std.proofs.Common.{arith}
-use Rattle.scq_c.specs.Answers.{OfTake}
+use Rattle.scq_c.specs.Exports.{OfTake}
 use Rattle.scq_c.proofs.Rows.{none_went, set_next, all_done, stopped_at}
 use Rattle.scq_c.proofs.many.take_each.Goals as goal
 

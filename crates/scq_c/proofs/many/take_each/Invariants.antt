@@ -1,5 +1,5 @@
 use Rattle.std.proofs.Common.{◌-◌, length}
-use Rattle.scq_c.specs.Answers.{OfTake}
+use Rattle.scq_c.specs.Exports.{OfTake}
 use Rattle.scq_c.proofs.Rows.{WentSoFar}
 use Rattle.scq_c.proofs.many.take_each.Given as goal
 

@@ -1,8 +1,8 @@
 use Rattle.std.proofs.Common.{◌+◌, List, refl, sym, ◌∙◌, ap, subst, arith, length-set}
 use Rattle.std.specs.Prelude.{Option, Some, slice_index_or}
-use Rattle.scq_port.specs.Ports.{PortStanding}
+use Rattle.scq_port.specs.Exports.{PortStanding}
 use Rattle.scq_c.specs.declared.c_port.CPort.{CPort}
-use Rattle.scq_c.specs.Answers.{ports_of}
+use Rattle.scq_c.specs.Exports.{ports_of}
 use Rattle.scq_c.proofs.Handed.{NoneBelow, port_at, ports_same, memories_same, all_closed, none_closed, closed_alike, found_at, none_next}
 use Rattle.scq_c.proofs.opening.any_open.Goals as goal
 

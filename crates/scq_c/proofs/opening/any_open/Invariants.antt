@@ -1,5 +1,5 @@
 use Rattle.std.proofs.Common.{◌≡◌, ◌≤◌, ◌-◌, length}
-use Rattle.scq_c.specs.Answers.{ports_of, memories_of}
+use Rattle.scq_c.specs.Exports.{ports_of, memories_of}
 use Rattle.scq_c.proofs.Handed.{NoneBelow}
 use Rattle.scq_c.proofs.opening.any_open.Given as goal
 

@@ -1,6 +1,5 @@
 use Rattle.std.proofs.Common.{List, sym, ◌∙◌, subst, arith}
-use Rattle.scq_port.specs.Ports.{PortStanding}
-use Rattle.scq_port.specs.Calls.{AreOpened}
+use Rattle.scq_port.specs.Exports.{PortStanding, AreOpened}
 use Rattle.scq_c.proofs.Handed.{inside, begin_boxed, one_boxed, end_boxed}
 use Rattle.scq_c.proofs.opening.boxed.Goals as goal
 

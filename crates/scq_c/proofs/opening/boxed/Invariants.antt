@@ -1,6 +1,6 @@
 use Rattle.std.proofs.Common.{◌+◌, ◌≤◌, ◌++◌, map}
 use Rattle.std.specs.Prelude.{vec_len, vec_capacity, reverse}
-use Rattle.scq_port.specs.Calls.{AreOpened}
+use Rattle.scq_port.specs.Exports.{AreOpened}
 use Rattle.scq_c.proofs.opening.boxed.Given as goal
 
 abbrev pub invariant-loop-port : goal.invariant-loop-port

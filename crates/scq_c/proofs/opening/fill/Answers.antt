@@ -1,8 +1,8 @@
 use Rattle.std.proofs.Common.{◌≡◌, ◌<◌, ◌+◌, ◌++◌, [], ◌∷◌, length, replicate, refl, sym, ◌∙◌, ap, append-nil}
 use Rattle.std.specs.Prelude.{Option, Some, None, slice_index_or}
-use Rattle.scq_port.specs.Ports.{PortStanding}
+use Rattle.scq_port.specs.Exports.{PortStanding}
 use Rattle.scq_c.specs.declared.c_port.CPort.{CPort}
-use Rattle.scq_c.specs.Answers.{ports_of}
+use Rattle.scq_c.specs.Exports.{ports_of}
 use Rattle.scq_c.proofs.Handed.{port_at, ports_set, memories_same, closed_ports, last_closed, last_filled, one_handed, found_at, length_filled, handed}
 use Rattle.scq_c.proofs.opening.fill.Goals as goal
 

@@ -1,7 +1,7 @@
 use Rattle.std.proofs.Common.{◌≡◌, List, ◌++◌, map, replicate}
 use Rattle.std.specs.Prelude.{Option, Some, None, vec_len}
-use Rattle.scq_port.specs.Ports.{PortStanding}
-use Rattle.scq_c.specs.Answers.{ports_of, memories_of}
+use Rattle.scq_port.specs.Exports.{PortStanding}
+use Rattle.scq_c.specs.Exports.{ports_of, memories_of}
 use Rattle.scq_c.proofs.opening.fill.Given as goal
 
 abbrev pub invariant-loop-port : goal.invariant-loop-port

@@ -1,8 +1,8 @@
 use Rattle.std.proofs.Common.{◌≡◌, map, refl, sym, ◌∙◌, ap, arith}
 use Rattle.std.specs.Prelude.{Some}
 use Rattle.std.proofs.lemmas.List.{length-map}
-use Rattle.scq_word.specs.Sizes.{n_of}
-use Rattle.scq_port.specs.Ports.{PortStanding}
+use Rattle.scq_word.specs.Exports.{n_of}
+use Rattle.scq_port.specs.Exports.{PortStanding}
 use Rattle.scq_c.proofs.Handed.{closed_alike, length_alike, length_opened, inside, map_twice}
 use Rattle.scq_c.proofs.Openings.{open_opened}
 use Rattle.scq_c.proofs.opening.open.Goals as goal

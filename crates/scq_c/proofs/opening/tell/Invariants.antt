@@ -1,5 +1,5 @@
 use Rattle.std.proofs.Common.{◌≡◌, ◌≤◌, ◌-◌, length}
-use Rattle.scq_c.specs.Answers.{ports_of}
+use Rattle.scq_c.specs.Exports.{ports_of}
 use Rattle.scq_c.proofs.Handed.{ToldBelow}
 use Rattle.scq_c.proofs.opening.tell.Given as goal
 

@@ -1,7 +1,7 @@
 use Rattle.std.proofs.Common.{◌<◌, ◌∙◌, length, refl, subst, sym}
 use Rattle.std.specs.Prelude.{IfSome}
 use Rattle.scq_hist.proofs.NamesLemmas.{read}
-use Rattle.scq_check.specs.Counterparts.{IsRepeatOf}
+use Rattle.scq_check.specs.Exports.{IsRepeatOf}
 use Rattle.scq_check.proofs.CounterpartLemmas.{fails_there, told_there, repeat_there, no_repeat}
 use Rattle.scq_check.proofs.WaitingLemmas.{first_within}
 use Rattle.scq_check.proofs.counterparts.named_first.Goals as goal

@@ -1,7 +1,7 @@
 use Rattle.std.proofs.Common.{◌<◌, ◌∙◌, length, refl, subst, sym}
 use Rattle.std.specs.Prelude.{IfSome}
 use Rattle.scq_hist.proofs.NamesLemmas.{read}
-use Rattle.scq_check.specs.Counterparts.{IsOfOrigin, NamesNone}
+use Rattle.scq_check.specs.Exports.{IsOfOrigin, NamesNone}
 use Rattle.scq_check.proofs.CounterpartLemmas.{told_there, none_named, origin_there}
 use Rattle.scq_check.proofs.counterparts.origin_of_first.Goals as goal
 

@@ -1,7 +1,7 @@
 use Rattle.std.proofs.Common.{◌<◌, length, refl, subst}
 use Rattle.std.specs.Prelude.{IfSome}
 use Rattle.scq_hist.proofs.NamesLemmas.{read}
-use Rattle.scq_check.specs.Counterparts.{IsOfRefused}
+use Rattle.scq_check.specs.Exports.{IsOfRefused}
 use Rattle.scq_check.proofs.CounterpartLemmas.{fails_there, told_there, refused_there, refused_within}
 use Rattle.scq_check.proofs.RefusedLemmas.{accepted_other}
 use Rattle.scq_check.proofs.counterparts.refused_first.Goals as goal

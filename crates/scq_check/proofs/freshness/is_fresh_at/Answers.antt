@@ -1,6 +1,5 @@
 use Rattle.std.proofs.Common.{◌≡◌, ℕ, ◌↔◌, List, Bool, IsTrue, Some, slice_get, refl, sym, ap, ◌∙◌, subst}
-use Rattle.scq_hist.specs.Calls.{IsCall}
-use Rattle.scq_hist.specs.Aspects.{SuitsCall, IsAnswer, IsLawfulAt, IsLawful, IsBegun, IsFreshAt}
+use Rattle.scq_hist.specs.Exports.{IsCall, SuitsCall, IsAnswer, IsLawfulAt, IsLawful, IsBegun, IsFreshAt}
 use Rattle.scq_hist.specs.declared.events.Call.{Call}
 use Rattle.scq_hist.specs.declared.events.Call.TheVariants.{Put, Get}
 use Rattle.scq_hist.specs.declared.events.Event.{Event}
@@ -8,8 +7,7 @@ use Rattle.scq_hist.specs.declared.events.Event.TheVariants.{End}
 use Rattle.scq_hist.specs.declared.events.PutName.{PutName}
 use Rattle.scq_hist.specs.declared.events.Reply.TheVariants.{Got}
 use Rattle.scq_hist.proofs.NamesLemmas.{read}
-use Rattle.scq_check.specs.Gots.{IsGotOf, IsNoGot}
-use Rattle.scq_check.specs.Tables.{IsQueueOf}
+use Rattle.scq_check.specs.Exports.{IsGotOf, IsNoGot, IsQueueOf}
 use Rattle.scq_check.proofs.freshness.is_fresh_at.Goals as goal
 
 -- a call that ends with Got is a get

@@ -1,5 +1,5 @@
-use Rattle.scq_hist.specs.Aspects.{IsOnceAt}
-use Rattle.scq_check.specs.Failures.{AreFailuresBefore}
+use Rattle.scq_hist.specs.Exports.{IsOnceAt}
+use Rattle.scq_check.specs.Exports.{AreFailuresBefore}
 use Rattle.scq_check.proofs.freshness.repeated.Given as goal
 
 abbrev pub invariant-loop-e : goal.invariant-loop-e

@@ -1,5 +1,5 @@
-use Rattle.scq_hist.specs.Aspects.{IsFreshAt}
-use Rattle.scq_check.specs.Failures.{AreFailuresBefore}
+use Rattle.scq_hist.specs.Exports.{IsFreshAt}
+use Rattle.scq_check.specs.Exports.{AreFailuresBefore}
 use Rattle.scq_check.proofs.freshness.unfresh.Given as goal
 
 abbrev pub invariant-loop-e : goal.invariant-loop-e

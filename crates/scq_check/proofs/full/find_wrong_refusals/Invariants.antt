@@ -1,5 +1,4 @@
-use Rattle.scq_check.specs.Failures.{AreFailuresBefore}
-use Rattle.scq_check.specs.Full.{ArePlacesAt, IsFullRightAt}
+use Rattle.scq_check.specs.Exports.{AreFailuresBefore, ArePlacesAt, IsFullRightAt}
 use Rattle.scq_check.proofs.full.find_wrong_refusals.Given as goal
 
 abbrev pub invariant-loop-e : goal.invariant-loop-e

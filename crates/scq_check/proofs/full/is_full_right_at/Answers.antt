@@ -1,6 +1,6 @@
 use Rattle.std.proofs.Common.{sym, subst}
 use Rattle.scq_hist.proofs.UnderWay.{started}
-use Rattle.scq_check.specs.Full.{ArePlacesOf}
+use Rattle.scq_check.specs.Exports.{ArePlacesOf}
 use Rattle.scq_check.specs.declared.full.Places.{Places}
 use Rattle.scq_check.proofs.FullLemmas.{full_since, refusal_decides}
 use Rattle.scq_check.proofs.full.is_full_right_at.Goals as goal

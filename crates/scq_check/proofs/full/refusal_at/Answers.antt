@@ -1,5 +1,5 @@
 use Rattle.std.proofs.Common.{true}
-use Rattle.scq_hist.specs.Ended.{NoPutEnds}
+use Rattle.scq_hist.specs.Exports.{NoPutEnds}
 use Rattle.scq_hist.proofs.EndedLemmas.{not_spent}
 use Rattle.scq_check.proofs.EndedLemmas.{refusal_there, none_refused}
 use Rattle.scq_check.proofs.full.refusal_at.Goals as goal

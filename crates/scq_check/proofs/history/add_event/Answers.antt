@@ -1,6 +1,6 @@
 -- The event pushed last is lawful there, so the longer list is lawful.
 use Rattle.std.proofs.Common.{◌≡◌, ℕ, List, [], ◌∷◌, ◌++◌, length, slice_get, sym, ◌∙◌, subst, refl}
-use Rattle.scq_hist.specs.Aspects.{IsLawful, IsLawfulAt}
+use Rattle.scq_hist.specs.Exports.{IsLawful, IsLawfulAt}
 use Rattle.scq_hist.specs.declared.events.Event.{Event}
 use Rattle.scq_hist.proofs.Longer.{lawful_longer, last_event}
 use Rattle.scq_check.proofs.history.add_event.Goals as goal

@@ -1,7 +1,7 @@
 -- Each line that is added is one more that is read; the first that isn't is the one at fault.
 use Rattle.std.proofs.Common.{Err, ap, subst}
 use Rattle.scq_hist.proofs.HandedOn.{same_fault}
-use Rattle.scq_lines.specs.Lines.{lines_of}
+use Rattle.scq_lines.specs.Exports.{lines_of}
 use Rattle.scq_check.proofs.Reading.{LinesAreRead, read_none, read_more, found_unlawful}
 use Rattle.scq_check.proofs.history.read_history.Goals as goal
 

@@ -1,5 +1,5 @@
 use Rattle.std.proofs.Common.{length}
-use Rattle.scq_lines.specs.Lines.{lines_of}
+use Rattle.scq_lines.specs.Exports.{lines_of}
 use Rattle.scq_check.proofs.Reading.{LinesAreRead}
 use Rattle.scq_check.proofs.history.read_history.Given as goal
 

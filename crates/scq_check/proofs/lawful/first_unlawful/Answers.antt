@@ -1,6 +1,6 @@
 use Rattle.std.proofs.Common.{ℕ, ◌≤◌, List, length, slice_get, sym, subst, arith}
 use Rattle.std.proofs.lemmas.Option.{slice_get_past}
-use Rattle.scq_hist.specs.Aspects.{IsLawfulAt}
+use Rattle.scq_hist.specs.Exports.{IsLawfulAt}
 use Rattle.scq_hist.specs.declared.events.Event.{Event}
 use Rattle.scq_hist.proofs.Firsts.{everywhere}
 use Rattle.scq_check.proofs.lawful.first_unlawful.Goals as goal

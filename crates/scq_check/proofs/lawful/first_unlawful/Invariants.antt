@@ -1,6 +1,6 @@
 use Rattle.std.proofs.Common.{ℕ, ◌<◌, slice_get}
-use Rattle.scq_hist.specs.Aspects.{IsLawfulAt}
-use Rattle.scq_check.specs.Calls.{IsCalls}
+use Rattle.scq_hist.specs.Exports.{IsLawfulAt}
+use Rattle.scq_check.specs.Exports.{IsCalls}
 use Rattle.scq_check.proofs.lawful.first_unlawful.Given as goal
 
 abbrev pub invariant-loop-e : goal.invariant-loop-e

@@ -1,7 +1,7 @@
 use Rattle.std.proofs.Common.{refl, subst, sym}
 use Rattle.scq_hist.proofs.OrderLemmas.{empty_decides}
 use Rattle.scq_hist.proofs.UnderWay.{started}
-use Rattle.scq_check.specs.Queues.{IsQueueAt}
+use Rattle.scq_check.specs.Exports.{IsQueueAt}
 use Rattle.scq_check.specs.declared.queues.Queue.{Queue}
 use Rattle.scq_check.proofs.QueueLemmas.{right_since}
 use Rattle.scq_check.proofs.order.is_empty_right_at.Goals as goal

@@ -1,7 +1,6 @@
 use Rattle.std.proofs.Common.{◌<◌, length, refl, sym, subst, arith}
 use Rattle.std.proofs.lemmas.Option.{slice_get_within, slice_get-get_or}
-use Rattle.scq_hist.specs.Calls.{IsPending}
-use Rattle.scq_hist.specs.Counts.{IsCount}
+use Rattle.scq_hist.specs.Exports.{IsPending, IsCount}
 use Rattle.scq_hist.specs.declared.events.Call.TheVariants.{Put}
 use Rattle.scq_hist.specs.declared.events.Event.TheVariants.{Start}
 use Rattle.scq_hist.proofs.Claims.{claims_iff}

@@ -1,4 +1,4 @@
-use Rattle.scq_hist.specs.Aspects.{IsInOrderAt}
+use Rattle.scq_hist.specs.Exports.{IsInOrderAt}
 use Rattle.scq_check.proofs.Saved.{AreJudged}
 use Rattle.scq_check.proofs.order.out_of_order.Given as goal
 

@@ -1,4 +1,4 @@
-use Rattle.scq_check.specs.Queues.{AreTallies}
+use Rattle.scq_check.specs.Exports.{AreTallies}
 use Rattle.scq_check.proofs.Saved.{AreKept}
 use Rattle.scq_check.proofs.order.tallies_before.Given as goal
 

@@ -1,4 +1,4 @@
-use Rattle.scq_hist.specs.Aspects.{IsEmptyRightAt}
+use Rattle.scq_hist.specs.Exports.{IsEmptyRightAt}
 use Rattle.scq_check.proofs.Saved.{AreJudged}
 use Rattle.scq_check.proofs.order.wrong_empties.Given as goal
 

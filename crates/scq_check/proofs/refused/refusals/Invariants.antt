@@ -1,4 +1,4 @@
-use Rattle.scq_check.specs.Refused.{IsRefusals}
+use Rattle.scq_check.specs.Exports.{IsRefusals}
 use Rattle.scq_check.proofs.refused.refusals.Given as goal
 
 abbrev pub invariant-loop-e : goal.invariant-loop-e

@@ -1,5 +1,4 @@
-use Rattle.scq_check.specs.Failures.{AreFailuresBefore}
-use Rattle.scq_check.specs.Refused.{IsAcceptedAt}
+use Rattle.scq_check.specs.Exports.{AreFailuresBefore, IsAcceptedAt}
 use Rattle.scq_check.proofs.refused.refused_gots.Given as goal
 
 abbrev pub invariant-loop-e : goal.invariant-loop-e

@@ -1,6 +1,6 @@
 use Rattle.std.proofs.Common.{true}
 use Rattle.std.proofs.lemmas.Option.{slice_get_within}
-use Rattle.scq_hist.specs.Ended.{EndsPut, NoPutEnds}
+use Rattle.scq_hist.specs.Exports.{EndsPut, NoPutEnds}
 use Rattle.scq_hist.proofs.EndedLemmas.{not_spent}
 use Rattle.scq_check.proofs.EndedLemmas.{spent_there, none_spent}
 use Rattle.scq_check.proofs.refused.spent_at.Goals as goal

@@ -1,4 +1,4 @@
-use Rattle.scq_check.specs.Found.{AreFound}
+use Rattle.scq_check.specs.Exports.{AreFound}
 use Rattle.scq_check.proofs.CounterpartLemmas.{fresh_without, in_order_without, names_some}
 use Rattle.scq_check.proofs.verdicts.breaches_by.Goals as goal
 

@@ -1,4 +1,4 @@
-use Rattle.scq_check.specs.Found.{AreFound}
+use Rattle.scq_check.specs.Exports.{AreFound}
 use Rattle.scq_check.proofs.Holding.{none_iff_each}
 use Rattle.scq_check.proofs.verdicts.judge.Goals as goal
 

@@ -1,5 +1,4 @@
-use Rattle.scq_check.specs.Failures.{AreFailuresBefore}
-use Rattle.scq_check.specs.Waiting.{IsPutLeftOut}
+use Rattle.scq_check.specs.Exports.{AreFailuresBefore, IsPutLeftOut}
 use Rattle.scq_check.proofs.waiting.waiting_puts.Given as goal
 
 abbrev pub invariant-loop-d : goal.invariant-loop-d

@@ -1,5 +1,4 @@
-use Rattle.scq_check.specs.Failures.{AreFailuresBefore}
-use Rattle.scq_check.specs.Waiting.{IsTokenLeftOut}
+use Rattle.scq_check.specs.Exports.{AreFailuresBefore, IsTokenLeftOut}
 use Rattle.scq_check.proofs.waiting.waiting_tokens.Given as goal
 
 abbrev pub invariant-loop-number : goal.invariant-loop-number

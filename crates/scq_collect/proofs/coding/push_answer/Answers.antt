@@ -1,7 +1,6 @@
 -- What is pushed in seven steps is the answer's bytes.
 use Rattle.std.proofs.Common.{◌≡◌, ◌∙◌, ap, Bool, List, ℕ, ◌+◌, ◌*◌, ◌++◌, [], cond, length, arith}
-use Rattle.scq_collect.specs.Coding.{answer_bytes, body_bytes, number_bytes, part_numbers, step, topic_code}
-use Rattle.scq_collect.specs.PartViews.{viewed_answer}
+use Rattle.scq_collect.specs.Exports.{answer_bytes, body_bytes, number_bytes, part_numbers, step, topic_code, viewed_answer}
 use Rattle.scq_collect.proofs.CodingLaws.{in-two, pushed}
 use Rattle.scq_collect.proofs.coding.push_answer.Goals as goal
 

@@ -1,6 +1,6 @@
 use Rattle.std.proofs.Common.{◌++◌, ◌^◌, ◌<◌, ◌-◌, List, length}
 use Rattle.scq_collect.specs.declared.spans.Span.{Span}
-use Rattle.scq_collect.specs.Spans.{AreNext}
+use Rattle.scq_collect.specs.Exports.{AreNext}
 use Rattle.scq_collect.proofs.division.spans_of.Given as goal
 
 -- with any that divide the places that are left, those so far divide all

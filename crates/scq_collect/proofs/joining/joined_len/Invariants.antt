@@ -1,6 +1,5 @@
 use Rattle.std.proofs.Common.{◌≡◌, length, take}
-use Rattle.scq_collect.specs.Joined.{text_of_parts}
-use Rattle.scq_collect.specs.Spots.{plain}
+use Rattle.scq_collect.specs.Exports.{text_of_parts, plain}
 use Rattle.scq_collect.proofs.joining.joined_len.Given as goal
 
 -- the bytes of the parts so far are counted

@@ -2,9 +2,7 @@
 use Rattle.std.proofs.Common.{arith, sym, subst, List}
 use Rattle.std.proofs.lemmas.List.{take_all}
 use Rattle.scq_collect.specs.declared.answered.Answered.{Answered}
-use Rattle.scq_collect.specs.Joined.{without_way}
-use Rattle.scq_collect.specs.Laid.{AreLaid}
-use Rattle.scq_collect.specs.Merging.{members_of}
+use Rattle.scq_collect.specs.Exports.{without_way, AreLaid, members_of}
 use Rattle.std.proofs.Common.{map}
 use Rattle.scq_collect.proofs.LaidLaws.{laid-none, list-more}
 use Rattle.scq_collect.proofs.laid.blocks_of.Goals as goal

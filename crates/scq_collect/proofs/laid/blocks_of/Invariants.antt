@@ -1,7 +1,5 @@
 use Rattle.std.proofs.Common.{map, take}
-use Rattle.scq_collect.specs.Joined.{without_way}
-use Rattle.scq_collect.specs.Laid.{AreLaid}
-use Rattle.scq_collect.specs.Merging.{members_of}
+use Rattle.scq_collect.specs.Exports.{without_way, AreLaid, members_of}
 use Rattle.scq_collect.proofs.laid.blocks_of.Given as goal
 
 -- the blocks of the lists so far

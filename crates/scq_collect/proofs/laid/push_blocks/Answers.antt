@@ -1,8 +1,7 @@
 -- Each step adds the next block, up to the last.
 use Rattle.std.proofs.Common.{arith, sym, subst, List}
 use Rattle.std.proofs.lemmas.List.{append-nil}
-use Rattle.scq_collect.specs.Joined.{PartAnswer}
-use Rattle.scq_collect.specs.Laid.{AreLaid}
+use Rattle.scq_collect.specs.Exports.{PartAnswer, AreLaid}
 use Rattle.scq_collect.proofs.LaidLaws.{group-all, group-more}
 use Rattle.scq_collect.proofs.laid.push_blocks.Goals as goal
 

@@ -1,10 +1,7 @@
 use Rattle.std.proofs.Common.{◌++◌, List, take}
 use Rattle.std.specs.Prelude.{flat_map}
 use Rattle.std.specs.List.{All, AllZip}
-use Rattle.scq_collect.specs.Coding.{IsCodable}
-use Rattle.scq_collect.specs.InBlocks.{HasAnswers}
-use Rattle.scq_collect.specs.Joined.{PartAnswer}
-use Rattle.scq_collect.specs.Laid.{AreLaid}
+use Rattle.scq_collect.specs.Exports.{IsCodable, HasAnswers, PartAnswer, AreLaid}
 use Rattle.scq_collect.proofs.laid.push_blocks.Given as goal
 
 -- the blocks so far were added

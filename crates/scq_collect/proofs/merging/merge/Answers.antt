@@ -2,10 +2,8 @@ use Rattle.std.proofs.Common.{◌≡◌, ◌∙◌, ◌≤◌, sym, ap, subst, L
 use Rattle.std.specs.List.{All}
 use Rattle.std.proofs.lemmas.Result.{IfOk-weaker}
 use Rattle.scq_collect.specs.declared.spots.Spot.{Spot}
-use Rattle.scq_collect.specs.Joined.{IsJoined, answers_of, without_way}
-use Rattle.scq_collect.specs.Merging.{StandInOrder, members_of, position_of_answer}
-use Rattle.scq_collect.specs.Output.{answer_of_whole, answers_to}
-use Rattle.scq_collect.specs.Spots.{plain, spot_answer}
+use Rattle.scq_collect.specs.Exports.{IsJoined, answers_of, without_way, StandInOrder, members_of, position_of_answer, answer_of_whole, answers_to}
+use Rattle.scq_collect.specs.Exports.{plain, spot_answer}
 use Rattle.scq_collect.proofs.Merged.{merged-exactly, merged-one-thread}
 use Rattle.scq_collect.proofs.OneEach.{joined-in-order}
 use Rattle.scq_collect.proofs.SpotLaws.{known-spots}

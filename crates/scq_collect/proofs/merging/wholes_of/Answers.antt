@@ -1,9 +1,7 @@
 use Rattle.std.proofs.Common.{◌∙◌, sym, ap, List, [], ◌∷◌, ◌++◌, append_assoc, drop, map}
 use Rattle.std.proofs.lemmas.List.{map-append}
 use Rattle.scq_collect.specs.declared.whole.Whole.{Whole}
-use Rattle.scq_collect.specs.Joined.{PartAnswer, answers_of, joined}
-use Rattle.scq_collect.specs.Output.{Answer, answer_of_whole}
-use Rattle.scq_collect.specs.Spots.{plain}
+use Rattle.scq_collect.specs.Exports.{PartAnswer, answers_of, joined, Answer, answer_of_whole, plain}
 use Rattle.scq_collect.proofs.merging.wholes_of.Goals as goal
 
 pub messages-preserved : goal.messages-preserved

@@ -1,7 +1,5 @@
 use Rattle.std.proofs.Common.{◌≡◌, ◌≤◌, ◌++◌, ◌-◌, drop, length, map}
-use Rattle.scq_collect.specs.Joined.{answers_of}
-use Rattle.scq_collect.specs.Output.{answer_of_whole}
-use Rattle.scq_collect.specs.Spots.{plain}
+use Rattle.scq_collect.specs.Exports.{answers_of, answer_of_whole, plain}
 use Rattle.scq_collect.proofs.merging.wholes_of.Given as goal
 
 -- the answers so far, and those to the messages behind them

@@ -1,10 +1,7 @@
 -- Those of all places.
 use Rattle.std.proofs.Common.{◌∙◌, arith, refl, sym, subst, [], ◌∷◌, map}
 use Rattle.std.proofs.lemmas.List.{append-nil}
-use Rattle.scq_collect.specs.Joined.{without_way}
-use Rattle.scq_collect.specs.Laid.{AreLaid}
-use Rattle.scq_collect.specs.Merging.{members_of}
-use Rattle.scq_collect.specs.Spots.{plain}
+use Rattle.scq_collect.specs.Exports.{without_way, AreLaid, members_of, plain}
 use Rattle.scq_collect.proofs.LaidLaws.{laid-codable}
 use Rattle.scq_collect.proofs.SpanLaws.{all-taken}
 use Rattle.scq_collect.proofs.ordering.spots_in_order.Goals as goal

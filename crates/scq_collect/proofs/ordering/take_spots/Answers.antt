@@ -2,9 +2,7 @@
 use Rattle.std.proofs.Common.{rules, ◌∙◌, ap, subst, ◌++◌}
 use Rattle.std.specs.List.{filter}
 use Rattle.std.proofs.lemmas.List.Sorted.{IsPermutation-refl, answers_always}
-use Rattle.scq_collect.specs.Merging.{IsSorted}
-use Rattle.scq_collect.specs.Spans.{is_in}
-use Rattle.scq_collect.specs.Spots.{plain, position_of_spot}
+use Rattle.scq_collect.specs.Exports.{IsSorted, is_in, plain, position_of_spot}
 use Rattle.scq_collect.proofs.Merged.{sorted-from}
 use Rattle.scq_collect.proofs.SpotLaws.{sorted-spots}
 use Rattle.scq_collect.proofs.ordering.take_spots.Goals as goal

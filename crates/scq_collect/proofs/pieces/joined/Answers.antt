@@ -6,9 +6,7 @@ use Rattle.std.proofs.lemmas.List.{append-nil, length-append, take_all, take_mor
 use Rattle.std.proofs.lemmas.List.Elements.{All-append, All-cons, All-nil}
 use Rattle.std.proofs.lemmas.Result.{IfOk-weaker}
 use Rattle.scq_topics.specs.declared.kind.Kind.{Kind}
-use Rattle.scq_collect.specs.Output.{Answer}
-use Rattle.scq_collect.specs.Pieces.{AreStretchesOf, IsStretchOf, all_answers}
-use Rattle.scq_collect.specs.Texts.{AreTextsOf}
+use Rattle.scq_collect.specs.Exports.{Answer, AreStretchesOf, IsStretchOf, all_answers, AreTextsOf}
 use Rattle.scq_collect.proofs.InChunks.{behind-front, flat-push, nothing-left}
 use Rattle.scq_collect.proofs.Stretched.{Made, WasMade}
 use Rattle.scq_collect.proofs.pieces.joined.Goals as goal

@@ -1,9 +1,7 @@
 use Rattle.std.proofs.Common.{◌≡◌, ◌++◌, List, length, take}
 use Rattle.std.specs.List.{All}
 use Rattle.std.specs.Vec.Iter.{into_iter_items, into_iter_len}
-use Rattle.scq_collect.specs.Output.{Answer}
-use Rattle.scq_collect.specs.Pieces.{AreStretchesOf, all_answers}
-use Rattle.scq_collect.specs.Texts.{AreTextsOf}
+use Rattle.scq_collect.specs.Exports.{Answer, AreStretchesOf, all_answers, AreTextsOf}
 use Rattle.scq_collect.proofs.Stretched.{WasMade}
 use Rattle.scq_collect.proofs.pieces.joined.Given as goal
 

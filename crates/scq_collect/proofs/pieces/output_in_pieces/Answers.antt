@@ -1,7 +1,5 @@
 use Rattle.std.proofs.Common.{◌∙◌, ap}
-use Rattle.scq_collect.specs.Merging.{members_of}
-use Rattle.scq_collect.specs.Output.{text_of_answers}
-use Rattle.scq_collect.specs.Pieces.{all_answers}
+use Rattle.scq_collect.specs.Exports.{members_of, text_of_answers, all_answers}
 use Rattle.scq_collect.proofs.Merged.{merged-one-thread}
 use Rattle.scq_collect.proofs.pieces.output_in_pieces.Goals as goal
 

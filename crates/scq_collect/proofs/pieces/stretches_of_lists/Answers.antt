@@ -2,10 +2,7 @@ use Rattle.std.proofs.Common.{◌≤◌, ap, sym, subst, ◌∙◌, List, length
 use Rattle.std.specs.Prelude.{flat_map}
 use Rattle.std.proofs.lemmas.List.Elements.{All-map}
 use Rattle.scq_collect.specs.declared.spans.Span.{Span}
-use Rattle.scq_collect.specs.Joined.{PartAnswer, without_way}
-use Rattle.scq_collect.specs.Laid.{AreLaid}
-use Rattle.scq_collect.specs.Merging.{members_of}
-use Rattle.scq_collect.specs.Spans.{AreNext}
+use Rattle.scq_collect.specs.Exports.{PartAnswer, without_way, AreLaid, members_of, AreNext}
 use Rattle.scq_collect.proofs.pieces.stretches_of_lists.Goals as goal
 
 pub stretches_in_order-requires-clause-known : goal.stretches_in_order-requires-clause-known

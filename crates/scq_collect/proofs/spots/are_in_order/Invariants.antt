@@ -1,7 +1,6 @@
 use Rattle.std.proofs.Common.{ℕ, ◌+◌, ◌-◌, ◌<◌, length, slice_index_or}
 use Rattle.scq_collect.specs.declared.spots.Spot.{Spot}
-use Rattle.scq_collect.specs.Merging.{IsBefore}
-use Rattle.scq_collect.specs.Spots.{position_of_spot}
+use Rattle.scq_collect.specs.Exports.{IsBefore, position_of_spot}
 use Rattle.scq_collect.proofs.spots.are_in_order.Given as goal
 
 -- those so far are in order

@@ -1,7 +1,6 @@
 -- What was put is what is found.
 use Rattle.std.proofs.Common.{◌≡◌, ◌∙◌, ℕ, List, Option, Some, None, arith}
-use Rattle.scq_collect.specs.Joined.{PartAnswer}
-use Rattle.scq_collect.specs.PartViews.{viewed_answer}
+use Rattle.scq_collect.specs.Exports.{PartAnswer, viewed_answer}
 use Rattle.scq_collect.proofs.SpotLaws.{found, some-body, some-place}
 use Rattle.scq_collect.proofs.spots.next_spot.Goals as goal
 

@@ -1,6 +1,6 @@
 -- Each step adds those of the next block, up to the last.
 use Rattle.std.proofs.Common.{arith}
-use Rattle.scq_collect.specs.Spots.{plain}
+use Rattle.scq_collect.specs.Exports.{plain}
 use Rattle.scq_collect.proofs.LaidLaws.{spots-all, spots-more}
 use Rattle.scq_collect.proofs.spots.push_spots.Goals as goal
 

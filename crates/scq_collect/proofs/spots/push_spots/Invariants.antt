@@ -1,10 +1,7 @@
 use Rattle.std.proofs.Common.{◌≡◌, ◌++◌, List, take}
 use Rattle.std.specs.Prelude.{flat_map}
 use Rattle.std.specs.List.{filter}
-use Rattle.scq_collect.specs.Joined.{PartAnswer}
-use Rattle.scq_collect.specs.Laid.{AreLaid}
-use Rattle.scq_collect.specs.Spans.{is_in}
-use Rattle.scq_collect.specs.Spots.{plain}
+use Rattle.scq_collect.specs.Exports.{PartAnswer, AreLaid, is_in, plain}
 use Rattle.scq_collect.proofs.spots.push_spots.Given as goal
 
 -- those of the blocks so far that stand in the span were added

@@ -2,9 +2,7 @@
 use Rattle.std.proofs.Common.{rules, ◌∙◌, ap, sym, Bool, List, [], ◌∷◌, ◌++◌}
 use Rattle.std.proofs.lemmas.List.{append-nil}
 use Rattle.std.specs.Prelude.{slice_index_or}
-use Rattle.scq_collect.specs.Joined.{PartAnswer}
-use Rattle.scq_collect.specs.Spans.{is_in, place_of}
-use Rattle.scq_collect.specs.Spots.{plain, spot_answer}
+use Rattle.scq_collect.specs.Exports.{PartAnswer, is_in, place_of, plain, spot_answer}
 use Rattle.scq_collect.proofs.LaidLaws.{filtered-more}
 use Rattle.scq_collect.proofs.SpanLaws.{filter-none}
 use Rattle.scq_collect.proofs.SpotLaws.{walked-end, walked-none, walked-step}

@@ -1,9 +1,6 @@
 use Rattle.std.proofs.Common.{◌≡◌, ◌++◌, List, length}
 use Rattle.std.specs.List.{filter}
-use Rattle.scq_collect.specs.Joined.{PartAnswer}
-use Rattle.scq_collect.specs.Laid.{IsBlockOf}
-use Rattle.scq_collect.specs.Spans.{is_in}
-use Rattle.scq_collect.specs.Spots.{plain}
+use Rattle.scq_collect.specs.Exports.{PartAnswer, IsBlockOf, is_in, plain}
 use Rattle.scq_collect.proofs.SpotLaws.{Walked}
 use Rattle.scq_collect.proofs.spots.push_spots_of.Given as goal
 

@@ -5,9 +5,7 @@ use Rattle.std.specs.List.{All}
 use Rattle.std.proofs.lemmas.List.{take_all}
 use Rattle.scq_collect.specs.declared.spans.Span.{Span}
 use Rattle.scq_collect.specs.declared.spots.Spot.{Spot}
-use Rattle.scq_collect.specs.Joined.{BeginsMessage, answers_of}
-use Rattle.scq_collect.specs.Pieces.{IsMadeOf, IsStretchOf}
-use Rattle.scq_collect.specs.Spots.{plain, spot_answer}
+use Rattle.scq_collect.specs.Exports.{BeginsMessage, answers_of, IsMadeOf, IsStretchOf, plain, spot_answer}
 use Rattle.scq_collect.proofs.Stretched.{made-more, taken-known}
 use Rattle.scq_collect.proofs.stretches.stretch_of.Goals as goal
 

@@ -1,7 +1,5 @@
 use Rattle.std.proofs.Common.{List, take}
-use Rattle.scq_collect.specs.Joined.{PartAnswer}
-use Rattle.scq_collect.specs.Laid.{AreLaid}
-use Rattle.scq_collect.specs.Pieces.{IsMadeOf}
+use Rattle.scq_collect.specs.Exports.{PartAnswer, AreLaid, IsMadeOf}
 use Rattle.scq_collect.proofs.stretches.stretch_of.Given as goal
 
 -- the stretch of the spans so far

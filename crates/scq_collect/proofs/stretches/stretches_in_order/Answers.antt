@@ -7,9 +7,7 @@ use Rattle.std.proofs.lemmas.Result.{IfOk-weaker}
 use Rattle.scq_word.specs.declared.NoMemory.{NoMemory}
 use Rattle.scq_collect.specs.declared.spans.Span.{Span}
 use Rattle.scq_collect.specs.declared.stretches.Stretch.{Stretch}
-use Rattle.scq_collect.specs.Joined.{without_way}
-use Rattle.scq_collect.specs.Pieces.{AreOfMembers}
-use Rattle.scq_collect.specs.Spans.{AreNext}
+use Rattle.scq_collect.specs.Exports.{without_way, AreOfMembers, AreNext}
 use Rattle.scq_collect.proofs.LaidLaws.{laid-codable}
 use Rattle.scq_collect.proofs.Stretched.{of-members, of-members-in-one}
 use Rattle.scq_collect.proofs.stretches.stretches_in_order.Goals as goal

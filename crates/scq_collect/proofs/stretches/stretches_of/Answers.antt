@@ -2,7 +2,7 @@ use Rattle.std.proofs.Common.{rules, ◌≡◌, ◌∙◌, sym, subst, arith, �
 use Rattle.std.specs.Prelude.{IfOk, slice_index_or}
 use Rattle.std.proofs.lemmas.List.{length-map}
 use Rattle.scq_collect.specs.declared.spans.Span.{Span}
-use Rattle.scq_collect.specs.Pieces.{IsMadeOf}
+use Rattle.scq_collect.specs.Exports.{IsMadeOf}
 use Rattle.scq_collect.proofs.Cuts.{read-map}
 use Rattle.scq_collect.proofs.stretches.stretches_of.Goals as goal
 

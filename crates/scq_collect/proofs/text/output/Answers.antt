@@ -3,7 +3,7 @@ use Rattle.std.specs.Prelude.{flat_map}
 use Rattle.std.proofs.lemmas.List.{take_all}
 use Rattle.std.proofs.lemmas.List.Folds.{flat_map-map}
 use Rattle.scq_collect.specs.declared.whole.Whole.{Whole}
-use Rattle.scq_collect.specs.Output.{reply_line, text_of_answers, total_lines, answer_of_whole}
+use Rattle.scq_collect.specs.Exports.{reply_line, text_of_answers, total_lines, answer_of_whole}
 use Rattle.scq_collect.proofs.text.output.Goals as goal
 
 pub returns-clause-text : goal.returns-clause-text

@@ -1,6 +1,6 @@
 use Rattle.std.proofs.Common.{◌≡◌, take}
 use Rattle.std.specs.Prelude.{flat_map}
-use Rattle.scq_collect.specs.Output.{reply_line, answer_of_whole}
+use Rattle.scq_collect.specs.Exports.{reply_line, answer_of_whole}
 use Rattle.scq_collect.proofs.text.output.Given as goal
 
 -- the lines of the answers so far

@@ -1,7 +1,7 @@
 use Rattle.std.proofs.Common.{◌∙◌, ◌<◌, sym, ap, ℕ, List, ◌++◌, append_assoc, arith}
 use Rattle.std.specs.Prelude.{flat_map}
 use Rattle.std.specs.List.{range_with_len}
-use Rattle.scq_collect.specs.Output.{total_line}
+use Rattle.scq_collect.specs.Exports.{total_line}
 use Rattle.scq_collect.proofs.Lines.{lines-more}
 use Rattle.scq_collect.proofs.text.push_all_totals.Goals as goal
 

@@ -1,8 +1,7 @@
 use Rattle.std.proofs.Common.{◌≡◌, ◌++◌, List}
 use Rattle.std.specs.Prelude.{flat_map}
 use Rattle.std.specs.List.{range_with_len}
-use Rattle.scq_collect.specs.Output.{Answer, total_line}
-use Rattle.scq_collect.specs.Sums.{AreTotals}
+use Rattle.scq_collect.specs.Exports.{Answer, total_line, AreTotals}
 use Rattle.scq_collect.proofs.text.push_all_totals.Given as goal
 
 -- the totals of the topics so far

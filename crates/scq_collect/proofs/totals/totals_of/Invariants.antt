@@ -1,6 +1,5 @@
 use Rattle.std.proofs.Common.{map, take}
-use Rattle.scq_collect.specs.Output.{answer_of_whole}
-use Rattle.scq_collect.specs.Sums.{AreTotals}
+use Rattle.scq_collect.specs.Exports.{answer_of_whole, AreTotals}
 use Rattle.scq_collect.proofs.totals.totals_of.Given as goal
 
 -- the totals of the answers so far

@@ -2,8 +2,7 @@
 -- the words and the seat's part are.
 use Rattle.std.proofs.Common.{◌≡◌, List, ℕ, inl, true, rules}
 use Rattle.std.specs.Prelude.{unwrap_or}
-use Rattle.scq_core.specs.Table.{after, stores}
-use Rattle.scq_core.specs.Turn.{copied, ends_call}
+use Rattle.scq_core.specs.Exports.{after, stores, copied, ends_call}
 use Rattle.scq_core.proofs.Advancing.{cell_fits, turn_is, advanced, wanted, enabled_fault, wants_end}
 use Rattle.scq_core.proofs.advance.advance.Goals as goal
 

@@ -1,4 +1,4 @@
-use Rattle.scq_core.specs.Reach.{at_start}
+use Rattle.scq_core.specs.Exports.{at_start}
 use Rattle.scq_core.proofs.laws.start_is_reachable.Goals as goal
 
 pub returns : goal.returns

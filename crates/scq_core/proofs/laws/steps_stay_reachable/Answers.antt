@@ -1,4 +1,4 @@
-use Rattle.scq_core.specs.Reach.{by_step}
+use Rattle.scq_core.specs.Exports.{by_step}
 use Rattle.scq_core.proofs.laws.steps_stay_reachable.Goals as goal
 
 pub returns : goal.returns

@@ -1,5 +1,5 @@
 use Rattle.std.proofs.lemmas.List.{replicate_more}
-use Rattle.scq_core.specs.Start.{idle_part}
+use Rattle.scq_core.specs.Exports.{idle_part}
 use Rattle.scq_core.proofs.state.idle_seats.Goals as goal
 
 pub loop-preserved : goal.loop-preserved

@@ -1,7 +1,7 @@
 use Rattle.std.proofs.Common.{◌≡◌, ◌∙◌, ◌-◌, ◌++◌, ◌∷◌, [], ap, arith, subst}
 use Rattle.std.specs.Prelude.{replicate}
 use Rattle.std.proofs.lemmas.List.{replicate_more}
-use Rattle.scq_core.specs.Fresh.{empty_ring, IsStart}
+use Rattle.scq_core.specs.Exports.{empty_ring, IsStart}
 use Rattle.scq_core.proofs.state.start_rings.Goals as goal
 
 pub loop-init : goal.loop-init

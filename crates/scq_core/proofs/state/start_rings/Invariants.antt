@@ -1,4 +1,4 @@
-use Rattle.scq_core.specs.Fresh.{IsStart}
+use Rattle.scq_core.specs.Exports.{IsStart}
 use Rattle.scq_core.proofs.state.start_rings.Given as goal
 
 abbrev pub invariant-loop : goal.invariant-loop

@@ -1,8 +1,6 @@
 use Rattle.std.proofs.Common.{◌≡◌, ℕ, ◌∙◌, ap}
 use Rattle.scq_word.specs.declared.entry.Entry.{Entry}
-use Rattle.scq_word.specs.Sizes.{slots_of}
-use Rattle.scq_word.specs.Tickets.{cycle_of}
-use Rattle.scq_word.specs.Entries.{word_of, entry_in}
+use Rattle.scq_word.specs.Exports.{slots_of, cycle_of, word_of, entry_in}
 use Rattle.scq_core.proofs.Packing.{passed_moved, passed_marked}
 use Rattle.scq_core.proofs.table.passed.Goals as goal
 use Rattle.scq_core.proofs.table.passed.Goals.{in-None, in-Some}

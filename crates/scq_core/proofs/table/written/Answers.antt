@@ -1,6 +1,6 @@
 use Rattle.std.proofs.Common.{subst}
 use Rattle.scq_core.specs.declared.phase.Phase.{Phase}
-use Rattle.scq_core.specs.Turn.{IsReady}
+use Rattle.scq_core.specs.Exports.{IsReady}
 use Rattle.scq_core.proofs.Packing.{cycle_fits}
 use Rattle.scq_core.proofs.table.written.Goals as goal
 

@@ -5,7 +5,7 @@ use Rattle.std.specs.Option.{option_to_list}
 use Rattle.std.proofs.lemmas.List.{nil_from_length, reverse-reverse}
 use Rattle.std.proofs.lemmas.List.Elements.{All-nil}
 use Rattle.scq_block.specs.declared.frame.Frame.{Frame}
-use Rattle.scq_queue.specs.Passes.{PassStanding, HeldStanding}
+use Rattle.scq_queue.specs.Exports.{PassStanding, HeldStanding}
 use Rattle.scq_files.specs.declared.desk.Desk.{Desk}
 use Rattle.scq_passes.proofs.Parting.{popped, popped-flat, all-turned}
 use Rattle.scq_desk.specs.declared.seat.Seat.{Seat}

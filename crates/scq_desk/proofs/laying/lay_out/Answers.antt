@@ -2,11 +2,10 @@
 use Rattle.std.proofs.Common.{◌≡◌, ◌∙◌, sym, ap, subst, ◌++◌, List, length, map, take, drop}
 use Rattle.std.specs.List.{All}
 use Rattle.scq_block.specs.declared.frame.Frame.{Frame}
-use Rattle.scq_files.specs.Desks.{AreDealt, workers_at}
-use Rattle.scq_files.specs.OwnFiles.{IsNew}
+use Rattle.scq_files.specs.Exports.{AreDealt, workers_at, IsNew}
 use Rattle.scq_files.specs.declared.desk.Desk.{Desk}
 use Rattle.scq_files.proofs.Lists.{written-back}
-use Rattle.scq_desk.specs.Seats.{IsToBegin}
+use Rattle.scq_desk.specs.Exports.{IsToBegin}
 use Rattle.scq_desk.specs.declared.seat.Seat.{Seat}
 use Rattle.scq_desk.proofs.Settled.{all-same, pass_at, place-numbers, same-shown}
 use Rattle.scq_desk.proofs.laying.lay_out.Goals as goal

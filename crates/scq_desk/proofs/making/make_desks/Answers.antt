@@ -4,12 +4,12 @@ use Rattle.std.specs.List.{All}
 use Rattle.std.proofs.lemmas.List.{reverse-reverse, map-append}
 use Rattle.std.proofs.lemmas.List.Elements.{All-nil, All-push}
 use Rattle.scq_block.specs.declared.frame.Frame.{Frame}
-use Rattle.scq_queue.specs.Passes.{PassStanding, first_pass}
+use Rattle.scq_queue.specs.Exports.{PassStanding, first_pass}
 use Rattle.scq_files.specs.declared.desk.Desk.{Desk}
 use Rattle.scq_files.proofs.Lists.{all-front, all-last}
 use Rattle.scq_passes.proofs.FirstPasses.{first-length, pass-at}
 use Rattle.scq_passes.proofs.Parting.{turned}
-use Rattle.scq_desk.specs.Seats.{IsToBegin}
+use Rattle.scq_desk.specs.Exports.{IsToBegin}
 use Rattle.scq_desk.specs.declared.seat.Seat.{Seat}
 use Rattle.scq_desk.proofs.making.make_desks.Goals as goal
 

@@ -1,7 +1,7 @@
 use Rattle.std.proofs.Common.{◌≡◌, ◌+◌, ◌≤◌, ◌++◌, [], map}
 use Rattle.std.specs.Prelude.{vec_len, vec_capacity, reverse}
 use Rattle.std.specs.List.{All}
-use Rattle.scq_desk.specs.Seats.{IsToBegin}
+use Rattle.scq_desk.specs.Exports.{IsToBegin}
 use Rattle.scq_desk.proofs.making.make_desks.Given as goal
 
 -- the passes of the desks so far and those that are left, in order, are those of the queue

@@ -7,15 +7,12 @@ use Rattle.std.proofs.lemmas.Bool.{or_parts}
 use Rattle.std.proofs.lemmas.List.{length-map}
 use Rattle.std.proofs.lemmas.List.Elements.{All-map}
 use Rattle.std.proofs.lemmas.Option.{slice_get-get_or}
-use Rattle.scq_block.specs.Frames.{IsSame, bytes_of}
+use Rattle.scq_block.specs.Exports.{IsSame, bytes_of}
 use Rattle.scq_block.specs.declared.frame.Frame.{Frame}
 use Rattle.scq_block.proofs.BlockFrames.{all_from_same}
-use Rattle.scq_queue.specs.Closing.{AreTheHeld}
-use Rattle.scq_queue.specs.Lists.{counts_of}
-use Rattle.scq_queue.specs.Passes.{PassStanding, HeldStanding, lists_of, was_told}
-use Rattle.scq_passes.specs.Closed.{HasClosed}
-use Rattle.scq_files.specs.Desks.{AllEnded, AllStop, AllWhole, AreDealt, workers_at}
-use Rattle.scq_files.specs.Ends.{StopsAtFaults}
+use Rattle.scq_queue.specs.Exports.{AreTheHeld, counts_of, PassStanding, HeldStanding, lists_of, was_told}
+use Rattle.scq_passes.specs.Exports.{HasClosed}
+use Rattle.scq_files.specs.Exports.{AllEnded, AllStop, AllWhole, AreDealt, workers_at, StopsAtFaults}
 use Rattle.scq_files.specs.declared.desk.Desk.{Desk}
 use Rattle.scq_files.proofs.Lists.{written-back}
 use Rattle.scq_desk.specs.declared.seat.Seat.{Seat}

@@ -3,9 +3,7 @@ use Rattle.std.specs.Prelude.{slice_index_or, vec_len, vec_capacity}
 use Rattle.std.specs.List.{All}
 use Rattle.std.proofs.lemmas.List.{drop_all, length-set, get_or_default, take_all}
 use Rattle.std.proofs.lemmas.List.Elements.{All-nil, All-push}
-use Rattle.scq_files.specs.Files.{files_of}
-use Rattle.scq_files.specs.Desks.{AreDealt}
-use Rattle.scq_files.specs.OwnFiles.{IsNew, ids_of}
+use Rattle.scq_files.specs.Exports.{files_of, AreDealt, IsNew, ids_of}
 use Rattle.scq_files.specs.declared.desk.Desk.{Desk}
 use Rattle.scq_files.specs.declared.own_file.OwnFile.{OwnFile}
 use Rattle.scq_files.proofs.Lists.{set-each, set-unseen}

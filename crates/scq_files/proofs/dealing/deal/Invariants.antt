@@ -1,8 +1,7 @@
 use Rattle.std.proofs.Common.{◌≡◌, ◌+◌, ◌≤◌, length, take, drop}
 use Rattle.std.specs.Prelude.{vec_len, vec_capacity}
 use Rattle.std.specs.List.{All}
-use Rattle.scq_files.specs.Desks.{AreDealt, workers_at}
-use Rattle.scq_files.specs.OwnFiles.{IsNew}
+use Rattle.scq_files.specs.Exports.{AreDealt, workers_at, IsNew}
 use Rattle.scq_files.proofs.dealing.deal.Given as goal
 
 -- the files behind those that are left are dealt

@@ -2,11 +2,8 @@ use Rattle.std.proofs.Common.{rules, ◌≡◌, ◌∙◌, sym, ap, subst, refl,
 use Rattle.std.specs.Prelude.{slice_index_or}
 use Rattle.std.specs.List.{All}
 use Rattle.std.proofs.lemmas.List.{drop_all, length-set, length-drop, length-map, get_or_default, get_or-map, map-append, map-set}
-use Rattle.scq_files.specs.Desks.{AllEnded, AreDealt}
-use Rattle.scq_files.specs.Files.{files_of}
+use Rattle.scq_files.specs.Exports.{AllEnded, AreDealt, files_of, StopsAtAFault, ids_of, EndsSo}
 use Rattle.std.proofs.lemmas.List.Elements.{All-map}
-use Rattle.scq_files.specs.OwnFiles.{StopsAtAFault, ids_of}
-use Rattle.scq_files.specs.Reading.{EndsSo}
 use Rattle.scq_files.specs.declared.desk.Desk.{Desk}
 use Rattle.scq_files.specs.declared.own_file.OwnFile.{OwnFile}
 use Rattle.scq_files.proofs.Cleared.{whole-more, none-left}

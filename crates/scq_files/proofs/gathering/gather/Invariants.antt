@@ -1,6 +1,6 @@
 use Rattle.std.proofs.Common.{◌≡◌, ◌+◌, ℕ, None, length, map, drop}
 use Rattle.std.specs.Prelude.{vec_len, vec_capacity}
-use Rattle.scq_files.specs.Desks.{AllEnded, AllStop, AllWhole, AreDealt, workers_at}
+use Rattle.scq_files.specs.Exports.{AllEnded, AllStop, AllWhole, AreDealt, workers_at}
 use Rattle.scq_files.proofs.InTurn.{InTurn}
 use Rattle.scq_files.proofs.SoFar.{SoFar}
 use Rattle.scq_files.proofs.gathering.gather.Given as goal

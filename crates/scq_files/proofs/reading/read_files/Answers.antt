@@ -2,11 +2,8 @@ use Rattle.std.proofs.Common.{rules, ◌≡◌, ◌<◌, ◌-◌, ◌∙◌, sym
 use Rattle.std.specs.Prelude.{IfErr, All, slice_index_or}
 use Rattle.std.proofs.lemmas.Bool.{cases_Bool, cases_lt, true≢false}
 use Rattle.std.proofs.lemmas.List.{length-set}
-use Rattle.scq_files.specs.OwnFiles.{IsNew, StopsAtAFault, ids_of, all_given}
+use Rattle.scq_files.specs.Exports.{IsNew, StopsAtAFault, ids_of, all_given, given_in, TellsOfWant, WantsAtLast, IsRead}
 use Rattle.scq_frames.specs.declared.fault.FrameFault.TheVariants.{NoMemory}
-use Rattle.scq_files.specs.Given.{given_in}
-use Rattle.scq_files.specs.Handling.{TellsOfWant, WantsAtLast}
-use Rattle.scq_files.specs.Reading.{IsRead}
 use Rattle.scq_files.specs.declared.own_file.FileEnd.TheVariants.{Stopped}
 use Rattle.scq_files.specs.declared.own_file.OwnFile.{OwnFile}
 use Rattle.scq_files.proofs.FileLists.{given-set, ids-set, given-none}

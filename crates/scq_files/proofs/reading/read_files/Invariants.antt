@@ -1,8 +1,6 @@
 use Rattle.std.proofs.Common.{◌≡◌, ◌<◌, ◌≤◌, ℕ, false, length}
 use Rattle.std.specs.Prelude.{All, slice_index_or}
-use Rattle.scq_files.specs.OwnFiles.{IsNew, ids_of, all_given}
-use Rattle.scq_files.specs.Given.{given_in}
-use Rattle.scq_files.specs.Reading.{IsRead}
+use Rattle.scq_files.specs.Exports.{IsNew, ids_of, all_given, given_in, IsRead}
 use Rattle.scq_files.specs.declared.own_file.FileEnd.TheVariants.{Stopped}
 use Rattle.scq_files.proofs.reading.read_files.Given as goal
 

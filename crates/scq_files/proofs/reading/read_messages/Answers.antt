@@ -1,12 +1,11 @@
 use Rattle.std.proofs.Common.{rules, ◌≡◌, ◌^◌, ◌∙◌, ap, sym, subst, ◌++◌, ◌∷◌, [], List, length, Some, None, Ok, Err, Result, Option}
 use Rattle.std.specs.Prelude.{IfErr, IfNone, IfSome, IsTrue}
 use Rattle.std.specs.Option.{option_map, option_to_list}
-use Rattle.scq_topics.specs.Topics.{topic_of}
-use Rattle.scq_frames.specs.Coming.{Found}
-use Rattle.scq_frames.specs.Framing.{Framing, IsNext, fresh, visible_ahead}
+use Rattle.scq_topics.specs.Exports.{topic_of}
+use Rattle.scq_frames.specs.Exports.{Found, IsNext, fresh, visible_ahead}
+use Rattle.scq_frames.specs.Framing.{Framing}
 use Rattle.scq_frames.specs.declared.message.Message.{Message}
-use Rattle.scq_files.specs.Given.{given_in}
-use Rattle.scq_files.specs.Reading.{IsRead}
+use Rattle.scq_files.specs.Exports.{given_in, IsRead}
 use Rattle.scq_frames.specs.declared.fault.FrameFault.TheVariants.{NoMemory}
 use Rattle.scq_files.specs.declared.own_file.FileEnd.TheVariants.{Stopped}
 use Rattle.scq_files.proofs.ReadLemmas.{FileIsBeingRead, Answers, reading-first, reading-next, reading-whole, reading-fault, reading-left}

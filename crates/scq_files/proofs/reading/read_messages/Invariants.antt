@@ -1,5 +1,5 @@
 use Rattle.std.proofs.Common.{◌≡◌, ◌+◌, ◌-◌, ◌^◌, false}
-use Rattle.scq_files.specs.Given.{given_in}
+use Rattle.scq_files.specs.Exports.{given_in}
 use Rattle.scq_files.proofs.ReadLemmas.{FileIsBeingRead}
 use Rattle.scq_files.proofs.reading.read_messages.Given as goal
 

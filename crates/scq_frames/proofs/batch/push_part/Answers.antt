@@ -1,5 +1,5 @@
 -- What is added is the part's bytes.
-use Rattle.scq_frames.specs.Views.{part_of_view}
+use Rattle.scq_frames.specs.Exports.{part_of_view}
 use Rattle.scq_frames.proofs.BatchLemmas.{part-pushed}
 use Rattle.scq_frames.proofs.batch.push_part.Goals as goal
 

@@ -1,9 +1,7 @@
 use Rattle.std.proofs.Common.{◌≡◌, ◌∙◌, sym, ap, ℕ, List, Option, Some, None, arith}
 use Rattle.std.specs.Prelude.{IfSome}
 use Rattle.std.specs.Option.{option_map}
-use Rattle.scq_frames.specs.Parts.{IsNumbered}
-use Rattle.scq_frames.specs.Encoded.{BeginsWith, part_at}
-use Rattle.scq_frames.specs.Views.{part_of_view}
+use Rattle.scq_frames.specs.Exports.{IsNumbered, BeginsWith, part_at, part_of_view}
 use Rattle.scq_frames.specs.declared.encoded.View.{View}
 use Rattle.scq_frames.proofs.EncodedLemmas.{AreBytes, part_at-found, part_at-again}
 use Rattle.scq_frames.proofs.encoded.decode.Goals as goal

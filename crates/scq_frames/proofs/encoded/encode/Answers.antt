@@ -1,8 +1,7 @@
 -- The view that is written is the part.
 use Rattle.std.proofs.Common.{◌∙◌, ap, ◌-◌, ◌*◌, ◌++◌, ◌+◌, arith, length, drop, length-drop}
 use Rattle.std.proofs.lemmas.List.{length-take}
-use Rattle.scq_frames.specs.Parts.{Part}
-use Rattle.scq_frames.specs.Encoded.{message_bytes}
+use Rattle.scq_frames.specs.Exports.{Part, message_bytes}
 use Rattle.scq_frames.proofs.encoded.encode.Goals as goal
 
 pub write_part-requires-clause-short : goal.write_part-requires-clause-short

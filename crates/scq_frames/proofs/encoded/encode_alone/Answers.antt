@@ -1,9 +1,6 @@
 -- The bytes are those of the one part, and no part begins behind them.
 use Rattle.std.proofs.Common.{◌∙◌, sym, ap, ℕ, ◌+◌, ◌++◌, ◌∷◌, [], length, drop, arith}
-use Rattle.scq_frames.specs.Parts.{Part}
-use Rattle.scq_frames.specs.Encoded.{message_bytes}
-use Rattle.scq_frames.specs.Views.{part_of_view}
-use Rattle.scq_frames.specs.Batches.{parts_at}
+use Rattle.scq_frames.specs.Exports.{Part, message_bytes, part_of_view, parts_at}
 use Rattle.scq_frames.proofs.BatchLemmas.{encodable-view, ended, length-message_bytes, parts-of-one}
 use Rattle.scq_frames.proofs.encoded.encode_alone.Goals as goal
 

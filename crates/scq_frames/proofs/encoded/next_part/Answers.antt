@@ -1,8 +1,7 @@
 -- The part that comes first is the first of the parts, and its bytes are there.
 use Rattle.std.proofs.Common.{rules, ◌≡◌, ◌∙◌, sym, ap, List, ℕ, ◌+◌, ◌-◌, ◌∷◌, None, length, drop, arith, length-drop}
 use Rattle.std.proofs.lemmas.List.{take_all, length-take}
-use Rattle.scq_frames.specs.Views.{part_of_view}
-use Rattle.scq_frames.specs.Batches.{parts_at}
+use Rattle.scq_frames.specs.Exports.{part_of_view, parts_at}
 use Rattle.scq_frames.proofs.BatchLemmas.{part_at-room, parts-at-none, parts-at-some, in-none}
 use Rattle.scq_frames.proofs.encoded.next_part.Goals as goal
 

@@ -1,8 +1,7 @@
 -- What is read stands within the bytes.
 use Rattle.std.proofs.Common.{◌∙◌, sym, ap, Some, arith}
 use Rattle.std.specs.Option.{option_map}
-use Rattle.scq_frames.specs.Parts.{Part}
-use Rattle.scq_frames.specs.Views.{part_of_view}
+use Rattle.scq_frames.specs.Exports.{Part, part_of_view}
 use Rattle.scq_frames.proofs.EncodedLemmas.{begins-room, part_at-found}
 use Rattle.scq_frames.proofs.encoded.payload_len.Goals as goal
 

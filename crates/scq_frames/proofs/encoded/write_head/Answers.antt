@@ -1,7 +1,7 @@
 -- Each number goes behind those written before it.
 use Rattle.std.proofs.Common.{refl, [], ◌++◌, length}
 use Rattle.byteorder.specs.Endian.{big_bytes}
-use Rattle.scq_frames.specs.Encoded.{message_bytes}
+use Rattle.scq_frames.specs.Exports.{message_bytes}
 use Rattle.scq_frames.proofs.EncodedLemmas.{written}
 use Rattle.scq_frames.proofs.encoded.write_head.Goals as goal
 

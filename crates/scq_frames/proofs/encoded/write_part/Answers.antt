@@ -1,7 +1,6 @@
 -- The payload goes behind the six numbers.
 use Rattle.std.proofs.Common.{refl, length, take}
-use Rattle.scq_frames.specs.Encoded.{message_bytes}
-use Rattle.scq_frames.specs.Views.{part_of_view}
+use Rattle.scq_frames.specs.Exports.{message_bytes, part_of_view}
 use Rattle.scq_frames.proofs.EncodedLemmas.{written}
 use Rattle.scq_frames.proofs.encoded.write_part.Goals as goal
 

@@ -1,6 +1,5 @@
 use Rattle.std.proofs.Common.{◌≡◌, ◌≤◌}
-use Rattle.scq_hist.specs.Calls.{puts_before}
-use Rattle.scq_hist.specs.Lookups.{NoPutBefore}
+use Rattle.scq_hist.specs.Exports.{puts_before, NoPutBefore}
 use Rattle.scq_hist.proofs.calls.put_named.Given as goal
 
 abbrev pub invariant-loop-start : goal.invariant-loop-start

@@ -1,5 +1,5 @@
 use Rattle.std.proofs.Common.{◌≡◌, ◌≤◌}
-use Rattle.scq_hist.specs.Calls.{puts_before}
+use Rattle.scq_hist.specs.Exports.{puts_before}
 use Rattle.scq_hist.proofs.calls.puts_before.Given as goal
 
 abbrev pub invariant-loop-event : goal.invariant-loop-event

@@ -1,5 +1,5 @@
 use Rattle.std.proofs.Common.{◌≡◌}
-use Rattle.scq_hist.specs.Calls.{under_way}
+use Rattle.scq_hist.specs.Exports.{under_way}
 use Rattle.scq_hist.proofs.calls.under_way.Given as goal
 
 abbrev pub invariant-loop-i : goal.invariant-loop-i

@@ -1,7 +1,6 @@
 use Rattle.std.proofs.Common.{arith, ◌+◌, refl, subst, inl, inr}
 use Rattle.std.proofs.lemmas.Bool.{cases_eq, iff_false}
-use Rattle.scq_hist.specs.Calls.{IsFinishedAt}
-use Rattle.scq_hist.specs.Aspects.{AllClaimed}
+use Rattle.scq_hist.specs.Exports.{IsFinishedAt, AllClaimed}
 use Rattle.scq_hist.proofs.Claims.{claims_iff}
 use Rattle.scq_hist.proofs.emptiness.is_right_within.Goals as goal
 

@@ -1,7 +1,5 @@
 use Rattle.std.proofs.Common.{ℕ, ◌+◌, ◌≤◌, List}
-use Rattle.scq_hist.specs.Calls.{IsFinishedAt, IsPending}
-use Rattle.scq_hist.specs.Counts.{IsCount}
-use Rattle.scq_hist.specs.Tallies.{IsTally}
+use Rattle.scq_hist.specs.Exports.{IsFinishedAt, IsPending, IsCount, IsTally}
 use Rattle.scq_hist.proofs.Claims.{NotRightTill}
 use Rattle.scq_hist.proofs.emptiness.is_right_within.Given as goal
 

@@ -1,5 +1,5 @@
 use Rattle.std.proofs.Common.{ℕ, ◌<◌}
-use Rattle.scq_hist.specs.Aspects.{IsFreshAt}
+use Rattle.scq_hist.specs.Exports.{IsFreshAt}
 use Rattle.scq_hist.proofs.freshness.first_unfresh.Given as goal
 
 abbrev pub invariant-loop-e : goal.invariant-loop-e

@@ -1,7 +1,6 @@
 use Rattle.std.proofs.Common.{arith, ◌≡◌, ℕ, ◌<◌, ◌↔◌, length, List, false, IsTrue, Bool}
 use Rattle.std.proofs.lemmas.Option.{slice_get_within, MatchOption-at_none, MatchOption-at_some}
-use Rattle.scq_hist.specs.Calls.{IsPut}
-use Rattle.scq_hist.specs.Lookups.{NoPutBefore}
+use Rattle.scq_hist.specs.Exports.{IsPut, NoPutBefore}
 use Rattle.scq_hist.specs.declared.events.Call.TheVariants.{Put}
 use Rattle.scq_hist.specs.declared.events.Event.{Event}
 use Rattle.scq_hist.specs.declared.events.Event.TheVariants.{Start}

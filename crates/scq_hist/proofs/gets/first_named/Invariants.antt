@@ -1,5 +1,5 @@
 use Rattle.std.proofs.Common.{ℕ, ◌<◌}
-use Rattle.scq_hist.specs.Calls.{Names}
+use Rattle.scq_hist.specs.Exports.{Names}
 use Rattle.scq_hist.proofs.gets.first_named.Given as goal
 
 abbrev pub invariant-loop-e : goal.invariant-loop-e

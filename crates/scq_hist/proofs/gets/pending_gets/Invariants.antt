@@ -1,6 +1,5 @@
 use Rattle.std.proofs.Common.{◌≤◌}
-use Rattle.scq_hist.specs.Calls.{IsPending}
-use Rattle.scq_hist.specs.Counts.{IsCount}
+use Rattle.scq_hist.specs.Exports.{IsPending, IsCount}
 use Rattle.scq_hist.proofs.gets.pending_gets.Given as goal
 
 abbrev pub invariant-loop-s : goal.invariant-loop-s

@@ -1,8 +1,6 @@
 use Rattle.std.proofs.Common.{◌↔◌, IsTrue, slice_get, ◌≡◌, ℕ, Bool, true, false, not, is_some, List, Option, Some, None, subst, ap, ◌∙◌, refl}
 use Rattle.std.proofs.lemmas.Option.{slice_get_read}
-use Rattle.scq_hist.specs.Calls.{under_way}
-use Rattle.scq_hist.specs.Aspects.{SuitsCall, IsLawfulAt}
-use Rattle.scq_hist.specs.Lookups.{HasUnderWay}
+use Rattle.scq_hist.specs.Exports.{under_way, SuitsCall, IsLawfulAt, HasUnderWay}
 use Rattle.scq_hist.specs.declared.events.Call.{Call}
 use Rattle.scq_hist.specs.declared.events.Event.{Event}
 use Rattle.scq_hist.specs.declared.events.Event.TheVariants.{Start, End}

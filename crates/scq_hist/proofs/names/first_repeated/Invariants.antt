@@ -1,5 +1,5 @@
 use Rattle.std.proofs.Common.{ℕ, ◌<◌}
-use Rattle.scq_hist.specs.Aspects.{IsOnceAt}
+use Rattle.scq_hist.specs.Exports.{IsOnceAt}
 use Rattle.scq_hist.proofs.names.first_repeated.Given as goal
 
 abbrev pub invariant-loop-e : goal.invariant-loop-e

@@ -1,5 +1,5 @@
 use Rattle.std.proofs.Common.{ℕ, ◌<◌}
-use Rattle.scq_hist.specs.Aspects.{IsInOrderAt}
+use Rattle.scq_hist.specs.Exports.{IsInOrderAt}
 use Rattle.scq_hist.proofs.order.first_out_of_order.Given as goal
 
 abbrev pub invariant-loop-e : goal.invariant-loop-e

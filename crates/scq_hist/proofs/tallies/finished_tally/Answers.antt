@@ -1,6 +1,5 @@
 use Rattle.std.proofs.Common.{arith, ◌≡◌, subst}
-use Rattle.scq_hist.specs.Calls.{IsFinishedAt}
-use Rattle.scq_hist.specs.Tallies.{IsTally}
+use Rattle.scq_hist.specs.Exports.{IsFinishedAt, IsTally}
 use Rattle.scq_hist.proofs.tallies.finished_tally.Goals as goal
 
 pub loop-e-init : goal.loop-e-init

@@ -1,6 +1,5 @@
 use Rattle.std.proofs.Common.{ℕ, ◌+◌, ◌≤◌, List}
-use Rattle.scq_hist.specs.Calls.{IsFinishedAt}
-use Rattle.scq_hist.specs.Tallies.{IsTally}
+use Rattle.scq_hist.specs.Exports.{IsFinishedAt, IsTally}
 use Rattle.scq_hist.proofs.tallies.finished_tally.Given as goal
 
 abbrev pub invariant-loop-e : goal.invariant-loop-e

@@ -1,6 +1,6 @@
 use Rattle.std.proofs.Common.{◌∙◌, ap, refl, sym}
 use Rattle.scq_hist.proofs.NamesLemmas.{read}
-use Rattle.scq_judge.specs.Counted.{named_by}
+use Rattle.scq_judge.specs.Exports.{named_by}
 use Rattle.scq_judge.proofs.CountLemmas.{seen_nothing, seen_again, seen_more}
 use Rattle.scq_judge.proofs.counting.add_named.Goals as goal
 

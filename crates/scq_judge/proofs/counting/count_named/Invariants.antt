@@ -1,4 +1,4 @@
-use Rattle.scq_judge.specs.Counted.{AreSeen}
+use Rattle.scq_judge.specs.Exports.{AreSeen}
 use Rattle.scq_judge.proofs.counting.count_named.Given as goal
 
 abbrev pub invariant-loop-e : goal.invariant-loop-e

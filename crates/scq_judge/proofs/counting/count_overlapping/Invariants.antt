@@ -1,6 +1,6 @@
 use Rattle.std.proofs.Common.{◌≤◌}
-use Rattle.scq_hist.specs.Counts.{IsCount}
-use Rattle.scq_judge.specs.Counted.{Overlaps, Before, AreBusy}
+use Rattle.scq_hist.specs.Exports.{IsCount}
+use Rattle.scq_judge.specs.Exports.{Overlaps, Before, AreBusy}
 use Rattle.scq_judge.proofs.counting.count_overlapping.Given as goal
 
 abbrev pub invariant-loop-e : goal.invariant-loop-e

@@ -1,7 +1,7 @@
 use Rattle.std.proofs.Common.{ap, map, Err}
 use Rattle.std.specs.Prelude.{string_bytes}
 use Rattle.std.proofs.lemmas.Result.{IfOk-weaker, IfErr-weaker}
-use Rattle.scq_judge.specs.Judged.{IsReported, IsCauseIn}
+use Rattle.scq_judge.specs.Exports.{IsReported, IsCauseIn}
 use Rattle.scq_judge.proofs.JudgeLemmas.{as_many, cause_of_history, cause_of_merging}
 use Rattle.scq_judge.proofs.judging.judge_apart.Goals as goal
 

@@ -2,8 +2,7 @@ use Rattle.std.proofs.Common.{◌<◌, inl, inr, length, subst, slice_get, arith
 use Rattle.std.specs.Prelude.{IfSome}
 use Rattle.std.proofs.lemmas.Option.{slice_get-get_or}
 use Rattle.std.proofs.lemmas.Result.{IfErr-weaker}
-use Rattle.scq_hist.specs.Aspects.{IsLawfulAt}
-use Rattle.scq_hist.specs.First.{IsFirstFailing}
+use Rattle.scq_hist.specs.Exports.{IsLawfulAt, IsFirstFailing}
 use Rattle.scq_judge.proofs.judging.judge_history.Goals as goal
 
 pub judge_lawful-requires : goal.judge_lawful-requires

@@ -1,6 +1,6 @@
 use Rattle.std.proofs.Common.{List, Option, subst}
 use Rattle.std.specs.Prelude.{MatchOption}
-use Rattle.scq_judge.specs.Seats.{HaveOwnFiles, HasSeatOfAnother}
+use Rattle.scq_judge.specs.Exports.{HaveOwnFiles, HasSeatOfAnother}
 use Rattle.scq_judge.specs.declared.recorded.Stamped.{Stamped}
 use Rattle.scq_judge.specs.declared.seats.Apart.{Apart}
 use Rattle.scq_judge.proofs.judging.judge_one_run.Goals as goal

@@ -1,6 +1,6 @@
 use Rattle.std.proofs.Common.{List, Option, subst}
 use Rattle.std.specs.Prelude.{MatchOption}
-use Rattle.scq_judge.specs.Runs.{AreOfOneRun, IsOfAnotherRun}
+use Rattle.scq_judge.specs.Exports.{AreOfOneRun, IsOfAnotherRun}
 use Rattle.scq_judge.specs.declared.recorded.RunOf.{RunOf}
 use Rattle.scq_judge.proofs.judging.judge_recorded.Goals as goal
 

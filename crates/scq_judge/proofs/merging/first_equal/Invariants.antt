@@ -1,4 +1,4 @@
-use Rattle.scq_judge.specs.Merged.{RiseBelow}
+use Rattle.scq_judge.specs.Exports.{RiseBelow}
 use Rattle.scq_judge.proofs.merging.first_equal.Given as goal
 
 abbrev pub invariant-loop-i : goal.invariant-loop-i

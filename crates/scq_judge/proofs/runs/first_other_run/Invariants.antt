@@ -1,4 +1,4 @@
-use Rattle.scq_judge.specs.Runs.{AreOfRun}
+use Rattle.scq_judge.specs.Exports.{AreOfRun}
 use Rattle.scq_judge.proofs.runs.first_other_run.Given as goal
 
 abbrev pub invariant-loop-run : goal.invariant-loop-run

@@ -1,5 +1,5 @@
 use Rattle.std.proofs.Common.{◌∙◌, ◌++◌, ℕ, List, ap, slice_get, sym}
-use Rattle.scq_judge.specs.Telling.{call_text, got_name_text}
+use Rattle.scq_judge.specs.Exports.{call_text, got_name_text}
 use Rattle.scq_judge.proofs.ReadLemmas.{on_ok}
 use Rattle.scq_judge.proofs.TextLemmas.{behind}
 use Rattle.scq_judge.proofs.telling.add_call_at.Goals as goal

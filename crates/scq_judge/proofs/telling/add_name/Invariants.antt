@@ -1,5 +1,5 @@
 use Rattle.std.proofs.Common.{◌≡◌, ◌++◌, take}
-use Rattle.scq_judge.specs.Telling.{name_text}
+use Rattle.scq_judge.specs.Exports.{name_text}
 use Rattle.scq_judge.proofs.telling.add_name.Given as goal
 
 abbrev pub invariant-loop-byte : goal.invariant-loop-byte

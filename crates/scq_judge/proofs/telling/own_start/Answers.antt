@@ -1,5 +1,5 @@
 use Rattle.std.proofs.Common.{◌≡◌, ◌<◌, ℕ, List, length, Option, Some, None, unwrap_or, subst, sym}
-use Rattle.scq_hist.specs.Calls.{under_way}
+use Rattle.scq_hist.specs.Exports.{under_way}
 use Rattle.scq_hist.specs.declared.events.Event.{Event}
 use Rattle.scq_hist.proofs.UnderWay.{started_within}
 use Rattle.scq_judge.proofs.telling.own_start.Goals as goal

@@ -1,7 +1,6 @@
 use Rattle.std.proofs.Common.{◌+◌, decimal}
 use Rattle.std.specs.Prelude.{codes}
-use Rattle.scq_judge.specs.Report.{got_text, put_text}
-use Rattle.scq_judge.specs.Telling.{told_by}
+use Rattle.scq_judge.specs.Exports.{got_text, put_text, told_by}
 use Rattle.scq_judge.proofs.TextLemmas.{grown_by_five}
 use Rattle.scq_judge.proofs.text.add_puts.Goals as goal
 

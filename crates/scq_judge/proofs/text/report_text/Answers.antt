@@ -1,7 +1,6 @@
 use Rattle.std.proofs.Common.{◌∙◌}
 use Rattle.std.specs.Prelude.{codes}
-use Rattle.scq_judge.specs.Report.{beside_line, count_line, full_line, order_line, origin_line, waiting_line}
-use Rattle.scq_judge.specs.Telling.{told_by}
+use Rattle.scq_judge.specs.Exports.{beside_line, count_line, full_line, order_line, origin_line, waiting_line, told_by}
 use Rattle.scq_judge.proofs.TextLemmas.{grown}
 use Rattle.scq_judge.proofs.text.report_text.Goals as goal
 

@@ -1,5 +1,5 @@
 use Rattle.std.proofs.Common.{◌≡◌}
-use Rattle.scq_law.specs.Notes.{tokens_below}
+use Rattle.scq_law.specs.Exports.{tokens_below}
 use Rattle.scq_law.proofs.marking.tokens.Given as goal
 
 abbrev pub invariant-loop-number : goal.invariant-loop-number

@@ -3,7 +3,7 @@ use Rattle.std.specs.Prelude.{nat_le}
 use Rattle.std.proofs.lemmas.Fn.{always_returns_same}
 use Rattle.std.proofs.lemmas.List.Sorted.{IsPartitionedBy-leb}
 use Rattle.scq_law.specs.declared.marks.Decision.{Decision}
-use Rattle.scq_law.specs.Notes.{IsPutMark}
+use Rattle.scq_law.specs.Exports.{IsPutMark}
 use Rattle.scq_law.proofs.Order.PutMarks.{Ends, mark_first, mark_before}
 use Rattle.scq_law.proofs.marks.last_decision.Goals as goal
 

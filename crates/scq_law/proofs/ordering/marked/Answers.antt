@@ -1,7 +1,6 @@
 use Rattle.std.proofs.Common.{◌≡◌, ℕ, rules, arith, ap, sym, ◌∙◌, subst, Err}
 use Rattle.scq_word.specs.declared.setup.Setup.{Setup}
-use Rattle.scq_law.specs.Replay.{StopsAt}
-use Rattle.scq_law.specs.RunSteps.{run_of}
+use Rattle.scq_law.specs.Exports.{StopsAt, run_of}
 use Rattle.scq_law.proofs.Order.MarkedRuns.{marking_first, marking_stops, marking_next, marking_last}
 use Rattle.scq_law.proofs.ordering.marked.Goals as goal
 

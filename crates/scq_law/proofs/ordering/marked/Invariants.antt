@@ -1,4 +1,4 @@
-use Rattle.scq_law.specs.RunSteps.{run_of}
+use Rattle.scq_law.specs.Exports.{run_of}
 use Rattle.scq_law.proofs.Order.MarkedRuns.{IsMarking}
 use Rattle.scq_law.proofs.ordering.marked.Given as goal
 

@@ -1,7 +1,7 @@
 -- The marks of the run are sorted, and so are its order.
 use Rattle.std.proofs.Common.{Err, ap}
 use Rattle.scq_hist.proofs.HandedOn.{same_fault}
-use Rattle.scq_law.specs.RunSteps.{run_of}
+use Rattle.scq_law.specs.Exports.{run_of}
 use Rattle.scq_law.proofs.Order.OrderLaw as law
 use Rattle.scq_law.proofs.Order.WholeRuns.{finished, whole}
 use Rattle.scq_law.proofs.ordering.one_order.Goals as goal

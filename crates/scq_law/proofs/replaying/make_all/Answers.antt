@@ -1,8 +1,7 @@
 use Rattle.std.proofs.Common.{◌≡◌, ℕ, List, rules, ap, arith, subst, Err}
 use Rattle.std.proofs.lemmas.List.{take_all}
 use Rattle.scq_core.specs.declared.step.Step.{Step}
-use Rattle.scq_law.specs.RecordedSteps.{IsRecording}
-use Rattle.scq_law.specs.Replay.{StopsAt}
+use Rattle.scq_law.specs.Exports.{IsRecording, StopsAt}
 use Rattle.scq_law.proofs.Replays.StepsRecorded.{run_room, one_more, stops}
 use Rattle.scq_law.proofs.Replays.RunLaws.{run_reaches}
 use Rattle.scq_law.proofs.replaying.make_all.Goals as goal

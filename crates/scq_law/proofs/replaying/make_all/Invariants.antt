@@ -1,5 +1,5 @@
 use Rattle.std.proofs.Common.{ℕ, List, [], take}
-use Rattle.scq_law.specs.RecordedSteps.{IsRecording}
+use Rattle.scq_law.specs.Exports.{IsRecording}
 use Rattle.scq_law.proofs.replaying.make_all.Given as goal
 
 -- the steps so far are recorded

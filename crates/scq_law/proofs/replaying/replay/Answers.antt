@@ -1,8 +1,8 @@
 -- What was replayed shows a run, and each law holds of it.
 use Rattle.std.proofs.Common.{◌≡◌, [], Err, ap, sym, ◌∙◌, length}
-use Rattle.scq_word.specs.Sizes.{n_of}
+use Rattle.scq_word.specs.Exports.{n_of}
 use Rattle.scq_hist.proofs.HandedOn.{same_fault}
-use Rattle.scq_law.specs.RecordedSteps.{IsRecording}
+use Rattle.scq_law.specs.Exports.{IsRecording}
 use Rattle.scq_law.proofs.Replays.ReplayLaws.{replayed_laws, run_obeys}
 use Rattle.scq_law.proofs.Replays.StepsRecorded.{first_recorded, replays}
 use Rattle.scq_law.proofs.replaying.replay.Goals as goal

@@ -2,7 +2,7 @@ use Rattle.std.proofs.Common.{arith, rules, tests}
 use Rattle.std.proofs.lemmas.Bool.Decides.{nat_tests}
 use Rattle.std.proofs.lemmas.Iterator.{YieldsList-from_slice}
 use Rattle.std.proofs.lemmas.Iterator.Search.{all_from_yields_List}
-use Rattle.scq_lines.specs.Lines.{is_lower_digit}
+use Rattle.scq_lines.specs.Exports.{is_lower_digit}
 use Rattle.scq_lines.proofs.contents.is_hex.Goals as goal
 
 pub returns-then-field-most : goal.returns-then-field-most

@@ -2,7 +2,7 @@
 use Rattle.std.proofs.Common.{◌≡◌, ℕ, Bool, true, false, ◌&&◌, cond, ltb, leb, List, Some, None, length, arith, sym, ◌∙◌, refl}
 use Rattle.std.specs.Str.{all_ascii_digits}
 use Rattle.std.specs.Str.Parse.{digits_value}
-use Rattle.scq_lines.specs.Lines.{number_of}
+use Rattle.scq_lines.specs.Exports.{number_of}
 use Rattle.scq_lines.proofs.Digits.{digits_more, digits_end, value_more, value_short}
 use Rattle.scq_lines.proofs.numbers.number.Goals as goal
 

@@ -1,6 +1,6 @@
 use Rattle.std.proofs.Common.{rules, ◌++◌, take, arith}
 use Rattle.std.proofs.lemmas.Grind.{common_steps}
-use Rattle.scq_outside.specs.Taking.{TookUntil}
+use Rattle.scq_outside.specs.Exports.{TookUntil}
 use Rattle.scq_outside.specs.declared.read_all_fault.ReadAllFault.TheVariants.{NoMemory}
 use Rattle.scq_outside.proofs.Taking.{took-more}
 use Rattle.scq_outside.proofs.whole.read_all.Goals as goal

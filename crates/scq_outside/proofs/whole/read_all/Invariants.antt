@@ -1,5 +1,5 @@
 use Rattle.std.proofs.Common.{◌≡◌, ◌≤◌, length, ◌+◌, ◌-◌}
-use Rattle.scq_outside.specs.Taking.{Took}
+use Rattle.scq_outside.specs.Exports.{Took}
 use Rattle.scq_outside.proofs.whole.read_all.Given as goal
 
 abbrev pub invariant-reads : goal.invariant-reads

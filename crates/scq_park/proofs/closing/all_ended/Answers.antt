@@ -2,8 +2,7 @@ use Rattle.std.proofs.Common.{◌≡◌, ◌∙◌, ◌≤◌, ℕ, List, [], �
 use Rattle.std.proofs.lemmas.List.{reverse-append, reverse-reverse}
 use Rattle.std.proofs.lemmas.List.Elements.{All-nil, All-push}
 use Rattle.scq_park.specs.declared.rested.Rested.{Rested}
-use Rattle.scq_park.specs.Crews.{counted, rested_of}
-use Rattle.scq_park.specs.Kept.{ParkerDeeds, CanEnd, EachEnds, rests_between}
+use Rattle.scq_park.specs.Exports.{counted, rested_of, ParkerDeeds, CanEnd, EachEnds, rests_between}
 use Rattle.scq_park.proofs.closing.all_ended.Goals as goal
 
 abbrev WasWoken : Rested → Type 0

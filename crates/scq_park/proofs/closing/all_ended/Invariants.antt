@@ -1,7 +1,7 @@
 use Rattle.std.proofs.Common.{◌≡◌, ◌+◌, ◌≤◌, ◌++◌, All}
 use Rattle.std.specs.Prelude.{vec_len, vec_capacity, reverse}
 use Rattle.scq_park.specs.declared.rested.Rested.{Rested}
-use Rattle.scq_park.specs.Kept.{EachEnds, rests_between}
+use Rattle.scq_park.specs.Exports.{EachEnds, rests_between}
 use Rattle.scq_park.proofs.closing.all_ended.Given as goal
 
 abbrev pub invariant-loop-own : goal.invariant-loop-own

@@ -2,8 +2,7 @@ use Rattle.std.proofs.Common.{◌≡◌, ◌<◌, List, [], ◌∷◌, ◌++◌,
 use Rattle.std.proofs.lemmas.List.{reverse-append, reverse-reverse}
 use Rattle.std.proofs.lemmas.List.Elements.{All-cons, All-head, All-tail}
 use Rattle.atomic_table.specs.Seated.{TableId}
-use Rattle.scq_park.specs.Crews.{Post}
-use Rattle.scq_park.specs.Kept.{ParkerDeeds, parkers_of, with_row, gathered, told, told_by_post}
+use Rattle.scq_park.specs.Exports.{Post, ParkerDeeds, parkers_of, with_row, gathered, told, told_by_post}
 use Rattle.scq_park.proofs.Ends.{are_for, row_parkers, row_has_parts, told_more, told_stand, wide_post}
 use Rattle.scq_park.proofs.closing.gather.Goals as goal
 

@@ -1,7 +1,6 @@
 use Rattle.std.proofs.Common.{◌≡◌, ◌+◌, ◌<◌, ◌≤◌, ◌++◌, map, length, All}
 use Rattle.std.specs.Prelude.{vec_len, vec_capacity, reverse}
-use Rattle.scq_park.specs.Crews.{Post}
-use Rattle.scq_park.specs.Kept.{ParkerDeeds, parkers_of, gathered, told, told_by_post}
+use Rattle.scq_park.specs.Exports.{Post, ParkerDeeds, parkers_of, gathered, told, told_by_post}
 use Rattle.scq_park.proofs.closing.gather.Given as goal
 
 abbrev pub invariant-loop-stand : goal.invariant-loop-stand

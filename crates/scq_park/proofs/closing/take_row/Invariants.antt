@@ -1,6 +1,6 @@
 use Rattle.std.proofs.Common.{◌≡◌, map}
 use Rattle.std.specs.Prelude.{vec_len}
-use Rattle.scq_park.specs.Kept.{ParkerDeeds, AreFor, with_row}
+use Rattle.scq_park.specs.Exports.{ParkerDeeds, AreFor, with_row}
 use Rattle.scq_park.proofs.closing.take_row.Given as goal
 
 abbrev pub invariant-loop-link : goal.invariant-loop-link

@@ -1,8 +1,7 @@
 use Rattle.std.proofs.Common.{◌≡◌, ◌∙◌, List, [], ◌∷◌, ◌++◌, All, map, sym, ap, subst, arith}
 use Rattle.std.proofs.lemmas.List.{map-append}
 use Rattle.std.proofs.lemmas.List.Elements.{All-push}
-use Rattle.scq_park.specs.Rule.{deeds}
-use Rattle.scq_park.specs.Kept.{ParkerDeeds, first_link}
+use Rattle.scq_park.specs.Exports.{deeds, ParkerDeeds, first_link}
 use Rattle.scq_park.proofs.making.pairs.Goals as goal
 
 pub loop-preserved : goal.loop-preserved

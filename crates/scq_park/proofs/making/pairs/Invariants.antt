@@ -1,7 +1,6 @@
 use Rattle.std.proofs.Common.{◌≡◌, map, All}
 use Rattle.std.specs.Prelude.{vec_len, vec_capacity}
-use Rattle.scq_park.specs.Rule.{deeds}
-use Rattle.scq_park.specs.Kept.{ParkerDeeds, first_link}
+use Rattle.scq_park.specs.Exports.{deeds, ParkerDeeds, first_link}
 use Rattle.scq_park.proofs.making.pairs.Given as goal
 
 abbrev pub invariant-loop : goal.invariant-loop

@@ -1,6 +1,6 @@
 use Rattle.std.proofs.Common.{ℕ, ◌<◌, ◌≤◌, List, [], ◌∷◌, ◌++◌, length, sym, ◌∙◌, ap, arith, add-one}
 use Rattle.std.specs.Prelude.{slice_set}
-use Rattle.scq_park.specs.Kept.{ParkerDeeds, cut_below}
+use Rattle.scq_park.specs.Exports.{ParkerDeeds, cut_below}
 use Rattle.scq_park.proofs.Rows.{one_of_all, uncut_at, cut_next, cut_all, links_below, links_next, links_all}
 use Rattle.scq_park.proofs.making.row.Goals as goal
 

@@ -1,6 +1,6 @@
 use Rattle.std.proofs.Common.{◌≡◌}
 use Rattle.std.specs.Prelude.{vec_len, vec_capacity}
-use Rattle.scq_park.specs.Kept.{cut_below}
+use Rattle.scq_park.specs.Exports.{cut_below}
 use Rattle.scq_park.proofs.Rows.{links_below}
 use Rattle.scq_park.proofs.making.row.Given as goal
 

@@ -2,9 +2,7 @@ use Rattle.std.proofs.Common.{◌≡◌, ℕ, suc, ◌-◌, List, [], ◌∷◌,
 use Rattle.std.specs.Prelude.{Some, slice_get, vec_len}
 use Rattle.std.proofs.lemmas.List.{reverse-append}
 use Rattle.atomic_table.specs.Seated.{TableId}
-use Rattle.scq_park.specs.Rule.{deeds}
-use Rattle.scq_park.specs.Crews.{Post, first_post, first_posts}
-use Rattle.scq_park.specs.Kept.{ParkerDeeds, parkers_of, post_of, IsStand}
+use Rattle.scq_park.specs.Exports.{deeds, Post, first_post, first_posts, ParkerDeeds, parkers_of, post_of, IsStand}
 use Rattle.scq_park.proofs.Rows.{links_from, next_link, new_stand, new_post, less_parkers, less_parts}
 use Rattle.scq_park.proofs.making.stands_of.Goals as goal
 

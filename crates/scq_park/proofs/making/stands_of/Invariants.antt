@@ -1,8 +1,6 @@
 use Rattle.std.proofs.Common.{◌≡◌, ◌+◌, ◌-◌, ◌≤◌, All}
 use Rattle.std.specs.Prelude.{vec_len, vec_capacity, reverse}
-use Rattle.scq_park.specs.Rule.{deeds}
-use Rattle.scq_park.specs.Crews.{first_posts}
-use Rattle.scq_park.specs.Kept.{ParkerDeeds, parkers_of}
+use Rattle.scq_park.specs.Exports.{deeds, first_posts, ParkerDeeds, parkers_of}
 use Rattle.scq_park.proofs.Rows.{links_from}
 use Rattle.scq_park.proofs.making.stands_of.Given as goal
 

@@ -1,8 +1,8 @@
 use Rattle.std.proofs.Common.{rules, ◌≡◌, ◌∙◌, ap, sym, subst, arith, refl, inl, inr, true, false, length, Ok}
 use Rattle.std.proofs.lemmas.Bool.{cases_lt, cases_Bool}
 use Rattle.std.specs.Prelude.{IfErr, Result, Err}
-use Rattle.scq_queue.specs.Passes.{PassStanding}
-use Rattle.scq_passes.specs.Leaving.{EndsAtEmpty, MetTopicEmpty}
+use Rattle.scq_queue.specs.Exports.{PassStanding}
+use Rattle.scq_passes.specs.Exports.{EndsAtEmpty, MetTopicEmpty}
 use Rattle.scq_passes.proofs.InRun.{only-from, only-found}
 use Rattle.scq_passes.proofs.PassLemmas.{suits-taken, taken-nothing, taken-along, left-falls, left-falls-at, empty-more}
 use Rattle.scq_passes.proofs.Sweeps.{found-earlier, found-later}

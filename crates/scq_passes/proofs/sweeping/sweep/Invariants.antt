@@ -1,9 +1,6 @@
 use Rattle.std.proofs.Common.{◌≡◌, ◌⊎◌, ◌<◌, ◌≤◌, true, false, length}
-use Rattle.scq_queue.specs.Lists.{takes_of}
-use Rattle.scq_passes.specs.Calls.{HasTakenFollowed, takes_left}
-use Rattle.scq_passes.specs.Leaving.{HasOnlyCalled, TookNothing}
-use Rattle.scq_passes.specs.Taking.{HasEmptiedAll}
-use Rattle.scq_passes.specs.Waiting.{TookMore}
+use Rattle.scq_queue.specs.Exports.{takes_of}
+use Rattle.scq_passes.specs.Exports.{HasTakenFollowed, takes_left, HasOnlyCalled, TookNothing, HasEmptiedAll, TookMore}
 use Rattle.scq_passes.proofs.sweeping.sweep.Given as goal
 
 -- each topic so far was found empty, and once anything was taken there is less left to take

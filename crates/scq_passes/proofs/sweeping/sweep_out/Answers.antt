@@ -1,9 +1,8 @@
 use Rattle.std.proofs.Common.{rules, ◌≡◌, ◌<◌, ◌∙◌, ap, sym, subst, arith, inl, inr, true, false, Ok}
 use Rattle.std.specs.Prelude.{IfErr, Result, Err}
 use Rattle.std.proofs.lemmas.Bool.{eqb-true}
-use Rattle.scq_queue.specs.Passes.{PassStanding}
-use Rattle.scq_passes.specs.Leaving.{AreSweeps, IsSweep, no_sweep, and_some, and_idle}
-use Rattle.scq_passes.specs.Calls.{HasTakenFollowed}
+use Rattle.scq_queue.specs.Exports.{PassStanding}
+use Rattle.scq_passes.specs.Exports.{AreSweeps, IsSweep, no_sweep, and_some, and_idle, HasTakenFollowed}
 use Rattle.scq_passes.proofs.PassLemmas.{suits-taken, taken-nothing, taken-along, left-falls, looked}
 use Rattle.scq_passes.proofs.Sweeps.{sweep-of, some-left, took-nothing, took-some}
 use Rattle.scq_passes.proofs.sweeping.sweep_out.Goals as goal

@@ -1,6 +1,5 @@
 use Rattle.std.proofs.Common.{◌<◌, ◌+◌, ◌-◌, ◌*◌}
-use Rattle.scq_passes.specs.Calls.{HasTakenFollowed, takes_left}
-use Rattle.scq_passes.specs.Leaving.{AreSweeps}
+use Rattle.scq_passes.specs.Exports.{HasTakenFollowed, takes_left, AreSweeps}
 use Rattle.scq_passes.proofs.sweeping.sweep_out.Given as goal
 
 abbrev pub invariant-sweeps : goal.invariant-sweeps

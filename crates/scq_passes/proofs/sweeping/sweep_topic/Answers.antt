@@ -1,6 +1,6 @@
 use Rattle.std.proofs.Common.{rules, ◌≡◌, ◌∙◌, ap, sym, subst, arith, refl, inl, inr, length}
 use Rattle.std.specs.Prelude.{IfErr, Result, Err}
-use Rattle.scq_queue.specs.Passes.{PassStanding}
+use Rattle.scq_queue.specs.Exports.{PassStanding}
 use Rattle.scq_passes.proofs.InRun.{only-from}
 use Rattle.scq_passes.proofs.PassLemmas.{suits-taken, taken-nothing, taken-along}
 use Rattle.scq_passes.proofs.Sweeps.{found-earlier}

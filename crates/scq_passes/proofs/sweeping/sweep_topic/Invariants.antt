@@ -1,10 +1,6 @@
 use Rattle.std.proofs.Common.{◌≡◌, ◌⊎◌, ◌≤◌, ◌-◌, true, false, length}
-use Rattle.scq_queue.specs.Lists.{takes_of}
-use Rattle.scq_queue.specs.Passes.{known_on}
-use Rattle.scq_passes.specs.Calls.{HasTakenFollowed}
-use Rattle.scq_passes.specs.Leaving.{HasOnlyCalled, TookNothing}
-use Rattle.scq_passes.specs.Taking.{HasTakenFrom}
-use Rattle.scq_passes.specs.Waiting.{TookInVain}
+use Rattle.scq_queue.specs.Exports.{takes_of, known_on}
+use Rattle.scq_passes.specs.Exports.{HasTakenFollowed, HasOnlyCalled, TookNothing, HasTakenFrom, TookInVain}
 use Rattle.scq_passes.proofs.sweeping.sweep_topic.Given as goal
 
 -- once anything was taken, it is known that more was passed

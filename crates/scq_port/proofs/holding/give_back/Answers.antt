@@ -1,9 +1,7 @@
 use Rattle.std.proofs.Common.{◌≡◌, ℕ, ◌-◌, ◌≤◌, sym, ◌∙◌, ap, subst, refl}
-use Rattle.scq_queue.specs.Passes.{WasGivenBack, after_spent_put}
+use Rattle.scq_queue.specs.Exports.{WasGivenBack, after_spent_put}
 use Rattle.scq_queue.proofs.HeldOnce.{put_refused, alike_itself}
-use Rattle.scq_port.specs.Ports.{buffer_bytes}
-use Rattle.scq_port.specs.Kept.{seen_as}
-use Rattle.scq_port.specs.Calls.{IsSpentPut}
+use Rattle.scq_port.specs.Exports.{buffer_bytes, seen_as, IsSpentPut}
 use Rattle.scq_port.proofs.Keeping.{place_held, none_held}
 use Rattle.scq_port.proofs.Records.{unspent, some_used, still_less, still_alike, went_out, free_again, put_back, in_run, same_port, spent_of, kept_ticket}
 use Rattle.scq_port.proofs.holding.give_back.Goals as goal

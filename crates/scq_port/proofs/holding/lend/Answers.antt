@@ -2,10 +2,9 @@ use Rattle.std.proofs.Common.{sym, ◌≡◌, ℕ, ap, subst, refl}
 use Rattle.std.specs.Prelude.{Err}
 use Rattle.scq_queue.specs.declared.calls.LendRefusal.{LendRefusal}
 use Rattle.scq_queue.specs.declared.calls.LendRefusal.TheVariants.{Full, Spent}
-use Rattle.scq_queue.specs.Passes.{after_spent_get}
+use Rattle.scq_queue.specs.Exports.{after_spent_get}
 use Rattle.scq_queue.proofs.HeldOnce.{lend_refused}
-use Rattle.scq_port.specs.Kept.{seen_as}
-use Rattle.scq_port.specs.Calls.{WasFull, IsSpentGet}
+use Rattle.scq_port.specs.Exports.{seen_as, WasFull, IsSpentGet}
 use Rattle.scq_port.proofs.Keeping.{place_free}
 use Rattle.scq_port.proofs.Records.{unspent, still_more, still_alike, in_run, empty_in_run, came_of, spent_of}
 use Rattle.scq_port.proofs.Numbered.{number_of}

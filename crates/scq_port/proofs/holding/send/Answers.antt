@@ -1,9 +1,7 @@
 use Rattle.std.proofs.Common.{◌≡◌, ℕ, suc, ◌-◌, ◌≤◌, sym, ◌∙◌, ap, subst, refl}
-use Rattle.scq_queue.specs.Passes.{after_put, after_spent_put, having_seen}
+use Rattle.scq_queue.specs.Exports.{after_put, after_spent_put, having_seen}
 use Rattle.scq_queue.proofs.HeldOnce.{put_refused, alike_itself}
-use Rattle.scq_port.specs.Ports.{buffer_bytes}
-use Rattle.scq_port.specs.Kept.{seen_as}
-use Rattle.scq_port.specs.Calls.{IsSpentPut}
+use Rattle.scq_port.specs.Exports.{buffer_bytes, seen_as, IsSpentPut}
 use Rattle.scq_port.proofs.Keeping.{place_held, none_held}
 use Rattle.scq_port.proofs.Records.{unspent, some_used, still_less, still_alike, went_out, free_again, put_back, in_run, low_of, there_of, same_port, spent_of, kept_ticket}
 use Rattle.scq_port.proofs.holding.send.Goals as goal

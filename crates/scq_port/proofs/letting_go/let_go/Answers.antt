@@ -1,11 +1,9 @@
 use Rattle.std.proofs.Common.{◌≤◌, List, [], ◌∷◌, ◌++◌, refl, sym, ◌∙◌, ap, subst}
 use Rattle.std.specs.Prelude.{Option}
-use Rattle.scq_queue.specs.Passes.{PassStanding}
+use Rattle.scq_queue.specs.Exports.{PassStanding}
 use Rattle.scq_queue.proofs.HeldOnce.{put_refused}
 use Rattle.scq_port.specs.declared.port_buffer.PortBuffer.{PortBuffer}
-use Rattle.scq_port.specs.Calls.{HasPassEnded}
-use Rattle.scq_port.specs.Ports.{PortQueue, Value, buffer_bytes}
-use Rattle.scq_port.specs.Kept.{LetsGo}
+use Rattle.scq_port.specs.Exports.{HasPassEnded, PortQueue, Value, buffer_bytes, LetsGo}
 use Rattle.scq_port.proofs.Going.{Goes, begins, skips, holds_last, gives, ends, goes_first, goes_past, goes_back, ends_refused, ends_all}
 use Rattle.scq_port.proofs.Records.{unspent}
 use Rattle.scq_port.proofs.letting_go.let_go.Goals as goal

@@ -1,5 +1,5 @@
 use Rattle.std.specs.Prelude.{◌≡◌, vec_len}
-use Rattle.scq_port.specs.Kept.{LetsGo}
+use Rattle.scq_port.specs.Exports.{LetsGo}
 use Rattle.scq_port.proofs.Going.{Goes}
 use Rattle.scq_port.proofs.letting_go.let_go.Given as goal
 

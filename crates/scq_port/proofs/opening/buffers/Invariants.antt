@@ -1,7 +1,6 @@
 use Rattle.std.proofs.Common.{◌≡◌, ◌≤◌, ◌-◌, map}
 use Rattle.std.specs.Prelude.{vec_len, vec_capacity}
-use Rattle.scq_port.specs.Numbers.{numbers_below}
-use Rattle.scq_port.specs.Ports.{buffer_bytes}
+use Rattle.scq_port.specs.Exports.{numbers_below, buffer_bytes}
 use Rattle.scq_port.proofs.opening.buffers.Given as goal
 
 abbrev pub invariant-loop-made : goal.invariant-loop-made

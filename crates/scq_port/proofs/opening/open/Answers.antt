@@ -1,10 +1,8 @@
 use Rattle.std.proofs.Common.{List, map, ◌∙◌, ap}
-use Rattle.scq_word.specs.Sizes.{n_of}
-use Rattle.scq_queue.specs.Passes.{PassStanding}
+use Rattle.scq_word.specs.Exports.{n_of}
+use Rattle.scq_queue.specs.Exports.{PassStanding}
 use Rattle.scq_port.specs.declared.port_buffer.PortBuffer.{PortBuffer}
-use Rattle.scq_port.specs.Numbers.{numbers_below}
-use Rattle.scq_port.specs.Ports.{buffer_bytes}
-use Rattle.scq_port.specs.Calls.{AreOpened, new_port}
+use Rattle.scq_port.specs.Exports.{numbers_below, buffer_bytes, AreOpened, new_port}
 use Rattle.scq_port.proofs.Opened.{if_ok}
 use Rattle.scq_port.proofs.opening.open.Goals as goal
 

@@ -1,8 +1,8 @@
 use Rattle.std.proofs.Common.{rules, ◌≡◌, ℕ, sym, ap}
 use Rattle.std.specs.Prelude.{Option, is_none}
 use Rattle.std.specs.Arc.{arc_value}
-use Rattle.scq_word.specs.Sizes.{n_of}
-use Rattle.scq_port.specs.Kept.{Keeps}
+use Rattle.scq_word.specs.Exports.{n_of}
+use Rattle.scq_port.specs.Exports.{Keeps}
 use Rattle.scq_port.proofs.Keeping.{keeps_new}
 use Rattle.scq_port.proofs.opening.port_of.Goals as goal
 

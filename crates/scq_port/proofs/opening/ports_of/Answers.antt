@@ -2,11 +2,9 @@ use Rattle.std.proofs.Common.{◌≡◌, List, [], ◌∷◌, ◌++◌, map, len
 use Rattle.std.specs.Prelude.{reverse}
 use Rattle.std.specs.Arc.{arc_value}
 use Rattle.std.proofs.lemmas.List.{reverse-reverse, length-append}
-use Rattle.scq_queue.specs.Passes.{PassStanding}
+use Rattle.scq_queue.specs.Exports.{PassStanding}
 use Rattle.scq_port.specs.declared.port_buffer.PortBuffer.{PortBuffer}
-use Rattle.scq_port.specs.Ports.{PortStanding}
-use Rattle.scq_port.specs.Calls.{new_port}
-use Rattle.scq_port.specs.Kept.{HoldsNothing}
+use Rattle.scq_port.specs.Exports.{PortStanding, new_port, HoldsNothing}
 use Rattle.scq_port.proofs.Opened.{all_fresh, all_last, all_others, one_more, next_number, first_passes_length}
 use Rattle.scq_port.proofs.opening.ports_of.Goals as goal
 

@@ -1,8 +1,7 @@
 use Rattle.std.proofs.Common.{◌≡◌, ◌+◌, ◌++◌, map, length, All}
 use Rattle.std.specs.Prelude.{vec_len, reverse}
 use Rattle.std.specs.Arc.{arc_value}
-use Rattle.scq_port.specs.Calls.{new_port}
-use Rattle.scq_port.specs.Kept.{HoldsNothing}
+use Rattle.scq_port.specs.Exports.{new_port, HoldsNothing}
 use Rattle.scq_port.proofs.opening.ports_of.Given as goal
 
 abbrev pub invariant-loop-pass : goal.invariant-loop-pass

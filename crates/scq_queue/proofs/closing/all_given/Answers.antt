@@ -2,8 +2,7 @@ use Rattle.std.proofs.Common.{List, subst, arith}
 use Rattle.std.specs.Prelude.{All}
 use Rattle.std.proofs.lemmas.List.{take_all}
 use Rattle.std.proofs.lemmas.List.Elements.{All-more}
-use Rattle.scq_queue.specs.Passes.{HeldStanding}
-use Rattle.scq_queue.specs.Kept.{HasGivenBuffer}
+use Rattle.scq_queue.specs.Exports.{HeldStanding, HasGivenBuffer}
 use Rattle.scq_queue.proofs.closing.all_given.Goals as goal
 
 pub loop-value-preserved : goal.loop-value-preserved

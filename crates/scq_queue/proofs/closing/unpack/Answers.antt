@@ -3,9 +3,7 @@ use Rattle.std.specs.Prelude.{reverse}
 use Rattle.std.proofs.lemmas.List.{reverse-append, reverse-reverse}
 use Rattle.std.proofs.lemmas.List.Elements.{All-cons}
 use Rattle.std.proofs.lemmas.Grind.{common_steps}
-use Rattle.scq_queue.specs.Lists.{fulls_in}
-use Rattle.scq_queue.specs.Passes.{PassStanding}
-use Rattle.scq_queue.specs.Closing.{AllFullsStand}
+use Rattle.scq_queue.specs.Exports.{fulls_in, PassStanding, AllFullsStand}
 use Rattle.scq_queue.proofs.closing.unpack.Goals as goal
 
 pub loop-pass-init : goal.loop-pass-init

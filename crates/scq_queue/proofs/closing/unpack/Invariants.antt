@@ -1,9 +1,6 @@
 use Rattle.std.proofs.Common.{◌≡◌, ◌+◌, ◌≤◌, ◌++◌, map}
 use Rattle.std.specs.Prelude.{vec_len, vec_capacity, reverse}
-use Rattle.scq_queue.specs.Lists.{counts_of}
-use Rattle.scq_queue.specs.Passes.{PassStanding, lists_of, was_told}
-use Rattle.scq_queue.specs.Closing.{AllFullsStand}
-use Rattle.scq_queue.specs.Kept.{seat_of_pass}
+use Rattle.scq_queue.specs.Exports.{counts_of, PassStanding, lists_of, was_told, AllFullsStand, seat_of_pass}
 use Rattle.scq_queue.proofs.closing.unpack.Given as goal
 
 abbrev pub invariant-loop-pass : goal.invariant-loop-pass

@@ -1,8 +1,7 @@
 use Rattle.std.proofs.Common.{◌≡◌, false, [], ◌+◌, ◌≤◌, ◌++◌, map, All}
 use Rattle.std.specs.Prelude.{vec_len, vec_capacity, reverse}
 use Rattle.scq_band.specs.Standing.{Standing}
-use Rattle.scq_queue.specs.Passes.{was_told}
-use Rattle.scq_queue.specs.Kept.{pass_over}
+use Rattle.scq_queue.specs.Exports.{was_told, pass_over}
 use Rattle.scq_queue.proofs.queue.passes_of.Given as goal
 
 abbrev pub invariant-loop-seat : goal.invariant-loop-seat

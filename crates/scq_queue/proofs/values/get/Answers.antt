@@ -3,9 +3,8 @@ use Rattle.std.specs.Prelude.{Err}
 use Rattle.scq_core.specs.declared.ended.Ended.TheVariants.{Spent as DrewSpent}
 use Rattle.scq_band.specs.declared.calls.DeqRefusal.{DeqRefusal}
 use Rattle.scq_band.specs.declared.calls.DeqRefusal.TheVariants.{Empty, Spent}
-use Rattle.scq_band.specs.Buffers.{opening_of}
-use Rattle.scq_band.specs.RunSeen.{Caller, IsCallInRun}
-use Rattle.scq_band.specs.Standing.{Standing, caller_of, seat_after_spent_get}
+use Rattle.scq_band.specs.Exports.{opening_of, Caller, IsCallInRun, caller_of, seat_after_spent_get}
+use Rattle.scq_band.specs.Standing.{Standing}
 use Rattle.scq_queue.proofs.HeldValues.{refused_stays, was_spent, found_empty, value_came, got_stays, got_value, came_off}
 use Rattle.scq_queue.proofs.values.get.Goals as goal
 

@@ -2,10 +2,8 @@ use Rattle.std.proofs.Common.{◌≡◌, true, refl, ◌∙◌, ap, subst}
 use Rattle.std.specs.Prelude.{Err}
 use Rattle.scq_core.specs.declared.ended.Ended.TheVariants.{Spent as DrewSpent}
 use Rattle.scq_band.specs.declared.calls.Spent.{Spent}
-use Rattle.scq_band.specs.Standing.{seat_after_spent_put}
-use Rattle.scq_queue.specs.Passes.{HeldStanding}
-use Rattle.scq_queue.specs.Calls.{WasPutOn}
-use Rattle.scq_queue.specs.Kept.{held_of, pass_over}
+use Rattle.scq_band.specs.Exports.{seat_after_spent_put}
+use Rattle.scq_queue.specs.Exports.{HeldStanding, WasPutOn, held_of, pass_over}
 use Rattle.scq_queue.proofs.HeldValues.{value_at, put_stays, put_value, spent_stays, was_spent, same_refusal}
 use Rattle.scq_queue.proofs.values.put.Goals as goal
 

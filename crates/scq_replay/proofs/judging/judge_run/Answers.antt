@@ -1,7 +1,7 @@
 -- The history of a run has each aspect, so no event is the first that breaks it.
 use Rattle.std.proofs.Common.{◌≡◌, ◌∙◌, ℕ, List, Err, sym, ap, subst}
 use Rattle.scq_hist.specs.declared.events.Event.{Event}
-use Rattle.scq_hist.specs.Aspects.{IsFresh, IsOnce, IsInOrder, IsEmptyRight}
+use Rattle.scq_hist.specs.Exports.{IsFresh, IsOnce, IsInOrder, IsEmptyRight}
 use Rattle.scq_hist.proofs.HandedOn.{same_fault}
 use Rattle.scq_replay.proofs.judging.judge_run.Goals as goal
 

@@ -2,8 +2,8 @@ use Rattle.std.proofs.Common.{◌≡◌, ℕ, ◌+◌, ◌<◌, rules, List, [],
 use Rattle.std.specs.Prelude.{codes, decimal, flat_map}
 use Rattle.std.proofs.lemmas.Grind.{flat_map-append}
 use Rattle.std.proofs.lemmas.List.{append-nil, take_all, take_more}
-use Rattle.scq_core.specs.StateLists.{machine_of}
-use Rattle.scq_replay.specs.OrderText.{member_line}
+use Rattle.scq_core.specs.Exports.{machine_of}
+use Rattle.scq_replay.specs.Exports.{member_line}
 use Rattle.scq_replay.proofs.ordering.add_ring.Goals as goal
 
 -- the line of a ring before those of its members

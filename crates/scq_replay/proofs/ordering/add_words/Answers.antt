@@ -5,10 +5,9 @@ use Rattle.std.specs.List.{HoldsAt}
 use Rattle.std.proofs.lemmas.Option.{slice_get_past, slice_get_read}
 use Rattle.std.specs.Option.{option_copied}
 use Rattle.scq_core.specs.declared.ended.Ended.{Ended}
-use Rattle.scq_core.specs.StateLists.{machine_of}
+use Rattle.scq_core.specs.Exports.{machine_of}
 use Rattle.scq_law.specs.declared.ordered.Ordered.{Ordered}
-use Rattle.scq_replay.specs.OrderText.{member_words}
-use Rattle.scq_replay.specs.Printed.{reply_words}
+use Rattle.scq_replay.specs.Exports.{member_words, reply_words}
 use Rattle.scq_replay.proofs.ordering.add_words.Goals as goal
 
 -- what is read of a list at a place

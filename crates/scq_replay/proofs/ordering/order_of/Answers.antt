@@ -1,7 +1,7 @@
 use Rattle.std.proofs.Common.{◌≡◌, ℕ, List, Err, ap, subst}
 use Rattle.scq_word.specs.declared.setup.Setup.{Setup}
 use Rattle.scq_core.specs.declared.step.Step.{Step}
-use Rattle.scq_law.specs.Replay.{StopsAt}
+use Rattle.scq_law.specs.Exports.{StopsAt}
 use Rattle.scq_replay.proofs.ScheduleRuns.{no_contents, stops_nowhere}
 use Rattle.scq_replay.proofs.ordering.order_of.Goals as goal
 

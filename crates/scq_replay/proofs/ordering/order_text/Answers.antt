@@ -1,8 +1,8 @@
 use Rattle.scq_replay.proofs.ordering.order_text.Goals as goal
 use Rattle.std.proofs.Common.{◌≡◌, ◌⊎◌, inl, inr, sym, subst, rules}
 use Rattle.scq_hist.proofs.HandedOn.{handed_on}
-use Rattle.scq_lines.specs.Lines.{lines_of}
-use Rattle.scq_replay.specs.OrderText.{IsOrderText, HasNoOrders, at_line, at_seat}
+use Rattle.scq_lines.specs.Exports.{lines_of}
+use Rattle.scq_replay.specs.Exports.{IsOrderText, HasNoOrders, at_line, at_seat}
 use Rattle.scq_replay.specs.declared.replaying.ScheduleFault.TheVariants.{NoMemory}
 use Rattle.scq_replay.proofs.RingOrders.{written_none, written_next, written_all, all_numbered}
 

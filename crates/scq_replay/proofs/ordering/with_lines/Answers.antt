@@ -1,7 +1,7 @@
 use Rattle.std.proofs.Common.{◌≡◌, ◌⊎◌, inl, inr, Err, refl, ap}
 use Rattle.scq_hist.proofs.HandedOn.{handed_on}
-use Rattle.scq_lines.specs.Lines.{lines_of}
-use Rattle.scq_replay.specs.Replay.{Gives}
+use Rattle.scq_lines.specs.Exports.{lines_of}
+use Rattle.scq_replay.specs.Exports.{Gives}
 use Rattle.scq_replay.specs.declared.replaying.ScheduleFault.TheVariants.{NoMemory}
 use Rattle.scq_replay.proofs.ScheduleRuns.{so_far_start, so_far_next, so_far_refused, so_far_end}
 use Rattle.scq_replay.proofs.ordering.with_lines.Goals as goal

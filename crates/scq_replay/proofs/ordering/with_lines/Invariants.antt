@@ -1,5 +1,5 @@
 use Rattle.std.proofs.Common.{length}
-use Rattle.scq_lines.specs.Lines.{lines_of}
+use Rattle.scq_lines.specs.Exports.{lines_of}
 use Rattle.scq_replay.proofs.ScheduleRuns.{IsSoFar}
 use Rattle.scq_replay.proofs.ordering.with_lines.Given as goal
 

@@ -1,7 +1,7 @@
 use Rattle.std.proofs.Common.{◌∙◌, List, ℕ, ◌++◌, add-one, append_assoc, sym, ap}
 use Rattle.std.specs.Prelude.{codes, decimal}
-use Rattle.scq_core.specs.StateLists.{machine_of}
-use Rattle.scq_replay.specs.Printed.{entry_words}
+use Rattle.scq_core.specs.Exports.{machine_of}
+use Rattle.scq_replay.specs.Exports.{entry_words}
 use Rattle.scq_replay.proofs.printing.add_entries.Goals as goal
 
 pub loop-slot-preserved : goal.loop-slot-preserved

@@ -1,6 +1,6 @@
 use Rattle.std.proofs.Common.{◌≡◌, ◌++◌}
-use Rattle.scq_core.specs.StateLists.{machine_of}
-use Rattle.scq_replay.specs.Printed.{entry_words}
+use Rattle.scq_core.specs.Exports.{machine_of}
+use Rattle.scq_replay.specs.Exports.{entry_words}
 use Rattle.scq_replay.proofs.printing.add_entries.Given as goal
 
 abbrev pub invariant-loop-slot : goal.invariant-loop-slot

@@ -1,5 +1,5 @@
 use Rattle.std.proofs.Common.{◌≡◌, ℕ, List, ◌++◌, append_assoc, ◌∙◌, ap, refl}
-use Rattle.scq_replay.specs.Printed.{reply_words}
+use Rattle.scq_replay.specs.Exports.{reply_words}
 use Rattle.scq_replay.proofs.printing.add_step.Goals as goal
 
 -- four parts added one after another

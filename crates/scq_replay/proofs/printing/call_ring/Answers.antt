@@ -1,4 +1,4 @@
-use Rattle.scq_core.specs.StateLists.{machine_of}
+use Rattle.scq_core.specs.Exports.{machine_of}
 use Rattle.scq_core.proofs.Steady.{steady}
 use Rattle.scq_replay.proofs.Rings.{under_way_ring}
 use Rattle.scq_replay.proofs.printing.call_ring.Goals as goal

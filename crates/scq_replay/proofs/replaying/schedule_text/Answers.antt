@@ -3,13 +3,12 @@ use Rattle.std.proofs.Common.{◌≡◌, ℕ, List, ◌⊎◌, inl, inr, Result,
 use Rattle.std.specs.Prelude.{IfOk, IfErr}
 use Rattle.scq_word.specs.declared.setup.Setup.{Setup}
 use Rattle.scq_core.specs.Machine.{Machine}
-use Rattle.scq_core.specs.Start.{start_of}
-use Rattle.scq_core.specs.StateLists.{machine_of}
+use Rattle.scq_core.specs.Exports.{start_of, machine_of}
 use Rattle.scq_hist.proofs.HandedOn.{handed_on}
-use Rattle.scq_lines.specs.Lines.{lines_of}
+use Rattle.scq_lines.specs.Exports.{lines_of}
 use Rattle.scq_replay.specs.declared.replaying.ScheduleFault.{ScheduleFault}
 use Rattle.scq_replay.specs.declared.replaying.ScheduleFault.TheVariants.{NoMemory}
-use Rattle.scq_replay.specs.Replay.{steps_from, schedule_start, HasSetup, Gives, steps_of}
+use Rattle.scq_replay.specs.Exports.{steps_from, schedule_start, HasSetup, Gives, steps_of}
 use Rattle.scq_replay.proofs.StepsRun.{refused_never}
 use Rattle.scq_replay.proofs.replaying.schedule_text.Goals as goal
 

@@ -1,9 +1,9 @@
 use Rattle.std.proofs.Common.{◌≡◌, ◌⊎◌, inl, inr, Err, arith}
-use Rattle.scq_core.specs.StateLists.{machine_of}
+use Rattle.scq_core.specs.Exports.{machine_of}
 use Rattle.scq_hist.proofs.HandedOn.{handed_on}
-use Rattle.scq_lines.specs.Lines.{lines_of}
+use Rattle.scq_lines.specs.Exports.{lines_of}
 use Rattle.scq_replay.specs.declared.replaying.ScheduleFault.TheVariants.{NoMemory}
-use Rattle.scq_replay.specs.Replay.{steps_from}
+use Rattle.scq_replay.specs.Exports.{steps_from}
 use Rattle.scq_replay.proofs.StepsRun.{run_more, run_refused}
 use Rattle.scq_replay.proofs.replaying.steps_text.Goals as goal
 

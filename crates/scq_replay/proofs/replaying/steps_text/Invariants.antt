@@ -1,7 +1,6 @@
 use Rattle.std.proofs.Common.{◌≡◌, ◌≤◌, length}
-use Rattle.scq_core.specs.Reach.{IsReachable}
-use Rattle.scq_core.specs.StateLists.{machine_of}
-use Rattle.scq_lines.specs.Lines.{lines_of}
+use Rattle.scq_core.specs.Exports.{IsReachable, machine_of}
+use Rattle.scq_lines.specs.Exports.{lines_of}
 use Rattle.scq_replay.proofs.StepsRun.{LinesAreRun}
 use Rattle.scq_replay.proofs.replaying.steps_text.Given as goal
 

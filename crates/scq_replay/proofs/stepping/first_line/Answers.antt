@@ -1,10 +1,9 @@
 -- Without a line, and where the first one says no setup, a text gives the fault of line 1.
 use Rattle.std.proofs.Common.{◌≡◌, ℕ, List, [], ◌∷◌, Err, ap, subst}
 use Rattle.scq_word.specs.declared.setup.Setup.{Setup}
-use Rattle.scq_lines.specs.Lines.{lines_of}
+use Rattle.scq_lines.specs.Exports.{lines_of}
 use Rattle.scq_replay.specs.declared.replaying.ScheduleFault.TheVariants.{BadLine}
-use Rattle.scq_replay.specs.Schedule.{IsSetupLine}
-use Rattle.scq_replay.specs.Replay.{Gives, no_setup}
+use Rattle.scq_replay.specs.Exports.{IsSetupLine, Gives, no_setup}
 use Rattle.scq_replay.proofs.stepping.first_line.Goals as goal
 
 no_line : (lines : List (List ℕ)) → lines ≡ [] → Gives lines (Err (BadLine 1))

@@ -1,6 +1,6 @@
 use Rattle.std.proofs.Common.{◌+◌, sym, length}
-use Rattle.scq_block.specs.Frames.{bytes_of}
-use Rattle.scq_worker.specs.Opening.{takes_behind}
+use Rattle.scq_block.specs.Exports.{bytes_of}
+use Rattle.scq_worker.specs.Exports.{takes_behind}
 use Rattle.scq_rest.proofs.Waited.{waited-spent}
 use Rattle.scq_rest.proofs.finishing.finish.Goals as goal
 

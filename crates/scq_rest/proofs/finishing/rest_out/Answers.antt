@@ -1,10 +1,9 @@
 use Rattle.std.proofs.Common.{◌≡◌, ◌+◌, ◌∙◌, ap, sym, subst, arith, length}
-use Rattle.scq_block.specs.Frames.{bytes_of}
-use Rattle.scq_queue.specs.Passes.{PassStanding}
-use Rattle.scq_passes.specs.Records.{IsReturn}
-use Rattle.scq_rest.specs.Sweeping.{HasSweptTold}
-use Rattle.scq_rest.specs.Waiting.{HasWaited}
-use Rattle.scq_worker.specs.Opening.{takes_behind}
+use Rattle.scq_block.specs.Exports.{bytes_of}
+use Rattle.scq_queue.specs.Exports.{PassStanding}
+use Rattle.scq_passes.specs.Exports.{IsReturn}
+use Rattle.scq_rest.specs.Exports.{HasSweptTold, HasWaited}
+use Rattle.scq_worker.specs.Exports.{takes_behind}
 use Rattle.scq_worker.specs.declared.worker.Worker.{Worker}
 use Rattle.scq_worker.proofs.Produced.{sweep-suits, swept-out, late-out}
 use Rattle.scq_rest.proofs.Waited.{waited-told, waited-spent}

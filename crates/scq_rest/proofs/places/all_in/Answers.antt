@@ -1,8 +1,7 @@
 use Rattle.std.proofs.Common.{arith, ◌≡◌, ◌∙◌, ap, sym, subst, List, ◌++◌, length, map, take, drop}
 use Rattle.std.specs.List.{All, AllZip}
 use Rattle.std.proofs.lemmas.List.{length-map}
-use Rattle.scq_rest.specs.Threads.{task, HasBegun, HasDone}
-use Rattle.scq_rest.specs.Places.{given_to, HasWork, IsUntouched}
+use Rattle.scq_rest.specs.Exports.{task, HasBegun, HasDone, given_to, HasWork, IsUntouched}
 use Rattle.scq_rest.specs.declared.places.Runner.{Runner}
 use Rattle.scq_rest.specs.declared.threads.Work.{Work}
 use Rattle.scq_files.proofs.Lists.{written-back}

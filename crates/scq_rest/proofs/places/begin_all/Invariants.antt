@@ -1,8 +1,7 @@
 use Rattle.std.proofs.Common.{◌≡◌, ◌+◌, ◌≤◌, ◌++◌, length, map}
 use Rattle.std.specs.Prelude.{vec_len, vec_capacity, reverse}
 use Rattle.std.specs.List.{All}
-use Rattle.scq_rest.specs.Threads.{task, IsGiven}
-use Rattle.scq_rest.specs.Places.{given_to, HasWork, IsUntouched}
+use Rattle.scq_rest.specs.Exports.{task, IsGiven, given_to, HasWork, IsUntouched}
 use Rattle.scq_rest.proofs.places.begin_all.Given as goal
 
 -- what was given so far stands at the places, in order, and the rest is left

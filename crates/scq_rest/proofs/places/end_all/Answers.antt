@@ -2,8 +2,7 @@ use Rattle.std.proofs.Common.{◌≡◌, ◌∙◌, sym, ap, subst, arith, ◌++
 use Rattle.std.specs.List.{All, AllZip}
 use Rattle.std.proofs.lemmas.List.{reverse-reverse, append-nil, nil_from_length}
 use Rattle.std.proofs.lemmas.List.Elements.{All-head, All-tail}
-use Rattle.scq_rest.specs.Threads.{task, HasDone}
-use Rattle.scq_rest.specs.Places.{given_to, HasWork}
+use Rattle.scq_rest.specs.Exports.{task, HasDone, given_to, HasWork}
 use Rattle.scq_rest.specs.declared.places.Runner.{Runner}
 use Rattle.scq_rest.specs.declared.threads.Work.{Work}
 use Rattle.scq_passes.proofs.Parting.{turned}

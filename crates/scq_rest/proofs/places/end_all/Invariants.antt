@@ -1,8 +1,7 @@
 use Rattle.std.proofs.Common.{◌+◌, ◌≤◌, ◌++◌, map, List}
 use Rattle.std.specs.Prelude.{vec_len, vec_capacity, reverse}
 use Rattle.std.specs.List.{All, AllZip}
-use Rattle.scq_rest.specs.Threads.{task, HasDone}
-use Rattle.scq_rest.specs.Places.{given_to, HasWork}
+use Rattle.scq_rest.specs.Exports.{task, HasDone, given_to, HasWork}
 use Rattle.scq_rest.proofs.places.end_all.Given as goal
 
 -- whatever the ends of the places that are left will be, those so far stand in front of them

@@ -1,6 +1,5 @@
 use Rattle.std.proofs.Common.{map}
-use Rattle.scq_rest.specs.Threads.{HasBegun, HasDone}
-use Rattle.scq_rest.specs.Places.{given_to, HasWork}
+use Rattle.scq_rest.specs.Exports.{HasBegun, HasDone, given_to, HasWork}
 use Rattle.scq_rest.proofs.PlaceLemmas.{Replaced}
 use Rattle.scq_rest.proofs.places.finish_all.Given as goal
 

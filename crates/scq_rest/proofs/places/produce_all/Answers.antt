@@ -1,6 +1,5 @@
 use Rattle.std.proofs.Common.{arith, map}
-use Rattle.scq_rest.specs.Threads.{HasBegun}
-use Rattle.scq_rest.specs.Places.{given_to, HasWork, IsUntouched}
+use Rattle.scq_rest.specs.Exports.{HasBegun, given_to, HasWork, IsUntouched}
 use Rattle.scq_rest.proofs.PlaceLemmas.{replaced-next}
 use Rattle.scq_rest.proofs.places.produce_all.Goals as goal
 

@@ -1,6 +1,5 @@
 use Rattle.std.proofs.Common.{map}
-use Rattle.scq_rest.specs.Threads.{HasBegun}
-use Rattle.scq_rest.specs.Places.{given_to, HasWork, IsUntouched}
+use Rattle.scq_rest.specs.Exports.{HasBegun, given_to, HasWork, IsUntouched}
 use Rattle.scq_rest.proofs.PlaceLemmas.{Replaced}
 use Rattle.scq_rest.proofs.places.produce_all.Given as goal
 

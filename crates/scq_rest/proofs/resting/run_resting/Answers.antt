@@ -5,13 +5,10 @@ use Rattle.std.proofs.lemmas.List.{length-map}
 use Rattle.std.proofs.lemmas.List.Elements.{All-map, All-head, All-tail}
 use Rattle.atomic_table.specs.Seated.{TableId}
 use Rattle.scq_block.specs.declared.frame.Frame.{Frame}
-use Rattle.scq_park.specs.Crews.{Post, AreAll, first_posts}
+use Rattle.scq_park.specs.Exports.{Post, AreAll, first_posts}
 use Rattle.scq_park.proofs.Firsts.{firsts_all}
-use Rattle.scq_worker.specs.Opening.{takes_behind}
-use Rattle.scq_worker.specs.Seats.{Seated}
-use Rattle.scq_worker.specs.Desks.{HasRun}
-use Rattle.scq_rest.specs.Resting.{AreSettled}
-use Rattle.scq_rest.specs.Threads.{task, IsGiven, HasDone}
+use Rattle.scq_worker.specs.Exports.{takes_behind, Seated, HasRun}
+use Rattle.scq_rest.specs.Exports.{AreSettled, task, IsGiven, HasDone}
 use Rattle.scq_files.specs.declared.desk.Desk.{Desk}
 use Rattle.scq_rest.specs.declared.threads.Work.{Work}
 use Rattle.scq_rest.proofs.Settling.{zip-length, desk_of, stand_of, IsFirst, firsts-new, all-given, desks-same, each-done, settled}

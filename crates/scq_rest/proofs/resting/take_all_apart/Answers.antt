@@ -1,9 +1,9 @@
 use Rattle.std.proofs.Common.{◌≡◌, ◌∙◌, ap, arith, List, ◌++◌, map, reverse}
 use Rattle.std.proofs.lemmas.List.{reverse-reverse}
-use Rattle.scq_park.specs.Crews.{Post}
+use Rattle.scq_park.specs.Exports.{Post}
 use Rattle.scq_block.specs.declared.frame.Frame.{Frame}
 use Rattle.scq_files.specs.declared.desk.Desk.{Desk}
-use Rattle.scq_worker.specs.Seats.{Seated}
+use Rattle.scq_worker.specs.Exports.{Seated}
 use Rattle.scq_rest.specs.declared.threads.Work.{Work}
 use Rattle.scq_passes.proofs.Parting.{popped}
 use Rattle.scq_rest.proofs.Settling.{desk_of, stand_of}

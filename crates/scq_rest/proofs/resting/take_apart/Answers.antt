@@ -1,8 +1,8 @@
 use Rattle.std.proofs.Common.{◌∙◌, ap, arith, List, ◌∷◌, ◌++◌, [], length, map}
-use Rattle.scq_park.specs.Crews.{Post}
+use Rattle.scq_park.specs.Exports.{Post}
 use Rattle.scq_block.specs.declared.frame.Frame.{Frame}
 use Rattle.scq_files.specs.declared.desk.Desk.{Desk}
-use Rattle.scq_worker.specs.Seats.{Seated}
+use Rattle.scq_worker.specs.Exports.{Seated}
 use Rattle.scq_rest.proofs.Settling.{desk_of, stand_of}
 use Rattle.scq_rest.proofs.resting.take_apart.Goals as goal
 

@@ -1,15 +1,13 @@
 use Rattle.std.proofs.Common.{rules, ◌≡◌, ◌+◌, ◌∙◌, ap, sym, subst, arith, refl, true, length, Ok, Some}
 use Rattle.std.specs.Prelude.{IfErr, Result, Err}
 use Rattle.std.proofs.lemmas.Bool.{eqb-true}
-use Rattle.scq_park.specs.Crews.{Post}
-use Rattle.scq_queue.specs.Lists.{takes_of}
-use Rattle.scq_queue.specs.Passes.{PassStanding}
-use Rattle.scq_passes.specs.Leaving.{IsSweep, no_sweep, and_some, and_idle}
-use Rattle.scq_passes.specs.Calls.{HasTakenFollowed}
+use Rattle.scq_park.specs.Exports.{Post}
+use Rattle.scq_queue.specs.Exports.{takes_of, PassStanding}
+use Rattle.scq_passes.specs.Exports.{IsSweep, no_sweep, and_some, and_idle, HasTakenFollowed}
 use Rattle.scq_passes.proofs.PassLemmas.{suits-taken, taken-nothing, taken-along, looked}
 use Rattle.scq_passes.proofs.Sweeps.{sweep-of, some-left, took-nothing, took-some}
 use Rattle.scq_passes.proofs.Vain.{vain-swept, sends-rise, takes-rise}
-use Rattle.scq_rest.specs.Sweeping.{idle_sweeps}
+use Rattle.scq_rest.specs.Exports.{idle_sweeps}
 use Rattle.scq_rest.proofs.sweeping.sweep_and_rest.Goals as goal
 use Rattle.scq_rest.proofs.sweeping.sweep_and_rest.Goals.{After-closed-over, In_ok-some}
 

@@ -1,8 +1,6 @@
 use Rattle.std.proofs.Common.{◌≡◌, ◌+◌, ℕ}
-use Rattle.scq_passes.specs.Leaving.{AreSweeps}
-use Rattle.scq_passes.specs.Waiting.{SweepsInVain}
-use Rattle.scq_passes.specs.Calls.{HasTakenFollowed}
-use Rattle.scq_rest.specs.Sweeping.{idle_sweeps}
+use Rattle.scq_passes.specs.Exports.{AreSweeps, SweepsInVain, HasTakenFollowed}
+use Rattle.scq_rest.specs.Exports.{idle_sweeps}
 use Rattle.scq_rest.proofs.sweeping.sweep_and_rest.Given as goal
 
 -- each sweep so far got something or was followed by one rest

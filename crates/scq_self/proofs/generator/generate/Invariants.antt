@@ -1,5 +1,5 @@
 use Rattle.std.proofs.Common.{◌≡◌, ◌<◌, ◌^◌}
-use Rattle.scq_self.specs.Generated.{generated, number_after}
+use Rattle.scq_self.specs.Exports.{generated, number_after}
 use Rattle.scq_self.proofs.generator.generate.Given as goal
 
 -- the lines so far, and the number of the last of them

@@ -1,12 +1,9 @@
 use Rattle.std.proofs.Common.{◌≡◌, ◌∙◌, refl, sym, ap, ℕ, List, Some, None, Err, rules}
 use Rattle.scq_desk.specs.declared.fault.EndFault.TheVariants.{NoMemory}
-use Rattle.scq_work.specs.AllWorkers.{NothingIsStranded}
+use Rattle.scq_work.specs.Exports.{NothingIsStranded}
 use Rattle.scq_worker.specs.declared.job.Job.{Job}
 use Rattle.std.specs.Prelude.{◌+◌, length, IfSome, IsNone, IsSomeAnd}
-use Rattle.scq_service.specs.Members.{SourceOf}
-use Rattle.scq_service.specs.Faults.{fault_of_work, status_of}
-use Rattle.scq_service.specs.Answers.{TellsWork, WorkedAt}
-use Rattle.scq_service.specs.Ends.{HasGotSources, Inputs}
+use Rattle.scq_service.specs.Exports.{SourceOf, fault_of_work, status_of, TellsWork, WorkedAt, HasGotSources, Inputs}
 use Rattle.scq_service.specs.declared.fault.Fault.TheVariants as fault
 use Rattle.scq_service.specs.declared.outcome.Outcome.{Outcome}
 use Rattle.scq_service.proofs.Seen.{none-seen, some-seen}

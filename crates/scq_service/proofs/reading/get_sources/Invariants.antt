@@ -1,7 +1,6 @@
 use Rattle.std.proofs.Common.{◌≡◌, ◌≤◌, length, map}
 use Rattle.std.specs.Prelude.{string_bytes, vec_len, vec_capacity}
-use Rattle.scq_service.specs.Answers.{HaveCome}
-use Rattle.scq_service.specs.Ends.{inputs_of}
+use Rattle.scq_service.specs.Exports.{HaveCome, inputs_of}
 use Rattle.scq_service.proofs.reading.get_sources.Given as goal
 
 -- the sources so far have come

@@ -1,4 +1,4 @@
-use Rattle.scq_service.specs.Faults.{fault_line}
+use Rattle.scq_service.specs.Exports.{fault_line}
 use Rattle.scq_service.proofs.Writings.{same-line}
 use Rattle.scq_service.proofs.reporting.write_fault.Goals as goal
 

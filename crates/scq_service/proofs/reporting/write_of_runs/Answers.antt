@@ -1,5 +1,5 @@
 use Rattle.std.proofs.Common.{codes, rules}
-use Rattle.scq_service.specs.Faults.{run_line}
+use Rattle.scq_service.specs.Exports.{run_line}
 use Rattle.scq_service.proofs.Writings.{part-first, written-both}
 use Rattle.scq_service.proofs.reporting.write_of_runs.Goals as goal
 

@@ -1,4 +1,4 @@
-use Rattle.scq_service.specs.Faults.{place_line, shared_words}
+use Rattle.scq_service.specs.Exports.{place_line, shared_words}
 use Rattle.scq_service.proofs.Writings.{same-line}
 use Rattle.scq_service.proofs.reporting.write_shared.Goals as goal
 

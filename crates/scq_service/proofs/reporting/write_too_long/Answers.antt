@@ -1,5 +1,5 @@
 use Rattle.std.proofs.Common.{rules}
-use Rattle.scq_service.specs.Faults.{payload_line}
+use Rattle.scq_service.specs.Exports.{payload_line}
 use Rattle.scq_service.proofs.Writings.{part-first, written-both}
 use Rattle.scq_service.proofs.reporting.write_too_long.Goals as goal
 

@@ -1,4 +1,4 @@
-use Rattle.scq_service.specs.Faults.{topics_line}
+use Rattle.scq_service.specs.Exports.{topics_line}
 use Rattle.scq_service.proofs.Writings.{same-line}
 use Rattle.scq_service.proofs.reporting.write_topics.Goals as goal
 

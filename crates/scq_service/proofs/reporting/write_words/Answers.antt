@@ -1,4 +1,4 @@
-use Rattle.scq_service.specs.Faults.{words_line}
+use Rattle.scq_service.specs.Exports.{words_line}
 use Rattle.scq_service.proofs.Writings.{same-line}
 use Rattle.scq_service.proofs.reporting.write_words.Goals as goal
 

@@ -1,4 +1,4 @@
-use Rattle.scq_service.specs.Ends.{inputs_of, wrote_of}
+use Rattle.scq_service.specs.Exports.{inputs_of, wrote_of}
 use Rattle.scq_service.proofs.Completeness.{calmly}
 use Rattle.scq_service.proofs.serving.serve.Goals as goal
 

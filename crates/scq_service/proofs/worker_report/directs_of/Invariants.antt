@@ -1,6 +1,6 @@
 use Rattle.std.proofs.Common.{◌≡◌, ◌*◌, ◌≤◌, take}
 use Rattle.std.specs.Prelude.{sum_by}
-use Rattle.scq_service.specs.Reports.{directs_in}
+use Rattle.scq_service.specs.Exports.{directs_in}
 use Rattle.scq_service.proofs.worker_report.directs_of.Given as goal
 
 -- the sum of the lists so far, each of which adds less than 2 ^ 64

@@ -2,9 +2,8 @@ use Rattle.std.proofs.Common.{◌≡◌, ◌∙◌, ◌⊎◌, inl, inr, sym, ap
 use Rattle.std.specs.Prelude.{OnOk, OnErr}
 use Rattle.scq_work.specs.declared.worked.Worked.{Worked}
 use Rattle.scq_service.specs.declared.fault.Fault.{Fault}
-use Rattle.scq_outside.specs.Counts.{Rose}
-use Rattle.scq_service.specs.Reports.{workers_report, reported}
-use Rattle.scq_service.specs.Writing.{written_with, WrotePart}
+use Rattle.scq_outside.specs.Exports.{Rose}
+use Rattle.scq_service.specs.Exports.{workers_report, reported, written_with, WrotePart}
 use Rattle.scq_service.proofs.worker_report.report_run.Goals as goal
 
 either : {X E : Type 0} (r : Result X E) (P Q : Type 0) → OnOk r P → OnErr r Q → Q ⊎ P

@@ -4,8 +4,7 @@ use Rattle.std.specs.List.{zip}
 use Rattle.std.proofs.lemmas.Slice.Zip.{get_or-zip, length-zip}
 use Rattle.scq_collect.specs.declared.answered.Answered.{Answered}
 use Rattle.scq_queue.specs.declared.counts.Counts.{Counts}
-use Rattle.scq_service.specs.Reports.{all_line, counts_line, directs_in, worker_line, worker_lines}
-use Rattle.scq_service.specs.Writing.{written_with, WrotePart}
+use Rattle.scq_service.specs.Exports.{all_line, counts_line, directs_in, worker_line, worker_lines, written_with, WrotePart}
 use Rattle.scq_service.proofs.ReportLines.{part-worker, whole-worker, whole-workers}
 use Rattle.scq_service.proofs.Writings.{part-first, part-second, written-then}
 use Rattle.scq_service.proofs.worker_report.report_workers.Goals as goal

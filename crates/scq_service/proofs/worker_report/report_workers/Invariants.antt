@@ -1,7 +1,6 @@
 use Rattle.std.proofs.Common.{◌≡◌, take}
 use Rattle.std.specs.List.{zip}
-use Rattle.scq_service.specs.Reports.{worker_lines}
-use Rattle.scq_service.specs.Writing.{written_with}
+use Rattle.scq_service.specs.Exports.{worker_lines, written_with}
 use Rattle.scq_service.proofs.worker_report.report_workers.Given as goal
 
 -- the lines of the workers so far are written

@@ -1,5 +1,5 @@
 use Rattle.std.proofs.Common.{◌∙◌, List, ℕ, subst, decimal}
-use Rattle.scq_service.specs.Writing.{WrotePart}
+use Rattle.scq_service.specs.Exports.{WrotePart}
 use Rattle.scq_service.proofs.Writings.{part-first, part-second}
 use Rattle.scq_service.proofs.worker_report.write_named.Goals as goal
 

@@ -1,6 +1,5 @@
 use Rattle.std.proofs.Common.{◌≡◌, ℕ, List, ◌++◌, subst, codes, decimal}
-use Rattle.scq_service.specs.Reports.{counts_line, directs_in}
-use Rattle.scq_service.specs.Writing.{written_with, WrotePart}
+use Rattle.scq_service.specs.Exports.{counts_line, directs_in, written_with, WrotePart}
 use Rattle.scq_service.proofs.Writings.{part-first, part-second}
 use Rattle.scq_service.proofs.worker_report.write_worker.Goals as goal
 

@@ -1,7 +1,7 @@
 use Rattle.std.proofs.Common.{◌≡◌, ◌∙◌, sym, ap, List, ℕ, ◌+◌, ◌-◌, ◌++◌, length, take, drop, arith}
 use Rattle.std.proofs.Math.Seq.{take-add}
 use Rattle.std.proofs.lemmas.Grind.{common_steps}
-use Rattle.scq_service.specs.Writing.{written_with}
+use Rattle.scq_service.specs.Exports.{written_with}
 use Rattle.scq_service.proofs.Writings.{written-then}
 use Rattle.scq_service.proofs.writing.write_all.Goals as goal
 

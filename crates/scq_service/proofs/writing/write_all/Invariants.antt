@@ -1,5 +1,5 @@
 use Rattle.std.proofs.Common.{length, take, ◌-◌, ◌≡◌, ◌≤◌}
-use Rattle.scq_service.specs.Writing.{written_with}
+use Rattle.scq_service.specs.Exports.{written_with}
 use Rattle.scq_service.proofs.writing.write_all.Given as goal
 
 -- what was written so far is a front of the bytes

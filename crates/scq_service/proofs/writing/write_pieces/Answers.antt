@@ -4,8 +4,8 @@ use Rattle.std.specs.Global.{Global}
 use Rattle.std.proofs.lemmas.Grind.{flat_map-append}
 use Rattle.std.proofs.lemmas.List.{drop_more, take-append-drop, take_all}
 use Rattle.std.proofs.lemmas.List.Concat.{flat_map-cons}
-use Rattle.scq_collect.specs.Pieces.{pieces_bytes}
-use Rattle.scq_service.specs.Writing.{WrotePart, written_with}
+use Rattle.scq_collect.specs.Exports.{pieces_bytes}
+use Rattle.scq_service.specs.Exports.{WrotePart, written_with}
 use Rattle.scq_service.proofs.Writings.{part-first, part-second}
 use Rattle.scq_service.proofs.writing.write_pieces.Goals as goal
 

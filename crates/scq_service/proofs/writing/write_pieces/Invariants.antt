@@ -1,6 +1,6 @@
 use Rattle.std.proofs.Common.{◌≡◌, take}
-use Rattle.scq_collect.specs.Pieces.{pieces_bytes}
-use Rattle.scq_service.specs.Writing.{written_with}
+use Rattle.scq_collect.specs.Exports.{pieces_bytes}
+use Rattle.scq_service.specs.Exports.{written_with}
 use Rattle.scq_service.proofs.writing.write_pieces.Given as goal
 
 -- the pieces so far are written

@@ -1,12 +1,11 @@
 use Rattle.std.proofs.Common.{◌≡◌, subst, arith, None}
 use denote.Param.Send.{IsSync, param_sync}
 use Rattle.std.proofs.Crossing as crossing
-use Rattle.scq_block.specs.Frames.{bytes_of}
+use Rattle.scq_block.specs.Exports.{bytes_of}
 use Rattle.scq_block.specs.declared.frame.Frame.{Frame}
-use Rattle.scq_passes.specs.Leaving.{HasLeftSwept}
-use Rattle.scq_passes.specs.Records.{IsGivenBack}
+use Rattle.scq_passes.specs.Exports.{HasLeftSwept, IsGivenBack}
 use Rattle.scq_files.specs.declared.desk.Desk.{Desk}
-use Rattle.scq_stages.specs.Seats.{Seated}
+use Rattle.scq_stages.specs.Exports.{Seated}
 use Rattle.scq_block.proofs.FramesSent.{frame_sent, frame_shared}
 use Rattle.scq_block.specs.contracts.frame.Frame as frame
 use Rattle.scq_block.specs.contracts.frame.FrameBuffer.TheImpl as buffer

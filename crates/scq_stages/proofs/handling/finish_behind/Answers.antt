@@ -1,5 +1,5 @@
 use Rattle.std.proofs.Common.{◌≡◌, ◌∙◌, refl, ap, arith, zero, suc, ℕ, ◌+◌, ◌≤◌, List, ◌++◌, length, take, drop}
-use Rattle.scq_stages.specs.Stages.{redacted, squeezed, stages_left}
+use Rattle.scq_stages.specs.Exports.{redacted, squeezed, stages_left}
 use Rattle.scq_stages.proofs.Handlings.{redacted-there}
 use Rattle.scq_stages.proofs.handling.finish_behind.Goals as goal
 use Rattle.scq_stages.proofs.handling.finish_behind.Goals.{then-topic-eq-FIRST, else-topic-eq-FIRST}

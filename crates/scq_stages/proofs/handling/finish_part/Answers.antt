@@ -1,8 +1,7 @@
 use Rattle.std.proofs.Common.{refl}
-use Rattle.scq_frames.specs.Encoded.{part_at}
-use Rattle.scq_frames.specs.Views.{part_of_view}
+use Rattle.scq_frames.specs.Exports.{part_at, part_of_view}
 use Rattle.scq_frames.proofs.EncodedLemmas.{begins-room}
-use Rattle.scq_stages.specs.Stages.{stages_left}
+use Rattle.scq_stages.specs.Exports.{stages_left}
 use Rattle.scq_stages.proofs.Handlings.{left-over}
 use Rattle.scq_stages.proofs.handling.finish_part.Goals as goal
 

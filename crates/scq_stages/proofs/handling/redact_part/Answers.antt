@@ -1,5 +1,4 @@
-use Rattle.scq_frames.specs.Encoded.{part_at}
-use Rattle.scq_frames.specs.Views.{part_of_view}
+use Rattle.scq_frames.specs.Exports.{part_at, part_of_view}
 use Rattle.scq_frames.proofs.EncodedLemmas.{begins-room}
 use Rattle.scq_stages.proofs.Handlings.{redacted-over}
 use Rattle.scq_stages.proofs.handling.redact_part.Goals as goal

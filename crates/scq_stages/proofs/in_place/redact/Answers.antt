@@ -2,7 +2,7 @@ use Rattle.std.proofs.Common.{◌∙◌, ap, arith, get_or}
 use Rattle.std.specs.Prelude.{slice_set}
 use Rattle.std.proofs.lemmas.List.{get_or_default}
 use Rattle.std.proofs.lemmas.List.Edits.{map_over_more}
-use Rattle.scq_stages.specs.Stages.{redacted_byte}
+use Rattle.scq_stages.specs.Exports.{redacted_byte}
 use Rattle.scq_stages.proofs.in_place.redact.Goals as goal
 
 pub loop-at-preserved : goal.loop-at-preserved

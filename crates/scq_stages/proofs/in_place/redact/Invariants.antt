@@ -1,5 +1,5 @@
 use Rattle.std.proofs.Common.{◌≡◌, ◌++◌, take, drop}
-use Rattle.scq_stages.specs.Stages.{redacted}
+use Rattle.scq_stages.specs.Exports.{redacted}
 use Rattle.scq_stages.proofs.in_place.redact.Given as goal
 
 -- the bytes so far are redacted, and the others stand as they did

@@ -1,5 +1,5 @@
 use Rattle.std.proofs.Common.{◌≡◌, ◌≤◌, ◌++◌, take, drop}
-use Rattle.scq_stages.specs.Stages.{squeezed, squeezed_behind}
+use Rattle.scq_stages.specs.Exports.{squeezed, squeezed_behind}
 use Rattle.scq_stages.proofs.in_place.squeeze.Given as goal
 
 -- what is kept, and then what will be of the others, is what is left of all

@@ -1,15 +1,12 @@
 use Rattle.std.proofs.Common.{◌≡◌, subst, ℕ, false}
-use Rattle.scq_queue.specs.Passes.{PassStanding}
-use Rattle.scq_passes.specs.Calls.{HasLeftSo, TookNoneBelow, after_retire}
+use Rattle.scq_queue.specs.Exports.{PassStanding}
+use Rattle.scq_passes.specs.Exports.{HasLeftSo, TookNoneBelow, after_retire}
 use Rattle.scq_passes.proofs.Results.{either-way, err-then, on-both}
-use Rattle.scq_stages.specs.Records.{first}
-use Rattle.scq_stages.specs.Steps.{HasGivenBack, HasFinished}
-use Rattle.scq_stages.specs.Sweeping.{FinishesOn, LeavesOn}
+use Rattle.scq_stages.specs.Exports.{first, HasGivenBack, HasFinished, FinishesOn, LeavesOn, HasFewStageCalls}
 use Rattle.scq_stages.specs.declared.worker.Worker.{Worker}
 use Rattle.scq_block.specs.declared.frame.Frame.{Frame}
 use Rattle.scq_passes.proofs.PassLemmas.{taken-nothing}
 use Rattle.scq_stages.proofs.Swept.{finished-none}
-use Rattle.scq_stages.specs.Working.{HasFewStageCalls}
 use Rattle.scq_stages.proofs.BehindRetiring.{leaving-of}
 use Rattle.scq_stages.proofs.leaving.leave.Goals as goal
 

@@ -1,7 +1,7 @@
 use Rattle.std.proofs.Common.{◌≡◌, ◌++◌, map, take}
 use Rattle.std.specs.Prelude.{flat_map}
 use Rattle.std.specs.List.{All}
-use Rattle.scq_stages.specs.Output.{position_of_finished}
+use Rattle.scq_stages.specs.Exports.{position_of_finished}
 use Rattle.scq_stages.proofs.ordering.members_of.Given as goal
 
 -- the members of the lists so far

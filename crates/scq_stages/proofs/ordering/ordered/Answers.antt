@@ -1,6 +1,6 @@
 use Rattle.std.proofs.Common.{rules}
 use Rattle.std.proofs.lemmas.List.Sorted.{answers_always}
-use Rattle.scq_stages.specs.Output.{finished_in}
+use Rattle.scq_stages.specs.Exports.{finished_in}
 use Rattle.scq_stages.proofs.Merged.{merged-by}
 use Rattle.scq_stages.proofs.ordering.ordered.Goals as goal
 

@@ -1,16 +1,14 @@
 use Rattle.std.proofs.Common.{◌≡◌, ◌∙◌, ap, sym, subst, arith, ℕ, [], ◌++◌, List, length, take, drop, Option, Some, None}
-use Rattle.scq_block.specs.Frames.{bytes_of}
-use Rattle.scq_band.specs.Standing.{Identity}
-use Rattle.scq_queue.specs.Passes.{PassStanding}
-use Rattle.scq_passes.specs.Calls.{after_retire}
-use Rattle.scq_passes.specs.Leaving.{HasSweptLast}
-use Rattle.scq_passes.specs.Records.{IsGivenBack}
+use Rattle.scq_block.specs.Exports.{bytes_of}
+use Rattle.scq_band.specs.Exports.{Identity}
+use Rattle.scq_queue.specs.Exports.{PassStanding}
+use Rattle.scq_passes.specs.Exports.{after_retire, HasSweptLast, IsGivenBack}
 use Rattle.std.specs.Prelude.{All}
-use Rattle.scq_files.specs.OwnFiles.{IsNew, ids_of, all_given}
+use Rattle.scq_files.specs.Exports.{IsNew, ids_of, all_given}
 use Rattle.scq_files.specs.declared.own_file.OwnFile.{OwnFile}
 use Rattle.scq_files.proofs.Lists.{written-back}
 use Rattle.scq_stages.specs.declared.worker.Worker.{Worker}
-use Rattle.scq_stages.specs.Working.{HasRun, IsAtWork, IsDone}
+use Rattle.scq_stages.specs.Exports.{HasRun, IsAtWork, IsDone}
 use Rattle.scq_stages.proofs.Runs.{AllRead, work-first, run-left, run-late, run-stopped}
 use Rattle.scq_stages.proofs.running.run.Goals as goal
 use Rattle.scq_stages.proofs.running.run.Goals.{After-work, In-Ok, In-Err}

@@ -1,5 +1,5 @@
 use Rattle.std.proofs.Common.{[]}
-use Rattle.scq_files.specs.OwnFiles.{all_given}
+use Rattle.scq_files.specs.Exports.{all_given}
 use Rattle.scq_passes.proofs.Results.{err-then}
 use Rattle.scq_stages.proofs.Runs.{on-then}
 use Rattle.scq_stages.proofs.running.work.Goals as goal

@@ -3,18 +3,15 @@ use Rattle.std.proofs.Common.{◌≡◌, ℕ, sym, ap, subst, List}
 use Rattle.std.specs.Prelude.{IfSome, IsSomeAnd, Vec}
 use Rattle.std.specs.Global.{Global}
 use Rattle.std.specs.List.{All}
-use Rattle.scq_block.specs.Frames.{bytes_of}
+use Rattle.scq_block.specs.Exports.{bytes_of}
 use Rattle.scq_block.specs.declared.frame.Frame.{Frame}
-use Rattle.scq_queue.specs.Passes.{PassStanding}
-use Rattle.scq_passes.specs.Leaving.{HasLeftSwept}
-use Rattle.scq_passes.specs.Records.{IsGivenBack}
-use Rattle.scq_passes.specs.Together.{NoneSpent}
-use Rattle.scq_stages.specs.AllStages.{NothingIsStranded}
+use Rattle.scq_queue.specs.Exports.{PassStanding}
+use Rattle.scq_passes.specs.Exports.{HasLeftSwept, IsGivenBack, NoneSpent}
+use Rattle.scq_stages.specs.Exports.{NothingIsStranded, EndsStages}
 use Rattle.scq_stages.proofs.DeskWorks.{passes_at}
 use Rattle.scq_desk.proofs.Settled.{all-behind, some-and, some-of}
 use Rattle.scq_stages.specs.declared.worker.Worker.{Worker}
 use Rattle.scq_files.proofs.DeskLemmas.{still-dealt}
-use Rattle.scq_stages.specs.Ends.{EndsStages}
 use Rattle.scq_stages.proofs.Starved.{stages-starved}
 use Rattle.scq_stages.proofs.staging.stage_work.Goals as goal
 

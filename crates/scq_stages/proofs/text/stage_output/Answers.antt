@@ -2,7 +2,7 @@ use Rattle.std.proofs.Common.{rules, ◌∙◌, ap, arith, List, map, length}
 use Rattle.std.specs.Prelude.{flat_map, sum_by}
 use Rattle.std.proofs.lemmas.List.{take_all}
 use Rattle.scq_stages.specs.declared.finished.Finished.{Finished}
-use Rattle.scq_stages.specs.Output.{finished_in, handled_line, text_of_handled, without_way}
+use Rattle.scq_stages.specs.Exports.{finished_in, handled_line, text_of_handled, without_way}
 use Rattle.scq_stages.proofs.Merged.{merged-exactly, merged-one-thread}
 use Rattle.scq_stages.proofs.Texts.{Positioned, text-of}
 use Rattle.scq_stages.proofs.text.stage_output.Goals as goal

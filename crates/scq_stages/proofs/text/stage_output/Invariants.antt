@@ -1,6 +1,6 @@
 use Rattle.std.proofs.Common.{◌≡◌, ◌≤◌, ◌*◌, take, length}
 use Rattle.std.specs.Prelude.{flat_map, sum_by}
-use Rattle.scq_stages.specs.Output.{handled_line, without_way}
+use Rattle.scq_stages.specs.Exports.{handled_line, without_way}
 use Rattle.scq_stages.proofs.text.stage_output.Given as goal
 
 -- the lines of the members so far, and how many bytes they have

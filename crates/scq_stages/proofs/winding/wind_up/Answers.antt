@@ -4,20 +4,17 @@ use Rattle.std.specs.Prelude.{Vec}
 use Rattle.std.specs.Global.{Global}
 use Rattle.scq_block.specs.declared.frame.Frame.{Frame}
 use Rattle.scq_frames.specs.declared.message.Message.{Message}
-use Rattle.scq_queue.specs.Lists.{counts_of}
-use Rattle.scq_queue.specs.Passes.{PassStanding, lists_of}
-use Rattle.scq_files.specs.Desks.{AreGathered}
-use Rattle.scq_files.specs.Ends.{AreGiven, StopsAtFaults, all_left}
+use Rattle.scq_queue.specs.Exports.{counts_of, PassStanding, lists_of}
+use Rattle.scq_files.specs.Exports.{AreGathered, AreGiven, StopsAtFaults, all_left}
 use Rattle.scq_files.proofs.GivenLemmas.{given-told}
-use Rattle.scq_passes.specs.AllPasses.{lengths_of}
+use Rattle.scq_passes.specs.Exports.{lengths_of}
 use Rattle.scq_passes.proofs.Counted.{counts-exact}
 use Rattle.scq_passes.proofs.Results.{err-then, ok-more, ok-on}
-use Rattle.scq_desk.specs.Rooms.{IsLaid}
+use Rattle.scq_desk.specs.Exports.{IsLaid}
 use Rattle.scq_stages.specs.declared.finished.Finished.{Finished}
 use Rattle.scq_desk.specs.declared.fault.EndFault.{EndFault}
 use Rattle.scq_stages.specs.declared.staged.Staged.{Staged}
-use Rattle.scq_stages.specs.AllStages.{HasStaged, HaveFinished}
-use Rattle.scq_stages.specs.Output.{finished_in}
+use Rattle.scq_stages.specs.Exports.{HasStaged, HaveFinished, finished_in}
 use Rattle.scq_stages.proofs.DeskWorks.{AllRan, all-ended, desks-gave, desks-shared, desks-staged, lists_at, messages_given, passes_at}
 use Rattle.scq_desk.proofs.Faults.{caused, memory-first}
 use Rattle.scq_stages.proofs.Told.{told-staged}

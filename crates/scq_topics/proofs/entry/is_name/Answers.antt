@@ -2,7 +2,7 @@ use Rattle.std.proofs.Common.{arith, rules, tests}
 use Rattle.std.proofs.lemmas.Bool.Decides.{nat_tests}
 use Rattle.std.proofs.lemmas.Iterator.{YieldsList-from_slice}
 use Rattle.std.proofs.lemmas.Iterator.Search.{all_from_yields_List}
-use Rattle.scq_topics.specs.Topics.{is_name_byte}
+use Rattle.scq_topics.specs.Exports.{is_name_byte}
 use Rattle.scq_topics.proofs.entry.is_name.Goals as goal
 
 pub returns-then-name-le-MOST_NAME : goal.returns-then-name-le-MOST_NAME

@@ -5,7 +5,7 @@ use Rattle.std.proofs.lemmas.List.{take_all}
 use Rattle.std.proofs.lemmas.Bool.Decides.{nat_tests}
 use Rattle.std.proofs.lemmas.Iterator.{YieldsList-from_slice}
 use Rattle.std.proofs.lemmas.Iterator.Search.{position_from_yields_List}
-use Rattle.scq_topics.specs.Kind.{kind_named}
+use Rattle.scq_topics.specs.Exports.{kind_named}
 use Rattle.scq_topics.proofs.Found.{at_position, nowhere, list_any-position}
 use Rattle.scq_topics.proofs.entry.split_entry.Goals as goal
 use Rattle.scq_topics.proofs.entry.split_entry.Goals.{After-position}

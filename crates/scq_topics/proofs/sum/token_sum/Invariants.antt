@@ -1,6 +1,5 @@
 use Rattle.std.proofs.Common.{◌≡◌, drop}
-use Rattle.scq_topics.specs.Runs.{runs, is_space}
-use Rattle.scq_topics.specs.Sum.{sum_of}
+use Rattle.scq_topics.specs.Exports.{runs, is_space, sum_of}
 use Rattle.scq_topics.proofs.SumRun.{run}
 use Rattle.scq_topics.proofs.sum.token_sum.Given as goal
 

@@ -1,7 +1,7 @@
 -- At the end nothing is left in which a word could begin.
 use Rattle.std.proofs.Common.{arith}
 use Rattle.std.proofs.lemmas.List.{at_drop_all}
-use Rattle.scq_topics.specs.Runs.{is_blank}
+use Rattle.scq_topics.specs.Exports.{is_blank}
 use Rattle.scq_topics.proofs.WordsBegun.{begun, begun-runs}
 use Rattle.scq_topics.proofs.words.word_count.Goals as goal
 

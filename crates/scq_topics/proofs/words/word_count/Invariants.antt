@@ -1,6 +1,6 @@
 use Rattle.std.proofs.Common.{◌≡◌, ◌+◌, ◌≤◌, drop, false}
 use Rattle.scq_topics.proofs.WordsBegun.{begun}
-use Rattle.scq_topics.specs.Runs.{is_blank}
+use Rattle.scq_topics.specs.Exports.{is_blank}
 use Rattle.scq_topics.proofs.words.word_count.Given as goal
 
 abbrev pub invariant-loop-byte : goal.invariant-loop-byte

@@ -1,5 +1,5 @@
 use Rattle.std.proofs.Common.{refl}
-use Rattle.scq_word.specs.Tickets.{cycle_of}
+use Rattle.scq_word.specs.Exports.{cycle_of}
 use Rattle.scq_word.proofs.EntryLemmas.{slots_of-pow}
 use Rattle.scq_word.proofs.words.cycle_of.Goals as goal
 

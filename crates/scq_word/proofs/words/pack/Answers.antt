@@ -1,6 +1,6 @@
 -- The sum is the word by its definition, and no part of it is above the whole, which fits.
 use Rattle.std.proofs.Common.{◌≡◌, ◌+◌, ◌∙◌, Bool, true, false, refl, arith}
-use Rattle.scq_word.specs.Entries.{safe_bit}
+use Rattle.scq_word.specs.Exports.{safe_bit}
 use Rattle.scq_word.proofs.EntryLemmas.{packed_sum, mark_slots, word_of_small, entry_in-word_of}
 use Rattle.scq_word.proofs.words.pack.Goals as goal
 use mir.Val.{bool_byte}

@@ -2,8 +2,7 @@
 use Rattle.std.proofs.Common.{◌≡◌, ◌+◌, ◌-◌, ◌*◌, ◌/◌, ◌%◌, ◌^◌, ◌∙◌, ap, subst, refl, ℕ, ◌<◌}
 use Rattle.std.specs.Int.Bits.{bit_and}
 use Rattle.std.proofs.lemmas.Nat.{and_mask}
-use Rattle.scq_word.specs.Sizes.{slots_of}
-use Rattle.scq_word.specs.Tickets.{slot_of}
+use Rattle.scq_word.specs.Exports.{slots_of, slot_of}
 use Rattle.scq_word.proofs.EntryLemmas.{masked}
 use Rattle.scq_word.proofs.TicketLemmas.{slot_of-masked, slot_of_small}
 use Rattle.scq_word.proofs.words.slot_of.Goals as goal

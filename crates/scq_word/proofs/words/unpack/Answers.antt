@@ -1,7 +1,7 @@
 -- What was read is the entry of the word by its definition; the rest are that entry's laws.
 use Rattle.std.proofs.Common.{◌≡◌, ◌+◌, ◌-◌, ◌/◌, ◌^◌, ◌∙◌, sym, ap, arith}
 use Rattle.std.specs.Int.Bits.{bit_and}
-use Rattle.scq_word.specs.Entries.{word_of}
+use Rattle.scq_word.specs.Exports.{word_of}
 use Rattle.scq_word.proofs.EntryLemmas.{read_masked, shifted, masked, word_of-entry_in, entry_of_own, cycle_in_fits}
 use Rattle.scq_word.specs.declared.entry.Entry.{Entry}
 use Rattle.scq_word.proofs.words.unpack.Goals as goal

@@ -2,9 +2,7 @@ use Rattle.std.proofs.Common.{◌≡◌, ◌∙◌, refl, ap, map, Ok, Err}
 use Rattle.std.specs.Prelude.{string_bytes}
 use Rattle.std.proofs.lemmas.Result.{IfOk-weaker}
 use Rattle.clap.specs.Words.{found_of, matches_of}
-use Rattle.scq_words.specs.Commands.{judge_app}
-use Rattle.scq_words.specs.Asked.{asked_of_judge, judge_asked, judge_of, judged, texts_of_judge, judge_tests}
-use Rattle.scq_words.specs.Numbers.{text_in}
+use Rattle.scq_words.specs.Exports.{judge_app, asked_of_judge, judge_asked, judge_of, judged, texts_of_judge, judge_tests, text_in}
 use Rattle.scq_words.specs.declared.fault.WordsFault.TheVariants.{NotUnderstood}
 use Rattle.scq_words.proofs.Answering.{given_or_empty, judge-texts, tests-answer, answer-ok, answer-err, clap-refused}
 use Rattle.scq_words.proofs.InRange.{judge-other}

@@ -1,5 +1,5 @@
 use Rattle.std.proofs.Common.{codes}
-use Rattle.scq_words.specs.Commands.{files_rule, option_rule, plain_app, room_app}
+use Rattle.scq_words.specs.Exports.{files_rule, option_rule, plain_app, room_app}
 use Rattle.scq_words.proofs.parsing.judge_command.Goals as goal
 
 pub returns : goal.returns

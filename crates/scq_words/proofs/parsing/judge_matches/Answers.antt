@@ -1,5 +1,5 @@
 use Rattle.std.proofs.Common.{refl}
-use Rattle.scq_words.specs.Commands.{judge_app}
+use Rattle.scq_words.specs.Exports.{judge_app}
 use Rattle.scq_words.proofs.parsing.judge_matches.Goals as goal
 
 pub returns : goal.returns

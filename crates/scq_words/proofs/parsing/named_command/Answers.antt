@@ -1,7 +1,7 @@
 use Rattle.std.proofs.Common.{◌≡◌, ◌∙◌, ap, codes, inl, inr, refl, subst, sym}
 use Rattle.std.specs.Prelude.{IfOk}
 use Rattle.clap.specs.Words.{App, app_of}
-use Rattle.scq_words.specs.Commands.{flag_rule, named_app, plain_app}
+use Rattle.scq_words.specs.Exports.{flag_rule, named_app, plain_app}
 use Rattle.scq_words.specs.declared.text_request.TextCommand.{TextCommand}
 use Rattle.scq_words.specs.declared.text_request.TextCommand.TheVariants.{Replay, Order}
 use Rattle.scq_words.proofs.parsing.named_command.Goals as goal

@@ -1,5 +1,5 @@
 use Rattle.std.proofs.Common.{codes}
-use Rattle.scq_words.specs.Commands.{option_rule, order_app, plain_app, workers_app}
+use Rattle.scq_words.specs.Exports.{option_rule, order_app, plain_app, workers_app}
 use Rattle.scq_words.proofs.parsing.numbers_command.Goals as goal
 
 pub returns : goal.returns

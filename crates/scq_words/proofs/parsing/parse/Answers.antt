@@ -1,8 +1,7 @@
 use Rattle.std.proofs.Common.{◌≡◌, ◌∙◌, refl, subst, ap, map, length, Bool, true, false, Ok, Err}
 use Rattle.std.specs.Prelude.{◌&&◌, string_bytes, nat_lt}
 use Rattle.clap.specs.Words.{App, Kinds, app_of, is_simple_and_free}
-use Rattle.scq_words.specs.Asked.{refused_if}
-use Rattle.scq_words.specs.Parsing.{Parses}
+use Rattle.scq_words.specs.Exports.{refused_if, Parses}
 use Rattle.scq_words.specs.declared.fault.WordsFault.TheVariants.{NotUnderstood}
 use Rattle.scq_words.proofs.Refusals.{not-taken, not-understood}
 use Rattle.scq_words.proofs.parsing.parse.Goals as goal

@@ -1,5 +1,5 @@
 use Rattle.std.proofs.Common.{codes}
-use Rattle.scq_words.specs.Commands.{batch_app, files_rule, flag_rule, numbers_app, option_rule, report_app, topics_app}
+use Rattle.scq_words.specs.Exports.{batch_app, files_rule, flag_rule, numbers_app, option_rule, report_app, topics_app}
 use Rattle.scq_words.proofs.parsing.run_command.Goals as goal
 
 pub returns : goal.returns

@@ -1,5 +1,5 @@
 use Rattle.std.proofs.Common.{refl}
-use Rattle.scq_words.specs.Commands.{run_app}
+use Rattle.scq_words.specs.Exports.{run_app}
 use Rattle.scq_words.proofs.parsing.run_matches.Goals as goal
 
 pub returns : goal.returns

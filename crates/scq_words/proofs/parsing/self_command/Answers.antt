@@ -1,5 +1,5 @@
 use Rattle.std.proofs.Common.{codes}
-use Rattle.scq_words.specs.Commands.{lines_app, option_rule, plain_app, required_rule, seed_app}
+use Rattle.scq_words.specs.Exports.{lines_app, option_rule, plain_app, required_rule, seed_app}
 use Rattle.scq_words.proofs.parsing.self_command.Goals as goal
 
 pub returns : goal.returns

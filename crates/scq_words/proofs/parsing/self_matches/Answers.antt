@@ -1,5 +1,5 @@
 use Rattle.std.proofs.Common.{refl}
-use Rattle.scq_words.specs.Commands.{self_app}
+use Rattle.scq_words.specs.Exports.{self_app}
 use Rattle.scq_words.proofs.parsing.self_matches.Goals as goal
 
 pub returns : goal.returns

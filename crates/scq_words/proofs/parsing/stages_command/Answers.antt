@@ -1,5 +1,5 @@
 use Rattle.std.proofs.Common.{codes}
-use Rattle.scq_words.specs.Commands.{files_rule, numbers_app}
+use Rattle.scq_words.specs.Exports.{files_rule, numbers_app}
 use Rattle.scq_words.proofs.parsing.stages_command.Goals as goal
 
 pub returns : goal.returns

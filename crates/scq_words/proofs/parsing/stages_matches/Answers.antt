@@ -1,5 +1,5 @@
 use Rattle.std.proofs.Common.{refl}
-use Rattle.scq_words.specs.Commands.{stages_app}
+use Rattle.scq_words.specs.Exports.{stages_app}
 use Rattle.scq_words.proofs.parsing.stages_matches.Goals as goal
 
 pub returns : goal.returns

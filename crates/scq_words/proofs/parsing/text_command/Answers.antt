@@ -1,4 +1,4 @@
-use Rattle.scq_words.specs.Commands.{file_rule, named_app}
+use Rattle.scq_words.specs.Exports.{file_rule, named_app}
 use Rattle.scq_words.proofs.parsing.text_command.Goals as goal
 
 pub returns : goal.returns

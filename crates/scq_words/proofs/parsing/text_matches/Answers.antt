@@ -1,6 +1,6 @@
 use Rattle.std.proofs.Common.{◌≡◌, refl, true}
 use Rattle.clap.specs.Words.{is_simple_and_free}
-use Rattle.scq_words.specs.Commands.{text_app}
+use Rattle.scq_words.specs.Exports.{text_app}
 use Rattle.scq_words.specs.declared.text_request.TextCommand.{TextCommand}
 use Rattle.scq_words.specs.declared.text_request.TextCommand.TheVariants.{Check, Replay, Order}
 use Rattle.scq_words.proofs.parsing.text_matches.Goals as goal

@@ -1,7 +1,6 @@
 use Rattle.std.proofs.Common.{codes}
 use Rattle.std.specs.Prelude.{string_bytes}
-use Rattle.scq_words.specs.Asked.{asked_for_run, asked_run, run}
-use Rattle.scq_words.specs.Ranges.{is_taken_for_run}
+use Rattle.scq_words.specs.Exports.{asked_for_run, asked_run, run, is_taken_for_run}
 use Rattle.scq_words.specs.declared.request.RunRequest.{RunRequest}
 use Rattle.scq_words.proofs.Answered.{answered-first}
 use Rattle.scq_words.proofs.reading.read_run_words.Goals as goal

@@ -1,7 +1,6 @@
 use Rattle.std.proofs.Common.{codes}
 use Rattle.std.specs.Prelude.{string_bytes}
-use Rattle.scq_words.specs.Asked.{asked, asked_by}
-use Rattle.scq_words.specs.Ranges.{is_accepted}
+use Rattle.scq_words.specs.Exports.{asked, asked_by, is_accepted}
 use Rattle.scq_words.specs.declared.request.Request.TheVariants.{Run, SelfRun, Judge, Text, Stages}
 use Rattle.scq_words.proofs.Answered.{answered, answered-first}
 use Rattle.scq_words.proofs.reading.read_words.Goals as goal

@@ -1,7 +1,5 @@
 use Rattle.std.proofs.Common.{◌∷◌, [], None, Err, ap, map, sym}
-use Rattle.scq_words.specs.Asked.{refused_topics}
-use Rattle.scq_words.specs.Numbers.{text_in}
-use Rattle.scq_words.specs.Tested.{numbers_tests, files_tests}
+use Rattle.scq_words.specs.Exports.{refused_topics, text_in, numbers_tests, files_tests}
 use Rattle.scq_words.specs.declared.fault.WordsFault.TheVariants.{TooManyFiles}
 use Rattle.std.specs.Option.{option_or}
 use Rattle.scq_words.specs.declared.fault.WordsError.TheVariants.{Refused}

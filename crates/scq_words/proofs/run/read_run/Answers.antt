@@ -2,9 +2,7 @@ use Rattle.std.proofs.Common.{◌≡◌, ◌∙◌, refl, ap, map, Ok, Err}
 use Rattle.std.specs.Prelude.{string_bytes}
 use Rattle.std.proofs.lemmas.Result.{IfOk-weaker}
 use Rattle.clap.specs.Words.{found_of, matches_of}
-use Rattle.scq_words.specs.Commands.{run_app}
-use Rattle.scq_words.specs.Asked.{asked_of_run, run, asked_run, texts_of_run, run_tests, run_asked}
-use Rattle.scq_words.specs.Numbers.{text_in}
+use Rattle.scq_words.specs.Exports.{run_app, asked_of_run, run, asked_run, texts_of_run, run_tests, run_asked, text_in}
 use Rattle.scq_words.specs.declared.fault.WordsFault.TheVariants.{NotUnderstood}
 use Rattle.scq_words.proofs.Answering.{given_or_empty, run-texts, tests-answer, answer-ok, answer-err, clap-refused}
 use Rattle.scq_words.proofs.InRange.{run-other}

@@ -1,9 +1,7 @@
 use Rattle.std.proofs.Common.{◌≡◌, ◌∙◌, ap, sym, map, Some, Ok, Err}
 use Rattle.std.specs.Prelude.{string_bytes}
 use Rattle.clap.specs.Words.{found_of, matches_of}
-use Rattle.scq_words.specs.Commands.{self_app}
-use Rattle.scq_words.specs.Asked.{generated, self_of, asked_of_self, self_tests, self_asked, texts_of_self}
-use Rattle.scq_words.specs.Numbers.{text_in}
+use Rattle.scq_words.specs.Exports.{self_app, generated, self_of, asked_of_self, self_tests, self_asked, texts_of_self, text_in}
 use Rattle.scq_words.specs.declared.fault.WordsFault.TheVariants.{NotUnderstood}
 use Rattle.scq_words.proofs.Answering.{self-texts, tests-answer, answer-ok, answer-err, clap-refused}
 use Rattle.scq_words.proofs.InRange.{self-other}

@@ -1,6 +1,5 @@
 use Rattle.std.proofs.Common.{Err, ap, map, sym}
-use Rattle.scq_words.specs.Numbers.{text_in}
-use Rattle.scq_words.specs.Tested.{numbers_tests, files_tests}
+use Rattle.scq_words.specs.Exports.{text_in, numbers_tests, files_tests}
 use Rattle.scq_words.specs.declared.fault.WordsFault.TheVariants.{TooManyFiles}
 use Rattle.scq_words.specs.declared.fault.WordsError.TheVariants.{Refused}
 use Rattle.scq_words.proofs.Answering.{handed-on, tests-pass, tests-refuse}

@@ -2,9 +2,7 @@ use Rattle.std.proofs.Common.{◌≡◌, ◌∙◌, refl, ap, map, Ok, Err}
 use Rattle.std.specs.Prelude.{string_bytes}
 use Rattle.std.proofs.lemmas.Result.{IfOk-weaker}
 use Rattle.clap.specs.Words.{found_of, matches_of}
-use Rattle.scq_words.specs.Commands.{stages_app}
-use Rattle.scq_words.specs.Asked.{asked_of_stages, staged, stages_of, texts_of_stages, stages_tests, stages_asked}
-use Rattle.scq_words.specs.Numbers.{text_in}
+use Rattle.scq_words.specs.Exports.{stages_app, asked_of_stages, staged, stages_of, texts_of_stages, stages_tests, stages_asked, text_in}
 use Rattle.scq_words.specs.declared.fault.WordsFault.TheVariants.{NotUnderstood}
 use Rattle.scq_words.proofs.Answering.{given_or_empty, stages-texts, tests-answer, answer-ok, answer-err, clap-refused}
 use Rattle.scq_words.proofs.InRange.{stages-other}

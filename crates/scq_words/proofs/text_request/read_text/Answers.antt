@@ -1,8 +1,7 @@
 use Rattle.std.proofs.Common.{◌≡◌, ◌∙◌, refl, ℕ, List, length, eqb, true, false, ap, sym, map, Some, Err}
 use Rattle.std.specs.Prelude.{string_bytes}
 use Rattle.clap.specs.Words.{found_of, matches_of}
-use Rattle.scq_words.specs.Commands.{text_app}
-use Rattle.scq_words.specs.Asked.{asked_of_text, whole, text_command, text_file, with_flag}
+use Rattle.scq_words.specs.Exports.{text_app, asked_of_text, whole, text_command, text_file, with_flag}
 use Rattle.scq_words.specs.declared.fault.WordsFault.TheVariants.{NoName}
 use Rattle.scq_words.proofs.Answering.{file-text, flag-text, text-answer, given_or_empty, name-missing, name-there, answer-ok, answer-err, clap-refused}
 use Rattle.scq_words.proofs.text_request.read_text.Goals as goal

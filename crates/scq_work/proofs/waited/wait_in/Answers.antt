@@ -4,14 +4,11 @@ use Rattle.std.specs.Prelude.{IfSome, IsSomeAnd, Vec}
 use Rattle.std.specs.Global.{Global}
 use Rattle.std.proofs.lemmas.List.{length-map}
 use Rattle.scq_block.specs.declared.frame.Frame.{Frame}
-use Rattle.scq_queue.specs.Passes.{PassStanding, was_told}
-use Rattle.scq_work.specs.AllWorkers.{NothingIsStranded}
-use Rattle.scq_work.specs.Ends.{EndsWork}
-use Rattle.scq_rest.specs.Resting.{AreSettled}
-use Rattle.scq_rest.specs.Waiting.{HaveWaited}
+use Rattle.scq_queue.specs.Exports.{PassStanding, was_told}
+use Rattle.scq_work.specs.Exports.{NothingIsStranded, EndsWork}
+use Rattle.scq_rest.specs.Exports.{AreSettled, HaveWaited}
 use Rattle.scq_files.specs.declared.desk.Desk.{Desk}
-use Rattle.scq_worker.specs.Opening.{takes_behind}
-use Rattle.scq_worker.specs.Seats.{Seated}
+use Rattle.scq_worker.specs.Exports.{takes_behind, Seated}
 use Rattle.scq_files.proofs.DeskLemmas.{still-dealt}
 use Rattle.scq_desk.proofs.Settled.{some-and, some-of}
 use Rattle.scq_rest.proofs.Settling.{have-waited}

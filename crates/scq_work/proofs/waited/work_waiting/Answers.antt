@@ -1,5 +1,5 @@
 use Rattle.std.proofs.Common.{sym, ap, subst, arith}
-use Rattle.scq_park.specs.Crews.{AreAll}
+use Rattle.scq_park.specs.Exports.{AreAll}
 use Rattle.scq_park.proofs.Firsts.{firsts_all}
 use Rattle.scq_work.proofs.Starved.{ends-starved}
 use Rattle.scq_work.proofs.waited.work_waiting.Goals as goal

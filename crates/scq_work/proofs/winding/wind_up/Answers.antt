@@ -5,17 +5,15 @@ use Rattle.std.specs.Global.{Global}
 use Rattle.scq_block.specs.declared.frame.Frame.{Frame}
 use Rattle.scq_frames.specs.declared.message.Message.{Message}
 use Rattle.scq_collect.specs.declared.answered.Answered.{Answered}
-use Rattle.scq_collect.specs.Merging.{members_of}
-use Rattle.scq_queue.specs.Lists.{counts_of}
-use Rattle.scq_queue.specs.Passes.{PassStanding, lists_of}
-use Rattle.scq_passes.specs.AllPasses.{lengths_of}
+use Rattle.scq_collect.specs.Exports.{members_of}
+use Rattle.scq_queue.specs.Exports.{counts_of, PassStanding, lists_of}
+use Rattle.scq_passes.specs.Exports.{lengths_of}
 use Rattle.scq_passes.proofs.Counted.{counts-exact}
 use Rattle.scq_passes.proofs.Results.{err-then, ok-more, ok-on}
-use Rattle.scq_files.specs.Desks.{AllEnded}
-use Rattle.scq_files.specs.Ends.{AreGiven, StopsAtFaults, all_left}
+use Rattle.scq_files.specs.Exports.{AllEnded, AreGiven, StopsAtFaults, all_left}
 use Rattle.scq_files.proofs.GivenLemmas.{given-told}
-use Rattle.scq_desk.specs.Rooms.{IsLaid}
-use Rattle.scq_work.specs.AllWorkers.{HaveAnswered, HasWorked}
+use Rattle.scq_desk.specs.Exports.{IsLaid}
+use Rattle.scq_work.specs.Exports.{HaveAnswered, HasWorked}
 use Rattle.scq_desk.specs.declared.fault.EndFault.{EndFault}
 use Rattle.scq_work.specs.declared.worked.Worked.{Worked}
 use Rattle.scq_work.proofs.AllGave.{AllRan, given, is-given}

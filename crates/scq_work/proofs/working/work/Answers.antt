@@ -3,16 +3,13 @@ use Rattle.std.proofs.Common.{◌≡◌, ◌+◌, ℕ, sym, ap, subst, List, len
 use Rattle.std.specs.Prelude.{IfSome, IsSomeAnd, Vec}
 use Rattle.std.specs.Global.{Global}
 use Rattle.std.specs.List.{All}
-use Rattle.scq_block.specs.Frames.{bytes_of}
+use Rattle.scq_block.specs.Exports.{bytes_of}
 use Rattle.scq_block.specs.declared.frame.Frame.{Frame}
-use Rattle.scq_queue.specs.Passes.{PassStanding}
-use Rattle.scq_passes.specs.Leaving.{HasLeftSwept}
-use Rattle.scq_passes.specs.Records.{IsReturn}
-use Rattle.scq_passes.specs.Together.{NoneSpent}
-use Rattle.scq_work.specs.AllWorkers.{NothingIsStranded}
-use Rattle.scq_work.specs.Ends.{EndsWork}
+use Rattle.scq_queue.specs.Exports.{PassStanding}
+use Rattle.scq_passes.specs.Exports.{HasLeftSwept, IsReturn, NoneSpent}
+use Rattle.scq_work.specs.Exports.{NothingIsStranded, EndsWork}
 use Rattle.scq_files.specs.declared.desk.Desk.{Desk}
-use Rattle.scq_worker.specs.Seats.{Seated}
+use Rattle.scq_worker.specs.Exports.{Seated}
 use Rattle.scq_desk.proofs.Settled.{all-behind, some-and, some-of}
 use Rattle.scq_worker.specs.declared.worker.Worker.{Worker}
 use Rattle.scq_work.proofs.Starved.{ends-starved}

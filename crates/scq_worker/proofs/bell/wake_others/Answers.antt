@@ -1,5 +1,5 @@
 use Rattle.std.proofs.Common.{◌∙◌, ap}
-use Rattle.scq_park.specs.Crews.{Post}
+use Rattle.scq_park.specs.Exports.{Post}
 use Rattle.scq_worker.proofs.bell.wake_others.Goals as goal
 
 pub wake-requires-clause-stand : goal.wake-requires-clause-stand

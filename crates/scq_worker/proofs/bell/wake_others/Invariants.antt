@@ -1,5 +1,5 @@
 use Rattle.std.proofs.Common.{◌≡◌}
-use Rattle.scq_worker.specs.Bells.{but_wakes, others_more}
+use Rattle.scq_worker.specs.Exports.{but_wakes, others_more}
 use Rattle.scq_worker.proofs.bell.wake_others.Given as goal
 
 -- nothing of the stand changes but whom it woke

@@ -1,13 +1,10 @@
 use Rattle.std.proofs.Common.{rules, ◌≡◌, ◌+◌, ◌∙◌, ap, sym, subst, arith, [], ◌++◌, List, length, take, drop, Err, Result}
 use Rattle.std.specs.Prelude.{IfErr, All}
 use Rattle.std.proofs.lemmas.List.{append-nil}
-use Rattle.scq_frames.specs.Parts.{Part}
-use Rattle.scq_queue.specs.Passes.{PassStanding}
-use Rattle.scq_files.specs.Given.{given_in}
-use Rattle.scq_files.specs.OwnFiles.{IsNew, StopsAtAFault, ids_of, all_given}
-use Rattle.scq_files.specs.Reading.{IsRead}
-use Rattle.scq_worker.specs.Passing.{parts_in}
-use Rattle.scq_worker.specs.Reading.{HasGathered, gathered-along, HasStoppedIn, still-along, stopped-along}
+use Rattle.scq_frames.specs.Exports.{Part}
+use Rattle.scq_queue.specs.Exports.{PassStanding}
+use Rattle.scq_files.specs.Exports.{given_in, IsNew, StopsAtAFault, ids_of, all_given, IsRead}
+use Rattle.scq_worker.specs.Exports.{parts_in, HasGathered, gathered-along, HasStoppedIn, still-along, stopped-along}
 use Rattle.scq_files.specs.declared.own_file.OwnFile.{OwnFile}
 use Rattle.scq_files.proofs.Lists.{written-back}
 use Rattle.scq_worker.proofs.Gathered.{open-none}

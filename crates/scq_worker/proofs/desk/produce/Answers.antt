@@ -1,6 +1,6 @@
 use Rattle.std.proofs.Common.{◌∙◌, ap, sym, subst, []}
-use Rattle.scq_queue.specs.Passes.{PassStanding}
-use Rattle.scq_worker.specs.Reading.{IsWorking}
+use Rattle.scq_queue.specs.Exports.{PassStanding}
+use Rattle.scq_worker.specs.Exports.{IsWorking}
 use Rattle.scq_worker.specs.declared.worker.Worker.{Worker}
 use Rattle.scq_worker.proofs.Gathered.{gathered-none}
 use Rattle.scq_worker.proofs.Produced.{none-or, produced-awake, produced-stopped, vain-first}

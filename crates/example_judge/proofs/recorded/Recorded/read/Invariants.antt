@@ -1,5 +1,5 @@
 use Rattle.std.specs.List.{All}
-use Rattle.example_judge.specs.Events.{IsOn}
+use Rattle.example_judge.specs.Exports.{IsOn}
 use Rattle.example_judge.proofs.recorded.Recorded.read.Given as goal
 
 -- the events so far are on queue 0

@@ -2,13 +2,11 @@ use Rattle.std.proofs.Common.{◌≡◌, ◌<◌, ◌∙◌, sym, ap, subst, ℕ
 use Rattle.std.specs.Prelude.{slice_index}
 use Rattle.std.specs.Mem.Slots.{slots_items}
 use Rattle.scq_word.specs.declared.setup.Setup.{Setup}
-use Rattle.scq_word.specs.Sizes.{n_of}
-use Rattle.scq_core.specs.Machine.{Cells}
+use Rattle.scq_word.specs.Exports.{n_of}
+use Rattle.scq_core.specs.Exports.{Cells}
 use Rattle.scq_core.proofs.Indices.{HasIndices}
-use Rattle.scq_law.specs.Kept.{left_in}
-use Rattle.scq_band.specs.Shown.{ShowsWords}
-use Rattle.scq_band.specs.Standing.{Identity, IsAsGiven}
-use Rattle.scq_band.specs.Closing.{all_calls, all_spent}
+use Rattle.scq_law.specs.Exports.{left_in}
+use Rattle.scq_band.specs.Exports.{ShowsWords, Identity, IsAsGiven, all_calls, all_spent}
 use Rattle.scq_band.proofs.Closes.{IsShownClosed, ended}
 use Rattle.scq_band.proofs.SpentLimits.{none_spent_within}
 use Rattle.scq_band.proofs.band.Band.close.Goals as goal

@@ -1,4 +1,4 @@
-use Rattle.scq_core.specs.Machine.{head_of, tail_of}
+use Rattle.scq_core.specs.Exports.{head_of, tail_of}
 use Rattle.scq_band.proofs.RingLemmas.{tail_fits}
 use Rattle.scq_band.proofs.Layouts.{at_low}
 use Rattle.scq_band.proofs.band.Band.count.Goals as goal

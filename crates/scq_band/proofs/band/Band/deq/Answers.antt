@@ -1,21 +1,15 @@
 use Rattle.std.proofs.Common.{◌≡◌, ◌<◌, ◌≤◌, ◌+◌, ◌^◌, ℕ, length, refl, sym, ◌∙◌, ap, subst, arith, List}
 use Rattle.std.specs.Prelude.{Option, Some, None, Result, Err, slice_set}
-use Rattle.scq_word.specs.Sizes.{n_of}
+use Rattle.scq_word.specs.Exports.{n_of}
 use Rattle.scq_band.specs.declared.calls.DeqRefusal.{DeqRefusal}
 use Rattle.scq_band.specs.declared.calls.DeqRefusal.TheVariants.{Empty, Spent}
-use Rattle.scq_band.specs.Rings.{IsRing}
+use Rattle.scq_band.specs.Exports.{IsRing, IsCallInRun, LiesIn, opening_of, known_of, changed, sees, passes, drew, empties, RisesInHead, HasGotAfter}
+use Rattle.scq_band.specs.Exports.{HasFoundNone, HasSpentGet, known_me, my, Identity, caller_of, standing_of}
 use Rattle.scq_word.specs.declared.setup.Setup.{Setup}
 use Rattle.scq_band.specs.declared.numbers.Numbers.{Numbers}
 use Rattle.scq_core.specs.declared.phase.Phase.TheVariants.{Idle}
-use Rattle.scq_band.specs.RunSeen.{IsCallInRun}
-use Rattle.scq_band.specs.Buffers.{LiesIn, opening_of}
-use Rattle.scq_band.specs.Numbers.{known_of, changed, sees, passes, drew, empties, RisesInHead}
 use Rattle.scq_band.specs.Known.{Known}
-use Rattle.scq_band.specs.Seats.{HasGotAfter, HasFoundNone, HasSpentGet}
-use Rattle.scq_band.specs.Sights.{known_me}
-use Rattle.scq_band.specs.Steps.{my}
-use Rattle.scq_band.specs.Standing.{Identity, Standing, caller_of}
-use Rattle.scq_band.specs.Kept.{standing_of}
+use Rattle.scq_band.specs.Standing.{Standing}
 use Rattle.scq_band.proofs.Keeping.{none_rises, call_seen, empty_seen, kept_got, got_standing, if_drawn, kept_none, none_standing, kept_spent_get, spent_get_standing, known_read, known_here}
 use Rattle.scq_band.proofs.LaidFirst.{ring_there, known_so, keeps_none}
 use Rattle.scq_band.proofs.band.Band.deq.Goals as goal

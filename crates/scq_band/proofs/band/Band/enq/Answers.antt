@@ -2,14 +2,9 @@ use Rattle.std.proofs.Common.{◌≡◌, ◌<◌, ◌≤◌, true, sym, ◌∙�
 use Rattle.std.specs.Prelude.{vec_capacity}
 use Rattle.scq_word.specs.declared.setup.Setup.{Setup}
 use Rattle.scq_band.specs.declared.numbers.Numbers.{Numbers}
-use Rattle.scq_band.specs.Numbers.{known_of}
+use Rattle.scq_band.specs.Exports.{known_of, known_me, my, spent_at, Identity, having_seen, seat_after_spent_put, IsRing, standing_of, IsKept}
 use Rattle.scq_band.specs.Known.{Known}
-use Rattle.scq_band.specs.Sights.{known_me}
-use Rattle.scq_band.specs.Steps.{my}
-use Rattle.scq_band.specs.Seats.{spent_at}
-use Rattle.scq_band.specs.Standing.{Identity, Standing, having_seen, seat_after_spent_put}
-use Rattle.scq_band.specs.Rings.{IsRing}
-use Rattle.scq_band.specs.Kept.{standing_of, IsKept}
+use Rattle.scq_band.specs.Standing.{Standing}
 use Rattle.scq_band.proofs.LaidFirst.{LaidFirst, keeps_none, ring_there, held_there, turned_first, refused_first, laid_held, laid_fronts, laid_some, laid_above, laid_kept, laid_put, laid_call}
 use Rattle.scq_band.proofs.band.Band.enq.Goals as goal
 use Rattle.scq_band.proofs.band.Band.enq.Goals.{After-bring_to_front, In-Err}

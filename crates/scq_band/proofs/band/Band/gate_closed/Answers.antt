@@ -1,9 +1,6 @@
 use Rattle.std.proofs.Common.{◌≡◌, ℕ, ap, subst, eq-eqb}
-use Rattle.scq_band.specs.Buffers.{opening_of}
+use Rattle.scq_band.specs.Exports.{opening_of, IsReadingInRun, caller_of, standing_of}
 use Rattle.scq_band.specs.Known.{Known}
-use Rattle.scq_band.specs.RunSeen.{IsReadingInRun}
-use Rattle.scq_band.specs.Standing.{caller_of}
-use Rattle.scq_band.specs.Kept.{standing_of}
 use Rattle.scq_band.proofs.Keeping.{reading_seen, all_told}
 use Rattle.scq_band.proofs.band.Band.gate_closed.Goals as goal
 

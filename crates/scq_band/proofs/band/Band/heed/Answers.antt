@@ -2,10 +2,8 @@ use Rattle.std.proofs.Common.{sym, ◌∙◌, ap, subst}
 use Rattle.atomic_table.specs.Table.{Me}
 use Rattle.scq_band.specs.declared.slot.Slot.{Slot}
 use Rattle.scq_band.specs.Known.{Known}
-use Rattle.scq_band.specs.RunSeen.{both_seen}
-use Rattle.scq_band.specs.Standing.{Standing, MarkStanding, having_seen}
-use Rattle.scq_band.specs.Kept.{IsKept, standing_of, standing_from, seen_in}
-use Rattle.scq_band.specs.Sights.{known_me, both_sight, mark_with}
+use Rattle.scq_band.specs.Exports.{both_seen, MarkStanding, having_seen, IsKept, standing_of, standing_from, seen_in, known_me, both_sight, mark_with}
+use Rattle.scq_band.specs.Standing.{Standing}
 use Rattle.std.specs.Prelude.{vec_capacity}
 use Rattle.scq_band.proofs.Joining.{both_nobody}
 use Rattle.scq_band.proofs.band.Band.heed.Goals as goal

@@ -1,6 +1,7 @@
 use Rattle.std.proofs.Common.{sym, ◌∙◌, ap, subst}
 use Rattle.std.specs.Prelude.{Some, vec_capacity}
-use Rattle.scq_band.specs.Standing.{Identity, Standing, with_buffer, IsAsGiven}
+use Rattle.scq_band.specs.Exports.{Identity, with_buffer, IsAsGiven}
+use Rattle.scq_band.specs.Standing.{Standing}
 use Rattle.scq_band.proofs.LaidFirst.{LaidFirst, held_there, came_first, front_slot, laid_first}
 use Rattle.scq_band.proofs.band.Band.lay.Goals as goal
 use Rattle.scq_band.proofs.band.Band.lay.Goals.{After-lay_first}

@@ -1,11 +1,8 @@
 use Rattle.std.proofs.Common.{List, length, take, refl, sym, ◌∙◌, ap, subst}
 use Rattle.scq_band.specs.declared.numbers.Numbers.{Numbers}
-use Rattle.scq_band.specs.Numbers.{raised_by}
-use Rattle.scq_band.specs.Known.{both_of}
-use Rattle.scq_band.specs.RunSeen.{both_seen}
-use Rattle.scq_band.specs.Standing.{Standing, NoteStanding}
-use Rattle.scq_band.specs.Kept.{AreSmall, standing_of, note_with, note_sight_with, seen_in}
-use Rattle.scq_band.specs.Sights.{known_me, both_sight}
+use Rattle.scq_band.specs.Exports.{raised_by, both_of, both_seen, NoteStanding, AreSmall, standing_of, note_with, note_sight_with, seen_in, known_me}
+use Rattle.scq_band.specs.Exports.{both_sight}
+use Rattle.scq_band.specs.Standing.{Standing}
 use Rattle.scq_band.proofs.Views.{joined_length}
 use Rattle.scq_band.proofs.Keeping.{kept_still}
 use Rattle.scq_band.proofs.Joining.{small_joined, take_length}

@@ -2,9 +2,8 @@ use Rattle.std.proofs.Common.{◌≡◌, List, ◌∷◌, sym, ◌∙◌, ap, su
 use Rattle.std.specs.Prelude.{Some, None, Option, vec_capacity}
 use Rattle.atomic_table.specs.Table.{rest}
 use Rattle.scq_band.specs.declared.slot.Slot.{Slot}
-use Rattle.scq_band.specs.Sights.{known_me}
-use Rattle.scq_band.specs.Standing.{Identity, Standing, with_buffer, IsAsGiven}
-use Rattle.scq_band.specs.Kept.{standing_of, IsKept}
+use Rattle.scq_band.specs.Exports.{known_me, Identity, with_buffer, IsAsGiven, standing_of, IsKept}
+use Rattle.scq_band.specs.Standing.{Standing}
 use Rattle.scq_band.proofs.Exchanging.{Brought, same_slot}
 use Rattle.scq_band.proofs.LaidFirst.{held_there, came_first, front_slot, lent_first}
 use Rattle.scq_band.proofs.band.Band.lift.Goals as goal

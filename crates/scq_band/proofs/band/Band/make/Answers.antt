@@ -1,18 +1,13 @@
 use Rattle.std.proofs.Common.{◌≡◌, ◌≤◌, rules, List, [], All, map, length, sym, ◌∙◌, ap, subst, arith}
 use Rattle.std.specs.Prelude.{None, vec_capacity}
 use Rattle.scq_word.specs.declared.setup.Setup.{Setup}
-use Rattle.scq_band.specs.Layout.{word_count}
-use Rattle.scq_band.specs.Rings.{AreRings}
-use Rattle.scq_word.specs.Sizes.{n_of}
+use Rattle.scq_band.specs.Exports.{word_count, AreRings, LiesIn, opening_of, first_view, full_slot, lifted, AllLaid, first_standings, identity_of}
+use Rattle.scq_word.specs.Exports.{n_of}
 use Rattle.atomic_table.specs.Table.{opening}
-use Rattle.scq_band.specs.Buffers.{LiesIn, opening_of}
-use Rattle.scq_band.specs.Shown.{Shown, first_view}
-use Rattle.scq_band.specs.Homes.{full_slot}
-use Rattle.scq_band.specs.Making.{lifted, AllLaid}
+use Rattle.scq_band.specs.Shown.{Shown}
 use Rattle.scq_band.proofs.Opening.{opens}
 use Rattle.scq_band.proofs.RunShown.{opens_run}
-use Rattle.scq_band.specs.Standing.{Standing, first_standings}
-use Rattle.scq_band.specs.Kept.{identity_of}
+use Rattle.scq_band.specs.Standing.{Standing}
 use Rattle.scq_band.proofs.Starting.{stand_all, length-map, first_own}
 use Rattle.scq_band.proofs.StartWords.{all_laid, lifted-laid}
 use Rattle.scq_band.proofs.band.Band.make.Goals as goal

@@ -1,7 +1,6 @@
 use Rattle.std.proofs.Common.{sym, ◌∙◌, ap, subst}
-use Rattle.scq_band.specs.Buffers.{opening_of}
-use Rattle.scq_band.specs.RunSeen.{Seen, both_seen, IsMomentInRun}
-use Rattle.scq_band.specs.Standing.{Standing, caller_of}
+use Rattle.scq_band.specs.Exports.{opening_of, Seen, both_seen, IsMomentInRun, caller_of}
+use Rattle.scq_band.specs.Standing.{Standing}
 use Rattle.scq_band.proofs.Meeting.{met, met_comparable}
 use Rattle.scq_band.proofs.band.Band.meet.Goals as goal
 

@@ -4,15 +4,10 @@ use Rattle.atomic_table.specs.Table.{Me, rest}
 use Rattle.scq_word.specs.declared.setup.Setup.{Setup}
 use Rattle.scq_band.specs.declared.numbers.Numbers.{Numbers}
 use Rattle.scq_band.specs.declared.slot.Slot.{Slot}
-use Rattle.scq_band.specs.Buffers.{opening_of}
-use Rattle.scq_band.specs.Numbers.{known_of}
+use Rattle.scq_band.specs.Exports.{opening_of, known_of, Sight, Went, known_me, my, front_index, HasSpentPut, Identity, with_buffer, IsAsGiven}
+use Rattle.scq_band.specs.Exports.{having_seen, seat_after_spent_put, IsRing, standing_of, IsKept}
 use Rattle.scq_band.specs.Known.{Known}
-use Rattle.scq_band.specs.Sights.{Sight, Went, known_me}
-use Rattle.scq_band.specs.Steps.{my, front_index}
-use Rattle.scq_band.specs.Seats.{HasSpentPut}
-use Rattle.scq_band.specs.Standing.{Identity, Standing, with_buffer, IsAsGiven, having_seen, seat_after_spent_put}
-use Rattle.scq_band.specs.Rings.{IsRing}
-use Rattle.scq_band.specs.Kept.{standing_of, IsKept}
+use Rattle.scq_band.specs.Standing.{Standing}
 use Rattle.scq_band.proofs.Exchanging.{same_slot}
 use Rattle.scq_band.proofs.Putting.{put_laid}
 use Rattle.scq_band.proofs.LaidFirst.{LaidFirst, keeps_none, ring_there, held_there, came_first, front_slot, laid_first, refused_laid, laid_held, laid_fronts, laid_some, laid_above, laid_kept, laid_put, laid_call}

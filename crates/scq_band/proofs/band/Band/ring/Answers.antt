@@ -1,7 +1,6 @@
 use Rattle.std.proofs.Common.{◌<◌, length, ap, subst, arith}
 use Rattle.scq_word.specs.declared.setup.Setup.{Setup}
-use Rattle.scq_band.specs.Rings.{IsRing}
-use Rattle.scq_band.specs.Standing.{Identity}
+use Rattle.scq_band.specs.Exports.{IsRing, Identity}
 use Rattle.scq_band.proofs.RingLists.{ring_read}
 use Rattle.scq_band.proofs.band.Band.ring.Goals as goal
 

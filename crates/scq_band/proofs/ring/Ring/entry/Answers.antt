@@ -1,7 +1,7 @@
 use Rattle.std.proofs.Common.{◌≡◌, ◌∙◌, ap}
-use Rattle.scq_word.specs.Tickets.{slot_of}
-use Rattle.scq_core.specs.Machine.{entry_of}
-use Rattle.scq_band.specs.Layout.{at}
+use Rattle.scq_word.specs.Exports.{slot_of}
+use Rattle.scq_core.specs.Exports.{entry_of}
+use Rattle.scq_band.specs.Exports.{at}
 use Rattle.scq_band.proofs.ring.Ring.entry.Goals as goal
 
 pub returns : goal.returns

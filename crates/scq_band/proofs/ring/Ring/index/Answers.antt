@@ -1,5 +1,5 @@
 use Rattle.std.proofs.Common.{◌∙◌}
-use Rattle.scq_word.specs.Words.{index_in}
+use Rattle.scq_word.specs.Exports.{index_in}
 use Rattle.scq_band.proofs.RingWords.{low_bits}
 use Rattle.scq_band.proofs.ring.Ring.index.Goals as goal
 

@@ -1,6 +1,5 @@
 use Rattle.std.proofs.Common.{ℕ, ◌∙◌, ap}
-use Rattle.scq_word.specs.Sizes.{slots_of}
-use Rattle.scq_word.specs.Words.{mark_of}
+use Rattle.scq_word.specs.Exports.{slots_of, mark_of}
 use Rattle.scq_band.proofs.ring.Ring.of.Goals as goal
 
 pub returns-clause-ring : goal.returns-clause-ring

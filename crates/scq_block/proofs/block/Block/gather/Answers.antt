@@ -1,7 +1,7 @@
 use Rattle.std.proofs.Common.{◌*◌, ◌++◌, List, length, ap, sym, ◌∙◌, subst, arith, All}
 use denote.RawPtr.{◌+ₚ◌}
 use Rattle.scq_block.specs.declared.frame.Frame.{Frame}
-use Rattle.scq_block.specs.Frames.{AreInOrder, IsPlaced}
+use Rattle.scq_block.specs.Exports.{AreInOrder, IsPlaced}
 use Rattle.scq_block.proofs.FrameLists.{IsGathering, IsGathering-first, IsGathering-next, All-end, next_to}
 use Rattle.scq_block.proofs.block.Block.gather.Goals as goal
 

@@ -1,7 +1,7 @@
 use Rattle.std.proofs.Common.{rules, ℕ}
 use Rattle.std.proofs.lemmas.List.Sorted.{All-permutation, IsNonDecreasingBy-from_sort_by_key}
 use Rattle.scq_block.specs.declared.frame.Frame.{Frame}
-use Rattle.scq_block.specs.Frames.{IsPlaced}
+use Rattle.scq_block.specs.Exports.{IsPlaced}
 use Rattle.scq_block.proofs.Sorting.{sorted_places}
 use Rattle.scq_block.proofs.block.Block.merge.Goals as goal
 

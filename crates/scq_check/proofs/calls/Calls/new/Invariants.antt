@@ -1,4 +1,4 @@
-use Rattle.scq_check.specs.Calls.{IsCalls}
+use Rattle.scq_check.specs.Exports.{IsCalls}
 use Rattle.scq_check.proofs.calls.Calls.new.Given as goal
 
 abbrev pub invariant-loop-e : goal.invariant-loop-e

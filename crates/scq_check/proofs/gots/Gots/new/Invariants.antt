@@ -1,4 +1,4 @@
-use Rattle.scq_check.specs.Gots.{IsGots}
+use Rattle.scq_check.specs.Exports.{IsGots}
 use Rattle.scq_check.proofs.gots.Gots.new.Given as goal
 
 abbrev pub invariant-loop-e : goal.invariant-loop-e

@@ -1,4 +1,4 @@
-use Rattle.scq_check.specs.Puts.{IsPuts}
+use Rattle.scq_check.specs.Exports.{IsPuts}
 use Rattle.scq_check.proofs.puts.Puts.new.Given as goal
 
 abbrev pub invariant-loop-e : goal.invariant-loop-e

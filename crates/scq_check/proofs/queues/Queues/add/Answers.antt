@@ -1,5 +1,5 @@
 use Rattle.std.proofs.Common.{refl, ◌≤◌, ◌+◌, subst}
-use Rattle.scq_check.specs.Queues.{IsQueueAt}
+use Rattle.scq_check.specs.Exports.{IsQueueAt}
 use Rattle.scq_check.specs.declared.queues.Queue.{Queue}
 use Rattle.scq_check.proofs.QueueLemmas.{queues_more, small_more}
 use Rattle.scq_check.proofs.Orders.{by_number}

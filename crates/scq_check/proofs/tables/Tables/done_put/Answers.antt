@@ -1,6 +1,6 @@
 use Rattle.std.proofs.Common.{false}
 use Rattle.std.proofs.lemmas.Option.{slice_get_within}
-use Rattle.scq_hist.specs.Ended.{EndsPut, NoPutEnds}
+use Rattle.scq_hist.specs.Exports.{EndsPut, NoPutEnds}
 use Rattle.scq_hist.proofs.EndedLemmas.{done_there, none_done, refused_here, done_elsewhere}
 use Rattle.scq_check.proofs.EndedLemmas.{counted}
 use Rattle.scq_check.proofs.tables.Tables.done_put.Goals as goal

@@ -2,11 +2,9 @@
 use Rattle.std.proofs.Common.{rules, ◌≡◌, ◌∙◌, ◌+◌, ◌∷◌, ◌++◌, [], refl, ap, arith, map, sym, Bool, true, false, List, length}
 use Rattle.std.specs.Prelude.{filter, if◌then◌else◌}
 use Rattle.std.proofs.lemmas.List.Elements.{filter-append}
-use Rattle.scq_collect.specs.Ways.{is_direct}
+use Rattle.scq_collect.specs.Exports.{is_direct, given_answer, without_way}
 use Rattle.scq_collect.specs.declared.answered.Answered.{Answered}
 use Rattle.std.proofs.lemmas.List.{length-append, map-append}
-use Rattle.scq_collect.specs.GivenAnswers.{given_answer}
-use Rattle.scq_collect.specs.Joined.{without_way}
 use Rattle.scq_collect.proofs.BlockLemmas.{one-more}
 use Rattle.scq_collect.proofs.answers.Answers.push.Goals as goal
 

@@ -2,11 +2,9 @@
 use Rattle.std.proofs.Common.{rules, ◌≡◌, ◌∙◌, ◌++◌, ap, sym, subst, List, map, append_assoc}
 use Rattle.std.specs.Prelude.{flat_map}
 use Rattle.std.specs.List.{AllZip}
-use Rattle.scq_collect.specs.InBlocks.{HasAnswers}
+use Rattle.scq_collect.specs.Exports.{HasAnswers, PartAnswer, without_way, AreLaid}
 use Rattle.std.proofs.lemmas.Result.{on_ok_weaker}
 use Rattle.scq_collect.specs.declared.answered.Answered.{Answered}
-use Rattle.scq_collect.specs.Joined.{PartAnswer, without_way}
-use Rattle.scq_collect.specs.Laid.{AreLaid}
 use Rattle.scq_collect.proofs.SpotLaws.{codable-groups, codable-last}
 use Rattle.scq_collect.proofs.answers.Answers.push_blocks.Goals as goal
 

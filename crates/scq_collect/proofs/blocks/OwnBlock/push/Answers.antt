@@ -1,5 +1,5 @@
 -- The block has the bytes of one answer more, and its span one place more.
-use Rattle.scq_collect.specs.PartViews.{viewed_answer}
+use Rattle.scq_collect.specs.Exports.{viewed_answer}
 use Rattle.scq_collect.proofs.BlockLemmas.{has-more}
 use Rattle.scq_collect.proofs.SpanLaws.{wider}
 use Rattle.scq_collect.proofs.blocks.OwnBlock.push.Goals as goal

@@ -28,7 +28,7 @@ use denote.Triple.Walked.{says, Stays, stay_dropped, walk_of, ends_at, walk_Meet
 use Rattle.scq_collect.proofs.LogWalks.{none, none_made}
 use Rattle.scq_collect.specs.contracts.log.Log as Log
 use Rattle.scq_collect.specs.contracts.log.Given as Given
-use Rattle.scq_collect.specs.GivenAnswers.{given_answer}
+use Rattle.scq_collect.specs.Exports.{given_answer}
 use Rattle.scq_collect.specs.contracts.log.Log.and as F
 use Rattle.scq_collect.specs.contracts.log.Log.and.Key.{name as #self}
 use Rattle.scq_collect.proofs.log.Log.and.Statement as stated

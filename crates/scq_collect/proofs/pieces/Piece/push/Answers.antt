@@ -1,5 +1,5 @@
 use Rattle.std.proofs.Common.{◌∙◌, sym, ap, List, ℕ, ◌++◌}
-use Rattle.scq_collect.specs.Output.{answer_of_view, reply_line}
+use Rattle.scq_collect.specs.Exports.{answer_of_view, reply_line}
 use Rattle.scq_collect.proofs.InChunks.{flat-push}
 use Rattle.scq_collect.proofs.pieces.Piece.push.Goals as goal
 

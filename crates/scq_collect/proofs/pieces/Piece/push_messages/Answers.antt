@@ -1,9 +1,6 @@
 use Rattle.std.proofs.Common.{◌≡◌, ◌∙◌, sym, ap, subst, arith, refl, ◌-◌, List, [], ◌∷◌, ◌++◌, append_assoc, drop, take, length, map}
 use Rattle.std.proofs.lemmas.List.{append-nil, length-append, length-map}
-use Rattle.scq_collect.specs.Joined.{PartAnswer, answers_of, joined, messages_in_order}
-use Rattle.scq_collect.specs.Output.{Answer}
-use Rattle.scq_collect.specs.Pieces.{IsPieceOf}
-use Rattle.scq_collect.specs.Spots.{plain, spot_answer}
+use Rattle.scq_collect.specs.Exports.{PartAnswer, answers_of, joined, messages_in_order, Answer, IsPieceOf, plain, spot_answer}
 use Rattle.scq_collect.proofs.Cutting.{few-messages, none-left}
 use Rattle.scq_collect.proofs.pieces.Piece.push_messages.Goals as goal
 

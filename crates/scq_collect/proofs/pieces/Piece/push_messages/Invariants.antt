@@ -1,8 +1,5 @@
 use Rattle.std.proofs.Common.{◌≡◌, ◌≤◌, ◌++◌, ◌-◌, List, drop, length}
-use Rattle.scq_collect.specs.Joined.{answers_of}
-use Rattle.scq_collect.specs.Output.{Answer}
-use Rattle.scq_collect.specs.Pieces.{IsPieceOf}
-use Rattle.scq_collect.specs.Spots.{plain}
+use Rattle.scq_collect.specs.Exports.{answers_of, Answer, IsPieceOf, plain}
 use Rattle.scq_collect.proofs.pieces.Piece.push_messages.Given as goal
 
 -- the piece of the answers so far, and those to the messages behind them

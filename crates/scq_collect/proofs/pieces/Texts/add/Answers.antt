@@ -4,8 +4,7 @@ use Rattle.std.specs.Global.{Global}
 use Rattle.std.proofs.lemmas.Grind.{flat_map-append}
 use Rattle.std.proofs.lemmas.List.{length-append}
 use Rattle.std.proofs.lemmas.Result.{IfOk-at_ok}
-use Rattle.scq_collect.specs.Output.{reply_line}
-use Rattle.scq_collect.specs.Pieces.{IsStretchOf, pieces_bytes}
+use Rattle.scq_collect.specs.Exports.{reply_line, IsStretchOf, pieces_bytes}
 use Rattle.scq_collect.proofs.InChunks.{flat-push}
 use Rattle.scq_collect.proofs.pieces.Texts.add.Goals as goal
 

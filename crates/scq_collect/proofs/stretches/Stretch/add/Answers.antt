@@ -1,7 +1,6 @@
 use Rattle.std.proofs.Common.{rules, ◌≡◌, arith, ◌+◌, length}
 use Rattle.std.proofs.lemmas.List.{length-append, length-map}
-use Rattle.scq_collect.specs.Joined.{answers_of}
-use Rattle.scq_collect.specs.Spots.{plain, spot_answer}
+use Rattle.scq_collect.specs.Exports.{answers_of, plain, spot_answer}
 use Rattle.scq_collect.proofs.Stretched.{few-answers}
 use Rattle.scq_collect.proofs.stretches.Stretch.add.Goals as goal
 

@@ -1,7 +1,7 @@
 use Rattle.std.proofs.Common.{◌∙◌, ap, sym, arith, ◌+◌, get_or, eqb, cond}
 use Rattle.std.proofs.lemmas.List.{length-append}
 use Rattle.std.proofs.lemmas.List.Sums.{count_by-le-length, sum_by-append}
-use Rattle.scq_collect.specs.Output.{Answer, bytes_on, count_on}
+use Rattle.scq_collect.specs.Exports.{Answer, bytes_on, count_on}
 use Rattle.scq_collect.proofs.totals.Totals.add.Goals as goal
 
 pub overflow_add-self : goal.overflow_add-self

@@ -1,6 +1,6 @@
 use Rattle.std.proofs.Common.{rules, ◌≡◌, ◌∙◌, ap, sym, arith, ◌+◌, ◌++◌, ◌∷◌, [], length, cond, eqb}
 use Rattle.std.proofs.lemmas.List.Sums.{count_by-le-length}
-use Rattle.scq_collect.specs.Output.{answer_of_view, bytes_on, count_on}
+use Rattle.scq_collect.specs.Exports.{answer_of_view, bytes_on, count_on}
 use Rattle.scq_collect.proofs.Sums.{added, bytes-push, bytes-small, count-push}
 use Rattle.scq_collect.proofs.totals.Totals.count.Goals as goal
 

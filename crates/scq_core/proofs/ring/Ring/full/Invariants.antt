@@ -1,4 +1,4 @@
-use Rattle.scq_core.specs.Fresh.{SlotsAreFilled}
+use Rattle.scq_core.specs.Exports.{SlotsAreFilled}
 use Rattle.scq_core.proofs.ring.Ring.full.Given as goal
 
 abbrev pub invariant-loop-index : goal.invariant-loop-index

@@ -1,10 +1,9 @@
 -- The fields are a sound state as lists; so the turn can be made, and what was made of them is the machine's step.
 use Rattle.std.proofs.Common.{◌≡◌, ◌<◌}
 use Rattle.std.specs.Prelude.{Some, OnOk}
-use Rattle.scq_core.specs.Table.{turn_of, step_of}
-use Rattle.scq_core.specs.StateLists.{StateLists, part_in, machine_of}
+use Rattle.scq_core.specs.Exports.{turn_of, step_of, part_in, machine_of, WantsMemory}
+use Rattle.scq_core.specs.StateLists.{StateLists}
 use Rattle.scq_core.proofs.ListedTurns.{can_turn, seat_lent, applied_sound, applied_steps}
-use Rattle.scq_core.specs.Advance.{WantsMemory}
 use Rattle.scq_core.proofs.Memory.{takes_memory}
 use Rattle.scq_core.proofs.state.State.apply.Goals as goal
 

@@ -1,6 +1,6 @@
 use Rattle.std.proofs.Common.{subst}
-use Rattle.scq_core.specs.StateLists.{StateLists, IsState, no_slot}
-use Rattle.scq_core.specs.StateLists.{machine_of}
+use Rattle.scq_core.specs.Exports.{IsState, no_slot, machine_of}
+use Rattle.scq_core.specs.StateLists.{StateLists}
 use Rattle.scq_core.proofs.Indices.{has_indices}
 use Rattle.scq_core.proofs.Looks.{threshold_small, indexed_ring, cell_there}
 use Rattle.scq_core.proofs.state.State.word.Goals as goal

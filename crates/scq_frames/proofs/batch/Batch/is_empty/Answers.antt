@@ -1,6 +1,6 @@
 -- There are parts where there are bytes.
 use Rattle.std.proofs.Common.{◌≡◌, ◌↔◌, IsTrue, List, [], subst, arith}
-use Rattle.scq_frames.specs.Parts.{Part}
+use Rattle.scq_frames.specs.Exports.{Part}
 use Rattle.scq_frames.proofs.BatchLemmas.{is-none}
 use Rattle.scq_frames.proofs.batch.Batch.is_empty.Goals as goal
 

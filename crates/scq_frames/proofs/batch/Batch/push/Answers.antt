@@ -1,9 +1,7 @@
 -- The parts are those that were there, and the new one.
 use Rattle.std.proofs.Common.{◌≡◌, ◌∙◌, refl, sym, ap, subst, List, ℕ, ◌++◌, ◌∷◌, [], arith}
 use Rattle.std.specs.List.{All}
-use Rattle.scq_frames.specs.Parts.{Part}
-use Rattle.scq_frames.specs.Views.{part_of_view}
-use Rattle.scq_frames.specs.Batches.{AreParts, parts_at}
+use Rattle.scq_frames.specs.Exports.{Part, part_of_view, AreParts, parts_at}
 use Rattle.scq_frames.proofs.BatchLemmas.{are-more, encodable-view, parts-more}
 use Rattle.scq_frames.proofs.batch.Batch.push.Goals as goal
 

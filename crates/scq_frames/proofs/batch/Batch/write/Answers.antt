@@ -1,6 +1,6 @@
 -- The bytes are those of the parts, and no part begins behind them.
 use Rattle.std.proofs.Common.{◌∙◌, ap, List, ℕ, ◌+◌, ◌++◌, length, drop, arith}
-use Rattle.scq_frames.specs.Batches.{batch_bytes, parts_at}
+use Rattle.scq_frames.specs.Exports.{batch_bytes, parts_at}
 use Rattle.scq_frames.proofs.BatchLemmas.{ended, parts-of-batch}
 use Rattle.scq_frames.proofs.batch.Batch.write.Goals as goal
 

@@ -3,7 +3,7 @@ use Rattle.std.proofs.Common.{◌≡◌, ℕ, ◌+◌, ◌^◌, ◌≤◌, Err, 
 use Rattle.std.proofs.lemmas.Bool.{true≢false}
 use Rattle.scq_frames.specs.declared.fault.FrameFault.TheVariants.{ReadFault, TooLong}
 use Rattle.scq_frames.proofs.EndLemmas.{reads-on}
-use Rattle.scq_frames.specs.Coming.{Found}
+use Rattle.scq_frames.specs.Exports.{Found}
 use Rattle.scq_frames.specs.Framing.{Framing}
 use Rattle.scq_frames.proofs.TrimLemmas.{holding}
 use Rattle.scq_frames.proofs.CountLemmas.{CountsLongLine, Counts-start, Counts-fault, Counts-ended, Counts-over, Counts-more, Found-dropped}

@@ -1,6 +1,6 @@
 -- While the line goes on: so many bytes of its payload came, nothing is held, and the end is not reached.
 use Rattle.std.proofs.Common.{◌≡◌}
-use Rattle.scq_frames.specs.Framing.{work_left}
+use Rattle.scq_frames.specs.Exports.{work_left}
 use Rattle.scq_frames.proofs.CountLemmas.{CountsLongLine}
 use Rattle.scq_frames.proofs.framer.Framer.count_long.Given as goal
 

@@ -5,14 +5,11 @@ use Rattle.scq_frames.specs.declared.message.Message.{Message}
 use Rattle.scq_frames.specs.declared.fault.FrameFault.TheVariants.{ReadFault}
 use Rattle.std.specs.Prelude.{IfErr}
 use Rattle.scq_frames.specs.declared.fault.FrameFault.{FrameFault}
-use Rattle.scq_frames.specs.Answers.{GivesFirst, HasFault, ReadsFrom}
+use Rattle.scq_frames.specs.Exports.{GivesFirst, HasFault, ReadsFrom, EndsAt, HasNoLineFeed, EndsOnce, work_left, framing, Found}
 use Rattle.scq_frames.proofs.StopLemmas.{fault-of_line, goes_on-err, last-kept, no-read_fault, reads-no_more, unchanged}
-use Rattle.scq_frames.specs.Lines.{EndsAt, HasNoLineFeed}
-use Rattle.scq_topics.specs.Topics.{topic_of}
+use Rattle.scq_topics.specs.Exports.{topic_of}
 use Rattle.scq_frames.proofs.EndLemmas.{ends-start, began-going, ends-read, reads-on}
-use Rattle.scq_frames.specs.Framing.{EndsOnce, Framing, work_left}
-use Rattle.scq_frames.specs.FramerState.{framing}
-use Rattle.scq_frames.specs.Coming.{Found}
+use Rattle.scq_frames.specs.Framing.{Framing}
 use Rattle.scq_frames.proofs.AheadLemmas.{Passed, PassedLast, passed-line, passed-last, first-line, first-last}
 use Rattle.scq_frames.proofs.FoundLemmas.{Found-line, Found-last, Found-later}
 use Rattle.scq_frames.proofs.NameLemmas.{names-overlook}

@@ -1,6 +1,6 @@
 -- While no message came: the messages ahead are those at the start, nothing was given, and the end was answered at most once.
-use Rattle.scq_frames.specs.Framing.{EndsOnce, work_left}
-use Rattle.scq_topics.specs.Topics.{topic_of}
+use Rattle.scq_frames.specs.Exports.{EndsOnce, work_left}
+use Rattle.scq_topics.specs.Exports.{topic_of}
 use Rattle.scq_frames.proofs.NextLemmas.{Searches}
 use Rattle.scq_frames.proofs.framer.Framer.next.Given as goal
 

@@ -1,6 +1,6 @@
 -- The front was moved up to the rest, so the bytes held are both, and no line feed is among them.
 use Rattle.std.proofs.Common.{◌≡◌, ℕ, List, ◌+◌, ◌-◌, ◌++◌, length, take, drop, sym, ◌∙◌, ap, subst, arith}
-use Rattle.scq_frames.specs.Lines.{HasNoLineFeed}
+use Rattle.scq_frames.specs.Exports.{HasNoLineFeed}
 use Rattle.scq_frames.proofs.PartLemmas.{part-cut, clear_from_part, length-part}
 use Rattle.scq_frames.proofs.TrimLemmas.{clear-cut}
 use Rattle.scq_frames.proofs.window.Window.cut.Goals as goal

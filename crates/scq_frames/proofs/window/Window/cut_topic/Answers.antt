@@ -1,7 +1,7 @@
 use Rattle.std.proofs.Common.{◌≡◌, ◌≤◌, ℕ, List, length, take, drop, ◌++◌, sym, ◌∙◌, ap, subst, arith}
 use Rattle.std.specs.List.{before_first}
 use Rattle.std.proofs.Math.Seq.{take-length}
-use Rattle.scq_topics.specs.Runs.{is_space}
+use Rattle.scq_topics.specs.Exports.{is_space}
 use Rattle.scq_frames.proofs.TrimLemmas.{topic-cut}
 use Rattle.scq_frames.proofs.window.Window.cut_topic.Goals as goal
 

@@ -1,7 +1,7 @@
 use Rattle.std.proofs.Common.{subst, ℕ, List, Some, None, ◌+◌, ◌-◌, length, arith}
 use Rattle.std.specs.Prelude.{slice_range}
 use Rattle.memchr.specs.Find.{IsFirstByte, is_byte}
-use Rattle.scq_frames.specs.Lines.{EndsAt, HasNoLineFeed}
+use Rattle.scq_frames.specs.Exports.{EndsAt, HasNoLineFeed}
 use Rattle.scq_frames.proofs.PartLemmas.{clear-append, clear_from_some, clear_from_none, found_within, found_at, clear_part, ends_part}
 use Rattle.scq_frames.proofs.window.Window.line_len.Goals as goal
 

@@ -1,6 +1,6 @@
 use Rattle.std.proofs.Common.{[], ◌∷◌, ◌++◌, ap, sym, subst}
 use Rattle.scq_hist.proofs.HandedOn.{handed_on}
-use Rattle.scq_judge.specs.Reads.{ReadingStopped, HaveBeenRead, Progress}
+use Rattle.scq_judge.specs.Exports.{ReadingStopped, HaveBeenRead, Progress}
 use Rattle.scq_judge.proofs.ReaderLemmas.{read_next, read_stopped}
 use Rattle.scq_judge.proofs.reader.Reader.read.Goals as goal
 

@@ -3,8 +3,8 @@ use Rattle.std.proofs.lemmas.Grind.{common_steps}
 use Rattle.std.proofs.lemmas.List.{length-take-le}
 use Rattle.memchr.specs.Find.{IsFirstByte, is_byte}
 use Rattle.scq_hist.proofs.HandedOn.{handed_on}
-use Rattle.scq_lines.specs.Lines.{lines_of}
-use Rattle.scq_judge.specs.Recording.{after_lines}
+use Rattle.scq_lines.specs.Exports.{lines_of}
+use Rattle.scq_judge.specs.Exports.{after_lines}
 use Rattle.scq_judge.specs.declared.judging.JudgeFault.TheVariants.{NoMemory}
 use Rattle.scq_judge.specs.declared.recorded.Last.TheVariants.{NoEvent}
 use Rattle.scq_judge.proofs.ReadLemmas.{longer, refused_piece, taken_piece}

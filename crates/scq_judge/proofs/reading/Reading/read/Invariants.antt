@@ -1,8 +1,7 @@
 use Rattle.std.proofs.Common.{◌≡◌, ◌+◌, ◌-◌, ◌≤◌, ℕ, None, length}
 use Rattle.std.specs.Option.{option_map}
 use Rattle.memchr.specs.Find.{IsFirstByte, is_byte}
-use Rattle.scq_judge.specs.Files.{IsFile, most_bytes}
-use Rattle.scq_judge.specs.Recording.{AllAreOfFiles}
+use Rattle.scq_judge.specs.Exports.{IsFile, most_bytes, AllAreOfFiles}
 use Rattle.scq_judge.specs.declared.recorded.Last.TheVariants.{NoEvent}
 use Rattle.scq_judge.proofs.ReadLemmas.{BytesAreTaken}
 use Rattle.scq_judge.proofs.SourceLemmas.{HasGivenSoFar}

@@ -1,7 +1,7 @@
 use Rattle.std.proofs.Common.{◌<◌, ◌∙◌, [], length, ap, arith}
 use Rattle.std.proofs.lemmas.Result.{IfErr-weaker}
 use Rattle.scq_lines.proofs.Cutting.{lines_of-none}
-use Rattle.scq_judge.specs.Recording.{after_lines}
+use Rattle.scq_judge.specs.Exports.{after_lines}
 use Rattle.scq_judge.proofs.ReadLemmas.{on_ok}
 use Rattle.scq_judge.proofs.SourceLemmas.{line_fault}
 use Rattle.scq_judge.proofs.reading.Reading.take_last.Goals as goal

@@ -1,7 +1,6 @@
 use Rattle.std.proofs.Common.{◌≡◌, ◌+◌, ◌≤◌, ◌++◌, ℕ, List, length}
-use Rattle.scq_lines.specs.Lines.{lines_of}
-use Rattle.scq_judge.specs.Files.{IsFile}
-use Rattle.scq_judge.specs.Recording.{after_lines, AllAreOfFiles}
+use Rattle.scq_lines.specs.Exports.{lines_of}
+use Rattle.scq_judge.specs.Exports.{IsFile, after_lines, AllAreOfFiles}
 use Rattle.scq_judge.proofs.reading.Reading.take_lines.Given as goal
 
 abbrev pub invariant-lines : goal.invariant-lines

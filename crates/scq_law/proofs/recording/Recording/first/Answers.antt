@@ -1,8 +1,7 @@
 -- No put and no attempt is counted, and nobody is named.
 use Rattle.std.proofs.Common.{ℕ, ap, subst, arith}
 use Rattle.std.specs.Prelude.{unwrap_or}
-use Rattle.scq_law.specs.Replay.{Counts}
-use Rattle.scq_law.specs.Run.{first_placer}
+use Rattle.scq_law.specs.Exports.{Counts, first_placer}
 use Rattle.scq_law.proofs.recording.Recording.first.Goals as goal
 
 pub returns : goal.returns

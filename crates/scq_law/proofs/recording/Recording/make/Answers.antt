@@ -1,8 +1,8 @@
 -- The ring of the act is that of the seat's phase, which every reachable state has in range; and what the turn adds is recorded.
 use Rattle.std.proofs.Common.{ℕ, ◌∙◌, sym, subst}
 use Rattle.scq_core.specs.Machine.{Machine}
-use Rattle.scq_core.specs.Reach.{IsReachable}
-use Rattle.scq_law.specs.Acts.{IsOnRing}
+use Rattle.scq_core.specs.Exports.{IsReachable}
+use Rattle.scq_law.specs.Exports.{IsOnRing}
 use Rattle.scq_law.proofs.Replays.TurnRecording.{acts_within, made}
 use Rattle.scq_law.proofs.recording.Recording.make.Goals as goal
 

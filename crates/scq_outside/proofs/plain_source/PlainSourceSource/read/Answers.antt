@@ -1,7 +1,7 @@
 use Rattle.std.proofs.Common.{◌≡◌, ◌∙◌, sym, List, ℕ, ap, ◌≤◌, ◌-◌, ◌++◌, length, take, drop, arith}
 use Rattle.std.proofs.lemmas.List.{drop-drop, take_at, length-take-le, take-append-drop}
 use Rattle.std.proofs.lemmas.Grind.{common_steps}
-use Rattle.scq_outside.specs.Readable.{Plain}
+use Rattle.scq_outside.specs.Exports.{Plain}
 use Rattle.scq_outside.proofs.plain_source.PlainSourceSource.read.Goals as goal
 
 -- the first n bytes of a list, copied over the front of a buffer, and then the rest are the list

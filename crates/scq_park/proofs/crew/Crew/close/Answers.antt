@@ -1,7 +1,6 @@
 use Rattle.std.proofs.Common.{List, sym, ◌∙◌, ap, subst}
 use Rattle.atomic_table.specs.Seated.{TableId}
-use Rattle.scq_park.specs.Crews.{AreAll, no_wakes, woken, ended}
-use Rattle.scq_park.specs.Kept.{ParkerDeeds, EachEnds, rests_between}
+use Rattle.scq_park.specs.Exports.{AreAll, no_wakes, woken, ended, ParkerDeeds, EachEnds, rests_between}
 use Rattle.scq_park.proofs.Ends.{all_end, all_told}
 use Rattle.scq_park.proofs.crew.Crew.close.Goals as goal
 

@@ -1,9 +1,7 @@
 use Rattle.std.proofs.Common.{◌≡◌, ◌∙◌, ℕ, ◌-◌, List, All, length, sym, ap, subst, arith}
 use Rattle.std.specs.Prelude.{vec_len}
 use Rattle.atomic_table.specs.Seated.{TableId}
-use Rattle.scq_park.specs.Rule.{deeds}
-use Rattle.scq_park.specs.Crews.{first_posts}
-use Rattle.scq_park.specs.Kept.{ParkerDeeds, parkers_of}
+use Rattle.scq_park.specs.Exports.{deeds, first_posts, ParkerDeeds, parkers_of}
 use Rattle.scq_park.proofs.Rows.{parkers_length}
 use Rattle.scq_park.proofs.crew.Crew.make.Goals as goal
 

@@ -1,8 +1,7 @@
 use Rattle.std.proofs.Common.{◌≡◌, ◌<◌, List, length, sym, ◌∙◌, ap, subst, arith}
 use Rattle.std.specs.Prelude.{slice_set}
 use Rattle.atomic_table.specs.Seated.{TableId}
-use Rattle.scq_park.specs.Crews.{Post, with_wake}
-use Rattle.scq_park.specs.Kept.{ParkerDeeds, parkers_of, post_of, IsStand}
+use Rattle.scq_park.specs.Exports.{Post, with_wake, ParkerDeeds, parkers_of, post_of, IsStand}
 use Rattle.scq_park.proofs.Rows.{read_at, parkers_length, same_parker, stand_woke, post_woke}
 use Rattle.scq_park.proofs.crew.Crew.wake.Goals as goal
 

@@ -1,5 +1,5 @@
 use Rattle.std.proofs.Common.{◌<◌, sym, subst}
-use Rattle.scq_park.specs.Kept.{ParkerDeeds}
+use Rattle.scq_park.specs.Exports.{ParkerDeeds}
 use Rattle.scq_park.proofs.Keeps.{rests}
 use Rattle.scq_park.proofs.passes.RestPass.rest.Goals as goal
 

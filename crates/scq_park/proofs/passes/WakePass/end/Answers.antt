@@ -1,6 +1,5 @@
 use Rattle.std.proofs.Common.{ap, arith}
-use Rattle.scq_park.specs.Rule.{Deeds}
-use Rattle.scq_park.specs.Kept.{ParkerDeeds}
+use Rattle.scq_park.specs.Exports.{Deeds, ParkerDeeds}
 use Rattle.scq_park.proofs.Keeps.{settles}
 use Rattle.scq_park.proofs.passes.WakePass.end.Goals as goal
 

@@ -1,5 +1,5 @@
 use Rattle.std.proofs.Common.{◌<◌, sym, subst}
-use Rattle.scq_park.specs.Kept.{ParkerDeeds}
+use Rattle.scq_park.specs.Exports.{ParkerDeeds}
 use Rattle.scq_park.proofs.Keeps.{wakes}
 use Rattle.scq_park.proofs.passes.WakePass.wake.Goals as goal
 

@@ -3,12 +3,10 @@ use Rattle.std.specs.Prelude.{Some, slice_index, vec_capacity}
 use Rattle.std.specs.Mem.Slots.{slots_items, slots_filled, slots_len}
 use mathlib.Core.Option.{some}
 use lib.ListN.{get_elem?}
-use Rattle.scq_queue.specs.Passes.{PassStanding}
+use Rattle.scq_queue.specs.Exports.{PassStanding}
 use Rattle.scq_band.proofs.Unloading.{read_word, length_next, empty_next, full_next}
 use Rattle.scq_port.specs.declared.port_buffer.PortBuffer.{PortBuffer}
-use Rattle.scq_port.specs.Ports.{PortQueue}
-use Rattle.scq_port.specs.Ends.{Laid, IsPassOf}
-use Rattle.scq_port.specs.Kept.{AreAdded}
+use Rattle.scq_port.specs.Exports.{PortQueue, Laid, IsPassOf, AreAdded}
 use Rattle.scq_port.proofs.EndSteps.{left_there, own_there}
 use Rattle.scq_port.proofs.Gathering.{gathered_less, gathered_more, gathered_all}
 use Rattle.scq_port.proofs.ends.Ends.gather.Goals as goal

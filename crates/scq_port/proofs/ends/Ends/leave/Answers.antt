@@ -1,7 +1,7 @@
 use Rattle.std.proofs.Common.{◌<◌, ◌∷◌, sym, ◌∙◌, ap, subst}
 use Rattle.std.specs.Prelude.{Some}
 use Rattle.atomic_table.specs.Table.{Me, rest}
-use Rattle.scq_port.specs.Ends.{Laid, Claim}
+use Rattle.scq_port.specs.Exports.{Laid, Claim}
 use Rattle.scq_port.proofs.EndSteps.{begins, lays}
 use Rattle.scq_port.proofs.ends.Ends.leave.Goals as goal
 

@@ -1,7 +1,7 @@
 use Rattle.std.proofs.Common.{◌≡◌, sym, ◌∙◌, ap, arith}
 use Rattle.std.specs.Prelude.{Option, Some, None, slice_get, slice_set}
 use Rattle.std.proofs.lemmas.Option.{slice_get_read}
-use Rattle.scq_port.specs.Ports.{Value}
+use Rattle.scq_port.specs.Exports.{Value}
 use Rattle.scq_port.proofs.Lists.{set_same}
 use Rattle.scq_port.proofs.hand.Hand.take_out.Goals as goal
 

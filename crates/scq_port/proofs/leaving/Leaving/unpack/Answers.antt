@@ -1,8 +1,8 @@
 use Rattle.std.proofs.Common.{List, [], ◌∷◌, ◌++◌, sym, ◌∙◌, ap, subst}
 use Rattle.std.specs.Prelude.{Option}
-use Rattle.scq_queue.specs.Passes.{PassStanding}
+use Rattle.scq_queue.specs.Exports.{PassStanding}
 use Rattle.scq_port.specs.declared.port_buffer.PortBuffer.{PortBuffer}
-use Rattle.scq_port.specs.Ports.{Value}
+use Rattle.scq_port.specs.Exports.{Value}
 use Rattle.scq_port.proofs.Unpacking.{Unpacks, unpacks_first, unpacks_past, unpacks_more, unpacks_all}
 use Rattle.scq_port.proofs.leaving.Leaving.unpack.Goals as goal
 

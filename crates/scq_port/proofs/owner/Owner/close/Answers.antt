@@ -1,9 +1,7 @@
 use Rattle.std.proofs.Common.{List, map, sym, subst}
-use Rattle.scq_queue.specs.Passes.{PassStanding}
+use Rattle.scq_queue.specs.Exports.{PassStanding}
 use Rattle.scq_port.specs.declared.port_buffer.PortBuffer.{PortBuffer}
-use Rattle.scq_port.specs.Ports.{PortQueue, buffer_bytes}
-use Rattle.scq_port.specs.Ends.{AreAllPasses}
-use Rattle.scq_port.specs.Closed.{HasClosedPorts}
+use Rattle.scq_port.specs.Exports.{PortQueue, buffer_bytes, AreAllPasses, HasClosedPorts}
 use Rattle.scq_port.proofs.Numbered.{numbers_at_end}
 use Rattle.scq_port.proofs.owner.Owner.close.Goals as goal
 

@@ -1,9 +1,7 @@
 use Rattle.std.proofs.Common.{rules, ap, subst, refl}
-use Rattle.scq_queue.specs.Passes.{PassStanding}
+use Rattle.scq_queue.specs.Exports.{PassStanding}
 use Rattle.scq_port.specs.declared.port_buffer.PortBuffer.{PortBuffer}
-use Rattle.scq_port.specs.Ports.{PortStanding}
-use Rattle.scq_port.specs.Calls.{HasAsked}
-use Rattle.scq_port.specs.Kept.{seen_as}
+use Rattle.scq_port.specs.Exports.{PortStanding, HasAsked, seen_as}
 use Rattle.scq_port.proofs.Records.{asked_of}
 use Rattle.scq_port.proofs.port.Port.all_retired.Goals as goal
 

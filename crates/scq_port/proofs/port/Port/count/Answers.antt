@@ -1,7 +1,5 @@
 use Rattle.std.proofs.Common.{rules, ◌≡◌, ◌+◌, ◌<◌, subst, refl}
-use Rattle.scq_port.specs.Ports.{PortStanding}
-use Rattle.scq_port.specs.Calls.{HasCounted}
-use Rattle.scq_port.specs.Kept.{seen_as}
+use Rattle.scq_port.specs.Exports.{PortStanding, HasCounted, seen_as}
 use Rattle.scq_port.proofs.Records.{counted_of}
 use Rattle.scq_port.proofs.port.Port.count.Goals as goal
 

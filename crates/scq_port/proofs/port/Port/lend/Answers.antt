@@ -1,7 +1,5 @@
 use Rattle.std.proofs.Common.{subst}
-use Rattle.scq_port.specs.Ports.{PortStanding}
-use Rattle.scq_port.specs.Calls.{WasFull}
-use Rattle.scq_port.specs.Kept.{seen_as}
+use Rattle.scq_port.specs.Exports.{PortStanding, WasFull, seen_as}
 use Rattle.scq_port.proofs.port.Port.lend.Goals as goal
 
 pub returns-clause-full : goal.returns-clause-full

@@ -1,8 +1,6 @@
 use Rattle.std.proofs.Common.{rules, ◌≡◌, ◌+◌, ◌<◌, subst}
 use Rattle.std.specs.Prelude.{false}
-use Rattle.scq_port.specs.Ports.{PortStanding}
-use Rattle.scq_port.specs.Calls.{PortHasRetired}
-use Rattle.scq_port.specs.Kept.{seen_as}
+use Rattle.scq_port.specs.Exports.{PortStanding, PortHasRetired, seen_as}
 use Rattle.scq_port.proofs.Records.{retired_of}
 use Rattle.scq_port.proofs.port.Port.send.Goals as goal
 

@@ -1,7 +1,5 @@
 use Rattle.std.proofs.Common.{subst}
-use Rattle.scq_port.specs.Ports.{PortStanding}
-use Rattle.scq_port.specs.Calls.{WasEmpty}
-use Rattle.scq_port.specs.Kept.{seen_as}
+use Rattle.scq_port.specs.Exports.{PortStanding, WasEmpty, seen_as}
 use Rattle.scq_port.proofs.port.Port.take.Goals as goal
 
 pub returns-clause-empty : goal.returns-clause-empty

@@ -2,13 +2,11 @@ use Rattle.std.proofs.Common.{◌≡◌, ℕ, List, map, sym, ap, subst}
 use Rattle.std.specs.Prelude.{All, Option}
 use Rattle.scq_core.specs.declared.ended.Ended.{Ended}
 use Rattle.scq_band.specs.declared.numbers.Numbers.{Numbers}
-use Rattle.scq_band.specs.Buffers.{opening_of}
-use Rattle.scq_band.specs.RunSeen.{Caller}
-use Rattle.scq_band.specs.Standing.{Identity, Standing}
+use Rattle.scq_band.specs.Exports.{opening_of, Caller, Identity}
+use Rattle.scq_band.specs.Standing.{Standing}
 use Rattle.scq_band.specs.Closing as band
-use Rattle.scq_queue.specs.Passes.{PassStanding, HeldStanding}
-use Rattle.scq_queue.specs.Closing.{records_of, all_held, callers_of, SentAndTook, NoneIsLost, EachKeptIsPastTheBound}
-use Rattle.scq_queue.specs.Kept.{seat_of_pass, value_of, HasGivenBuffer}
+use Rattle.scq_queue.specs.Exports.{PassStanding, HeldStanding, records_of, all_held, callers_of, SentAndTook, NoneIsLost, EachKeptIsPastTheBound}
+use Rattle.scq_queue.specs.Exports.{seat_of_pass, value_of, HasGivenBuffer}
 use Rattle.scq_queue.proofs.Ends.{calls_are, known_are, spent_are, hands_are, takes_are_sends, none_sent_twice, none_taken_twice, sends_passed, balance_of, retired_where_told, retirees_have, seats_own, are_lifted, all_is_there, all_out, callers_are}
 use Rattle.scq_band.proofs.SpentLimits.{none_spent_within}
 use Rattle.scq_queue.proofs.queue.Queue.close.Goals as goal

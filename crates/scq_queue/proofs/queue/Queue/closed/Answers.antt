@@ -1,9 +1,7 @@
 use Rattle.std.proofs.Common.{List, subst, sym}
-use Rattle.scq_band.specs.Buffers.{opening_of}
-use Rattle.scq_band.specs.RunSeen.{Caller, IsReadingInRun, AllWereSeenRetired}
-use Rattle.scq_band.specs.Standing.{Identity}
+use Rattle.scq_band.specs.Exports.{opening_of, Caller, IsReadingInRun, AllWereSeenRetired, Identity}
 use Rattle.scq_band.specs.Standing as band
-use Rattle.scq_queue.specs.Passes.{PassStanding, caller_of}
+use Rattle.scq_queue.specs.Exports.{PassStanding, caller_of}
 use Rattle.scq_queue.proofs.queue.Queue.closed.Goals as goal
 
 pub returns-clause-in_run : goal.returns-clause-in_run

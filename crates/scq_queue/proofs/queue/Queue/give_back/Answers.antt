@@ -1,9 +1,7 @@
 use Rattle.std.proofs.Common.{true, refl, ap}
 use Rattle.scq_core.specs.declared.ended.Ended.TheVariants.{Done, Spent}
-use Rattle.scq_band.specs.Standing.{Identity}
-use Rattle.scq_queue.specs.Passes.{PassStanding, after_spent_put}
-use Rattle.scq_queue.specs.Calls.{PutWasSpent}
-use Rattle.scq_queue.specs.Kept.{pass_over, heads_of}
+use Rattle.scq_band.specs.Exports.{Identity}
+use Rattle.scq_queue.specs.Exports.{PassStanding, after_spent_put, PutWasSpent, pass_over, heads_of}
 use Rattle.scq_queue.proofs.PassSteps.{keeps_same, keeps_spent, as_seen, in_run_seen, given_seen}
 use Rattle.scq_queue.proofs.queue.Queue.give_back.Goals as goal
 

@@ -1,7 +1,6 @@
 use Rattle.std.proofs.Common.{List, [], ◌∷◌, ◌++◌, sym, ◌∙◌, ap, subst}
 use Rattle.std.specs.Prelude.{Option}
-use Rattle.scq_queue.specs.Passes.{PassStanding, HeldStanding, IsHeldBy}
-use Rattle.scq_queue.specs.Kept.{heads_of}
+use Rattle.scq_queue.specs.Exports.{PassStanding, HeldStanding, IsHeldBy, heads_of}
 use Rattle.scq_queue.proofs.Leaving.{AreOut, out_first, out_before, last_out, out_laid}
 use Rattle.scq_queue.proofs.queue.Queue.leave.Goals as goal
 

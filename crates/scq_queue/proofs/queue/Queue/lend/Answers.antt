@@ -2,10 +2,8 @@ use Rattle.std.proofs.Common.{◌≡◌, ℕ, false, [], ◌∷◌, ◌++◌, re
 use Rattle.std.specs.Prelude.{Err}
 use Rattle.scq_core.specs.declared.ended.Ended.TheVariants.{Got, Spent}
 use Rattle.scq_band.specs.declared.calls.DeqRefusal.{DeqRefusal}
-use Rattle.scq_band.specs.Standing.{Identity}
-use Rattle.scq_queue.specs.Passes.{PassStanding, after_spent_get}
-use Rattle.scq_queue.specs.Calls.{FoundNoneFree, GetWasSpent}
-use Rattle.scq_queue.specs.Kept.{pass_over, heads_of}
+use Rattle.scq_band.specs.Exports.{Identity}
+use Rattle.scq_queue.specs.Exports.{PassStanding, after_spent_get, FoundNoneFree, GetWasSpent, pass_over, heads_of}
 use Rattle.scq_queue.proofs.PassSteps.{keeps_same, keeps_full, keeps_spent, as_seen, in_run_seen, lent_seen, full_seen}
 use Rattle.scq_queue.proofs.queue.Queue.lend.Goals as goal
 

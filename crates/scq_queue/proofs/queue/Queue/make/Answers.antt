@@ -2,8 +2,7 @@ use Rattle.std.proofs.Common.{◌≡◌, ◌<◌, false, [], List, length, map, 
 use Rattle.std.specs.Prelude.{All, vec_capacity}
 use Rattle.scq_word.specs.declared.setup.Setup.{Setup}
 use Rattle.scq_band.specs.Standing.{Standing}
-use Rattle.scq_queue.specs.Passes.{PassStanding, was_told}
-use Rattle.scq_queue.specs.Kept.{pass_over}
+use Rattle.scq_queue.specs.Exports.{PassStanding, was_told, pass_over}
 use Rattle.scq_queue.proofs.NewPasses.{as_many_seats, all_new, passes_over, all_own, keeps_room}
 use Rattle.scq_queue.proofs.queue.Queue.make.Goals as goal
 

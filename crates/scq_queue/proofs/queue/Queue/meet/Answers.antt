@@ -1,6 +1,6 @@
 use Rattle.std.proofs.Common.{subst}
-use Rattle.scq_band.specs.RunSeen.{HaveSeenOneRun}
-use Rattle.scq_queue.specs.Passes.{PassStanding}
+use Rattle.scq_band.specs.Exports.{HaveSeenOneRun}
+use Rattle.scq_queue.specs.Exports.{PassStanding}
 use Rattle.scq_queue.proofs.queue.Queue.meet.Goals as goal
 
 pub returns-clause-comparable : goal.returns-clause-comparable

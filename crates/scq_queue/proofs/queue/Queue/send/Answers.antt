@@ -1,9 +1,7 @@
 use Rattle.std.proofs.Common.{ℕ, ◌+◌, true, refl, subst, add-one}
 use Rattle.scq_core.specs.declared.ended.Ended.TheVariants.{Spent}
-use Rattle.scq_band.specs.Standing.{Identity}
-use Rattle.scq_queue.specs.Passes.{PassStanding, after_spent_put}
-use Rattle.scq_queue.specs.Calls.{WasPutOn, PutWasSpent}
-use Rattle.scq_queue.specs.Kept.{pass_over, heads_of}
+use Rattle.scq_band.specs.Exports.{Identity}
+use Rattle.scq_queue.specs.Exports.{PassStanding, after_spent_put, WasPutOn, PutWasSpent, pass_over, heads_of}
 use Rattle.scq_queue.proofs.PassSteps.{keeps_sent, keeps_spent, on_topic_seen, in_run_seen}
 use Rattle.scq_queue.proofs.queue.Queue.send.Goals as goal
 

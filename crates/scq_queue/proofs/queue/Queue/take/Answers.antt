@@ -3,10 +3,8 @@ use Rattle.std.specs.Prelude.{Err}
 use Rattle.scq_core.specs.declared.ended.Ended.TheVariants.{Nothing, Spent}
 use Rattle.scq_band.specs.declared.calls.DeqRefusal.{DeqRefusal}
 use Rattle.scq_band.specs.declared.calls.DeqRefusal.TheVariants.{Empty, Spent as DrewSpent}
-use Rattle.scq_band.specs.Standing.{Identity}
-use Rattle.scq_queue.specs.Passes.{PassStanding, after_spent_get}
-use Rattle.scq_queue.specs.Calls.{CameOff, FoundRingEmpty, GetWasSpent}
-use Rattle.scq_queue.specs.Kept.{pass_over, heads_of}
+use Rattle.scq_band.specs.Exports.{Identity}
+use Rattle.scq_queue.specs.Exports.{PassStanding, after_spent_get, CameOff, FoundRingEmpty, GetWasSpent, pass_over, heads_of}
 use Rattle.scq_queue.proofs.PassSteps.{keeps_same, keeps_taken, keeps_spent, on_topic_seen, in_run_seen}
 use Rattle.scq_queue.proofs.queue.Queue.take.Goals as goal
 

@@ -1,11 +1,10 @@
 -- The line's turn is the one that the state took, or the one that isn't enabled.
 use Rattle.std.proofs.Common.{◌≡◌, ℕ, ◌<◌, ◌⊎◌, inl, inr, Some, None, sym, subst, rules}
 use Rattle.scq_word.specs.declared.setup.Setup.{Setup}
-use Rattle.scq_core.specs.StateLists.{machine_of}
+use Rattle.scq_core.specs.Exports.{machine_of}
 use Rattle.scq_core.specs.declared.step.Step.{Step}
 use Rattle.scq_hist.proofs.HandedOn.{handed_on}
-use Rattle.scq_replay.specs.Replay.{turn_of_line}
-use Rattle.scq_replay.specs.Steps.{LineIsRefused, bad_line, not_enabled}
+use Rattle.scq_replay.specs.Exports.{turn_of_line, LineIsRefused, bad_line, not_enabled}
 use Rattle.scq_replay.specs.declared.replaying.ScheduleFault.TheVariants.{NoMemory}
 use Rattle.scq_replay.proofs.ordering.Schedule.add_line.Goals as goal
 

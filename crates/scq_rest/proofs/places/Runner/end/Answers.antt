@@ -1,6 +1,5 @@
 use Rattle.std.proofs.Common.{◌≡◌, ◌∙◌, sym, ap, subst}
-use Rattle.scq_rest.specs.Places.{given_to}
-use Rattle.scq_rest.specs.Threads.{task, HasBegun}
+use Rattle.scq_rest.specs.Exports.{given_to, task, HasBegun}
 use Rattle.scq_rest.proofs.places.Runner.end.Goals as goal
 
 -- a thread that was held back gave back what it was given

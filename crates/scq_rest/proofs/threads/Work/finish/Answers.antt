@@ -1,6 +1,6 @@
 use Rattle.std.proofs.Common.{◌∙◌, ap}
-use Rattle.scq_park.specs.Crews.{Post}
-use Rattle.scq_files.specs.OwnFiles.{ids_of}
+use Rattle.scq_park.specs.Exports.{Post}
+use Rattle.scq_files.specs.Exports.{ids_of}
 use Rattle.scq_rest.proofs.threads.Work.finish.Goals as goal
 
 pub finish-requires-clause-produced : goal.finish-requires-clause-produced

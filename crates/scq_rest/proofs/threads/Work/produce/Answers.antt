@@ -1,5 +1,5 @@
 use Rattle.std.proofs.Common.{◌∙◌, ap}
-use Rattle.scq_park.specs.Crews.{Post}
+use Rattle.scq_park.specs.Exports.{Post}
 use Rattle.scq_rest.proofs.threads.Work.produce.Goals as goal
 
 pub produce-requires-clause-rings : goal.produce-requires-clause-rings

@@ -1,7 +1,7 @@
 use Rattle.std.proofs.Common.{◌≡◌, arith, subst, Ok}
 use Rattle.std.specs.Prelude.{string_bytes}
 use Rattle.std.proofs.lemmas.List.{length-map}
-use Rattle.scq_judge.specs.Recording.{recording_of}
+use Rattle.scq_judge.specs.Exports.{recording_of}
 use Rattle.scq_service.proofs.Coming.{SourceIsGot, IsMissed, next-name}
 use Rattle.scq_service.proofs.Judging.{all-ends, all-got, all-read, all-there, missed-ends, missed-got, one-more, stopped-ends, stopped-got}
 use Rattle.scq_service.proofs.commands.judge.report_on.Goals as goal

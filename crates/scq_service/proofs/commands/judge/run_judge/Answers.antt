@@ -1,6 +1,5 @@
 use Rattle.std.proofs.Common.{◌≡◌, ◌∙◌, ap, subst, refl, ℕ, List, Result, Some, map, string_bytes, IfErr}
-use Rattle.scq_service.specs.Ends.{EndsJudged, IsUnwritten, Wrote, inputs_of, wrote_of}
-use Rattle.scq_service.specs.Writing.{written_with, WrotePart}
+use Rattle.scq_service.specs.Exports.{EndsJudged, IsUnwritten, Wrote, inputs_of, wrote_of, written_with, WrotePart}
 use Rattle.scq_service.specs.declared.fault.Fault.{Fault}
 use Rattle.scq_service.proofs.Judging.{reported}
 use Rattle.scq_service.proofs.commands.judge.run_judge.Goals as goal

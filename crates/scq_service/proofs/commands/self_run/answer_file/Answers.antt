@@ -1,7 +1,7 @@
 use Rattle.std.proofs.Common.{◌≡◌, ◌∙◌, subst, ap, ℕ, ◌+◌, length}
 use Rattle.std.specs.Prelude.{IfSome, IsSomeAnd}
-use Rattle.scq_self.specs.Generated.{self_topics}
-use Rattle.scq_work.specs.AllWorkers.{NothingIsStranded}
+use Rattle.scq_self.specs.Exports.{self_topics}
+use Rattle.scq_work.specs.Exports.{NothingIsStranded}
 use Rattle.scq_service.proofs.commands.self_run.answer_file.Goals as goal
 
 -- what is promised of the queue speaks of the numbers of the job, which are those that the words ask for

@@ -2,11 +2,8 @@ use Rattle.std.proofs.Common.{◌≡◌, ◌∙◌, ◌^◌, sym, ap, subst, ari
 use Rattle.std.specs.List.Sorted.{IsPermutation}
 use Rattle.scq_topics.specs.declared.kind.Kind.{Kind}
 use Rattle.scq_collect.specs.declared.answered.Answered.{Answered}
-use Rattle.scq_collect.specs.Collected.{messages_to}
-use Rattle.scq_collect.specs.Joined.{part_answers, without_way}
-use Rattle.scq_collect.specs.Merging.{members_of}
-use Rattle.scq_collect.specs.Output.{answer_of_whole, answers_to}
-use Rattle.scq_self.specs.Generated.{generated, self_topics}
+use Rattle.scq_collect.specs.Exports.{messages_to, part_answers, without_way, members_of, answer_of_whole, answers_to}
+use Rattle.scq_self.specs.Exports.{generated, self_topics}
 use Rattle.scq_service.proofs.Merging.{merged-known}
 use Rattle.scq_service.proofs.commands.self_run.summary_of.Goals as goal
 

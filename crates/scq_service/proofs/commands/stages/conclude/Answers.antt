@@ -1,14 +1,11 @@
 use Rattle.std.proofs.Common.{◌≡◌, ◌∙◌, refl, ap, subst, ℕ, List, Option, Some, None, Err}
 use Rattle.std.specs.Prelude.{◌+◌, IfSome, IsSomeAnd}
 use Rattle.scq_block.specs.declared.frame.Frame.{Frame}
-use Rattle.scq_queue.specs.Passes.{PassStanding}
+use Rattle.scq_queue.specs.Exports.{PassStanding}
 use Rattle.scq_desk.specs.declared.fault.EndFault.TheVariants.{NoMemory}
-use Rattle.scq_stages.specs.AllStages.{NothingIsStranded}
+use Rattle.scq_stages.specs.Exports.{NothingIsStranded}
 use Rattle.scq_stages.specs.declared.job.StageJob.{StageJob}
-use Rattle.scq_service.specs.Members.{SourceOf}
-use Rattle.scq_service.specs.Faults.{status_of}
-use Rattle.scq_service.specs.Answers.{TellsStages, WorkedAt}
-use Rattle.scq_service.specs.Ends.{HasGotSources, Inputs}
+use Rattle.scq_service.specs.Exports.{SourceOf, status_of, TellsStages, WorkedAt, HasGotSources, Inputs}
 use Rattle.scq_service.specs.declared.fault.Fault.TheVariants as fault
 use Rattle.scq_service.specs.declared.outcome.Outcome.{Outcome}
 use Rattle.scq_service.proofs.Working.{at-err, at-ok, on-ok, told-got, told-met, told-stopped, told-whole}

@@ -1,8 +1,7 @@
 use Rattle.std.proofs.Common.{◌≡◌, ◌∙◌, subst, ℕ, List}
 use Rattle.scq_hist.specs.declared.events.Event.{Event}
-use Rattle.scq_lines.specs.Lines.{lines_of}
-use Rattle.scq_check.specs.HistoryText.{tokens_in, events_in}
-use Rattle.scq_check.specs.Verdicts.{IsVerdictOf}
+use Rattle.scq_lines.specs.Exports.{lines_of}
+use Rattle.scq_check.specs.Exports.{tokens_in, events_in, IsVerdictOf}
 use Rattle.scq_service.proofs.commands.text.judged.Goals as goal
 
 pub returns-clause-told : goal.returns-clause-told

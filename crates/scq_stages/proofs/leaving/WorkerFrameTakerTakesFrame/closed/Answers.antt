@@ -1,8 +1,8 @@
 use Rattle.std.proofs.Common.{◌≡◌, refl, sym, ap, subst}
 use Rattle.scq_block.specs.declared.frame.Frame.{Frame}
-use Rattle.scq_queue.specs.Passes.{PassStanding}
+use Rattle.scq_queue.specs.Exports.{PassStanding}
 use Rattle.scq_passes.proofs.PassLemmas.{looked}
-use Rattle.scq_stages.specs.Steps.{HasGivenBack}
+use Rattle.scq_stages.specs.Exports.{HasGivenBack}
 use Rattle.scq_stages.specs.declared.worker.Worker.{Worker}
 use Rattle.scq_stages.proofs.Swept.{finishes-on, finished-asked}
 use Rattle.scq_stages.proofs.leaving.WorkerFrameTakerTakesFrame.closed.Goals as goal

@@ -1,9 +1,7 @@
 use Rattle.std.proofs.Common.{◌≡◌, false}
 use Rattle.scq_passes.proofs.Results.{err-then, on-both}
-use Rattle.scq_passes.specs.Calls.{HasLeftSo}
-use Rattle.scq_stages.specs.Steps.{HasFinishedOne, HasTakenOne}
-use Rattle.scq_stages.specs.Sweeping.{LeavesOn}
-use Rattle.scq_stages.specs.Working.{HasFewStageCalls}
+use Rattle.scq_passes.specs.Exports.{HasLeftSo}
+use Rattle.scq_stages.specs.Exports.{HasFinishedOne, HasTakenOne, LeavesOn, HasFewStageCalls}
 use Rattle.scq_stages.proofs.Swept.{finishes-on, leaves-on}
 use Rattle.scq_stages.proofs.leaving.WorkerFrameTakerTakesFrame.take_once.Goals as goal
 

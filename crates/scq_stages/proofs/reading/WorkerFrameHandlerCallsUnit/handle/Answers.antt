@@ -1,19 +1,16 @@
 use Rattle.std.proofs.Common.{rules, ◌≡◌, ◌≤◌, ◌<◌, ◌+◌, ◌++◌, ◌∷◌, ◌∙◌, ap, sym, subst, arith, ℕ, suc, List, [], length, None, Err, Result}
 use Rattle.std.specs.Prelude.{IfErr, Bool}
 use Rattle.std.specs.List.{filter_map}
-use Rattle.scq_block.specs.Frames.{bytes_of}
+use Rattle.scq_block.specs.Exports.{bytes_of}
 use Rattle.scq_block.specs.declared.frame.Frame.{Frame}
-use Rattle.scq_queue.specs.Passes.{PassStanding}
-use Rattle.scq_passes.specs.Calls.{Suits, HasFoundFull, HasSentSo, HasLeftSo, since}
+use Rattle.scq_queue.specs.Exports.{PassStanding}
+use Rattle.scq_passes.specs.Exports.{Suits, HasFoundFull, HasSentSo, HasLeftSo, since}
 use Rattle.scq_passes.proofs.PassLemmas.{found-full, suits-taken, lent-and-sent}
 use Rattle.scq_passes.proofs.LeftLemmas.{left-so-at-get, left-so-full}
 use Rattle.scq_passes.proofs.ManyLists.{one-of-all}
 use Rattle.scq_stages.specs.declared.finished.Finished.{Finished}
-use Rattle.scq_stages.specs.Records.{first, second, take_topic}
-use Rattle.scq_stages.specs.Passing.{SendsToFirst}
-use Rattle.scq_stages.specs.Steps.{HasTakenOrMoved, HasMovedIts, HasFinishedOnlySeconds}
-use Rattle.scq_stages.specs.Reading.{HasStoppedAt}
-use Rattle.scq_stages.specs.Working.{HasFewStageCalls, IsAtWork}
+use Rattle.scq_stages.specs.Exports.{first, second, take_topic, SendsToFirst, HasTakenOrMoved, HasMovedIts, HasFinishedOnlySeconds, HasStoppedAt}
+use Rattle.scq_stages.specs.Exports.{HasFewStageCalls, IsAtWork}
 use Rattle.scq_stages.proofs.AtWork.{work-sent, work-helped, suits-full, left-sent, work-stopped}
 use Rattle.scq_stages.proofs.FewCalls.{few_calls-full, few_calls-more, few_calls-at_get}
 use Rattle.scq_stages.proofs.reading.WorkerFrameHandlerCallsUnit.handle.Goals as goal

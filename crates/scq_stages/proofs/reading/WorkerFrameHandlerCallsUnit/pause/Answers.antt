@@ -1,5 +1,5 @@
-use Rattle.scq_desk.specs.GoingOn.{gone-none}
-use Rattle.scq_stages.specs.Reading.{IsAt}
+use Rattle.scq_desk.specs.Exports.{gone-none}
+use Rattle.scq_stages.specs.Exports.{IsAt}
 use Rattle.scq_stages.proofs.reading.WorkerFrameHandlerCallsUnit.pause.Goals as goal
 
 -- it did nothing

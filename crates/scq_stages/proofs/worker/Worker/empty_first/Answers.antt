@@ -2,15 +2,12 @@ use Rattle.std.proofs.Common.{rules, ◌≡◌, ◌∙◌, ap, sym, subst, refl,
 use Rattle.std.specs.Prelude.{IfErr}
 use Rattle.std.proofs.lemmas.List.{append-nil}
 use Rattle.scq_frames.specs.declared.message.Message.{Message}
-use Rattle.scq_queue.specs.Lists.{sends_of, takes_of}
-use Rattle.scq_queue.specs.Passes.{PassStanding}
-use Rattle.scq_passes.specs.Records.{on}
-use Rattle.scq_passes.specs.Calls.{since}
+use Rattle.scq_queue.specs.Exports.{sends_of, takes_of, PassStanding}
+use Rattle.scq_passes.specs.Exports.{on, since}
 use Rattle.scq_passes.proofs.PassLemmas.{taken-nothing, taken-along}
 use Rattle.scq_passes.proofs.Since.{since-of, since-takes}
 use Rattle.scq_passes.proofs.LeftLemmas.{left-so-taken}
-use Rattle.scq_stages.specs.Records.{first, second}
-use Rattle.scq_stages.specs.Working.{HasFewStageCalls, IsAtWork, HasStopped}
+use Rattle.scq_stages.specs.Exports.{first, second, HasFewStageCalls, IsAtWork, HasStopped}
 use Rattle.scq_stages.proofs.AtWork.{work-done, work-left}
 use Rattle.scq_stages.proofs.FewCalls.{few_calls-moved}
 use Rattle.scq_stages.proofs.Finishing.{helped-nothing, helped-along, moved-nothing, moved-along}

@@ -1,7 +1,6 @@
 use Rattle.std.proofs.Common.{◌≡◌, ◌-◌}
-use Rattle.scq_queue.specs.Passes.{known_on}
-use Rattle.scq_stages.specs.Records.{first}
-use Rattle.scq_stages.specs.Steps.{HasTakenOrMoved, HasMovedIts, HasFinishedOnlySeconds}
+use Rattle.scq_queue.specs.Exports.{known_on}
+use Rattle.scq_stages.specs.Exports.{first, HasTakenOrMoved, HasMovedIts, HasFinishedOnlySeconds}
 use Rattle.scq_stages.proofs.worker.Worker.empty_first.Given as goal
 
 -- what was taken so far was moved

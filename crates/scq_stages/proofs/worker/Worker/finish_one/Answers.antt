@@ -1,12 +1,11 @@
 use Rattle.std.proofs.Common.{rules, ◌≡◌, ap, sym, subst, arith, refl, suc, ℕ, length, ◌<◌, Err, Result}
 use Rattle.std.specs.Prelude.{IfErr}
-use Rattle.scq_queue.specs.Lists.{takes_of}
-use Rattle.scq_queue.specs.Passes.{PassStanding}
-use Rattle.scq_passes.specs.Calls.{HasLeftSo}
+use Rattle.scq_queue.specs.Exports.{takes_of, PassStanding}
+use Rattle.scq_passes.specs.Exports.{HasLeftSo}
 use Rattle.scq_passes.proofs.InRun.{only-along, only-back, only-got, only-nothing}
 use Rattle.scq_passes.proofs.Taking.{found-nothing}
 use Rattle.scq_passes.proofs.Vain.{vain-got}
-use Rattle.scq_stages.specs.Working.{HasFewStageCalls}
+use Rattle.scq_stages.specs.Exports.{HasFewStageCalls}
 use Rattle.scq_stages.proofs.Finishing.{since-took, since-found, finished-one, finished-nothing, took-one, found-one, left-take, left-given}
 use Rattle.scq_stages.proofs.worker.Worker.finish_one.Goals as goal
 

@@ -1,11 +1,10 @@
 use Rattle.std.proofs.Common.{rules, ◌≡◌, ◌∙◌, refl, sym, subst, ◌++◌, ◌∷◌, [], ℕ, Err, Result}
 use Rattle.std.specs.Prelude.{IfErr}
-use Rattle.scq_passes.specs.Calls.{HasLeftSo, since}
+use Rattle.scq_passes.specs.Exports.{HasLeftSo, since}
 use Rattle.scq_passes.proofs.PassLemmas.{taken-along}
 use Rattle.scq_passes.proofs.Since.{since-takes}
 use Rattle.scq_passes.proofs.LeftLemmas.{left-so-taken}
-use Rattle.scq_stages.specs.Records.{first, second}
-use Rattle.scq_stages.specs.Working.{HasFewStageCalls}
+use Rattle.scq_stages.specs.Exports.{first, second, HasFewStageCalls}
 use Rattle.scq_stages.proofs.Moving.{moved-of}
 use Rattle.scq_stages.proofs.FewCalls.{few_calls-moved}
 use Rattle.scq_stages.proofs.Finishing.{helped-along, moved-along, topics-along}

@@ -1,8 +1,7 @@
 use Rattle.std.proofs.Common.{rules, ◌≡◌, ◌+◌, ◌++◌, ◌∙◌, ap, subst, arith, refl, length, drop}
-use Rattle.scq_frames.specs.Encoded.{BeginsWith, message_bytes}
-use Rattle.scq_frames.specs.Parts.{Part, part_of}
-use Rattle.scq_queue.specs.Passes.{having_seen, after_put}
-use Rattle.scq_stages.specs.Passing.{whole_of}
+use Rattle.scq_frames.specs.Exports.{BeginsWith, message_bytes, Part, part_of}
+use Rattle.scq_queue.specs.Exports.{having_seen, after_put}
+use Rattle.scq_stages.specs.Exports.{whole_of}
 use Rattle.scq_stages.proofs.Whole.{whole-part}
 use Rattle.scq_stages.proofs.worker.Worker.send_in.Goals as goal
 

@@ -1,7 +1,7 @@
 -- An earlier topic has the name exactly where `find` gives the number of one.
 use Rattle.std.proofs.Common.{arith}
 use Rattle.std.proofs.lemmas.Bool.Decides.{nat_tests}
-use Rattle.scq_topics.specs.Topics.{has_name, entry_name}
+use Rattle.scq_topics.specs.Exports.{has_name, entry_name}
 use Rattle.scq_topics.proofs.Found.{list_any-position}
 use Rattle.scq_topics.proofs.topics.Topics.declare.Goals as goal
 

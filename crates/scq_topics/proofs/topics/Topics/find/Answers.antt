@@ -2,7 +2,7 @@ use Rattle.std.proofs.Common.{length, ap, ◌∙◌, rules, tests}
 use Rattle.std.specs.Prelude.{unwrap_or}
 use Rattle.std.proofs.lemmas.Iterator.{YieldsList-from_slice}
 use Rattle.std.proofs.lemmas.Iterator.Search.{position_from_yields_List}
-use Rattle.scq_topics.specs.Topics.{has_name, topic_of}
+use Rattle.scq_topics.specs.Exports.{has_name, topic_of}
 use Rattle.scq_topics.proofs.Found.{place_or_len, position_or_len-le}
 use Rattle.scq_topics.proofs.topics.Topics.find.Goals as goal
 

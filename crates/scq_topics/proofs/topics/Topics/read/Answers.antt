@@ -5,7 +5,7 @@ use Rattle.std.proofs.lemmas.Iterator.Splits.{YieldsList-from_slice_split}
 use Rattle.std.proofs.lemmas.Iterator.Consumers.{YieldsList-turn, YieldsList-end}
 use Rattle.std.proofs.lemmas.List.{length_push}
 use Rattle.std.specs.Result.{IsErrAnd, result_err}
-use Rattle.scq_topics.specs.Topics.{entries_of, first_fault}
+use Rattle.scq_topics.specs.Exports.{entries_of, first_fault}
 use Rattle.scq_topics.proofs.EntriesRead.{IsRead-more, first_fault-met, IsRead-all}
 use Rattle.scq_topics.proofs.topics.Topics.read.Goals as goal
 

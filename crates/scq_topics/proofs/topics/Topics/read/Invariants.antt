@@ -1,5 +1,5 @@
 use Rattle.std.proofs.Common.{[], length}
-use Rattle.scq_topics.specs.Topics.{entries_of, first_fault}
+use Rattle.scq_topics.specs.Exports.{entries_of, first_fault}
 use Rattle.scq_topics.proofs.EntriesRead.{EntriesAreRead}
 use Rattle.scq_topics.proofs.topics.Topics.read.Given as goal
 

@@ -2,8 +2,7 @@ use Rattle.std.proofs.Common.{◌≤◌, ◌∙◌, ap, sym, subst, arith, ◌++
 use Rattle.std.specs.List.{All}
 use Rattle.scq_collect.specs.declared.answered.Answered.{Answered}
 use Rattle.scq_collect.specs.declared.answered.Way.TheVariants.{Direct}
-use Rattle.scq_worker.specs.Loads.{parts_of_load, IsLoad}
-use Rattle.scq_worker.specs.Members.{answered, answers_by}
+use Rattle.scq_worker.specs.Exports.{parts_of_load, IsLoad, answered, answers_by}
 use Rattle.scq_worker.specs.declared.worker.load.Load.TheVariants.{Together}
 use Rattle.scq_worker.proofs.MemberLemmas.{answers-direct}
 use Rattle.scq_worker.proofs.worker.Worker.answer_directly.Goals as goal

@@ -1,6 +1,6 @@
 use Rattle.std.proofs.Common.{◌≡◌, ◌≤◌, ◌+◌, ◌++◌, length, false}
-use Rattle.scq_frames.specs.Batches.{parts_at}
-use Rattle.scq_worker.specs.Members.{answers_by, answers_from}
+use Rattle.scq_frames.specs.Exports.{parts_at}
+use Rattle.scq_worker.specs.Exports.{answers_by, answers_from}
 use Rattle.scq_worker.proofs.worker.Worker.answer_parts.Given as goal
 
 -- the parts so far are answered, and those of the rest are still to be

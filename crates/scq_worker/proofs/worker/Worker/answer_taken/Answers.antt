@@ -1,4 +1,4 @@
-use Rattle.scq_queue.specs.Lists.{Placed}
+use Rattle.scq_queue.specs.Exports.{Placed}
 use Rattle.scq_worker.proofs.MemberLemmas.{so-far-answered, directs-kept}
 use Rattle.scq_worker.proofs.worker.Worker.answer_taken.Goals as goal
 

@@ -1,5 +1,5 @@
 use Rattle.std.proofs.Common.{◌≡◌, ◌≤◌, ◌+◌, ◌-◌, ℕ, length, max}
-use Rattle.scq_worker.specs.Opening.{open_on}
+use Rattle.scq_worker.specs.Exports.{open_on}
 use Rattle.scq_worker.proofs.worker.Worker.begin_up_to.Given as goal
 
 -- nothing more is open, however many batches are begun

@@ -1,7 +1,7 @@
 use Rattle.std.proofs.Common.{◌≡◌, ◌<◌, ◌∙◌, sym, subst, [], ◌∷◌, ◌+◌, ◌≤◌, length, arith}
 use Rattle.std.proofs.lemmas.List.{get_or_read}
-use Rattle.scq_frames.specs.Parts.{part_of}
-use Rattle.scq_worker.specs.Opening.{IsOpen, open_on}
+use Rattle.scq_frames.specs.Exports.{part_of}
+use Rattle.scq_worker.specs.Exports.{IsOpen, open_on}
 use Rattle.scq_worker.proofs.Gathered.{open-put, put-more, put-same}
 use Rattle.scq_worker.proofs.worker.Worker.gather.Goals as goal
 use Rattle.scq_worker.proofs.worker.Worker.gather.Goals.{After-index_mut}

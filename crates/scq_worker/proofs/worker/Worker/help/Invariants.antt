@@ -1,7 +1,7 @@
 use Rattle.std.proofs.Common.{◌≡◌, ◌≤◌, ◌<◌, ◌+◌, ℕ}
 use Rattle.std.specs.Prelude.{count_by}
-use Rattle.scq_passes.specs.Records.{is_take}
-use Rattle.scq_worker.specs.Sweeping.{HasTakenAll, KeepsItsOwn}
+use Rattle.scq_passes.specs.Exports.{is_take}
+use Rattle.scq_worker.specs.Exports.{HasTakenAll, KeepsItsOwn}
 use Rattle.scq_worker.proofs.worker.Worker.help.Given as goal
 
 -- each topic so far was taken from once

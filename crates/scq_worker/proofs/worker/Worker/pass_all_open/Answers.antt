@@ -1,8 +1,7 @@
 use Rattle.std.proofs.Common.{rules, ◌≡◌, ◌+◌, ◌<◌, sym, subst, arith, ℕ, [], ⊎_elim, Err, Result}
 use Rattle.std.specs.Prelude.{IfErr}
 use Rattle.std.proofs.lemmas.Bool.{cases_eq}
-use Rattle.scq_worker.specs.Opening.{open_on}
-use Rattle.scq_worker.specs.Reading.{HasStoppedIn, gathered-along, gathered-nothing, still-along, still-same, stopped-along}
+use Rattle.scq_worker.specs.Exports.{open_on, HasStoppedIn, gathered-along, gathered-nothing, still-along, still-same, stopped-along}
 use Rattle.scq_worker.proofs.Gathered.{closed-at, closed-still}
 use Rattle.scq_worker.proofs.worker.Worker.pass_all_open.Goals as goal
 

@@ -1,6 +1,5 @@
 use Rattle.std.proofs.Common.{◌≡◌, ◌<◌, ℕ, []}
-use Rattle.scq_worker.specs.Opening.{open_on}
-use Rattle.scq_worker.specs.Reading.{HasGathered, IsSameWorker}
+use Rattle.scq_worker.specs.Exports.{open_on, HasGathered, IsSameWorker}
 use Rattle.scq_worker.proofs.worker.Worker.pass_all_open.Given as goal
 
 -- on the topics so far nothing is open

@@ -1,16 +1,9 @@
 use Rattle.std.proofs.Common.{rules, ◌≡◌, ◌≤◌, ◌<◌, ◌+◌, ◌∙◌, refl, ap, sym, subst, arith, suc, List, length, None, Err, Result}
 use Rattle.std.specs.Prelude.{IfErr, count_by}
 use Rattle.scq_collect.specs.declared.answered.Answered.{Answered}
-use Rattle.scq_passes.specs.Records.{is_take}
-use Rattle.scq_queue.specs.Passes.{PassStanding}
-use Rattle.scq_passes.specs.Waiting.{TookInVain}
-use Rattle.scq_passes.specs.Calls.{Suits, HasTaken, HasFoundFull, HasLeft}
-use Rattle.scq_worker.specs.Loads.{parts_of_load, IsLoad}
-use Rattle.scq_worker.specs.Opening.{takes_behind}
-use Rattle.scq_worker.specs.Passing.{Sends}
-use Rattle.scq_worker.specs.Bells.{RingsOn}
-use Rattle.scq_worker.specs.Reading.{HasStoppedBehind}
-use Rattle.scq_worker.specs.Working.{HasSent, HasAnswered}
+use Rattle.scq_passes.specs.Exports.{is_take, TookInVain, Suits, HasTaken, HasFoundFull, HasLeft}
+use Rattle.scq_queue.specs.Exports.{PassStanding}
+use Rattle.scq_worker.specs.Exports.{parts_of_load, IsLoad, takes_behind, Sends, RingsOn, HasStoppedBehind, HasSent, HasAnswered}
 use Rattle.scq_worker.specs.declared.worker.load.Load.{Load}
 use Rattle.scq_worker.specs.declared.worker.load.Load.TheVariants.{Alone, Together}
 use Rattle.scq_passes.proofs.PassLemmas.{found-full, lent-and-sent, suits-taken}

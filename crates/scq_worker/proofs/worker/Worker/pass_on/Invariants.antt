@@ -1,7 +1,7 @@
 use Rattle.std.proofs.Common.{map}
 use Rattle.std.specs.List.{range_with_len}
-use Rattle.scq_frames.specs.Parts.{part_of}
-use Rattle.scq_worker.specs.Reading.{HasGathered, IsSameWorker}
+use Rattle.scq_frames.specs.Exports.{part_of}
+use Rattle.scq_worker.specs.Exports.{HasGathered, IsSameWorker}
 use Rattle.scq_worker.proofs.worker.Worker.pass_on.Given as goal
 
 -- so many parts are passed on

@@ -1,10 +1,8 @@
 use Rattle.std.proofs.Common.{rules, ◌≡◌, ◌+◌, ◌<◌, ◌∙◌, ap, sym, subst, arith, List, [], ◌++◌, ◌∷◌, length, Err, Result}
 use Rattle.std.specs.Prelude.{IfErr, slice_set}
 use Rattle.std.proofs.lemmas.List.{append-nil, get_or_read, length-append}
-use Rattle.scq_frames.specs.Parts.{Part}
-use Rattle.scq_worker.specs.Opening.{AreOpen, PartsAreGathered, open_on}
-use Rattle.scq_worker.specs.Reading.{gathered-nothing, HasStoppedIn, still-same}
-use Rattle.scq_worker.specs.Working.{HasPassed}
+use Rattle.scq_frames.specs.Exports.{Part}
+use Rattle.scq_worker.specs.Exports.{AreOpen, PartsAreGathered, open_on, gathered-nothing, HasStoppedIn, still-same, HasPassed}
 use Rattle.scq_worker.proofs.Gathered.{gathered-passed, open-closed, few-with, set-closed, set-few}
 use Rattle.scq_worker.proofs.PassedOn.{stopped-more}
 use Rattle.scq_worker.proofs.worker.Worker.pass_open.Goals as goal

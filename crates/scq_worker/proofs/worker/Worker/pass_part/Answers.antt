@@ -1,8 +1,7 @@
 use Rattle.std.proofs.Common.{rules, ◌≡◌, ◌∙◌, false, refl, sym, subst, arith, List, [], ◌∷◌, Err, Result}
 use Rattle.std.specs.Prelude.{IfErr}
-use Rattle.scq_frames.specs.Parts.{Part, part_of}
-use Rattle.scq_worker.specs.Opening.{open_on}
-use Rattle.scq_worker.specs.Reading.{HasGathered, HasStoppedIn, IsSameWorker, gathered-along, still-along, stopped-along}
+use Rattle.scq_frames.specs.Exports.{Part, part_of}
+use Rattle.scq_worker.specs.Exports.{open_on, HasGathered, HasStoppedIn, IsSameWorker, gathered-along, still-along, stopped-along}
 use Rattle.scq_worker.proofs.Gathered.{closed-at}
 use Rattle.scq_worker.proofs.Going.{gathered-one, gathered-still, gone-alone, still-as, stopped-alone, stopped-within}
 use Rattle.scq_worker.proofs.worker.Worker.pass_part.Goals as goal

@@ -1,5 +1,5 @@
 use Rattle.std.proofs.Common.{◌≡◌, ◌∙◌, ap, suc, length}
-use Rattle.scq_queue.specs.Passes.{having_seen, after_put}
+use Rattle.scq_queue.specs.Exports.{having_seen, after_put}
 use Rattle.scq_worker.proofs.worker.Worker.send_in.Goals as goal
 
 pub write_load-requires-clause-room : goal.write_load-requires-clause-room

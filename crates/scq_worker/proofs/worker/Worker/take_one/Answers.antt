@@ -5,18 +5,15 @@ use Rattle.std.proofs.lemmas.List.Sums.{sum_by-append}
 use Rattle.scq_queue.proofs.Records.{takes-append}
 use Rattle.scq_core.specs.declared.ended.Ended.{Ended}
 use Rattle.scq_core.specs.declared.ended.Ended.TheVariants.{Done, Got, Nothing}
-use Rattle.scq_band.specs.Buffers.{opening_of}
-use Rattle.scq_band.specs.RunSeen.{IsCallInRun}
-use Rattle.scq_queue.specs.Lists.{Placed, takes_of}
-use Rattle.scq_queue.specs.Passes.{PassStanding, WasGivenBack, having_seen, after_spent_put, caller_of}
-use Rattle.scq_passes.specs.Records.{is_take}
-use Rattle.scq_passes.specs.Waiting.{TookInVain, TookMore}
+use Rattle.scq_band.specs.Exports.{opening_of, IsCallInRun}
+use Rattle.scq_queue.specs.Exports.{Placed, takes_of, PassStanding, WasGivenBack, having_seen, after_spent_put, caller_of}
+use Rattle.scq_passes.specs.Exports.{is_take, TookInVain, TookMore}
 use Rattle.scq_passes.proofs.InRun.{only-along, only-back, only-got, only-nothing}
 use Rattle.scq_passes.proofs.PassLemmas.{took-one, found-none}
 use Rattle.scq_passes.proofs.Taking.{found-nothing}
 use Rattle.scq_passes.proofs.Vain.{vain-none, vain-got}
 use Rattle.scq_passes.proofs.LeftLemmas.{left-at-get, left-at-return}
-use Rattle.scq_worker.specs.Members.{is_taken, AnswersSoFar}
+use Rattle.scq_worker.specs.Exports.{is_taken, AnswersSoFar}
 use Rattle.scq_worker.proofs.worker.Worker.take_one.Goals as goal
 
 pub returns-in-Ok-give_back-clause-taken : goal.returns-in-Ok-give_back-clause-taken

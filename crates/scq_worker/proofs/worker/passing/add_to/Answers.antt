@@ -1,10 +1,9 @@
 use Rattle.std.proofs.Common.{◌≡◌, ◌⊎◌, inl, inr, ⊎_elim, ◌^◌, ◌<◌, ◌++◌, ◌∷◌, ap, sym, subst, refl, arith, ℕ, List, [], length, Ok, Err, Result}
 use Rattle.std.specs.Prelude.{OnOk, OnErr}
 use Rattle.std.specs.List.{All}
-use Rattle.scq_frames.specs.Encoded.{IsEncodable}
-use Rattle.scq_frames.specs.Parts.{Part, part_of}
+use Rattle.scq_frames.specs.Exports.{IsEncodable, Part, part_of}
 use Rattle.scq_frames.proofs.BatchLemmas.{encodable-view}
-use Rattle.scq_worker.specs.Opening.{IsOpen}
+use Rattle.scq_worker.specs.Exports.{IsOpen}
 use Rattle.scq_worker.proofs.Gathered.{open-more}
 use Rattle.scq_worker.proofs.worker.passing.add_to.Goals as goal
 

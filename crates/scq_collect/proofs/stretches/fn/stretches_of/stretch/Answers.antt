@@ -2,7 +2,7 @@ use Rattle.std.proofs.Common.{List, Bor, subst}
 use Rattle.std.specs.Prelude.{IfOk}
 use Rattle.std.proofs.lemmas.List.{get_or_default}
 use Rattle.scq_collect.specs.declared.spans.Span.{Span}
-use Rattle.scq_collect.specs.Pieces.{IsMadeOf}
+use Rattle.scq_collect.specs.Exports.{IsMadeOf}
 use Rattle.scq_collect.proofs.stretches.fn.stretches_of.stretch.Goals as goal
 
 pub returns : goal.returns

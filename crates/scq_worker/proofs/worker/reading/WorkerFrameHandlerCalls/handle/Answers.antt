@@ -1,7 +1,7 @@
 use Rattle.std.proofs.Common.{sym, [], ◌∷◌}
 use Rattle.std.proofs.lemmas.List.{append-nil}
-use Rattle.scq_frames.specs.Parts.{all_parts}
-use Rattle.scq_worker.specs.Passing.{parts_in}
+use Rattle.scq_frames.specs.Exports.{all_parts}
+use Rattle.scq_worker.specs.Exports.{parts_in}
 use Rattle.scq_worker.proofs.Going.{told-gathered, told-stopped}
 use Rattle.scq_worker.proofs.worker.reading.WorkerFrameHandlerCalls.handle.Goals as goal
 

@@ -1,6 +1,6 @@
 use Rattle.std.proofs.Common.{sym, subst, refl}
-use Rattle.scq_queue.specs.Passes.{PassStanding}
-use Rattle.scq_worker.specs.Working.{HasAnswered}
+use Rattle.scq_queue.specs.Exports.{PassStanding}
+use Rattle.scq_worker.specs.Exports.{HasAnswered}
 use Rattle.scq_worker.proofs.worker.sweeping.WorkerFrameTakerTakesFrame.closed.Goals as goal
 
 -- it only asked

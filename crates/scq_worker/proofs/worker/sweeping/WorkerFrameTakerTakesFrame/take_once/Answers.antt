@@ -1,7 +1,7 @@
 use Rattle.std.proofs.Common.{◌≡◌, false}
-use Rattle.scq_passes.specs.Calls.{HasTaken}
+use Rattle.scq_passes.specs.Exports.{HasTaken}
 use Rattle.scq_passes.proofs.Results.{on-both}
-use Rattle.scq_worker.specs.Working.{HasAnswered}
+use Rattle.scq_worker.specs.Exports.{HasAnswered}
 use Rattle.scq_worker.proofs.worker.sweeping.WorkerFrameTakerTakesFrame.take_once.Goals as goal
 
 pub returns-clause-made : goal.returns-clause-made
