@@ -27,7 +27,7 @@ pub struct Held {
     pub index: u32,
 }
 
-/// What a port's end tells: 1 where the queue closed with it, as the last of its ports, and else 0.
+/// What a port's end tells. 1 says that the queue closed with it, as the last of its ports.
 #[repr(C)]
 #[derive(Drop)]
 pub struct End {

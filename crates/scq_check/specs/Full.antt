@@ -43,9 +43,9 @@ HoldsBefore P m i = (i < m) × P i
 abbrev pub held_at_start : List (List ℕ) → ℕ → ℕ
 held_at_start opening queue = if queue == 0 then length opening else 0
 
--- at moment m no place of the queue is free for certain: its room, and the places that were given
--- back by then, are at most the places that were held at the start, and that may have been taken by
--- then
+-- at moment m the queue may have been full: its room, and the places that were given back for
+-- certain by then, are at most the places that were held at the start, and that may have been taken
+-- by then
 pub record IsFullAt (room : ℕ) (opening : List (List ℕ)) (events : List Event)
     (queue m : ℕ) : Type 0 where
   pub taken : ℕ

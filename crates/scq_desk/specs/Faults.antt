@@ -16,8 +16,8 @@ fault_of_workers false (Some (file, frame.TooLong line len)) = Some (TooLong fil
 fault_of_workers false (Some (file, frame.TooLarge bytes)) = Some (TooLarge file bytes)
 fault_of_workers false (Some (file, frame.NoMemory)) = Some NoMemory
 
--- want of memory comes before any other fault: where there is another, each source is as one whose
--- reading didn't stop for want of memory. Of a source whose bytes aren't visible this says no more
+-- where the fault is another than want of memory, each source is as one whose reading didn't stop
+-- for want of memory. Of a source whose bytes aren't visible this says no more
 -- than `HasMoved`.
 abbrev pub MemoryIsFirst : {S : Type 0} → ℕ → SourceOf S → List S → List S → EndFault → Type 0
 MemoryIsFirst size src olds news (Read file) = AllEndFed size src olds news

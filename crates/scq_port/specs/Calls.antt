@@ -34,7 +34,7 @@ pub record ValueWent (old new : PortStanding) (h : Value) : Type 0 where
   pub slots : new.slots ≡ slice_set old.slots h.index None
   pub hold : new.hold ≡ old.hold
 
--- the call is one in the run of all passes of the queue
+-- the call is one in a run of all passes of the queue, behind all that its pass had seen
 abbrev pub IsInRun : PortStanding → PortStanding → Type 0
 IsInRun old new =
     IsCallInRun old.pass.queue.setup (opening_of buffer_bytes old.pass.queue.given)

@@ -40,8 +40,8 @@ module _ {B : Type 0} where
     pub known : (known_of old.numbers ring).seen < place
     pub lists : lists_of new ≡ with_put ring place bytes (lists_of old)
 
-  -- a ring was found empty. In the run of all passes, after the call's last step its Head was at or
-  -- past the number answered; and at a moment inside the call each put there that had ended was got
+  -- a ring was found empty. In a run that has the call, after its last step the ring's Head was at
+  -- or past the number answered; and at a moment inside the call each put there that had ended was got
   -- by a get begun by then, or had another such get, still under way, to itself. The pass's lists
   -- are as they were
   pub record FoundRingEmpty (contents : B → List ℕ) (queue : Identity B) (ring head : ℕ)
@@ -56,8 +56,8 @@ module _ {B : Type 0} where
   FoundTopicEmpty contents queue topic head old new =
       FoundRingEmpty contents queue (suc topic) head old new
 
-  -- the free ring was found empty as `FoundRingEmpty` says, by a pass that has one Full reply more,
-  -- with this head; its other lists are as they were
+  -- the free ring was found empty as `FoundRingEmpty` says, of the pass with this Full added, with
+  -- its head; its other lists are as they were
   abbrev pub FoundNoneFree : (B → List ℕ) → Identity B → ℕ → PassStanding B → PassStanding B
       → Type 0
   FoundNoneFree contents queue head old new =
@@ -79,7 +79,7 @@ module _ {B : Type 0} where
   PutWasSpent queue ring ticket old new =
       WasSpent queue ticket (after_spent_put ring ticket old) old new
 
-  -- the call is one in the run of all passes
+  -- the call is one in a run of all passes, behind all that its pass had seen
   abbrev pub IsInRun : (B → List ℕ) → Identity B → PassStanding B → PassStanding B → Type 0
   IsInRun contents queue old new =
       IsCallInRun queue.setup (opening_of contents queue.given) (caller_of old) (caller_of new)

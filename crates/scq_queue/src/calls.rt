@@ -29,16 +29,17 @@ pub enum TakeRefusal {
     Spent { ticket: u64 },
 }
 
-// Each call of a pass that keeps no spent ticket is a call in the run of all passes (the clause
-// `run`): all that the pass had seen of the run lies before the call's first step, and the call's
-// last step is the last that the pass has seen from then on.
+// Each call of a pass that keeps no spent ticket is a call in a run of all passes (the clause
+// `run`): all that the pass had seen lies before the call's first step, and the call's last step is
+// the last that the pass has seen from then on. That two calls lie in one run say `meet` and
+// `close`.
 impl<B: Buffer> Queue<B> {
-    /// Lends the pass a free buffer, which no pass holds and no topic has, with whatever bytes
-    /// stand in it.
+    /// Lends the pass a free buffer, which it didn't hold, with whatever bytes stand in it. That no
+    /// other pass holds it, nor a topic has it, is told of all passes together by `close`.
     ///
     /// Full where there was none: the free ring's Head is past each place at which the pass knew a
-    /// buffer to be given back. In the run of all passes, after the call's last step Head was at or
-    /// past the number answered; and at a moment inside the call each buffer that was free at first
+    /// buffer to be given back. In a run that has the call, after its last step Head was at or past
+    /// the number answered; and at a moment inside the call each buffer that was free at first
     /// or had been given back was lent by a call begun by then, or had another such call, still
     /// under way, to itself (the field `in_run`). Spent where the ticket that was drawn is at or
     /// past the limit; the pass keeps it, and from then on it is answered and the pass stays as it
@@ -110,7 +111,7 @@ impl<B: Buffer> Queue<B> {
     /// sent there is told of all passes together by `close`.
     ///
     /// Empty where there was none: the topic's Head is past each place of a send that the pass knew
-    /// to be finished. In the run of all passes, after the call's last step Head was at or past the
+    /// to be finished. In a run that has the call, after its last step Head was at or past the
     /// number answered; and at a moment inside the call each send that had ended was taken by a
     /// call begun by then, or had another such call, still under way, to itself (the field
     /// `in_run`). Spent as with `lend`.

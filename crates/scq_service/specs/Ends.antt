@@ -117,7 +117,7 @@ AreReadOut {S} end_count count got r =
     (k : ℕ) (d : S) → k < count
     → Rose (end_count (slice_index_or got k d)) (end_count (slice_index_or r.sources k d))
 
--- every source was got and read to its end, and there is no fault
+-- every source was got and read to its end, there is no fault, and none was too large
 pub record IsAllRead {S : Type 0} (size : ℕ) (src : SourceOf S) (names : List (List ℕ))
     (got : List S) (r : Inputs S) : Type 0 where
   pub all : length r.sources ≡ length names
@@ -247,7 +247,7 @@ pub record FileIsReadWhole {S : Type 0} (src : SourceOf S) (name : List ℕ) (go
   pub fits : IfContent src.left got (λ content. length content ≤ most_text)
   pub read : r.read ≡ 0
 
--- the file was not got, and nothing was read
+-- the file was not got, so none was too large
 pub record IsNotGot {S : Type 0} (name : List ℕ) (r : Inputs S) : Type 0 where
   pub none : r.sources ≡ []
   pub rose : Rose r.opens.old r.opens.new

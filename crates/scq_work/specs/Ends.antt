@@ -14,8 +14,8 @@ use Rattle.scq_desk.specs.declared.end.End.{End}
 use Rattle.scq_desk.specs.Exports.{HasCause, MemoryIsFirst}
 use Rattle.scq_desk.specs.declared.fault.EndFault.TheVariants.{NoMemory}
 
--- what is known of the end of a job's work on these sources, which come back in their order in
--- every case
+-- what is known of the end of a job's work on these sources: as many come back in every case, each
+-- as one that its own may have become
 pub record EndsWork {S : Type 0} (j : Job) (src : SourceOf S) (sources : List S)
     (end : End Worked S) : Type 0 where
   pub count : length end.sources.items ≡ length sources
@@ -40,7 +40,7 @@ pub record EndsWork {S : Type 0} (j : Job) (src : SourceOf S) (sources : List S)
       (given : List (List Message)) × AreGiven j.topics j.longest src.left 1 sources given
       × HasWorked j.topics j.size j.most j.workers given w)
   -- whatever the answer is, the queue was closed with each buffer free: each pass has retired, and
-  -- what was sent was taken. Only where there was no memory for a queue there was none
+  -- what was sent was taken. Where there was none, there was no memory
   pub none_stranded : IfSome end.left (λ l. IsSomeAnd end.passes (λ p. IsSomeAnd end.frames (λ f.
       NothingIsStranded j.order (length j.topics
       + 1) j.workers p.value.items f.value.items l.items)))
