@@ -20,10 +20,11 @@ use std::thread::Threads;
 /// Runs what the words ask for: gets the sources of the files that they name, up to the first that
 /// isn't got, answers their messages, or takes them through stages, or answers those of a generated
 /// file, by as many workers as they ask for; or judges recordings, or checks or replays one text;
-/// and writes the output, or the summary, once it is whole. At a fault it writes one line to `err`. That
-/// this takes no memory, and that a failing `err` changes nothing, no clause says. Workers share a
-/// queue of buffers. Those of `run` and `self` call the gate, on which no clause depends. What each worker sent, took and
-/// answered directly is reported to `err` too, of `run` at status 0, where it is asked for.
+/// and writes the output, or the summary, once it is whole. At a fault it writes one line to `err`.
+/// That this takes no memory, and that a failing `err` changes nothing, no clause says. Workers
+/// share a queue of buffers. Those of `run` and `self` call the gate, on which no clause depends.
+/// What each worker sent, took and answered directly is reported to `err` too, of `run` at status
+/// 0, where it is asked for.
 pub fn serve<R: Threads + Sync, F: Files, K: Sink, G: Gate + Sync>(
     rt: &R,
     alloc: Global,
