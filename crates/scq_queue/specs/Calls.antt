@@ -41,9 +41,9 @@ module _ {B : Type 0} where
     pub lists : lists_of new ≡ with_put ring place bytes (lists_of old)
 
   -- a ring was found empty. In a run that has the call, after its last step the ring's Head was at
-  -- or past the number answered; and at a moment inside the call each put there that had ended was got
-  -- by a get begun by then, or had another such get, still under way, to itself. The pass's lists
-  -- are as they were
+  -- or past the number answered; and at a moment inside the call each put there that had ended was
+  -- got by a get begun by then, or had another such get, still under way, to itself. The pass's
+  -- lists are as they were
   pub record FoundRingEmpty (contents : B → List ℕ) (queue : Identity B) (ring head : ℕ)
       (old new : PassStanding B) : Type 0 where
     pub found : FoundNothing ring head old new

@@ -169,7 +169,8 @@ fn write_of_shared<K: Sink>(
 }
 
 fn write_shared<K: Sink>(sink: &mut K, what: Shared, file: u32, line: u32) -> Result<(), Failed>
-    ensures { HasWritten K.Sink sink.old sink.new (place_line file line (shared_words what)) result }
+    ensures { HasWritten K.Sink sink.old sink.new (place_line file line (shared_words what))
+        result }
 {
     match what {
         Shared::Stamp => write_of_place(sink, file, line, b": same stamp as "),
@@ -217,7 +218,8 @@ fn write_numbered<K: Sink>(
     number: u32,
     what: &[u8],
 ) -> Result<(), Failed>
-    ensures { HasWritten K.Sink sink.old sink.new (name.now ++ (decimal number ++ what.now)) result }
+    ensures { HasWritten K.Sink sink.old sink.new (name.now ++ (decimal number ++ what.now))
+        result }
 {
     write_part(sink, name)?;
     write_number(sink, number, what)
