@@ -1,11 +1,12 @@
 //! What becomes of a seat after its turn.
 
-ghost use Rattle.std.specs.Prelude.{◌≡◌, ℕ, ◌<◌, false, nat_le, List, None, unwrap_or};
-ghost use Rattle.scq_core.specs.declared.phase.Phase.TheVariants.{AtE1, AtE2, AtD3};
+ghost use Rattle.std.specs.Prelude.{◌≡◌, ℕ, ◌<◌, false, nat_le, if◌then◌else◌, List};
+ghost use Rattle.std.specs.Prelude.{None, unwrap_or};
+ghost use Rattle.scq_core.specs.declared.phase.Phase.TheVariants.{AtE2, AtD3};
 ghost use Rattle.scq_core.specs.declared.ended.Ended.TheVariants.{Done};
 ghost use Rattle.scq_word.specs.Exports.{rank_in, IsIndexOrMark};
 ghost use Rattle.scq_core.specs.Machine.{SeatPart};
-ghost use Rattle.scq_core.specs.Table.{ring_slots, after, stores};
+ghost use Rattle.scq_core.specs.Table.{ring_slots, after, stores, goes_on, spends};
 ghost use Rattle.scq_core.specs.Turn.{copied, ends_call, has_ended, part_after, laid_by, IsOfGet};
 ghost use Rattle.scq_core.specs.Turn.{HasGivenUp, IsReady};
 
@@ -58,7 +59,16 @@ pub fn next_of(setup: &Setup, turn: Phase, found: u64, copy: Bytes) -> Next
             index,
             content,
             ..
-        } => drawn_by_put(setup, ring, index, content, found),
+        } => {
+            let phase = Phase::AtE2 {
+                ring,
+                index,
+                content,
+                ticket: found,
+                least: 0,
+            };
+            drawn(setup, ring, true, found, phase)
+        }
         Phase::AtE2 {
             ring,
             index,
@@ -138,10 +148,11 @@ pub fn next_of(setup: &Setup, turn: Phase, found: u64, copy: Bytes) -> Next
     }
 }
 
-/// An enqueue has drawn a ticket, which is the value that it found.
-fn drawn_by_put(setup: &Setup, ring: u32, index: u32, content: Bytes, found: u64) -> Next
-    ensures part { (least : ℕ) (beside : List ℕ) (p : SeatPart)
-        → after setup.now (AtE1 ring index content least) found beside p ≡ part_after result p }
+/// A call has drawn a ticket, which is the value that it found. Below the limit it goes on so.
+fn drawn(setup: &Setup, ring: u32, put: bool, found: u64, phase: Phase) -> Next
+    ensures part { (p : SeatPart)
+        → (if nat_le setup.now.limit found then spends ring found put p else goes_on phase p)
+        ≡ part_after result p }
     ensures laid { laid_by result ≡ None }
     ensures ends { has_ended result ≡ nat_le setup.now.limit found }
 {
@@ -149,16 +160,10 @@ fn drawn_by_put(setup: &Setup, ring: u32, index: u32, content: Bytes, found: u64
         Next::Spends {
             ring,
             ticket: found,
-            put: true,
+            put,
         }
     } else {
-        Next::Goes(Phase::AtE2 {
-            ring,
-            index,
-            content,
-            ticket: found,
-            least: 0,
-        })
+        Next::Goes(phase)
     }
 }
 
@@ -263,19 +268,12 @@ fn next_of_get(setup: &Setup, turn: Phase, found: u64, copy: Bytes) -> Next
             }
         }
         Phase::AtD2 { ring, .. } => {
-            if found >= setup.limit() {
-                Next::Spends {
-                    ring,
-                    ticket: found,
-                    put: false,
-                }
-            } else {
-                Next::Goes(Phase::AtD3 {
-                    ring,
-                    ticket: found,
-                    least: 0,
-                })
-            }
+            let phase = Phase::AtD3 {
+                ring,
+                ticket: found,
+                least: 0,
+            };
+            drawn(setup, ring, false, found, phase)
         }
         Phase::AtD3 { ring, ticket, .. } => seen_by_get(setup, ring, ticket, found),
         Phase::AtD4 { ring, ticket } => {

@@ -1,9 +1,9 @@
 //! What a turn is to the order of a ring.
 
-ghost use Rattle.std.specs.Prelude.{◌≡◌, ◌<◌};
+ghost use Rattle.std.specs.Prelude.{◌≡◌, ◌<◌, ◌==◌, ◌&&◌, if◌then◌else◌};
 ghost use Rattle.scq_core.specs.Exports.{machine_of};
-ghost use Rattle.scq_law.specs.Notes.{put_note, get_note, refusal_note, end_note, level_note};
-ghost use Rattle.scq_law.specs.Notes.{note_of};
+ghost use Rattle.scq_law.specs.Notes.{note_of, put_note};
+ghost use Rattle.scq_law.specs.declared.note.Note.TheVariants.{Decides, Passes};
 
 use scq_core::{Phase, State, Step};
 
@@ -30,10 +30,19 @@ pub(crate) fn note_of(state: &State, ring: u32, seat: u32, step: &Step) -> Note
 {
     match (state.phase(seat), step) {
         (Phase::Idle, Step::E1 { ring: on, .. }) => put_note(state, ring, *on),
-        (Phase::Idle, Step::D1 { ring: on }) => refusal_note(state, ring, *on),
+        (Phase::Idle, Step::D1 { ring: on }) => {
+            decision(state, ring, *on, state.threshold(ring) < 0)
+        }
         (Phase::AtE1 { ring: on, .. }, _) => put_note(state, ring, *on),
-        (Phase::AtD2 { ring: on, .. }, _) => get_note(state, ring, *on),
-        (Phase::AtD6 { ring: on, ticket }, _) => end_note(state, ring, *on, *ticket),
+        (Phase::AtD2 { ring: on, .. }, _) => {
+            let place = state.head(ring);
+            let draws = *on == ring && place < state.setup().limit();
+            where_so(draws, Note::DrawsGet { place })
+        }
+        (Phase::AtD6 { ring: on, ticket }, _) => {
+            let is_last = state.tail(ring).saturating_sub(*ticket) <= 1;
+            decision(state, ring, *on, is_last)
+        }
         (
             Phase::AtD10 {
                 ring: on,
@@ -41,7 +50,7 @@ pub(crate) fn note_of(state: &State, ring: u32, seat: u32, step: &Step) -> Note
                 ..
             },
             _,
-        ) => level_note(state, ring, *on),
+        ) => decision(state, ring, *on, state.threshold(ring) <= 0),
         _ => Note::Passes,
     }
 }
@@ -52,64 +61,24 @@ fn put_note(state: &State, ring: u32, on: u32) -> Note
     ensures { result ≡ put_note state.now.setup (machine_of state.now).cells ring on }
 {
     let place = state.tail(ring);
-    if on == ring && place < state.setup().limit() {
-        Note::DrawsPut { place }
-    } else {
-        Note::Passes
-    }
+    let draws = on == ring && place < state.setup().limit();
+    where_so(draws, Note::DrawsPut { place })
 }
 
-/// A D2 on a ring.
-fn get_note(state: &State, ring: u32, on: u32) -> Note
+/// A step on a ring that decides, where this holds.
+fn decision(state: &State, ring: u32, on: u32, holds: bool) -> Note
     requires { ring < state.now.setup.rings }
-    ensures { result ≡ get_note state.now.setup (machine_of state.now).cells ring on }
+    ensures { result
+        ≡ (if on == ring && holds then Decides ((machine_of state.now).cells.head ring)
+        else Passes) }
 {
-    let place = state.head(ring);
-    if on == ring && place < state.setup().limit() {
-        Note::DrawsGet { place }
-    } else {
-        Note::Passes
-    }
+    let head = state.head(ring);
+    where_so(on == ring && holds, Note::Decides { head })
 }
 
-/// A D1 on a ring: it decides where Threshold is below 0.
-fn refusal_note(state: &State, ring: u32, on: u32) -> Note
-    requires { ring < state.now.setup.rings }
-    ensures { result ≡ refusal_note (machine_of state.now).cells ring on }
+/// What a turn is to the order, where this holds.
+fn where_so(holds: bool, note: Note) -> Note
+    ensures { result ≡ (if holds then note else Passes) }
 {
-    if on == ring && state.threshold(ring) < 0 {
-        Note::Decides {
-            head: state.head(ring),
-        }
-    } else {
-        Note::Passes
-    }
-}
-
-/// A D6 on a ring: it decides where Tail is no further than one past its ticket.
-fn end_note(state: &State, ring: u32, on: u32, ticket: u64) -> Note
-    requires { ring < state.now.setup.rings }
-    ensures { result ≡ end_note (machine_of state.now).cells ring on ticket }
-{
-    if on == ring && state.tail(ring).saturating_sub(ticket) <= 1 {
-        Note::Decides {
-            head: state.head(ring),
-        }
-    } else {
-        Note::Passes
-    }
-}
-
-/// A D10 on a ring that would go on: it decides where Threshold is at most 0.
-fn level_note(state: &State, ring: u32, on: u32) -> Note
-    requires { ring < state.now.setup.rings }
-    ensures { result ≡ level_note (machine_of state.now).cells ring on }
-{
-    if on == ring && state.threshold(ring) <= 0 {
-        Note::Decides {
-            head: state.head(ring),
-        }
-    } else {
-        Note::Passes
-    }
+    if holds { note } else { Note::Passes }
 }
