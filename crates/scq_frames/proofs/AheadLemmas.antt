@@ -100,6 +100,11 @@ module _ (number : List ℕ → ℕ) where
     some = some;
   }
 
+  -- whether the end was read, and how many bytes were, the last line leaves
+  pub last-kept : (old new : Framing) (given : Option Message) → PassedLast old new given → (new.ended ≡ old.ended) × (new.read ≡ old.read)
+  last-kept old new None p = (ap (λ (f : Framing). f.ended) p.none, ap (λ (f : Framing). f.read) p.none)
+  last-kept old new (Some m) p = (ap (λ (f : Framing). f.ended) p.some, ap (λ (f : Framing). f.read) p.some)
+
   nothing_behind : (old new : Framing) (given : Option Message) (after : Option (List ℕ)) → PassedLast old new given
       → visible_ahead number new after ≡ option_map (λ _. []) after
   nothing_behind old new None after p =

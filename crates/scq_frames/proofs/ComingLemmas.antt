@@ -1,8 +1,7 @@
 -- What comes first of what a source gave. While no message came, the messages ahead that count stay
 -- the same; the line or the read that ends the search says what the first of them is.
-use Rattle.std.proofs.Common.{◌≡◌, ℕ, ◌+◌, ◌-◌, ◌≤◌, Bool, true, false, cond, Option, Some, None, Result, Ok, Err, List, [], ◌∷◌, ◌++◌, length, take, drop, map, refl, sym, ◌∙◌, ap, subst, ⊎_elim, arith, length-append, length-drop}
-use Rattle.std.specs.Prelude.{IsTrue, ◌⊎◌}
-use Rattle.std.specs.Option.{option_map}
+use Rattle.std.proofs.Common.{◌≡◌, ℕ, ◌+◌, ◌-◌, ◌≤◌, Bool, true, false, cond, Option, Some, None, Result, Ok, Err, List, [], ◌∷◌, ◌++◌, length, take, drop, map, refl, sym, ◌∙◌, ap, subst, arith, length-append, length-drop}
+use Rattle.std.specs.Prelude.{IsTrue}
 use Rattle.std.proofs.Math.ListN.{get_or-append}
 use Rattle.std.proofs.lemmas.Bool.{true≢false, le-ltb}
 use Rattle.std.proofs.lemmas.List.{append-nil, append_assoc, nil_from_length, length-take-le}
@@ -15,7 +14,7 @@ use Rattle.scq_frames.specs.Framing.{Framing}
 use Rattle.scq_frames.proofs.TextLemmas.{ended_parts, line-clear, messages_after-line, messages_after-last, messages_after-nil}
 use Rattle.scq_frames.proofs.TroubleLemmas.{counted-line, counted-failed, counted-many}
 use Rattle.scq_frames.proofs.CutLemmas.{bare, none_of_bare}
-use Rattle.scq_frames.proofs.FindingLemmas.{Finds-done, ahead-fetched}
+use Rattle.scq_frames.proofs.FindingLemmas.{Finds-done, Refuses, ahead-fetched}
 
 -- since a call began the source gave these bytes, which were needed, and no message came. The messages
 -- ahead are the same, but that a topic may have been cut
@@ -145,48 +144,20 @@ Comes-long_last first old new at count bytes q clear within ended long = λ fail
     long_same at count (counted_ahead first failed (bytes ++ more)) (message_in (old.line + 1) old.held ++ []) same
     (begins-long old.size (old.line + 1) at count old.held [] long)
 
--- a line was refused
-pub Comes-pass_err : (first old new : Framing) (len : ℕ) (fault : FrameFault) (bytes : List ℕ) (q : Quiet first old bytes) → EndsAt old.held len
-    → old.read ≤ old.most → new ≡ old
-    → ((at : ℕ) × (count : ℕ) × (fault ≡ TooLong at count)) ⊎ (fault ≡ NoMemory)
-    → ((at count : ℕ) → fault ≡ TooLong at count → IsTooLong old.size (old.line + 1) (take len old.held) at count) → Comes first new bytes (Err fault)
-Comes-pass_err first old new len fault bytes q ends within same faults long =
-    ⊎_elim
-    (λ (which : (at : ℕ) × (count : ℕ) × (fault ≡ TooLong at count)).
-    subst (λ (f : FrameFault). Comes first new bytes (Err f)) (sym which.2)
-    (Comes-long first old new len which.0 which.1 bytes q ends within (λ h. ap (λ (f : Framing). f.ended) same ∙ h) (long which.0 which.1 which.2)))
-    (λ (memory : fault ≡ NoMemory). subst (λ (f : FrameFault). Comes first new bytes (Err f)) (sym memory) tt)
-    faults
-
--- the last line was refused
-pub Comes-last_err : (first old new : Framing) (fault : FrameFault) (bytes : List ℕ) (q : Quiet first old bytes)
-    → HasNoLineFeed old.held 0 (length old.held) → old.read ≤ old.most → IsTrue new.ended
-    → ((at : ℕ) × (count : ℕ) × (fault ≡ TooLong at count)) ⊎ (fault ≡ NoMemory)
-    → ((at count : ℕ) → fault ≡ TooLong at count → IsTooLong old.size (old.line + 1) old.held at count) → Comes first new bytes (Err fault)
-Comes-last_err first old new fault bytes q clear within ended faults long =
-    ⊎_elim
-    (λ (which : (at : ℕ) × (count : ℕ) × (fault ≡ TooLong at count)).
-    subst (λ (f : FrameFault). Comes first new bytes (Err f)) (sym which.2)
-    (Comes-long_last first old new which.0 which.1 bytes q clear within ended (long which.0 which.1 which.2)))
-    (λ (memory : fault ≡ NoMemory). subst (λ (f : FrameFault). Comes first new bytes (Err f)) (sym memory) tt)
-    faults
-
 -- a read was refused: behind what is held, none of which is a whole line
 pub Comes-read_err : (first old new : Framing) (mid after : Option (List ℕ)) (fault : FrameFault) (bytes : List ℕ) (q : Quiet first old bytes)
     (fetched : Fetched old new mid after)
     → HasNoLineFeed old.held 0 (length old.held) → old.read ≤ old.most → old.ended ≡ false
     → new ≡ record old { held = new.held; read = new.read; ended = new.ended }
-    → (fault ≡ ReadFault → new ≡ old)
-    → ((n : ℕ) → fault ≡ TooLarge n → (n ≡ new.most + 1) × (new.read ≡ n) × (old.read ≡ old.most))
-    → ((at len : ℕ) → fault ≡ TooLong at len → ⊥) → Comes first new (bytes ++ fetched.bytes) (Err fault)
-Comes-read_err first old new mid after ReadFault bytes q fetched clear within going same unread large long =
+    → Refuses old new fault → Comes first new (bytes ++ fetched.bytes) (Err fault)
+Comes-read_err first old new mid after ReadFault bytes q fetched clear within going same why =
     let count : length old.held ≡ length old.held + length fetched.bytes =
-    sym (ap (λ (f : Framing). length f.held) (unread refl)) ∙ ap length fetched.held ∙ length-append old.held fetched.bytes in
+    sym (ap (λ (f : Framing). length f.held) (why.unread refl)) ∙ ap length fetched.held ∙ length-append old.held fetched.bytes in
     let nothing : fetched.bytes ≡ [] = nil_from_length fetched.bytes (omega arith) in
     ap (λ (l : List ℕ). counted_ahead first true (bytes ++ l)) nothing ∙ none_came first old bytes [] true q going (none_whole old clear within)
-Comes-read_err first old new mid after (TooLong at len) bytes q fetched clear within going same unread large long = absurd (long at len refl)
-Comes-read_err first old new mid after (TooLarge n) bytes q fetched clear within going same unread large long =
-    let facts = large n refl in
+Comes-read_err first old new mid after (TooLong at len) bytes q fetched clear within going same why = absurd (why.long at len refl)
+Comes-read_err first old new mid after (TooLarge n) bytes q fetched clear within going same why =
+    let facts = why.too_large n refl in
     let full : old.read ≡ old.most = facts.2 in
     let most : new.most ≡ old.most = ap (λ (f : Framing). f.most) same in
     let one : length fetched.bytes ≡ 1 = omega (arith, fetched.count) in
@@ -197,7 +168,7 @@ Comes-read_err first old new mid after (TooLarge n) bytes q fetched clear within
     none_came first old bytes fetched.bytes false q going
     (ap (messages_after old.line) (counted-many (limit_left old) false text front (omega (arith, length-append old.held fetched.bytes)))
     ∙ messages_after-nil old.line)
-Comes-read_err first old new mid after NoMemory bytes q fetched clear within going same unread large long = tt
+Comes-read_err first old new mid after NoMemory bytes q fetched clear within going same why = tt
 
 -- the end was read, and nothing was held
 pub Comes-none : (first old new : Framing) (bytes : List ℕ) (q : Quiet first old bytes) → HasNoLineFeed old.held 0 (length old.held) → old.read ≤ old.most
@@ -213,30 +184,22 @@ Comes-done : (first now : Framing) (bytes : List ℕ) (given : Option Message) (
 Comes-done first now bytes None failed comes = comes
 Comes-done first now bytes (Some m) failed comes = comes
 
--- what a fault says is what the answer says
-pub Found-err : (first new : Framing) (before after : Option (List ℕ)) (result : Result (Option Message) FrameFault) (fault : FrameFault) (bytes : List ℕ)
-    → result ≡ Err fault
-    → new.read ≡ first.read + length bytes → before ≡ option_map (λ rest. bytes ++ rest) after → (IsTrue first.ended → bytes ≡ [])
-    → IsNeeded first bytes → Finds first new bytes (Err fault) → Comes first new bytes (Err fault) → Found first new before after result
-Found-err first new before after result fault bytes is count moved idle needed finds comes = record {
-  bytes = bytes;
-  count = count;
-  moved = moved;
-  idle = idle;
-  needed = needed;
-  finds = subst (λ (r : Result (Option Message) FrameFault). Finds first new bytes r) (sym is) finds;
-  comes = subst (λ (r : Result (Option Message) FrameFault). Comes first new bytes r) (sym is) comes;
-}
-
--- whether a call failed doesn't matter to what it found
-pub Found-done : (first now : Framing) (before after : Option (List ℕ)) (given : Option Message) (failed : Bool) → Found first now before after (Ok given)
-    → Found first (record now { failed = failed }) before after (Ok given)
-Found-done first now before after given failed f = record {
+-- what a call found where another framer, that read as many bytes, has its place
+pub Found-told : {first now other : Framing} {before after : Option (List ℕ)} {result : Result (Option Message) FrameFault}
+    (f : Found first now before after result) → other.read ≡ now.read → Finds first other f.bytes result → Comes first other f.bytes result
+    → Found first other before after result
+Found-told f read finds comes = record {
   bytes = f.bytes;
-  count = f.count;
+  count = read ∙ f.count;
   moved = f.moved;
   idle = f.idle;
   needed = f.needed;
-  finds = Finds-done first now f.bytes given failed f.finds;
-  comes = Comes-done first now f.bytes given failed f.comes;
+  finds = finds;
+  comes = comes;
 }
+
+-- whether a call failed doesn't matter to it
+pub Found-done : (first now : Framing) (before after : Option (List ℕ)) (given : Option Message) (failed : Bool)
+    → Found first now before after (Ok given) → Found first (record now { failed = failed }) before after (Ok given)
+Found-done first now before after given failed f =
+    Found-told f refl (Finds-done first now f.bytes given failed f.finds) (Comes-done first now f.bytes given failed f.comes)

@@ -5,7 +5,7 @@ use Rattle.std.specs.Prelude.{IsTrue}
 use Rattle.std.specs.List.{position_or_len}
 use Rattle.std.proofs.Math.ListN.{get_or-append}
 use Rattle.std.proofs.Math.Seq.{take-append-add}
-use Rattle.std.proofs.lemmas.Bool.{true≢false, cases_lt}
+use Rattle.std.proofs.lemmas.Bool.{cases_lt}
 use Rattle.std.proofs.lemmas.List.{append-nil, append_assoc, length-take-le, get_or-append-add, get_or-append_right}
 use Rattle.std.proofs.lemmas.List.Sums.{fails_before_first, passes_at_first, position_or_len_is}
 use Rattle.scq_topics.specs.Exports.{is_space}
@@ -14,8 +14,9 @@ use Rattle.scq_frames.specs.declared.fault.FrameFault.TheVariants.{ReadFault, To
 use Rattle.scq_frames.specs.Exports.{EndsAt, HasNoLineFeed, payload_of, Fetched, visible_size, Finds, IsTooLong, Comes, Found}
 use Rattle.scq_frames.specs.Framing.{Framing}
 use Rattle.scq_frames.proofs.TrimLemmas.{holding}
-use Rattle.scq_frames.proofs.FindingLemmas.{Gave, Gave-start, moved-moved, trouble-fetched, Finds-long, Finds-long_last, Finds-read_err}
-use Rattle.scq_frames.proofs.ComingLemmas.{Quiet, Quiet-start, Quiet-fetched, needed-fetched, Comes-long, Comes-long_last, Comes-read_err, Found-err}
+use Rattle.scq_frames.proofs.FindingLemmas.{Gave, Gave-start, Gave-fetched, Refuses, refused}
+use Rattle.scq_frames.proofs.ComingLemmas.{Quiet, Quiet-start, Quiet-fetched, Found-told}
+use Rattle.scq_frames.proofs.FoundLemmas.{Found-long, Found-long_last, Found-read_err}
 
 -- of a line that has not ended these many payload bytes came so far, too many, and none of the line is held
 pub record CountsLongLine {S : Type 0} (left : S → Option (List ℕ)) (faults : S → ℕ) (first now : Framing) (source after : S) (count : ℕ) : Type 0 where
@@ -121,15 +122,7 @@ module _ (now new : Framing) (before after : Option (List ℕ)) (line : List ℕ
 -- of an answer that is a fault it doesn't matter what is held
 Found-holding : (first new : Framing) (held : List ℕ) (before after : Option (List ℕ)) (fault : FrameFault)
     → Found first (holding new held) before after (Err fault) → Found first new before after (Err fault)
-Found-holding first new held before after fault f = record {
-  bytes = f.bytes;
-  count = f.count;
-  moved = f.moved;
-  idle = f.idle;
-  needed = f.needed;
-  finds = finds fault f.bytes f.finds;
-  comes = comes fault f.bytes f.comes;
-}
+Found-holding first new held before after fault f = Found-told f refl (finds fault f.bytes f.finds) (comes fault f.bytes f.comes)
   where
     finds : (fault : FrameFault) (bytes : List ℕ) → Finds first (holding new held) bytes (Err fault) → Finds first new bytes (Err fault)
     finds ReadFault bytes h = h
@@ -172,31 +165,19 @@ module _ {S : Type 0} (left : S → Option (List ℕ)) (faults : S → ℕ) (fir
 
   -- what the source gave since the call began
   abbrev since : Gave first grown (left source) (left after)
-  since = record {
-    bytes = s.gave.bytes ++ more.bytes;
-    count = omega (arith, s.gave.count, more.count, length-append s.gave.bytes more.bytes);
-    moved = moved-moved s.gave.bytes more.bytes (left source) (left mid) (left after) s.gave.moved more.moved;
-    idle = λ h. absurd (true≢false (sym h ∙ s.began));
-    trouble = trouble-fetched first was grown (left mid) (left after) s.gave.bytes s.gave.trouble more s.going s.within as_read;
-  }
+  since = Gave-fetched first was grown (left source) (left mid) (left after) s.gave more s.began s.going s.within as_read
 
   quiet_since : Quiet first grown (s.gave.bytes ++ more.bytes)
   quiet_since = Quiet-fetched first was grown (left mid) (left after) s.gave.bytes s.quiet more s.clear s.going s.within few as_read
 
   -- the read failed
-  pub Counts-fault : (fault : FrameFault) → (fault ≡ ReadFault → new ≡ now)
-      → ((n : ℕ) → fault ≡ TooLarge n → (n ≡ new.most + 1) × (new.read ≡ n) × (now.read ≡ now.most))
-      → ((at len : ℕ) → fault ≡ TooLong at len → ⊥) → Found first new (left source) (left after) (Err fault)
-  Counts-fault fault unread large long =
-      let still : fault ≡ ReadFault → grown ≡ was = λ e. line_unread now new (left mid) (left after) s.line s.none fetched same (unread e) in
+  pub Counts-fault : (fault : FrameFault) → Refuses now new fault → Found first new (left source) (left after) (Err fault)
+  Counts-fault fault why =
+      let still : refused fault ≡ refused ReadFault → grown ≡ was =
+      λ e. line_unread now new (left mid) (left after) s.line s.none fetched same (why.unread e) in
       Found-holding first new (s.line ++ new.held) (left source) (left after) fault
-      (Found-err first grown (left source) (left after) (Err fault) fault (s.gave.bytes ++ more.bytes) refl
-      (omega (arith, s.gave.count, more.count, length-append s.gave.bytes more.bytes))
-      (moved-moved s.gave.bytes more.bytes (left source) (left mid) (left after) s.gave.moved more.moved)
-      (λ h. absurd (true≢false (sym h ∙ s.began)))
-      (needed-fetched first was grown (left mid) (left after) s.gave.bytes s.quiet more s.clear s.going s.within few)
-      (Finds-read_err first was grown (left source) (left mid) (left after) fault s.gave more s.clear s.within s.going as_read still large long)
-      (Comes-read_err first was grown (left mid) (left after) fault s.gave.bytes s.quiet more s.clear s.within s.going as_read still large long))
+      (Found-read_err first was grown (left source) (left mid) (left after) fault s.gave s.quiet more s.clear s.began s.going s.within few as_read
+      (record { unread = still; too_large = why.too_large; long = why.long }))
 
   long_line : (line : List ℕ) (total : ℕ) → total ≡ length (payload_of line) → first.size < total
       → IsTooLong new.size (new.line + 1) line (first.line + 1) total
@@ -218,10 +199,7 @@ module _ {S : Type 0} (left : S → Option (List ℕ)) (faults : S → ℕ) (fir
       ∙ ap (λ (n : ℕ). count + n) (length-take-le len new.held (omega (arith, ends.within)))) in
       let long = long_line (take at (s.line ++ new.held)) (count + len) total (omega (arith, s.long)) in
       Found-holding first new (s.line ++ new.held) (left source) (left after) (TooLong (first.line + 1) (count + len))
-      (Found-err first grown (left source) (left after) (Err (TooLong (first.line + 1) (count + len))) (TooLong (first.line + 1) (count + len)) since.bytes
-      refl since.count since.moved since.idle quiet_since.needed
-      (Finds-long first grown grown (left source) (left after) at (first.line + 1) (count + len) since whole within long)
-      (Comes-long first grown grown at (first.line + 1) (count + len) since.bytes quiet_since whole within (λ h. h) long))
+      (Found-long since quiet_since at (first.line + 1) (count + len) whole within long)
 
   -- the end was read
   pub Counts-over : HasNoLineFeed new.held 0 (length new.held) → IsTrue new.ended → new.read ≤ new.most
@@ -230,10 +208,7 @@ module _ {S : Type 0} (left : S → Option (List ℕ)) (faults : S → ℕ) (fir
       let whole = clear-more s.line new.held s.clear clear in
       let long = long_line (s.line ++ new.held) (count + length new.held) (sym (s.grows new.held)) (omega (arith, s.long)) in
       Found-holding first new (s.line ++ new.held) (left source) (left after) (TooLong (first.line + 1) (count + length new.held))
-      (Found-err first grown (left source) (left after) (Err (TooLong (first.line + 1) (count + length new.held)))
-      (TooLong (first.line + 1) (count + length new.held)) since.bytes refl since.count since.moved since.idle quiet_since.needed
-      (Finds-long_last first grown grown (left source) (left after) (first.line + 1) (count + length new.held) since whole within long)
-      (Comes-long_last first grown grown (first.line + 1) (count + length new.held) since.bytes quiet_since whole within ended long))
+      (Found-long_last since quiet_since (first.line + 1) (count + length new.held) whole within ended long)
 
   -- the line goes on
   pub Counts-more : (next : Framing) → next ≡ record new { held = [] } → HasNoLineFeed new.held 0 (length new.held) → new.ended ≡ false → new.read ≤ new.most
@@ -257,6 +232,6 @@ module _ {S : Type 0} (left : S → Option (List ℕ)) (faults : S → ℕ) (fir
         within = within;
         kept = kept ∙ s.kept;
         size = size ∙ s.size;
-        gave = record { bytes = since.bytes; count = since.count; moved = since.moved; idle = since.idle; trouble = since.trouble };
+        gave = since;
         quiet = quiet_since;
       })

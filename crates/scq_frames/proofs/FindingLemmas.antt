@@ -1,6 +1,6 @@
 -- The trouble ahead of a framer, kept through its lines and reads, and found at its faults.
-use Rattle.std.proofs.Common.{◌≡◌, ℕ, ◌+◌, ◌-◌, ◌<◌, ◌≤◌, Bool, true, false, Option, Some, None, Result, Ok, Err, List, [], ◌++◌, length, take, drop, refl, sym, ◌∙◌, ap, subst, ⊎_elim, arith, length-append, length-drop}
-use Rattle.std.specs.Prelude.{IsTrue, ◌⊎◌}
+use Rattle.std.proofs.Common.{◌≡◌, ℕ, ◌+◌, ◌-◌, ◌<◌, ◌≤◌, Bool, true, false, Option, Some, None, Result, Ok, Err, List, [], ◌++◌, length, take, drop, refl, sym, ◌∙◌, ap, arith, length-append, length-drop}
+use Rattle.std.specs.Prelude.{IsTrue, ◌≢◌}
 use Rattle.std.specs.Option.{option_map, option_or}
 use Rattle.std.proofs.Math.ListN.{get_or-append}
 use Rattle.std.proofs.lemmas.Bool.{true≢false}
@@ -88,14 +88,19 @@ ahead-fetched told old new before after fetched within same more =
     sym (append_assoc old.held fetched.bytes more) ∙ ap (λ (l : List ℕ). l ++ more) (sym fetched.held) in
     cc
 
-pub trouble-fetched : (first old new : Framing) (mid after : Option (List ℕ)) (bytes : List ℕ) → SameTrouble first old bytes
-    → (fetched : Fetched old new mid after)
-    → old.ended ≡ false → old.read ≤ old.most → new ≡ record old { held = new.held; read = new.read; ended = new.ended }
-    → SameTrouble first new (bytes ++ fetched.bytes)
-trouble-fetched first old new mid after bytes trouble fetched going within same = λ failed more may.
-    ap (trouble_ahead first failed) (append_assoc bytes fetched.bytes more)
-    ∙ trouble failed (fetched.bytes ++ more) (λ h. absurd (true≢false (sym h ∙ going)))
-    ∙ ahead-fetched (λ size limit line text. trouble_after size limit failed line text) old new mid after fetched within same more
+abbrev pub Gave-fetched : (first old new : Framing) (before mid after : Option (List ℕ)) → Gave first old before mid → Fetched old new mid after
+    → first.ended ≡ false → old.ended ≡ false → old.read ≤ old.most → new ≡ record old { held = new.held; read = new.read; ended = new.ended }
+    → Gave first new before after
+Gave-fetched first old new before mid after g fetched began going within same = record {
+  bytes = g.bytes ++ fetched.bytes;
+  count = omega (arith, g.count, fetched.count, length-append g.bytes fetched.bytes);
+  moved = moved-moved g.bytes fetched.bytes before mid after g.moved fetched.moved;
+  idle = λ h. absurd (true≢false (sym h ∙ began));
+  trouble = λ failed more may.
+      ap (trouble_ahead first failed) (append_assoc g.bytes fetched.bytes more)
+      ∙ g.trouble failed (fetched.bytes ++ more) (λ h. absurd (true≢false (sym h ∙ going)))
+      ∙ ahead-fetched (λ size limit line text. trouble_after size limit failed line text) old new mid after fetched within same more;
+}
 
 -- the trouble ahead of a call, where nothing more comes
 so_far : (first now : Framing) (before after : Option (List ℕ)) (g : Gave first now before after) (failed : Bool) → MayFollow now failed []
@@ -189,47 +194,27 @@ Finds-too_large first old new before mid after g fetched count clear full going 
     g.trouble false fetched.bytes (λ h. absurd (true≢false (sym h ∙ going)))
     ∙ trouble_after-many old.size (limit_left old) false old.line text front (omega (arith, length-append old.held fetched.bytes))
 
--- a line was refused
-pub Finds-pass_err : (first old new : Framing) (before after : Option (List ℕ)) (len : ℕ) (fault : FrameFault) (g : Gave first old before after)
-    → EndsAt old.held len → old.read ≤ old.most
-    → ((at : ℕ) × (count : ℕ) × (fault ≡ TooLong at count)) ⊎ (fault ≡ NoMemory)
-    → ((at count : ℕ) → fault ≡ TooLong at count → IsTooLong old.size (old.line + 1) (take len old.held) at count) → Finds first new g.bytes (Err fault)
-Finds-pass_err first old new before after len fault g ends within faults long =
-    ⊎_elim
-    (λ (which : (at : ℕ) × (count : ℕ) × (fault ≡ TooLong at count)).
-    subst (λ (f : FrameFault). Finds first new g.bytes (Err f)) (sym which.2)
-    (Finds-long first old new before after len which.0 which.1 g ends within (long which.0 which.1 which.2)))
-    (λ (memory : fault ≡ NoMemory). subst (λ (f : FrameFault). Finds first new g.bytes (Err f)) (sym memory) tt)
-    faults
+-- a read is refused for one of these
+abbrev pub refused : FrameFault → Result (Unit {0}) FrameFault
+refused fault = Err fault
 
--- the last line was refused
-pub Finds-last_err : (first old new : Framing) (before after : Option (List ℕ)) (fault : FrameFault) (g : Gave first old before after)
-    → HasNoLineFeed old.held 0 (length old.held) → old.read ≤ old.most
-    → ((at : ℕ) × (count : ℕ) × (fault ≡ TooLong at count)) ⊎ (fault ≡ NoMemory)
-    → ((at count : ℕ) → fault ≡ TooLong at count → IsTooLong old.size (old.line + 1) old.held at count) → Finds first new g.bytes (Err fault)
-Finds-last_err first old new before after fault g clear within faults long =
-    ⊎_elim
-    (λ (which : (at : ℕ) × (count : ℕ) × (fault ≡ TooLong at count)).
-    subst (λ (f : FrameFault). Finds first new g.bytes (Err f)) (sym which.2)
-    (Finds-long_last first old new before after which.0 which.1 g clear within (long which.0 which.1 which.2)))
-    (λ (memory : fault ≡ NoMemory). subst (λ (f : FrameFault). Finds first new g.bytes (Err f)) (sym memory) tt)
-    faults
+pub record Refuses (old new : Framing) (fault : FrameFault) : Type 0 where
+  pub unread : refused fault ≡ refused ReadFault → new ≡ old
+  pub too_large : (n : ℕ) → refused fault ≡ refused (TooLarge n) → (n ≡ new.most + 1) × (new.read ≡ n) × (old.read ≡ old.most)
+  pub long : (at len : ℕ) → refused fault ≢ refused (TooLong at len)
 
--- a read was refused
 pub Finds-read_err : (first old new : Framing) (before mid after : Option (List ℕ)) (fault : FrameFault) (g : Gave first old before mid)
     (fetched : Fetched old new mid after) → HasNoLineFeed old.held 0 (length old.held)
     → old.read ≤ old.most → old.ended ≡ false → new ≡ record old { held = new.held; read = new.read; ended = new.ended }
-    → (fault ≡ ReadFault → new ≡ old)
-    → ((n : ℕ) → fault ≡ TooLarge n → (n ≡ new.most + 1) × (new.read ≡ n) × (old.read ≡ old.most))
-    → ((at len : ℕ) → fault ≡ TooLong at len → ⊥) → Finds first new (g.bytes ++ fetched.bytes) (Err fault)
-Finds-read_err first old new before mid after ReadFault g fetched clear within going same unread large long =
-    Finds-read_fault first old new before mid after g fetched clear within going (unread refl)
-Finds-read_err first old new before mid after (TooLong at len) g fetched clear within going same unread large long = absurd (long at len refl)
-Finds-read_err first old new before mid after (TooLarge n) g fetched clear within going same unread large long =
-    let facts = large n refl in
+    → Refuses old new fault → Finds first new (g.bytes ++ fetched.bytes) (Err fault)
+Finds-read_err first old new before mid after ReadFault g fetched clear within going same why =
+    Finds-read_fault first old new before mid after g fetched clear within going (why.unread refl)
+Finds-read_err first old new before mid after (TooLong at len) g fetched clear within going same why = absurd (why.long at len refl)
+Finds-read_err first old new before mid after (TooLarge n) g fetched clear within going same why =
+    let facts = why.too_large n refl in
     let most : new.most ≡ old.most = ap (λ (f : Framing). f.most) same in
     Finds-too_large first old new before mid after g fetched n clear facts.2 going (omega arith)
-Finds-read_err first old new before mid after NoMemory g fetched clear within going same unread large long = tt
+Finds-read_err first old new before mid after NoMemory g fetched clear within going same why = tt
 
 -- what an answer says of all the bytes that the source gave since an earlier call
 pub record FoundSince (old new : Framing) (before after : Option (List ℕ)) (result : Result (Option Message) FrameFault) : Type 0 where

@@ -1,27 +1,23 @@
 -- What a call found in all, where it gave a message or read the end.
-use Rattle.std.proofs.Common.{◌≡◌, ◌≢◌, ℕ, ◌+◌, ◌≤◌, Bool, true, false, Option, Some, None, Ok, Err, List, [], ◌∷◌, ◌++◌, length, map, refl, sym, ◌∙◌, ap, subst, arith, length-append}
+use Rattle.std.proofs.Common.{◌≡◌, ◌≢◌, ℕ, ◌+◌, ◌≤◌, Bool, true, false, Option, Some, None, Ok, Err, List, [], ◌∷◌, ◌++◌, length, take, map, refl, sym, ◌∙◌, ap, subst, arith, length-append}
 use Rattle.std.specs.Prelude.{IsTrue, sum_by}
 use Rattle.std.proofs.lemmas.Bool.{true≢false}
 use Rattle.std.proofs.lemmas.List.{append_assoc}
-use Rattle.scq_frames.specs.Exports.{HasNoLineFeed, MayFollow, Finds, payload_of, weight_of, Comes, Found, counted_ahead}
+use Rattle.scq_frames.specs.Exports.{EndsAt, HasNoLineFeed, MayFollow, Fetched, Finds, IsTooLong, payload_of, weight_of, Comes, IsNeeded, Found, counted_ahead}
 use Rattle.scq_frames.specs.declared.fault.FrameFault.{FrameFault}
 use Rattle.scq_frames.specs.declared.fault.FrameFault.TheVariants.{ReadFault, TooLong, TooLarge, NoMemory}
 use Rattle.scq_frames.proofs.CutLemmas.{bare}
 use Rattle.std.specs.Option.{option_to_list}
 use Rattle.scq_frames.specs.Framing.{Framing}
 use Rattle.scq_frames.specs.declared.message.Message.{Message}
-use Rattle.scq_frames.proofs.AheadLemmas.{Passed, PassedLast, no_line}
-use Rattle.scq_frames.proofs.FindingLemmas.{Gave, moved-moved, trouble-line, Finds-none, Finds-last}
-use Rattle.scq_frames.proofs.ComingLemmas.{Quiet, Comes-none, long_same, none_came, none_whole}
+use Rattle.scq_frames.proofs.AheadLemmas.{Passed, PassedLast, last-kept, no_line}
+use Rattle.scq_frames.proofs.FindingLemmas.{Gave, Gave-fetched, Refuses, moved-moved, trouble-line, Finds-none, Finds-last, Finds-long, Finds-long_last, Finds-read_err}
+use Rattle.scq_frames.proofs.ComingLemmas.{Quiet, Comes-none, Comes-long, Comes-long_last, Comes-read_err, needed-fetched, long_same, none_came, none_whole}
 
 module _ (number : List ℕ → ℕ) where
   -- where the end gave nothing, nothing was held
   none_held : (old new : Framing) (given : Option Message) → PassedLast number old new given → given ≡ None → old.held ≡ []
   none_held old new given p none = no_line number (old.line + 1) old.file old.held (sym (ap option_to_list none) ∙ p.gave)
-
-  last_read : (old new : Framing) (given : Option Message) → PassedLast number old new given → new.read ≡ old.read
-  last_read old new None p = ap (λ (f : Framing). f.read) p.none
-  last_read old new (Some m) p = ap (λ (f : Framing). f.read) p.some
 
   -- a message was passed: what the source gave so far is found in the call
   pub Found-line : (first old new : Framing) (before after : Option (List ℕ)) (len : ℕ) (given : Option Message) (m : Message)
@@ -38,7 +34,7 @@ module _ (number : List ℕ → ℕ) where
       → old.read ≤ old.most → length (payload_of old.held) ≤ old.size → Found first new before after (Ok given)
   Found-last first old new before after None g q p within fits = record {
     bytes = g.bytes;
-    count = last_read old new None p ∙ g.count;
+    count = (last-kept number old new None p).1 ∙ g.count;
     moved = g.moved;
     idle = g.idle;
     needed = q.needed;
@@ -47,7 +43,7 @@ module _ (number : List ℕ → ℕ) where
   }
   Found-last first old new before after (Some m) g q p within fits = record {
     bytes = g.bytes;
-    count = last_read old new (Some m) p ∙ g.count;
+    count = (last-kept number old new (Some m) p).1 ∙ g.count;
     moved = g.moved;
     idle = g.idle;
     needed = q.needed;
@@ -55,6 +51,48 @@ module _ (number : List ℕ → ℕ) where
         (subst (λ (f : Framing). f.read ≤ f.most) (sym p.some) within);
     comes = tt;
   }
+
+-- what the source gave so far is found in a call that ends with a fault
+Found-fault : {first now : Framing} {before after : Option (List ℕ)} (fault : FrameFault) (g : Gave first now before after) → IsNeeded first g.bytes
+    → Finds first now g.bytes (Err fault) → Comes first now g.bytes (Err fault) → Found first now before after (Err fault)
+Found-fault fault g needed finds comes = record {
+  bytes = g.bytes;
+  count = g.count;
+  moved = g.moved;
+  idle = g.idle;
+  needed = needed;
+  finds = finds;
+  comes = comes;
+}
+
+module _ {first now : Framing} {before after : Option (List ℕ)} (g : Gave first now before after) (q : Quiet first now g.bytes) where
+  -- a line is too long
+  pub Found-long : (len at count : ℕ) → EndsAt now.held len → now.read ≤ now.most → IsTooLong now.size (now.line + 1) (take len now.held) at count
+      → Found first now before after (Err (TooLong at count))
+  Found-long len at count ends within long =
+      Found-fault (TooLong at count) g q.needed (Finds-long first now now before after len at count g ends within long)
+      (Comes-long first now now len at count g.bytes q ends within (λ h. h) long)
+
+  -- the last one is
+  pub Found-long_last : (at count : ℕ) → HasNoLineFeed now.held 0 (length now.held) → now.read ≤ now.most → IsTrue now.ended
+      → IsTooLong now.size (now.line + 1) now.held at count → Found first now before after (Err (TooLong at count))
+  Found-long_last at count clear within ended long =
+      Found-fault (TooLong at count) g q.needed (Finds-long_last first now now before after at count g clear within long)
+      (Comes-long_last first now now at count g.bytes q clear within ended long)
+
+  pub Found-memory : Found first now before after (Err NoMemory)
+  Found-memory = Found-fault NoMemory g q.needed tt tt
+
+-- a read was refused
+pub Found-read_err : (first old new : Framing) (before mid after : Option (List ℕ)) (fault : FrameFault) (g : Gave first old before mid)
+    → Quiet first old g.bytes → Fetched old new mid after → HasNoLineFeed old.held 0 (length old.held) → first.ended ≡ false → old.ended ≡ false
+    → old.read ≤ old.most → new.read ≤ old.read + 4096 → new ≡ record old { held = new.held; read = new.read; ended = new.ended }
+    → Refuses old new fault → Found first new before after (Err fault)
+Found-read_err first old new before mid after fault g q fetched clear began going within few same why =
+    Found-fault fault (Gave-fetched first old new before mid after g fetched began going within same)
+    (needed-fetched first old new mid after g.bytes q fetched clear going within few)
+    (Finds-read_err first old new before mid after fault g fetched clear within going same why)
+    (Comes-read_err first old new mid after fault g.bytes q fetched clear within going same why)
 
 -- nothing came while no line was whole
 none_early : (old : Framing) (early bytes last : List ℕ) → bytes ≡ early ++ last → (bytes ≢ [] → counted_ahead old true early ≡ [])

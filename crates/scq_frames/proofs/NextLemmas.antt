@@ -1,14 +1,15 @@
 -- What a framer keeps while it looks for the next message.
-use Rattle.std.proofs.Common.{◌≡◌, ℕ, ◌+◌, ◌≤◌, true, false, Option, None, List, [], ◌++◌, length, take, drop, refl, sym, ◌∙◌, ap, subst, add-zero, arith, length-append, length-drop}
+use Rattle.std.proofs.Common.{◌≡◌, ℕ, ◌+◌, ◌≤◌, true, false, Option, None, List, [], ◌++◌, length, take, drop, refl, sym, ◌∙◌, ap, subst, add-zero, arith, length-drop}
 use Rattle.std.specs.Prelude.{IsTrue, sum_by}
 use Rattle.std.specs.Option.{option_map, option_to_list}
 use Rattle.std.proofs.lemmas.Bool.{true≢false}
-use Rattle.scq_frames.specs.Exports.{HasNoLineFeed, message_in, numbered, IsTrimmed, Fetched, NothingLeft, visible_ahead, visible_size, weight_of}
+use Rattle.scq_frames.specs.Exports.{HasNoLineFeed, message_in, numbered, IsTrimmed, Fetched, NothingLeft, SameTrouble, visible_ahead, visible_size, weight_of}
 use Rattle.scq_frames.proofs.AheadLemmas.{Passed, gives-line, no_line, option_map-nothing}
-use Rattle.scq_frames.proofs.FindingLemmas.{Gave, Gave-start, trouble-line, trouble-fetched, moved-moved}
+use Rattle.scq_frames.proofs.FindingLemmas.{Gave, Gave-start, Gave-fetched, trouble-line}
 use Rattle.scq_frames.proofs.ComingLemmas.{Quiet, Quiet-start, Quiet-line, Quiet-fetched}
 use Rattle.scq_frames.proofs.CutLemmas.{Overlooks}
 use Rattle.scq_frames.proofs.TrimLemmas.{length-trimmed, visible_ahead-trimmed, trouble_ahead-trimmed, counted_ahead-trimmed}
+use Rattle.scq_frames.proofs.EndLemmas.{began-going}
 use Rattle.scq_frames.specs.Framing.{Framing}
 use Rattle.scq_frames.specs.declared.message.Message.{Message}
 
@@ -55,78 +56,65 @@ module _ (number : List ℕ → ℕ) where
     quiet = Quiet-start first (record first { failed = true }) (λ failed more. refl);
   })
 
-  -- an empty line was passed, and the search goes on
+  -- nothing was read, and the search goes on
+  Searches-held : {S : Type 0} (left : S → Option (List ℕ)) (faults : S → ℕ) (first old : Framing) (source after : S) (line weight : ℕ)
+      (held : List ℕ) (s : Searches left faults first old source after) → let new = record old { line = line; held = held; weight = weight } in
+      visible_ahead number first (left source) ≡ visible_ahead number new (left after) → first.line ≤ line → weight ≡ first.weight
+      → length held ≤ length old.held → (IsTrue first.ended → first.held ≡ [] → held ≡ []) → SameTrouble first new s.found.bytes
+      → Quiet first new s.found.bytes → Searches left faults first new source after
+  Searches-held left faults first old source after line weight held s ahead rises same fewer empty trouble quiet = record {
+    file = s.file;
+    payload = s.payload;
+    most = s.most;
+    failing = s.failing;
+    ahead = ahead;
+    size = s.size;
+    end = s.end;
+    ended = s.ended;
+    line = rises;
+    weight = same;
+    within = s.within;
+    short = omega (arith, s.short, fewer);
+    kept = s.kept;
+    empty = empty;
+    found = record { bytes = s.found.bytes; count = s.found.count; moved = s.found.moved; idle = s.found.idle; trouble = trouble };
+    quiet = quiet;
+  }
+
+  -- an empty line was passed
   pub Searches-line : {S : Type 0} (left : S → Option (List ℕ)) (faults : S → ℕ) (first old new : Framing) (source after : S) (len : ℕ) (given : Option Message)
       → Searches left faults first old source after → Passed number old new len given → given ≡ None → Searches left faults first new source after
   Searches-line left faults first old new source after len given s passed none =
       let nothing : option_to_list given ≡ [] = ap option_to_list none in
-      let f = record old { line = old.line + 1; held = drop (len + 1) old.held; weight = old.weight + sum_by weight_of (option_to_list given) } in
+      let weight : ℕ = old.weight + sum_by weight_of (option_to_list given) in
       let same : (visible : Option (List Message)) → option_map (λ rest. option_to_list given ++ rest) visible ≡ visible =
       λ visible. ap (λ (ms : List Message). option_map (λ rest. ms ++ rest) visible) nothing ∙ option_map-nothing visible in
       let blank : message_in (old.line + 1) (take len old.held) ≡ [] =
       ap (message_in (old.line + 1)) (no_line number (old.line + 1) old.file (take len old.held) (sym nothing ∙ passed.gave)) in
-      subst (λ (f : Framing). Searches left faults first f source after) (sym passed.after) (record {
-        file = s.file;
-        payload = s.payload;
-        most = s.most;
-        failing = s.failing;
-        ahead = gives-line number first old new (left source) (left after) len given s.ahead passed ∙ same _
-            ∙ ap (λ (f : Framing). visible_ahead number f (left after)) passed.after;
-        size = s.size;
-        end = s.end;
-        ended = s.ended;
-        line = omega (arith, s.line);
-        weight = ap (λ ms. old.weight + sum_by weight_of ms) nothing ∙ add-zero old.weight ∙ s.weight;
-        within = s.within;
-        short = omega (arith, s.short, length-drop (len + 1) old.held);
-        kept = s.kept;
-        empty = λ ended none. absurd (omega (arith, passed.ends.within, ap length (s.empty ended none)));
-        found =
-            record {
-              bytes = s.found.bytes;
-              count = s.found.count;
-              moved = s.found.moved;
-              idle = s.found.idle;
-              trouble = trouble-line first old s.found.bytes len f.weight s.found.trouble passed.ends s.within passed.fits;
-            };
-        quiet = Quiet-line first old s.found.bytes len f.weight s.quiet passed.ends s.within blank;
-      })
+      subst (λ (f : Framing). Searches left faults first f source after) (sym passed.after)
+      (Searches-held left faults first old source after (old.line + 1) weight (drop (len + 1) old.held) s
+      (gives-line number first old new (left source) (left after) len given s.ahead passed ∙ same _
+      ∙ ap (λ (f : Framing). visible_ahead number f (left after)) passed.after)
+      (omega (arith, s.line)) (ap (λ ms. old.weight + sum_by weight_of ms) nothing ∙ add-zero old.weight ∙ s.weight)
+      (omega (arith, length-drop (len + 1) old.held)) (λ ended none. absurd (omega (arith, passed.ends.within, ap length (s.empty ended none))))
+      (trouble-line first old s.found.bytes len weight s.found.trouble passed.ends s.within passed.fits)
+      (Quiet-line first old s.found.bytes len weight s.quiet passed.ends s.within blank))
 
   -- the topic of a line that has not ended was cut
   pub Searches-trim : {S : Type 0} (left : S → Option (List ℕ)) (faults : S → ℕ) (first old new : Framing) (source after : S)
       → Searches left faults first old source after → IsTrimmed 33 old.held new.held → HasNoLineFeed old.held 0 (length old.held) → old.ended ≡ false
       → Overlooks 33 (numbered old.file number) → new ≡ record old { held = new.held } → Searches left faults first new source after
   Searches-trim left faults first old new source after s trimmed clear going over same =
-      subst (λ (f : Framing). Searches left faults first f source after) (sym same) (record {
-        file = s.file;
-        payload = s.payload;
-        most = s.most;
-        failing = s.failing;
-        ahead = s.ahead ∙ visible_ahead-trimmed old new.held 33 (omega arith) trimmed clear number over (left after);
-        size = s.size;
-        end = s.end;
-        ended = s.ended;
-        line = s.line;
-        weight = s.weight;
-        within = s.within;
-        short = omega (arith, s.short, length-trimmed 33 old.held new.held trimmed);
-        kept = s.kept;
-        empty = λ h _. absurd (true≢false (sym (s.ended h).1 ∙ going));
-        found =
-            record {
-              bytes = s.found.bytes;
-              count = s.found.count;
-              moved = s.found.moved;
-              idle = s.found.idle;
-              trouble = λ failed more may. s.found.trouble failed more may
-                  ∙ trouble_ahead-trimmed old new.held 33 (omega arith) trimmed clear s.within failed more;
-            };
-        quiet =
-            record {
-              same = λ failed more may. s.quiet.same failed more may ∙ counted_ahead-trimmed old new.held 33 (omega arith) trimmed clear s.within failed more;
-              needed = s.quiet.needed;
-            };
-      })
+      subst (λ (f : Framing). Searches left faults first f source after) (sym same)
+      (Searches-held left faults first old source after old.line old.weight new.held s
+      (s.ahead ∙ visible_ahead-trimmed old new.held 33 (omega arith) trimmed clear number over (left after)) s.line s.weight
+      (length-trimmed 33 old.held new.held trimmed) (λ h _. absurd (true≢false (sym (s.ended h).1 ∙ going)))
+      (λ failed more may. s.found.trouble failed more may ∙ trouble_ahead-trimmed old new.held 33 (omega arith) trimmed clear s.within failed more)
+      (record {
+        same = λ failed more may. s.quiet.same failed more may
+            ∙ counted_ahead-trimmed old new.held 33 (omega arith) trimmed clear s.within failed more;
+        needed = s.quiet.needed;
+      }))
 
   -- something was read, and the search goes on
   pub Searches-read : {S : Type 0} (left : S → Option (List ℕ)) (faults : S → ℕ) (first old new : Framing) (source mid after : S)
@@ -150,13 +138,7 @@ module _ (number : List ℕ → ℕ) where
     short = short;
     kept = kept ∙ s.kept;
     empty = λ h _. absurd (true≢false (sym (s.ended h).1 ∙ going));
-    found =
-        record {
-          bytes = s.found.bytes ++ fetched.bytes;
-          count = omega (arith, s.found.count, fetched.count, length-append s.found.bytes fetched.bytes);
-          moved = moved-moved s.found.bytes fetched.bytes (left source) (left mid) (left after) s.found.moved fetched.moved;
-          idle = λ h. absurd (true≢false (sym (s.ended h).1 ∙ going));
-          trouble = trouble-fetched first old new (left mid) (left after) s.found.bytes s.found.trouble fetched going s.within same;
-        };
+    found = Gave-fetched first old new (left source) (left mid) (left after) s.found fetched
+        (began-going _ _ (λ h. (s.ended h).1) going) going s.within same;
     quiet = Quiet-fetched first old new (left mid) (left after) s.found.bytes s.quiet fetched clear going s.within few same;
   }

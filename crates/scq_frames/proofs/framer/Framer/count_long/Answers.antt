@@ -24,7 +24,7 @@ returns-in-Err-clause-found g c =
     let read = c.in-Err.ensures in
     Counts-fault g.S.Source.left g.S.Source.faults c.args.self.now c.reads.self c.read.new.self c.args.source.now c.reads.source c.read.new.source
     c.reads.len c.reads.invariant.0 read.same read.fetched read.few
-    c.in-Err.fault (λ e. read.unread (ap Err e)) (λ n e. read.too_large n (ap Err e)) (λ at len e. read.long at len (ap Err e))
+    c.in-Err.fault (record { unread = read.unread; too_large = read.too_large; long = read.long })
 
 pub returns-in-Err-clause-source : goal.returns-in-Err-clause-source
 returns-in-Err-clause-source g c =
