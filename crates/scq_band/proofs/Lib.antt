@@ -1,3 +1,4 @@
+pub mod Refusals
 pub mod Layouts
 pub mod WordLemmas
 pub mod Handles

@@ -12,6 +12,7 @@ use Rattle.scq_band.specs.Known.{Known}
 use Rattle.scq_band.specs.Standing.{Standing}
 use Rattle.scq_band.proofs.Keeping.{none_rises, call_seen, empty_seen, kept_got, got_standing, if_drawn, kept_none, none_standing, kept_spent_get, spent_get_standing, known_read, known_here}
 use Rattle.scq_band.proofs.LaidFirst.{ring_there, known_so, keeps_none}
+use Rattle.scq_band.proofs.Refusals.{ok_no_err, empty_no_spent, spent_no_empty}
 use Rattle.scq_band.proofs.band.Band.deq.Goals as goal
 use Rattle.scq_band.proofs.band.Band.deq.Goals.{After-dequeue-found, After-index-known, After-finds_none-later, In-Some, In-Ok, In-Nothing, In-Spent}
 
@@ -255,3 +256,27 @@ returns-in-Nothing-clause-empty_in_run g c head is_empty =
     c.seat.inside.key.value c.self.inside.table.shared.key c.args.self.now c.args.seat.now c.seat.inside.token.me c.dequeue-found.new.token.me c.args.ring head
     c.seat.view_is c.requires.seat c.self.view_is c.dequeue-found.ensures.went c.seat.invariant.idle (ap (λ (u : Known). (my u).part.phase) view)
     (ap (λ (u : Known). (my u).number) view) there (returns-in-Nothing-clause-empty g c head is_empty).known (ap (λ (u : Known). (my u).part.calls) view)
+
+pub returns-in-Ok-clause-empty : goal.returns-in-Ok-clause-empty
+returns-in-Ok-clause-empty g c head is = absurd (ok_no_err _ _ is)
+
+pub returns-in-Ok-clause-empty_in_run : goal.returns-in-Ok-clause-empty_in_run
+returns-in-Ok-clause-empty_in_run g c head is = absurd (ok_no_err _ _ is)
+
+pub returns-in-Ok-clause-spent : goal.returns-in-Ok-clause-spent
+returns-in-Ok-clause-spent g c ticket is fresh = absurd (ok_no_err _ _ is)
+
+pub returns-in-Nothing-clause-spent : goal.returns-in-Nothing-clause-spent
+returns-in-Nothing-clause-spent g c ticket is fresh = absurd (empty_no_spent _ _ is)
+
+pub returns-in-Spent-clause-empty : goal.returns-in-Spent-clause-empty
+returns-in-Spent-clause-empty g c head is = absurd (spent_no_empty _ _ is)
+
+pub returns-in-Spent-clause-empty_in_run : goal.returns-in-Spent-clause-empty_in_run
+returns-in-Spent-clause-empty_in_run g c head is = absurd (spent_no_empty _ _ is)
+
+pub returns-in-Some-clause-empty : goal.returns-in-Some-clause-empty
+returns-in-Some-clause-empty g c head is = absurd (spent_no_empty _ _ is)
+
+pub returns-in-Some-clause-empty_in_run : goal.returns-in-Some-clause-empty_in_run
+returns-in-Some-clause-empty_in_run g c head is = absurd (spent_no_empty _ _ is)
