@@ -34,11 +34,18 @@ const BUFFERS: u32 = 2;
 /// How often the taking thread looks for a number.
 const LOOKS: u32 = 10_000;
 
-/// A pass after its work, with the sum of the numbers that its thread summed. Where tickets have
-/// run out it may still hold a value.
-struct Worked {
+/// A queue with its passes, and room for the values that they hold at the end.
+struct Made {
+    queue: Queue<HeapBuffer>,
+    passes: Vec<Pass<HeapBuffer>>,
+    values: Vec<Held<HeapBuffer>>,
+}
+
+/// A pass after its work, with what its thread found. Where tickets have run out it may still hold
+/// a value.
+struct Worked<T> {
     pass: Pass<HeapBuffer>,
-    sum: u64,
+    found: T,
     held: Option<Held<HeapBuffer>>,
 }
 
@@ -88,7 +95,7 @@ fn taken(
 }
 
 /// Sends the numbers, and sums those that aren't sent.
-fn send_numbers(queue: &Queue<HeapBuffer>, mut pass: Pass<HeapBuffer>) -> Worked
+fn send_numbers(queue: &Queue<HeapBuffer>, mut pass: Pass<HeapBuffer>) -> Worked<u64>
     requires rings { queue.now.setup.rings ≡ 2 }
     requires pass { HoldsJust queue.now pass [] }
     ensures { HoldsJust queue.now result.pass (option_to_list result.held) }
@@ -101,7 +108,7 @@ fn send_numbers(queue: &Queue<HeapBuffer>, mut pass: Pass<HeapBuffer>) -> Worked
             Err(held) => {
                 return Worked {
                     pass,
-                    sum: sum.wrapping_add(sum_from(number)),
+                    found: sum.wrapping_add(sum_from(number)),
                     held: Some(held),
                 };
             }
@@ -109,7 +116,7 @@ fn send_numbers(queue: &Queue<HeapBuffer>, mut pass: Pass<HeapBuffer>) -> Worked
     }
     Worked {
         pass,
-        sum,
+        found: sum,
         held: None,
     }
 }
@@ -124,7 +131,7 @@ fn sum_from(first: u8) -> u64 {
 }
 
 /// Looks so often for a number, and sums those that it takes.
-fn take_numbers(queue: &Queue<HeapBuffer>, mut pass: Pass<HeapBuffer>, looks: u32) -> Worked
+fn take_numbers(queue: &Queue<HeapBuffer>, mut pass: Pass<HeapBuffer>, looks: u32) -> Worked<u64>
     requires rings { queue.now.setup.rings ≡ 2 }
     requires pass { HoldsJust queue.now pass [] }
     ensures { HoldsJust queue.now result.pass (option_to_list result.held) }
@@ -137,7 +144,7 @@ fn take_numbers(queue: &Queue<HeapBuffer>, mut pass: Pass<HeapBuffer>, looks: u3
             Err(held) => {
                 return Worked {
                     pass,
-                    sum,
+                    found: sum,
                     held: Some(held),
                 };
             }
@@ -145,35 +152,28 @@ fn take_numbers(queue: &Queue<HeapBuffer>, mut pass: Pass<HeapBuffer>, looks: u3
     }
     Worked {
         pass,
-        sum,
+        found: sum,
         held: None,
     }
 }
 
 /// Takes what is left.
-fn take_rest(queue: &Queue<HeapBuffer>, before: Worked) -> Worked
+fn take_rest(queue: &Queue<HeapBuffer>, before: Worked<u64>) -> Worked<u64>
     requires rings { queue.now.setup.rings ≡ 2 }
     requires pass { HoldsJust queue.now before.pass (option_to_list before.held) }
     ensures { HoldsJust queue.now result.pass (option_to_list result.held) }
 {
-    let Worked { pass, sum, held } = before;
+    let Worked { pass, found, held } = before;
     if let Some(held) = held {
         return Worked {
             pass,
-            sum,
+            found,
             held: Some(held),
         };
     }
-    let Worked {
-        pass,
-        sum: rest,
-        held,
-    } = take_numbers(queue, pass, BUFFERS + 1);
-    Worked {
-        pass,
-        sum: sum.wrapping_add(rest),
-        held,
-    }
+    let mut rest = take_numbers(queue, pass, BUFFERS + 1);
+    rest.found = rest.found.wrapping_add(found);
+    rest
 }
 
 /// Each pass in a thread of its own.
@@ -182,7 +182,7 @@ fn work<R: Threads>(
     queue: &Queue<HeapBuffer>,
     sender: Pass<HeapBuffer>,
     taker: Pass<HeapBuffer>,
-) -> (Worked, Worked)
+) -> (Worked<u64>, Worked<u64>)
     requires rings { queue.now.setup.rings ≡ 2 }
     requires sender { HoldsJust queue.now sender [] }
     requires taker { HoldsJust queue.now taker [] }
@@ -191,11 +191,11 @@ fn work<R: Threads>(
 {
     join(
         rt,
-        || -> Worked
+        || -> Worked<u64>
             requires { (queue.now.setup.rings ≡ 2) × HoldsJust queue.now sender [] }
             ensures { HoldsJust queue.entry.now result.pass (option_to_list result.held) }
         { send_numbers(queue, sender) },
-        || -> Worked
+        || -> Worked<u64>
             requires { (queue.now.setup.rings ≡ 2) × HoldsJust queue.now taker [] }
             ensures { HoldsJust queue.entry.now result.pass (option_to_list result.held) }
         { take_numbers(queue, taker, LOOKS) },
@@ -203,33 +203,37 @@ fn work<R: Threads>(
 }
 
 /// Runs both threads, takes what is left, and closes the queue.
-fn run<R: Threads>(
-    rt: &R,
-    queue: Queue<HeapBuffer>,
-    mut passes: Vec<Pass<HeapBuffer>>,
-    mut values: Vec<Held<HeapBuffer>>,
-) -> (u64, Closed<HeapBuffer>)
-    requires setup { (queue.setup.rings ≡ 2) × (queue.setup.seats ≡ 2) }
-    requires passes { passes.items ≡ first_passes queue 2 }
-    requires values { (values.items ≡ []) × (2 ≤ vec_capacity values) }
+fn run<R: Threads>(rt: &R, made: Made) -> (u64, Closed<HeapBuffer>)
+    requires setup { (made.queue.setup.rings ≡ 2) × (made.queue.setup.seats ≡ 2) }
+    requires passes { made.passes.items ≡ first_passes made.queue 2 }
+    requires values { (made.values.items ≡ []) × (2 ≤ vec_capacity made.values) }
 {
-    let Some(taker) = passes.pop() else {
-        unreachable!()
-    };
-    let Some(sender) = passes.pop() else {
-        unreachable!()
-    };
+    let Made {
+        queue,
+        mut passes,
+        mut values,
+    } = made;
+    let (sender, taker) = two_of(&mut passes);
     let (sender, taker) = work(rt, &queue, sender, taker);
     let taker = take_rest(&queue, taker);
-    let Worked { pass, sum, held } = sender;
-    give_in(pass, held, &mut passes, &mut values);
-    let Worked {
-        pass,
-        sum: rest,
-        held,
-    } = taker;
-    give_in(pass, held, &mut passes, &mut values);
-    (sum.wrapping_add(rest), queue.close(passes, values))
+    let (sent, taken) = give_both(sender, taker, &mut passes, &mut values);
+    (sent.wrapping_add(taken), queue.close(passes, values))
+}
+
+/// Takes both passes out.
+fn two_of(passes: &mut Vec<Pass<HeapBuffer>>) -> (Pass<HeapBuffer>, Pass<HeapBuffer>)
+    requires { vec_len passes.old ≡ 2 }
+    ensures both { passes.old.items ≡ result.0 ∷ result.1 ∷ [] }
+    ensures none { passes.new.items ≡ [] }
+    ensures room { vec_capacity passes.new ≡ vec_capacity passes.old }
+{
+    let Some(second) = passes.pop() else {
+        unreachable!()
+    };
+    let Some(first) = passes.pop() else {
+        unreachable!()
+    };
+    (first, second)
 }
 
 /// A pass and the value that it holds, if any, behind those that are there.
@@ -252,69 +256,71 @@ fn give_in(
     }
 }
 
+/// The same of two threads' passes, with what these found.
+fn give_both<T>(
+    first: Worked<T>,
+    second: Worked<T>,
+    passes: &mut Vec<Pass<HeapBuffer>>,
+    values: &mut Vec<Held<HeapBuffer>>,
+) -> (T, T)
+    requires passes { (passes.old.items ≡ []) × (2 ≤ vec_capacity passes.old) }
+    requires values { (values.old.items ≡ []) × (2 ≤ vec_capacity values.old) }
+    ensures passes { passes.new.items ≡ first.pass ∷ second.pass ∷ [] }
+    ensures values { values.new.items
+        ≡ option_to_list first.held ++ option_to_list second.held }
+{
+    let Worked {
+        pass,
+        found: by_first,
+        held,
+    } = first;
+    give_in(pass, held, passes, values);
+    let Worked {
+        pass,
+        found: by_second,
+        held,
+    } = second;
+    give_in(pass, held, passes, values);
+    (by_first, by_second)
+}
+
 /// A queue with one topic and two passes, over two buffers of one byte.
-fn made(alloc: Global) -> Result<(Queue<HeapBuffer>, Vec<Pass<HeapBuffer>>)>
-    ensures setup { IfOk result (λ made. (made.0.setup.rings ≡ 2) × (made.0.setup.seats ≡ 2)) }
-    ensures passes { IfOk result (λ made. made.1.items ≡ first_passes made.0 2) }
+fn make(alloc: Global) -> Result<Made>
+    ensures setup { IfOk result (λ made.
+        (made.queue.setup.rings ≡ 2) × (made.queue.setup.seats ≡ 2)) }
+    ensures passes { IfOk result (λ made. made.passes.items ≡ first_passes made.queue 2) }
+    ensures values { IfOk result (λ made.
+        (made.values.items ≡ []) × (2 ≤ vec_capacity made.values)) }
 {
     let setup = Setup::new(1, 2, 2, 1 << 60)?;
     let mut buffers = Vec::with_capacity(alloc, 2)?;
     buffers.push(HeapBuffer::new(alloc, 1)?)?;
     buffers.push(HeapBuffer::new(alloc, 1)?)?;
+    let values = Vec::with_capacity(alloc, 2)?;
     match Queue::make(alloc, setup, buffers) {
-        Ok(made) => Ok(made),
-        Err(_) => Err(anyhow!("no memory for the queue")),
+        Ok((queue, passes)) => Ok(Made {
+            queue,
+            passes,
+            values,
+        }),
+        Err(_) => {
+            values.destroy_empty();
+            Err(anyhow!("no memory for the queue"))
+        }
     }
-}
-
-/// The rounds of notes, on a queue of their own.
-fn hand_over<R: Threads + Wait + Sync>(
-    rt: &R,
-    alloc: Global,
-) -> Result<([u8; NUMBERS], [u8; NUMBERS])> {
-    let values = Vec::with_capacity(alloc, 2)?;
-    let (queue, passes) = match made(alloc) {
-        Ok(made) => made,
-        Err(fault) => {
-            values.destroy_empty();
-            return Err(fault);
-        }
-    };
-    make_rounds::<Brand, R>(rt, alloc, queue, passes, values).ok_or(anyhow!(
-        "no memory for the channels"
-    ))
-}
-
-/// A number that goes from one pass to another behind a mark, on a queue of its own.
-fn mark_and_take(alloc: Global) -> Result<u8> {
-    let values = Vec::with_capacity(alloc, 2)?;
-    let (queue, passes) = match made(alloc) {
-        Ok(made) => made,
-        Err(fault) => {
-            values.destroy_empty();
-            return Err(fault);
-        }
-    };
-    tell_by_a_mark(queue, passes, values).ok_or(anyhow!("nothing was taken"))
 }
 
 fn main(rt: HostRuntime) -> Result<()> {
     let alloc = rt.alloc();
-    let number = mark_and_take(alloc)?;
+    let number = tell_by_a_mark(make(alloc)?).ok_or(anyhow!("nothing was taken"))?;
     println!(rt; "behind a mark: take {number}")?;
-    let (sends, takes) = hand_over(&rt, alloc)?;
+    let (sends, takes) = make_rounds::<Brand, _>(&rt, alloc, make(alloc)?).ok_or(anyhow!(
+        "no memory for the channels"
+    ))?;
     for (send, take) in sends.iter().zip(takes.iter()) {
         println!(rt; "send {send}, take {take}")?;
     }
-    let values = Vec::with_capacity(alloc, 2)?;
-    let (queue, passes) = match made(alloc) {
-        Ok(made) => made,
-        Err(fault) => {
-            values.destroy_empty();
-            return Err(fault);
-        }
-    };
-    let (sum, closed) = run(&rt, queue, passes, values);
+    let (sum, closed) = run(&rt, make(alloc)?);
     println!(rt; "the numbers from 1 to {LAST} are {sum} together")?;
     for (ring, left) in closed.left.iter().enumerate() {
         println!(rt; "ring {ring}: {left} left")?;

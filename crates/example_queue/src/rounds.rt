@@ -8,9 +8,9 @@ ghost use Rattle.std.specs.Option.{option_to_list};
 ghost use Rattle.scq_queue.specs.Exports.{first_passes};
 ghost use Rattle.scq_queue.specs.HoldsJust.{HoldsJust};
 
-use crate::{give_in, sent, taken};
+use crate::{Made, Worked, give_both, sent, taken, two_of};
 use crossbeam_channel::{Receiver, Sender, bounded};
-use scq_queue::{HeapBuffer, Held, Note, Pass, Queue};
+use scq_queue::{HeapBuffer, Note, Pass, Queue};
 use std::alloc::Global;
 use std::marker::{Brand, PhantomData};
 use std::sync::Wait;
@@ -41,13 +41,8 @@ struct Told<H: Home> {
     ghost own: { H.table ≡ Some note.table },
 }
 
-/// A pass after its rounds, with the numbers of its calls, 0 where there was none. Where tickets
-/// have run out it may still hold a value.
-struct Half {
-    pass: Pass<HeapBuffer>,
-    numbers: [u8; NUMBERS],
-    held: Option<Held<HeapBuffer>>,
-}
+/// A pass after its rounds, with the numbers of its calls, 0 where there was none.
+type Half = Worked<[u8; NUMBERS]>;
 
 /// What the pass knows now, to be sent.
 fn what_it_knows<H: Home>(queue: &Queue<HeapBuffer>, pass: &mut Pass<HeapBuffer>) -> Told<H>
@@ -91,9 +86,9 @@ fn send_rounds<H: Home, R: Wait>(
             Ok(true) => numbers[round] = number,
             Ok(false) => break,
             Err(held) => {
-                return Half {
+                return Worked {
                     pass,
-                    numbers,
+                    found: numbers,
                     held: Some(held),
                 };
             }
@@ -106,9 +101,9 @@ fn send_rounds<H: Home, R: Wait>(
             Err(_) => break,
         }
     }
-    Half {
+    Worked {
         pass,
-        numbers,
+        found: numbers,
         held: None,
     }
 }
@@ -136,9 +131,9 @@ fn take_rounds<H: Home, R: Wait>(
             Ok(Some(number)) => numbers[round] = number,
             Ok(None) => break,
             Err(held) => {
-                return Half {
+                return Worked {
                     pass,
-                    numbers,
+                    found: numbers,
                     held: Some(held),
                 };
             }
@@ -147,9 +142,9 @@ fn take_rounds<H: Home, R: Wait>(
             break;
         }
     }
-    Half {
+    Worked {
         pass,
-        numbers,
+        found: numbers,
         held: None,
     }
 }
@@ -198,21 +193,19 @@ fn work<H: Home + Send, R: Threads + Wait + Sync>(
 pub fn make_rounds<H: Home + Send, R: Threads + Wait + Sync>(
     rt: &R,
     alloc: Global,
-    queue: Queue<HeapBuffer>,
-    mut passes: Vec<Pass<HeapBuffer>>,
-    mut values: Vec<Held<HeapBuffer>>,
+    made: Made,
 ) -> Option<([u8; NUMBERS], [u8; NUMBERS])>
-    requires home { H.table ≡ Some queue.table }
-    requires setup { (queue.setup.rings ≡ 2) × (queue.setup.seats ≡ 2) }
-    requires passes { passes.items ≡ first_passes queue 2 }
-    requires values { (values.items ≡ []) × (2 ≤ vec_capacity values) }
+    requires home { H.table ≡ Some made.queue.table }
+    requires setup { (made.queue.setup.rings ≡ 2) × (made.queue.setup.seats ≡ 2) }
+    requires passes { made.passes.items ≡ first_passes made.queue 2 }
+    requires values { (made.values.items ≡ []) × (2 ≤ vec_capacity made.values) }
 {
-    let Some(taker) = passes.pop() else {
-        unreachable!()
-    };
-    let Some(sender) = passes.pop() else {
-        unreachable!()
-    };
+    let Made {
+        queue,
+        mut passes,
+        mut values,
+    } = made;
+    let (sender, taker) = two_of(&mut passes);
     let (Ok((to, from)), Ok((back, reply))) = (bounded(alloc, 1), bounded(alloc, 1)) else {
         passes.push_reserved(sender);
         passes.push_reserved(taker);
@@ -220,18 +213,7 @@ pub fn make_rounds<H: Home + Send, R: Threads + Wait + Sync>(
         return None;
     };
     let (sender, taker) = work::<H, R>(rt, &queue, (sender, to, reply), (taker, from, back));
-    let Half {
-        pass,
-        numbers: sends,
-        held,
-    } = sender;
-    give_in(pass, held, &mut passes, &mut values);
-    let Half {
-        pass,
-        numbers: takes,
-        held,
-    } = taker;
-    give_in(pass, held, &mut passes, &mut values);
+    let numbers = give_both(sender, taker, &mut passes, &mut values);
     let _closed = queue.close(passes, values);
-    Some((sends, takes))
+    Some(numbers)
 }

@@ -1,5 +1,5 @@
 use Rattle.std.proofs.Common.{◌≡◌, ℕ, List, [], ◌∷◌, ◌∙◌, ap, subst}
-use Rattle.std.specs.Prelude.{Result, Ok, Err, Some, None, IfOk, IfErr}
+use Rattle.std.specs.Prelude.{Result, Ok, Err, Some, IfOk, IfErr}
 use Rattle.scq_band.specs.Exports.{opening_of, IsCallInRun, Identity}
 use Rattle.scq_queue.specs.Exports.{PassStanding, HeldStanding, having_seen, caller_of, CameOff, FoundTopicEmpty, GetWasSpent}
 use Rattle.scq_queue.specs.HoldsJust.{HoldsJust}
