@@ -88,7 +88,7 @@ pub drew_above : {S : Type 0} (Lies : ℕ → S → List ℕ → Type 0) (c : Se
     → turn ≡ AtE1 r i w l → me.0 ≡ goes_to (my_phase me.0) v0
     → Turned Lies c turn me x later → (known : Numbers) → slice_get v0.numbers r ≡ Some known → known.seen < x
 drew_above Lies c v0 me later turn x r i w l is went turned known e =
-    let u = turned_as Lies c turn (AtE1 r i w l) me later x is turned in
+    let u = turned_as is turned in
     u.draws known (ap (λ (v : Known). slice_get v.numbers r) went ∙ e)
 
 -- and of the seat: where the ticket is below the limit, and where it is not
@@ -105,6 +105,6 @@ drew_from_tail Lies c v slots me later turn x r i w l is alone went same turned 
     record {
       within = λ low. drew Lies c v me later turn x r i w l is alone went low turned;
       past = λ past. drew_past Lies c v me later turn x r i w l is alone went past turned;
-      kept = (turned_as Lies c turn (AtE1 r i w l) me later x is turned).slots ∙ same;
+      kept = (turned_as is turned).slots ∙ same;
       above = drew_above Lies c v me later turn x r i w l is went turned;
     }

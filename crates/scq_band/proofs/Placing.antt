@@ -30,14 +30,14 @@ module _ {S : Type 0} (Lies : ℕ → S → List ℕ → Type 0) (c : Setup) (me
 
   -- and its slot has gone with it, or stays
   pub hit_slots : turn ≡ AtE4 r i w t e → x ≡ e → Turned Lies c turn me x later → later.1 ≡ rest me.1
-  hit_slots is same turned = (turned_as Lies c turn (AtE4 r i w t e) me later x is turned).slots ∙ rw (eq-eqb x e same) refl
+  hit_slots is same turned = (turned_as is turned).slots ∙ rw (eq-eqb x e same) refl
 
   pub missed_slots : turn ≡ AtE4 r i w t e → x ≢ e → Turned Lies c turn me x later → later.1 ≡ me.1
-  missed_slots is miss turned = (turned_as Lies c turn (AtE4 r i w t e) me later x is turned).slots ∙ rw (ne_eqb x e miss) refl
+  missed_slots is miss turned = (turned_as is turned).slots ∙ rw (ne_eqb x e miss) refl
 
   pub missed_rises : turn ≡ AtE4 r i w t e → x ≢ e → Turned Lies c turn me x later → rank_in (ring_slots c) e < rank_in (ring_slots c) x
   missed_rises is miss turned =
-      let u = turned_as Lies c turn (AtE4 r i w t e) me later x is turned in
+      let u = turned_as is turned in
       higher (u.found.above)
     where
       higher : (x ≡ e) ⊎ (rank_in (ring_slots c) e < rank_in (ring_slots c) x) → rank_in (ring_slots c) e < rank_in (ring_slots c) x

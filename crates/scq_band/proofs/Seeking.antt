@@ -48,7 +48,7 @@ module _ {S : Type 0} (Lies : ℕ → S → List ℕ → Type 0) (c : Setup) (me
   pub took : (v : Known) (slots : List (ℕ × S)) → turn ≡ AtD4 r h → IsAlone me.0 → me.0 ≡ goes_to (AtD4 r h) v → me.1 ≡ slots → Turned Lies c turn me x later
       → SeatHasGot Lies c r h (index_in (ring_slots c) x) (v, slots) later
   took v slots is alone here same turned =
-      let u = turned_as Lies c turn (AtD4 r h) me later x is turned in
+      let u = turned_as is turned in
       let i = index_in (ring_slots c) x in
       record {
         content = u.beside;
@@ -71,7 +71,7 @@ module _ {S : Type 0} (Lies : ℕ → S → List ℕ → Type 0) (c : Setup) (me
 
   pub passed_rises : (e : ℕ) → turn ≡ AtD5 r h e → x ≢ e → Turned Lies c turn me x later → rank_in (ring_slots c) e < rank_in (ring_slots c) x
   passed_rises e is miss turned =
-      let u = turned_as Lies c turn (AtD5 r h e) me later x is turned in
+      let u = turned_as is turned in
       higher (u.found.above)
     where
       higher : (x ≡ e) ⊎ (rank_in (ring_slots c) e < rank_in (ring_slots c) x) → rank_in (ring_slots c) e < rank_in (ring_slots c) x

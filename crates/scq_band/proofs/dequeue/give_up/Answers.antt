@@ -19,8 +19,7 @@ leaves g c = ap (loading (ring_of_word c.args.words.now.key.setup c.args.ring.no
 
 stays : (g : _) (c : After-load-tail g) → c.load-tail.new.token.me.1 ≡ c.args.token.now.me.1
 stays g c =
-    (turned_as _ c.args.words.now.key.setup _ (AtD6 c.args.ring.now.number c.args.ticket) (known_me c.args.token.now.me) (known_me c.load-tail.new.token.me)
-    c.load-tail.result (leaves g c) c.load-tail.ensures.turned).slots
+    (turned_as (leaves g c) c.load-tail.ensures.turned).slots
 
 -- Tail was at most one past the ticket
 saw-low : (g : _) (c : After-load-tail g) → c.load-tail.result ≤ c.args.ticket + 1 → c.load-tail.new.token.me.0.known
@@ -148,16 +147,14 @@ returns-then-tail-ticket-clause-over g c _ =
 
 pub returns-then-tail-ticket-clause-slots : goal.returns-then-tail-ticket-clause-slots
 returns-then-tail-ticket-clause-slots g c =
-    (turned_as _ c.args.words.now.key.setup _ (AtD10 c.args.ring.now.number c.args.ticket true) (known_me c.catch_up.new.token.me)
-    (known_me c.count_down.new.token.me) c.count_down.result (ap my_phase c.catch_up.ensures.caught_up) c.count_down.ensures.turned).slots
+    (turned_as (ap my_phase c.catch_up.ensures.caught_up) c.count_down.ensures.turned).slots
     ∙ c.catch_up.ensures.slots
     ∙ stays g (goal.at.returns-then-tail-ticket-clause-slots g c).After-load-tail
 
 pub returns-clause-slots : goal.returns-clause-slots
 returns-clause-slots g c =
     let at = (goal.at.returns-clause-slots g c).After-load-tail in
-    (turned_as _ c.args.words.now.key.setup _ (AtD10 c.args.ring.now.number c.args.ticket false) (known_me c.load-tail.new.token.me)
-    (known_me c.count_down-2.new.token.me) c.count_down-2.result (ap my_phase (saw-high g at c.if-tail-ticket.false)) c.count_down-2.ensures.turned).slots
+    (turned_as (ap my_phase (saw-high g at c.if-tail-ticket.false)) c.count_down-2.ensures.turned).slots
     ∙ stays g at
 
 pub returns-clause-over : goal.returns-clause-over

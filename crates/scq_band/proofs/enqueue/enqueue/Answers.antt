@@ -32,8 +32,7 @@ least g c =
     let slots = c.args.token.now.me.1 in
     let turn = turn_of_draw contents c.args.words.now.key.setup c.args.ring.now (known_me c.draws.token.me) slots c.args.index c.requires.ring
     c.draws.invariant.2 c.requires.first c.draws.invariant.4 in
-    (turned_as _ c.args.words.now.key.setup _ (AtE1 c.args.ring.now.number c.args.index (front_bytes contents slots) _) (known_me c.draws.token.me)
-    (known_me c.draw-ticket.new.token.me) c.draw-ticket.result turn c.draw-ticket.ensures.turned).found
+    (turned_as turn c.draw-ticket.ensures.turned).found
 
 -- the ticket is below the limit
 below-limit : (g : _) (c : After-draw-ticket g) → c.draw-ticket.result < c.args.ring.now.limit → c.draw-ticket.new.token.me.0.known

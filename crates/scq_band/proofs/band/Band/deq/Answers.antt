@@ -32,17 +32,17 @@ knows g c =
     (ring_there c.seat.inside.key.value c.seat.inside.token.me c.seat.inside.numbers.items c.args.ring c.seat.view_is c.requires.seat c.seat.invariant.rings
     c.requires.ring) c.index-known.ensures
 
+-- what is told of a ring of one band is told of the same ring of the same band
+told_of : {B : Type 0} {a b : Identity B} {n r : ℕ} (P : Identity B → ℕ → Type 0) → a ≡ b → n ≡ r → P a n → P b r
+told_of {B} {a} {b} {n} {r} P same number is = subst (λ (i : Identity B). P i r) same (subst (P a) number is)
+
 -- what was got, told of the seat's own ring and setup
 got : (g : _) (c : In-Ok g) → HasGotAfter (LiesIn g.B.Buffer.contents g.B.Buffer.IsSameBuffer c.seat.inside.key.value.given.value.items)
     c.seat.inside.key.value.setup c.args.ring c.in-Ok.place c.in-Ok.index (known_me c.seat.inside.token.me) (known_me c.dequeue-found.new.token.me)
 got g c =
-    let me = known_me c.seat.inside.token.me in
-    let later = known_me c.dequeue-found.new.token.me in
-    let k = c.self.inside.table.shared.key in
-    let Lie = LiesIn g.B.Buffer.contents g.B.Buffer.IsSameBuffer in
-    subst (λ (b : Identity g.row.B.Denot). HasGotAfter (Lie b.given) b.setup c.args.ring c.in-Ok.place c.in-Ok.index me later)
-    (sym (ap (λ (s : Standing g.row.B.Denot). s.band) c.seat.view_is ∙ c.requires.seat ∙ sym c.self.view_is))
-    (subst (λ n. HasGotAfter (Lie k.given.value.items) k.setup n c.in-Ok.place c.in-Ok.index me later) c.ring.ensures.number c.in-Ok.ensures.got)
+    told_of (λ (b : Identity g.row.B.Denot) r. HasGotAfter (LiesIn g.B.Buffer.contents g.B.Buffer.IsSameBuffer b.given) b.setup r c.in-Ok.place c.in-Ok.index
+    (known_me c.seat.inside.token.me) (known_me c.dequeue-found.new.token.me))
+    (sym (ap (λ (s : Standing g.row.B.Denot). s.band) c.seat.view_is ∙ c.requires.seat ∙ sym c.self.view_is)) c.ring.ensures.number c.in-Ok.ensures.got
 
 above : (g : _) (c : In-Ok g) → HasGotAfter (LiesIn g.B.Buffer.contents g.B.Buffer.IsSameBuffer c.seat.inside.key.value.given.value.items)
     c.seat.inside.key.value.setup c.args.ring c.in-Ok.place c.in-Ok.index (known_me c.seat.inside.token.me) (known_me c.dequeue-found.new.token.me)
@@ -56,11 +56,8 @@ above g c gets =
 found : (g : _) (c : In-Nothing g) → HasFoundNone c.args.self.now.setup c.args.ring c.in-Nothing.drawn (known_me c.seat.inside.token.me)
     (known_me c.dequeue-found.new.token.me)
 found g c =
-    let me = known_me c.seat.inside.token.me in
-    let later = known_me c.dequeue-found.new.token.me in
-    let none = c.dequeue-found.ensures.nothing c.in-Nothing.drawn (c.in-Err.is ∙ ap (λ w. Err w) c.in-Nothing.is) in
-    subst (λ (b : Identity g.row.B.Denot). HasFoundNone b.setup c.args.ring c.in-Nothing.drawn me later) c.self.view_is
-    (subst (λ n. HasFoundNone c.self.inside.table.shared.key.setup n c.in-Nothing.drawn me later) c.ring.ensures.number none)
+    told_of (λ (b : Identity g.row.B.Denot) r. HasFoundNone b.setup r c.in-Nothing.drawn (known_me c.seat.inside.token.me) (known_me c.dequeue-found.new.token.me))
+    c.self.view_is c.ring.ensures.number (c.dequeue-found.ensures.nothing c.in-Nothing.drawn (c.in-Err.is ∙ ap (λ w. Err w) c.in-Nothing.is))
 
 -- and the head number is that of what the seat knows now
 later-is : (g : _) (c : After-finds_none-later g) → c.index-known.result.now ≡ known_of c.seat.inside.numbers.items c.args.ring → c.finds_none-later.result ≡ empties (drew c.in-Nothing.drawn (known_of c.seat.inside.numbers.items c.args.ring))
@@ -152,11 +149,8 @@ note_head-requires-clause-rises g c =
 spends : (g : _) (c : In-Spent g) → HasSpentGet c.args.self.now.setup c.args.ring c.in-Spent.ticket (known_me c.seat.inside.token.me)
     (known_me c.dequeue-found.new.token.me)
 spends g c =
-    let me = known_me c.seat.inside.token.me in
-    let later = known_me c.dequeue-found.new.token.me in
-    let its = c.dequeue-found.ensures.spent c.in-Spent.ticket (c.in-Err.is ∙ ap (λ w. Err w) c.in-Spent.is) in
-    subst (λ (b : Identity g.row.B.Denot). HasSpentGet b.setup c.args.ring c.in-Spent.ticket me later) c.self.view_is
-    (subst (λ n. HasSpentGet c.self.inside.table.shared.key.setup n c.in-Spent.ticket me later) c.ring.ensures.number its)
+    told_of (λ (b : Identity g.row.B.Denot) r. HasSpentGet b.setup r c.in-Spent.ticket (known_me c.seat.inside.token.me) (known_me c.dequeue-found.new.token.me))
+    c.self.view_is c.ring.ensures.number (c.dequeue-found.ensures.spent c.in-Spent.ticket (c.in-Err.is ∙ ap (λ w. Err w) c.in-Spent.is))
 
 pub draws-requires : goal.draws-requires
 draws-requires g c = (spends g (goal.at.draws-requires g c).In-Spent).short
