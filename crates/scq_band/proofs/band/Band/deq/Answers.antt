@@ -29,7 +29,7 @@ same_ticket is = cc
 knows : (g : _) (c : After-index-known g) → c.index-known.result.now ≡ known_of c.seat.inside.numbers.items c.args.ring
 knows g c =
     known_read c.seat.inside.numbers.items c.args.ring c.index-known.result.now
-    (ring_there c.seat.inside.key.value c.seat.inside.token.me c.seat.inside.numbers.items c.args.ring c.seat.view_is c.requires.seat c.seat.invariant.rings
+    (ring_there c.seat.inside.key.value c.seat.inside.token.me _ c.seat.view_is c.requires.seat c.seat.invariant.rings
     c.requires.ring) c.index-known.ensures
 
 -- what is told of a ring of one band is told of the same ring of the same band
@@ -49,7 +49,7 @@ above : (g : _) (c : In-Ok g) → HasGotAfter (LiesIn g.B.Buffer.contents g.B.Bu
     → (known_of c.seat.inside.numbers.items c.args.ring).head ≤ c.in-Ok.place
 above g c gets =
     known_so (λ x. x.head ≤ c.in-Ok.place) c.seat.inside.numbers.items _ c.args.ring c.args.ring c.seat.invariant.numbers refl
-    (ring_there c.seat.inside.key.value c.seat.inside.token.me c.seat.inside.numbers.items c.args.ring c.seat.view_is c.requires.seat c.seat.invariant.rings
+    (ring_there c.seat.inside.key.value c.seat.inside.token.me _ c.seat.view_is c.requires.seat c.seat.invariant.rings
     c.requires.ring) gets.above
 
 -- that nothing was found, told likewise
@@ -88,13 +88,13 @@ still_spent g c fresh =
     no_ticket (sym fresh ∙ sym (c.seat.invariant.spent ∙ ap (λ (s : Standing g.row.B.Denot). s.spent) c.seat.view_is) ∙ c.in-Some.is)
 
 pub returns-in-Ok-clause-kept : goal.returns-in-Ok-clause-kept
-returns-in-Ok-clause-kept g c t is = absurd (keeps_none g.B.Buffer.IsSameBuffer c.seat.inside.token.me c.seat.invariant c.seat.view_is c.in_default.is is)
+returns-in-Ok-clause-kept g c t is = keeps_none _ c.seat.inside.token.me c.seat.invariant c.seat.view_is c.in_default.is is
 
 pub returns-in-Nothing-clause-kept : goal.returns-in-Nothing-clause-kept
-returns-in-Nothing-clause-kept g c t is = absurd (keeps_none g.B.Buffer.IsSameBuffer c.seat.inside.token.me c.seat.invariant c.seat.view_is c.in_default.is is)
+returns-in-Nothing-clause-kept g c t is = keeps_none _ c.seat.inside.token.me c.seat.invariant c.seat.view_is c.in_default.is is
 
 pub returns-in-Spent-clause-kept : goal.returns-in-Spent-clause-kept
-returns-in-Spent-clause-kept g c t is = absurd (keeps_none g.B.Buffer.IsSameBuffer c.seat.inside.token.me c.seat.invariant c.seat.view_is c.in_default.is is)
+returns-in-Spent-clause-kept g c t is = keeps_none _ c.seat.inside.token.me c.seat.invariant c.seat.view_is c.in_default.is is
 
 pub returns-in-Some-clause-spent : goal.returns-in-Some-clause-spent
 returns-in-Some-clause-spent g c t is fresh = absurd (still_spent g (goal.at.returns-in-Some-clause-spent g c).In-Some fresh)
@@ -191,7 +191,7 @@ returns-in-Nothing-clause-empty g c head is =
     let numbers = c.seat.inside.numbers.items in
     let setup = sym (ap (λ (i : Identity g.row.B.Denot). i.setup) c.requires.seat) in
     let standing = c.seat.invariant.numbers ∙ ap (λ (s : Standing g.row.B.Denot). s.numbers) c.seat.view_is in
-    let there : r < length numbers = ring_there c.seat.inside.key.value c.seat.inside.token.me c.seat.inside.numbers.items c.args.ring c.seat.view_is c.requires.seat c.seat.invariant.rings
+    let there : r < length numbers = ring_there c.seat.inside.key.value c.seat.inside.token.me _ c.seat.view_is c.requires.seat c.seat.invariant.rings
     c.requires.ring in
     let answered : c.finds_none-later.result.head ≡ head = same_head is in
     let end : (known_of c.dequeue-found.new.token.me.0.known.numbers r).head ≡ (empties (drew drawn (known_of numbers r))).head =
@@ -212,30 +212,29 @@ returns-in-Nothing-clause-empty g c head is =
     }
 
 -- a call that ended is one of the run
-called : (g : _) (c : After-dequeue-found g) → (my c.dequeue-found.new.token.me.0.known).part.phase ≡ Idle
-    → (my c.dequeue-found.new.token.me.0.known).number ≡ (my c.seat.inside.token.me.0.known).number
+called : (g : _) (c : After-dequeue-found g) → {v : Known} → c.dequeue-found.new.token.me.0.known ≡ v → (my v).part.phase ≡ Idle
+    → (my v).number ≡ (my c.seat.inside.token.me.0.known).number
     → IsCallInRun c.args.self.now.setup (opening_of g.B.Buffer.contents c.args.self.now.given) (caller_of c.args.seat.now)
     (caller_of (standing_of c.dequeue-found.new.token.table_id c.seat.inside.key.value c.dequeue-found.new.token.me))
-called g c rests same =
+called g c view rests same =
     call_seen g.B.Buffer.contents c.seat.inside.token.table_id c.dequeue-found.new.token.table_id c.self.inside.table.shared.table_id c.seat.inside.key.value
     c.self.inside.table.shared.key c.args.self.now c.args.seat.now c.seat.inside.token.me c.dequeue-found.new.token.me c.seat.view_is c.requires.seat
-    c.self.view_is c.dequeue-found.ensures.went c.seat.invariant.idle rests same
+    c.self.view_is c.dequeue-found.ensures.went c.seat.invariant.idle view rests same
 
 pub returns-in-Ok-clause-run : goal.returns-in-Ok-clause-run
 returns-in-Ok-clause-run g c fresh =
-    let view = c.in-Ok.ensures.got.got.view in
-    called g (goal.at.returns-in-Ok-clause-run g c).After-dequeue-found (ap (λ (u : Known). (my u).part.phase) view) (ap (λ (u : Known). (my u).number) view)
+    called g (goal.at.returns-in-Ok-clause-run g c).After-dequeue-found c.in-Ok.ensures.got.got.view refl refl
 
 pub returns-in-Spent-clause-run : goal.returns-in-Spent-clause-run
 returns-in-Spent-clause-run g c fresh =
     let view = (c.dequeue-found.ensures.spent c.in-Spent.ticket (c.in-Err.is ∙ ap (λ w. Err w) c.in-Spent.is)).view in
-    called g (goal.at.returns-in-Spent-clause-run g c).After-dequeue-found (ap (λ (u : Known). (my u).part.phase) view) (ap (λ (u : Known). (my u).number) view)
+    called g (goal.at.returns-in-Spent-clause-run g c).After-dequeue-found view refl refl
 
 pub returns-in-Nothing-clause-run : goal.returns-in-Nothing-clause-run
 returns-in-Nothing-clause-run g c fresh =
     let at = goal.at.returns-in-Nothing-clause-run g c in
     let view = (found g at.In-Nothing).view in
-    called g at.After-dequeue-found (ap (λ (u : Known). (my u).part.phase) view) (ap (λ (u : Known). (my u).number) view)
+    called g at.After-dequeue-found view refl refl
 
 pub returns-in-Nothing-clause-empty_in_run : goal.returns-in-Nothing-clause-empty_in_run
 returns-in-Nothing-clause-empty_in_run g c head is_empty =
@@ -244,7 +243,7 @@ returns-in-Nothing-clause-empty_in_run g c head is_empty =
     let there : c.args.ring < length c.dequeue-found.new.token.me.0.known.numbers =
     let kept = invariant_of-seat-in-Nothing g c in
     subst (λ (ns : List Numbers). c.args.ring < length ns) kept.numbers
-    (ring_there c.seat.inside.key.value c.seat.inside.token.me _ c.args.ring c.seat.view_is c.requires.seat kept.rings c.requires.ring) in
+    (ring_there c.seat.inside.key.value c.seat.inside.token.me _ c.seat.view_is c.requires.seat kept.rings c.requires.ring) in
     empty_seen g.B.Buffer.contents c.seat.inside.token.table_id c.dequeue-found.new.token.table_id c.self.inside.table.shared.table_id
     c.seat.inside.key.value c.self.inside.table.shared.key c.args.self.now c.args.seat.now c.seat.inside.token.me c.dequeue-found.new.token.me c.args.ring head
     c.seat.view_is c.requires.seat c.self.view_is c.dequeue-found.ensures.went c.seat.invariant.idle (ap (λ (u : Known). (my u).part.phase) view)
