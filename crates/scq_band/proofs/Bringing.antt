@@ -1,6 +1,6 @@
 -- A slot that is out goes home before the table closes. Plan: its index is in the seat's hand, so it is in no entry and in no
 -- other hand; so no line of the rule speaks of this slot but the seat's own.
-use Rattle.std.proofs.Common.{◌≡◌, ◌≢◌, ◌⊎◌, ℕ, ◌<◌, List, [], ◌∷◌, length, refl, sym, ◌∙◌, ap, subst, inl, inr, arith, eq-eqb}
+use Rattle.std.proofs.Common.{◌≡◌, ◌≢◌, ◌⊎◌, ℕ, ◌<◌, List, [], ◌∷◌, length, refl, sym, ◌∙◌, ap, subst, inl, inr, arith, eq-eqb, ◌++◌}
 use Rattle.std.specs.Prelude.{Option, slice_set, slice_index}
 use Rattle.std.specs.List.{Contains}
 use Rattle.std.proofs.lemmas.List.{length-set, set-get_or}
@@ -17,7 +17,7 @@ use Rattle.scq_core.specs.Exports.{ring_slots}
 use Rattle.scq_law.specs.Exports.{times, OneHand}
 use Rattle.scq_law.proofs.Places.HandLaws.{one_hand}
 use Rattle.scq_band.proofs.RunEnds.{reaches}
-use Rattle.scq_band.specs.Exports.{Member, Scene, Has, Owns, IsView, StandsAmong, my, front_index, indices_of, at_home, MayBring}
+use Rattle.scq_band.specs.Exports.{Member, IsMember, Scene, Has, Owns, IsView, StandsAmong, my, front_index, indices_of, at_home, MayBring}
 use Rattle.scq_band.specs.Known.{Known}
 use Rattle.scq_band.specs.Shown.{Shown}
 use Rattle.scq_band.proofs.GoingHome.{contained_cases}
@@ -34,6 +34,12 @@ times_contained {A} (x ∷ xs) b has =
     ]
 
 module _ {S : Type 0} (Lies : ℕ → S → List ℕ → Type 0) where
+  -- a member of a view, where it has brought these home
+  with_brought : {c : Setup} {z : Scene} {homes later : List (maybe.Option S)} {id n : ℕ} {x : Member} (brought : List (ℕ × List ℕ))
+      → IsMember Lies c z homes id n x → ((b : ℕ × List ℕ) → Contains brought b → (0 < times b.0 x.part.hand) × Has Lies later b.0 b.1)
+      → IsMember Lies c z later id n (record x { brought = brought })
+  with_brought brought is there = record { low = is.low; owner = is.owner; part = is.part; gone = is.gone; brought = there }
+
   -- the seats of another view
   owns_beside : (c : Setup) (z : Scene) (homes : List (maybe.Option S)) (id j k i : ℕ) (y : S) → OneHand c z.state → i < n_of c.order
       → 0 < times i (z.state.part k).hand → z.owner k ≡ (id, 0) → j ≢ id → (xs : List Member) → Owns Lies c z homes j xs
@@ -42,20 +48,14 @@ module _ {S : Type 0} (Lies : ℕ → S → List ℕ → Type 0) where
   owns_beside c z homes id j k i y one low here mine apart (x ∷ xs) owns =
       let x_is = owns.0 in
       let other = seat_apart z.owner x.number k j id x_is.owner mine apart in (
-        record {
-          low = x_is.low;
-          owner = x_is.owner;
-          part = x_is.part;
-          gone = x_is.gone;
-          brought =
-              λ b there.
-              let was = x_is.brought b there in
-              let else : b.0 ≢ i =
-              λ e.
-              let seen : 0 < times i (z.state.part x.number).hand = rw (x_is.part, ← e) was.0 in
-              in_hand_alone Lies c z.state i k x.number one low here seen other in
-              (was.0, has_else Lies homes i b.0 (some y) b.1 else was.1);
-        },
+        with_brought x.brought x_is
+            (λ b there.
+            let was = x_is.brought b there in
+            let else : b.0 ≢ i =
+            λ e.
+            let seen : 0 < times i (z.state.part x.number).hand = rw (x_is.part, ← e) was.0 in
+            in_hand_alone Lies c z.state i k x.number one low here seen other in
+            (was.0, has_else Lies homes i b.0 (some y) b.1 else was.1)),
         owns_beside c z homes id j k i y one low here mine apart xs owns.1,
       )
 
@@ -92,26 +92,20 @@ module _ {S : Type 0} (Lies : ℕ → S → List ℕ → Type 0) where
               | inl at ↦
                   let view : IsView Lies c z homes (slice_index s.words 0) id (at_home ((i, w) ∷ []) v) = record {
                     seats = (
-                      record {
-                        low = x_is.low;
-                        owner = x_is.owner;
-                        part = x_is.part;
-                        gone = x_is.gone;
-                        brought =
-                            λ b there.
-                            elim (Contains-push_cases x.brought (i, w) b there) [
-                              | inl before ↦
-                                  let was = x_is.brought b before in
-                                  let other : b.0 ≢ i =
-                                  λ same.
-                                  let some_there = times_contained x.brought b before in
-                                  let none_there : times b.0 (indices_of x.brought) ≡ 0 = rw same new in
-                                  omega (arith, some_there, none_there) in
-                                  (was.0, has_else Lies s.homes i b.0 (some y) b.1 other was.1)
-                              | inr now ↦
-                                  subst (λ (q : ℕ × List ℕ). (0 < times q.0 x.part.hand) × Has Lies homes q.0 q.1) now (held, put)
-                            ];
-                      },
+                      with_brought (x.brought ++ (i, w) ∷ []) x_is
+                          (λ b there.
+                          elim (Contains-push_cases x.brought (i, w) b there) [
+                            | inl before ↦
+                                let was = x_is.brought b before in
+                                let other : b.0 ≢ i =
+                                λ same.
+                                let some_there = times_contained x.brought b before in
+                                let none_there : times b.0 (indices_of x.brought) ≡ 0 = rw same new in
+                                omega (arith, some_there, none_there) in
+                                (was.0, has_else Lies s.homes i b.0 (some y) b.1 other was.1)
+                            | inr now ↦
+                                subst (λ (q : ℕ × List ℕ). (0 < times q.0 x.part.hand) × Has Lies homes q.0 q.1) now (held, put)
+                          ]),
                       tt,
                     );
                     rings = seated mine.rings;

@@ -74,11 +74,11 @@ pub looks_as : (v : Known) (r i : ℕ) (w : List ℕ) (t l : ℕ) → my_phase v
 looks_as v r i w t l is = subst (λ (p : Phase). p ≡ AtE2 r (put_index p) (content_of p) t (least_of p)) (sym is) refl
 
 -- the turn of a draw from a ring's Tail, with the slots that stood when the call began
-pub turn_of_draw : {B : Type 0} (contents : B → List ℕ) (c : Setup) (ring : Ring) (me : Me (Slot B) Known) (slots : List (ℕ × Slot B)) (i : ℕ) → IsRing c ring
-    → me.1 ≡ slots → front_index slots ≡ i
+pub turn_of_draw : {B : Type 0} {c : Setup} {ring : Ring} {slots : List (ℕ × Slot B)} {i : ℕ} (contents : B → List ℕ) (me : Me (Slot B) Known)
+    → IsRing c ring → me.1 ≡ slots → front_index slots ≡ i
     → IsToDraw ring.number i (front_bytes contents slots) (my_phase me.0)
     → draw_turn contents c ring.tail me ≡ AtE1 ring.number i (front_bytes contents slots) (least_of (my_phase me.0))
-turn_of_draw contents c ring me slots i is same first draws =
+turn_of_draw {c = c} {ring = ring} {slots = slots} {i = i} contents me is same first draws =
     draws_turn contents c ring.tail me ring.number i (front_bytes contents slots)
     (ap (ring_of_word c) is.tail ∙ ring_of_word-at c (tail_of ring.number) (is.low, tt)) (ap front_index same ∙ first) (ap (front_bytes contents) same)
     draws
@@ -88,7 +88,7 @@ pub drew_above : {S : Type 0} (Lies : ℕ → S → List ℕ → Type 0) (c : Se
     → turn ≡ AtE1 r i w l → me.0 ≡ goes_to (my_phase me.0) v0
     → Turned Lies c turn me x later → (known : Numbers) → slice_get v0.numbers r ≡ Some known → known.seen < x
 drew_above Lies c v0 me later turn x r i w l is went turned known e =
-    let u = turned_as Lies c turn (AtE1 r i w l) me later x is turned in
+    let u = turned_as is turned in
     u.draws known (ap (λ (v : Known). slice_get v.numbers r) went ∙ e)
 
 -- and of the seat: where the ticket is below the limit, and where it is not
@@ -105,6 +105,6 @@ drew_from_tail Lies c v slots me later turn x r i w l is alone went same turned 
     record {
       within = λ low. drew Lies c v me later turn x r i w l is alone went low turned;
       past = λ past. drew_past Lies c v me later turn x r i w l is alone went past turned;
-      kept = (turned_as Lies c turn (AtE1 r i w l) me later x is turned).slots ∙ same;
+      kept = (turned_as is turned).slots ∙ same;
       above = drew_above Lies c v me later turn x r i w l is went turned;
     }

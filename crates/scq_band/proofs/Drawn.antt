@@ -60,7 +60,7 @@ module _ {S : Type 0} (Lies : ℕ → S → List ℕ → Type 0) (c : Setup) (v 
   pub drew_one : (l : ℕ) → turn ≡ AtD2 r l → IsAlone me.0 → me.0 ≡ to_draw r l v → x < c.limit → Turned Lies c turn me x later
       → later.0 ≡ goes_to (AtD3 r x 0) (drew_head r x v)
   drew_one l is alone here low turned =
-      let u = turned_as Lies c turn (AtD2 r l) me later x is turned in
+      let u = turned_as is turned in
       let le = u.found in
       goes_as Lies c turn (AtD2 r l) me later x (goes_on (AtD3 r x 0) (my me.0).part) is alone (λ y. rw (lt-leb c.limit x low) refl) turned
       ∙ ap (λ (w : Known). seated (at_phase (AtD3 r x 0) (my w)) (changed (passes (x + 1)) r w.numbers) w) here
@@ -69,7 +69,7 @@ module _ {S : Type 0} (Lies : ℕ → S → List ℕ → Type 0) (c : Setup) (v 
   pub drew_past_head : (l : ℕ) → turn ≡ AtD2 r l → IsAlone me.0 → me.0 ≡ to_draw r l v → c.limit ≤ x → Turned Lies c turn me x later
       → later.0 ≡ drawn_spent r x v
   drew_past_head l is alone here past turned =
-      let u = turned_as Lies c turn (AtD2 r l) me later x is turned in
+      let u = turned_as is turned in
       let le = u.found in
       goes_as Lies c turn (AtD2 r l) me later x (spends r x false (my me.0).part) is alone (λ y. rw (le-leb c.limit x past) refl) turned
       ∙ ap (λ (w : Known). seated (with_part (spends r x false (my w).part) (my w)) (changed (passes (x + 1)) r w.numbers) w) here
@@ -79,7 +79,7 @@ module _ {S : Type 0} (Lies : ℕ → S → List ℕ → Type 0) (c : Setup) (v 
   pub drew_above_head : (l : ℕ) → turn ≡ AtD2 r l → me.0 ≡ to_draw r l v → Turned Lies c turn me x later → (known : Numbers)
       → slice_get v.numbers r ≡ Some known → known.head ≤ x
   drew_above_head l is here turned known e =
-      let u = turned_as Lies c turn (AtD2 r l) me later x is turned in
+      let u = turned_as is turned in
       let more : slice_get me.0.numbers r ≡ Some (passes l known) = ap (λ (w : Known). slice_get w.numbers r) here ∙ changed_read v.numbers r known l e in
       let at_least : max known.head l ≤ x = u.draws (passes l known) more in
       omega arith
@@ -114,7 +114,7 @@ pub record DrewFromHead {S : Type 0} (c : Setup) (v : Known) (slots : List (ℕ 
 pub drew_from_head : {S : Type 0} (Lies : ℕ → S → List ℕ → Type 0) (c : Setup) (v : Known) (slots : List (ℕ × S)) (me later : Me S Known) (turn : Phase)
     (x r l : ℕ) → turn ≡ AtD2 r l → IsAlone me.0 → me.0 ≡ to_draw r l v → me.1 ≡ slots → Turned Lies c turn me x later → DrewFromHead c v slots x r later
 drew_from_head Lies c v slots me later turn x r l is alone here same turned =
-    let u = turned_as Lies c turn (AtD2 r l) me later x is turned in
+    let u = turned_as is turned in
     record {
       within = λ low. drew_one Lies c v me later turn x r l is alone here low turned;
       past = λ past. drew_past_head Lies c v me later turn x r l is alone here past turned;

@@ -68,7 +68,7 @@ home_none v alone =
 
 module _ {B : Type 0} where
   -- the slot that stands first is that of the last index
-  pub first_slot : (slots : List (ℕ × Slot B)) (others : List ℕ) (i : ℕ) → others ++ i ∷ [] ≡ in_order slots
+  first_slot : (slots : List (ℕ × Slot B)) (others : List ℕ) (i : ℕ) → others ++ i ∷ [] ≡ in_order slots
       → (slot : Slot B) × (slots ≡ (i, slot) ∷ rest slots) × (others ≡ in_order (rest slots))
   first_slot [] [] i e = absurd (cc)
   first_slot [] (x ∷ others) i e = absurd (cc)
@@ -76,14 +76,20 @@ module _ {B : Type 0} where
       let both = last_same others (in_order xs) i x.0 e in
       (x.1, ap (λ (j : ℕ). (j, x.1) ∷ xs) (sym both.1), both.0)
 
-  -- a seat whose first slot is lifted has its buffer among those that are out
-  pub is_out : (IsSame : B → B → Type 0) (buffers : List B) (me : Me (Slot B) Known) (others : List ℕ) (i : ℕ) (out : List (ℕ × B)) (slot : Slot B)
-      → MayLeave IsSame buffers me (others ++ i ∷ []) out → me.1 ≡ (i, slot) ∷ rest me.1 → IsTrue (is_none slot.buffer) → 0 < times i (indices_of out)
-  is_out IsSame buffers me others i out slot may is lifted =
-      let some = may.lifted i in
-      let front : times_lifted i me.1 ≡ times_lifted i ((i, slot) ∷ rest me.1) = ap (times_lifted i) is in
-      let one : times_lifted i ((i, slot) ∷ rest me.1) ≡ 1 + times_lifted i (rest me.1) = rw (lifted, eq-eqb i i refl) refl in
-      omega arith
+  -- that of an index that was taken off the hand stands first, and its buffer is among those that are out where it is lifted
+  pub stands_first : (IsSame : B → B → Type 0) (buffers : List B) (me : Me (Slot B) Known) (hand others : List ℕ) (i : ℕ) (out : List (ℕ × B))
+      → hand ≡ others ++ i ∷ [] → MayLeave IsSame buffers me hand out
+      → (slot : Slot B) × (me.1 ≡ (i, slot) ∷ rest me.1) × (IsTrue (is_none slot.buffer) → 0 < times i (indices_of out))
+  stands_first IsSame buffers me hand others i out took may =
+      let first = first_slot me.1 others i (sym took ∙ may.order) in (
+        first.0,
+        first.1,
+        λ lifted.
+            let some = may.lifted i in
+            let front : times_lifted i me.1 ≡ times_lifted i ((i, first.0) ∷ rest me.1) = ap (times_lifted i) first.1 in
+            let one : times_lifted i ((i, first.0) ∷ rest me.1) ≡ 1 + times_lifted i (rest me.1) = rw (lifted, eq-eqb i i refl) refl in
+            omega arith,
+      )
 
   pub went_none : (contents : B → List ℕ) (IsSame : B → B → Type 0) (buffers : List B) (me : Me (Slot B) Known) (indices : List ℕ)
       (out : List (ℕ × B)) → MayLeave IsSame buffers me indices out → WentHome contents me out me out
@@ -215,10 +221,11 @@ module _ {B : Type 0} where
         )
 
   -- the first slot goes home
-  pub leaves : (contents : B → List ℕ) (IsSame : B → B → Type 0) (buffers : List B) (me : Me (Slot B) Known) (others : List ℕ) (i : ℕ) (out : List (ℕ × B))
-      (later : List (ℕ × Slot B)) (left : List (ℕ × B)) → MayLeave IsSame buffers me (others ++ i ∷ []) out → IsLaidBack i me.1 out later left
-      → Leaves contents IsSame buffers me others i out later left
-  leaves contents IsSame buffers me others i out later left may l =
+  pub leaves : (contents : B → List ℕ) (IsSame : B → B → Type 0) (buffers : List B) (me : Me (Slot B) Known) (hand others : List ℕ) (i : ℕ)
+      (out : List (ℕ × B)) (later : List (ℕ × Slot B)) (left : List (ℕ × B)) → hand ≡ others ++ i ∷ [] → MayLeave IsSame buffers me hand out
+      → IsLaidBack i me.1 out later left → Leaves contents IsSame buffers me others i out later left
+  leaves contents IsSame buffers me hand others i out later left took held l =
+      let may = subst (λ (indices : List ℕ). MayLeave IsSame buffers me indices out) took held in
       subst (λ (ys : List (ℕ × Slot B)). Leaves contents IsSame buffers me others i out ys left) (sym l.laid)
       (elim l.was [
         | inl was ↦

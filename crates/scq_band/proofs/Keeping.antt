@@ -484,14 +484,15 @@ module _ {B : Type 0} where
   -- the same, of the seat and the band as contracts see them
   pub call_seen : (contents : B → List ℕ) (table later shared_table : TableId) (key shared : Key B) (self : Identity B) (s : Standing B)
       (me me' : Me (Slot B) Sight) → standing_of table key me ≡ s → s.band ≡ self → identity_of shared_table shared ≡ self
-      → Went shared.setup (opening_of contents shared.given.value.items) me.0 me'.0
-      → (my me.0.known).part.phase ≡ Idle → (my me'.0.known).part.phase ≡ Idle → (my me'.0.known).number ≡ (my me.0.known).number
+      → Went shared.setup (opening_of contents shared.given.value.items) me.0 me'.0 → (my me.0.known).part.phase ≡ Idle
+      → {v : Known} → me'.0.known ≡ v → (my v).part.phase ≡ Idle → (my v).number ≡ (my me.0.known).number
       → IsCallInRun self.setup (opening_of contents self.given) (caller_of s) (caller_of (standing_of later key me'))
-  call_seen contents table later shared_table key shared self s me me' is own shared_is went was rests same =
+  call_seen contents table later shared_table key shared self s me me' is own shared_is went was view rests same =
       let band : identity_of table key ≡ self = ap (λ (t : Standing B). t.band) is ∙ own in
       let its : Went key.setup (opening_of contents key.given.value.items) me.0 me'.0 =
       subst (λ (i : Identity B). Went i.setup (opening_of contents i.given) me.0 me'.0) (shared_is ∙ sym band) went in
-      let call = call_in_run (opening_of contents key.given.value.items) table later key me me' its was rests same in
+      let call = call_in_run (opening_of contents key.given.value.items) table later key me me' its was (ap (λ (u : Known). (my u).part.phase) view ∙ rests)
+      (ap (λ (u : Known). (my u).number) view ∙ same) in
       subst (λ (i : Identity B). IsCallInRun i.setup (opening_of contents i.given) (caller_of s) (caller_of (standing_of later key me'))) band
       (subst (λ (t : Standing B). IsCallInRun key.setup (opening_of contents key.given.value.items) (caller_of t) (caller_of
       (standing_of later key me'))) is call)

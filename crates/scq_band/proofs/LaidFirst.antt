@@ -24,11 +24,16 @@ use Rattle.scq_band.proofs.Putting.{laid_there, laid_brought, lifted_again}
 
 module _ {B : Type 0} where
   -- the ring of a call is one of those that the seat knows of
-  pub ring_there : {table : TableId} {s : Standing B} {self : Identity B} (key : Key B) (me : Me (Slot B) Sight) (numbers : List Numbers) (r : ℕ)
+  pub ring_there : {table : TableId} {s : Standing B} {self : Identity B} {r : ℕ} (key : Key B) (me : Me (Slot B) Sight) (numbers : List Numbers)
       → standing_of table key me ≡ s → s.band ≡ self → length numbers ≡ key.setup.rings → r < self.setup.rings → r < length numbers
-  ring_there {self = self} key me numbers r is own many low =
+  ring_there {self = self} key me numbers is own many low =
       let same : key.setup.rings ≡ self.setup.rings = ap (λ (t : Standing B). t.band.setup.rings) is ∙ ap (λ (b : Identity B). b.setup.rings) own in
       omega (arith, many, low, same)
+
+  -- the seat's band is the one that the call is made of
+  pub one_band : {table shared_table : TableId} {s : Standing B} {self : Identity B} (key shared : Key B) (me : Me (Slot B) Sight) → standing_of table key me ≡ s
+      → s.band ≡ self → identity_of shared_table shared ≡ self → identity_of table key ≡ identity_of shared_table shared
+  one_band key shared me is own shared_is = ap (λ (t : Standing B). t.band) is ∙ own ∙ sym shared_is
 
 -- what is said of all that is known of a ring is said of the numbers that a seat keeps
 pub known_so : (P : Numbers → Type 0) (ns numbers : List Numbers) (r n : ℕ) → ns ≡ numbers → n ≡ r → r < length ns
@@ -54,10 +59,11 @@ module _ {B : Type 0} (IsSame : B → B → Type 0) where
 
   -- a seat that keeps no ticket has none for its callers
   pub keeps_none : {key : Key B} {table : TableId} {hand : List ℕ} {room : ℕ} {numbers : List Numbers} {spent : Option ℕ} {s : Standing B} {t : ℕ}
-      (me : Me (Slot B) Sight) → IsKept IsSame key (known_me me) hand room numbers spent → standing_of table key me ≡ s → spent ≡ None → s.spent ≡ Some t → ⊥
+      (me : Me (Slot B) Sight) → IsKept IsSame key (known_me me) hand room numbers spent → standing_of table key me ≡ s → spent ≡ None → s.spent ≡ Some t
+      → {A : Type 0} → A
   keeps_none {t = t} me kept is none has =
       let never : ◌≡◌ {A = Option ℕ} None (Some t) = sym none ∙ kept.spent ∙ ap (λ (u : Standing B). u.spent) is ∙ has in
-      cc
+      absurd (cc)
 
   -- it is the slot of the index, with what the hand has of it
   pub front_slot : {me : Me (Slot B) Known} {given : List B} {ms : List (ℕ × Slot B)} {i : ℕ} {o : Option B} → Brought IsSame me given ms i o
@@ -164,27 +170,48 @@ module _ {B : Type 0} (IsSame : B → B → Type 0) where
       (ap (λ (m : Me (Slot B) Sight). m.0.known) lifted ∙ refused.view ∙ ap (λ (m : Me (Slot B) Sight). spent_at r t true m.0.known) as_laid)
       (ap (λ (m : Me (Slot B) Sight). m.1) lifted ∙ again)
 
-module _ {B : Type 0} (contents : B → List ℕ) (IsSame : B → B → Type 0) {key : Key B} {table : TableId} {me : Me (Slot B) Sight} {hand : List ℕ} {room : ℕ}
+module _ {B : Type 0} {IsSame : B → B → Type 0} {key : Key B} {table : TableId} {me : Me (Slot B) Sight} {hand : List ℕ} {room : ℕ}
     {numbers : List Numbers} {spent : Option ℕ} {i : ℕ} {buffer : B} {s : Standing B}
     (laid : LaidFirst IsSame key table me hand room numbers spent i buffer s) where
-  -- the seat has the index, and the slot in front its buffer
-  pub laid_held : (c : Setup) → key.setup ≡ c → (holds_index (my me.0.known).part.hand i ≡ true) × (i < n_of c.order)
-  laid_held c is =
+  -- the seat is idle, and has the index
+  pub laid_idle : spent ≡ None → ((my me.0.known).part.phase ≡ Idle) × ((my me.0.known).part.spent ≡ None)
+  laid_idle none = (laid.kept.idle, sym laid.kept.spent ∙ none)
+
+  pub laid_held : {shared_table : TableId} {self : Identity B} (shared : Key B) → s.band ≡ self → identity_of shared_table shared ≡ self
+      → (holds_index (my me.0.known).part.hand i ≡ true) × (i < n_of shared.setup.order)
+  laid_held shared own shared_is =
       let there = held_there IsSame i me laid.kept laid.stands laid.there in
       let in_it : 0 < times i (my me.0.known).part.hand = let same = laid.kept.same i in omega (arith, same, there) in
-      (holds_times i (my me.0.known).part.hand in_it, subst (λ (k : Setup). i < n_of k.order) is (laid.kept.low i there))
-
-  pub laid_fronts : (given : List B) → key.given.value.items ≡ given → Fronts (LiesIn contents IsSame given) i (front_bytes contents me.1) me.1
-  laid_fronts given is = seen contents IsSame (known_me me) me.1 key.given.value.items given i buffer laid.front is
+      let band = one_band key shared me laid.stands own shared_is in
+      (holds_times i (my me.0.known).part.hand in_it, subst (λ (b : Identity B). i < n_of b.setup.order) band (laid.kept.low i there))
 
   pub laid_some : 0 < length hand
   laid_some = some_in_order me.1 i laid.front.slot laid.front.others laid.front.is hand laid.kept.order
+
+module _ {B : Type 0} (contents : B → List ℕ) {IsSame : B → B → Type 0} {key : Key B} {table : TableId} {me : Me (Slot B) Sight} {hand : List ℕ} {room : ℕ}
+    {numbers : List Numbers} {spent : Option ℕ} {i : ℕ} {buffer : B} {s : Standing B}
+    (laid : LaidFirst IsSame key table me hand room numbers spent i buffer s) where
+  -- the slot in front has its buffer
+  pub laid_fronts : {shared_table : TableId} {self : Identity B} (shared : Key B) → s.band ≡ self → identity_of shared_table shared ≡ self
+      → Fronts (LiesIn contents IsSame shared.given.value.items) i (front_bytes contents me.1) me.1
+  laid_fronts shared own shared_is =
+      seen contents IsSame (known_me me) me.1 key.given.value.items shared.given.value.items i buffer laid.front
+      (ap (λ (b : Identity B). b.given) (one_band key shared me laid.stands own shared_is))
 
   -- the place is above what the seat knew of Tail
   pub laid_above : {c : Setup} {n r p : ℕ} (me' : Me (Slot B) Sight) → HasPut contents c n i p (known_me me) (known_me me') → n ≡ r → r < length numbers
       → (known_of numbers r).seen < p
   laid_above {c} {n} {r} {p} me' put is low =
       known_so (λ x. x.seen < p) numbers me.0.known.numbers r n laid.kept.numbers is low put.above
+
+  pub laid_place : {shared_table : TableId} {self : Identity B} {n r p : ℕ} (shared : Key B) (me' : Me (Slot B) Sight)
+      → HasPut contents shared.setup n i p (known_me me) (known_me me') → n ≡ r → r < length numbers → identity_of shared_table shared ≡ self
+      → (p < self.setup.limit) × ((known_of s.numbers r).seen < p)
+  laid_place {r = r} {p = p} shared me' put is low shared_is = (
+    subst (λ (b : Identity B). p < b.setup.limit) shared_is put.low,
+    subst (λ (ns : List Numbers). (known_of ns r).seen < p) (laid.kept.numbers ∙ ap (λ (t : Standing B). t.numbers) laid.stands)
+        (laid_above {c = shared.setup} me' put is low),
+  )
 
   -- what the seat keeps, and is, once the index was put
   pub laid_kept : {c : Setup} {n r p : ℕ} {popped : List ℕ} {room' : ℕ} {numbers' : List Numbers} (me' : Me (Slot B) Sight)
@@ -210,7 +237,7 @@ module _ {B : Type 0} (contents : B → List ℕ) (IsSame : B → B → Type 0) 
   -- the call is one of the run
   pub laid_call : {shared_table : TableId} {self : Identity B} (later : TableId) (shared : Key B) (me' : Me (Slot B) Sight) → s.band ≡ self
       → identity_of shared_table shared ≡ self → Went shared.setup (opening_of contents shared.given.value.items) me.0 me'.0
-      → (my me'.0.known).part.phase ≡ Idle → (my me'.0.known).number ≡ (my me.0.known).number
+      → {v : Known} → me'.0.known ≡ v → (my v).part.phase ≡ Idle → (my v).number ≡ (my me.0.known).number
       → IsCallInRun self.setup (opening_of contents self.given) (caller_of s) (caller_of (standing_of later key me'))
-  laid_call {shared_table} {self} later shared me' own shared_is went rests same =
-      call_seen contents table later shared_table key shared self s me me' laid.stands own shared_is went laid.kept.idle rests same
+  laid_call {shared_table} {self} later shared me' own shared_is went view rests same =
+      call_seen contents table later shared_table key shared self s me me' laid.stands own shared_is went laid.kept.idle view rests same

@@ -1,5 +1,5 @@
 -- What a turn makes of the view of a seat that stands alone.
-use Rattle.std.proofs.Common.{◌≡◌, ℕ, List, [], ◌∷◌, map, refl, sym, ◌∙◌, ap, subst, Some}
+use Rattle.std.proofs.Common.{◌≡◌, ℕ, List, [], ◌∷◌, map, refl, sym, ◌∙◌, ap, subst, Some, ◌≢◌, ◌⊎◌, inl, inr}
 use Rattle.atomic_table.specs.Table.{Me}
 use Rattle.scq_word.specs.declared.setup.Setup.{Setup}
 use Rattle.scq_core.specs.declared.phase.Phase.{Phase}
@@ -31,9 +31,14 @@ goes_as Lies c t u me later x q same alone is turned =
     goes Lies c u me later x q alone is (subst (λ (z : Phase). Turned Lies c z me x later) same turned)
 
 -- what a turn that is known by an equation tells besides
-pub turned_as : {S : Type 0} (Lies : ℕ → S → List ℕ → Type 0) (c : Setup) (t u : Phase) (me later : Me S Known) (x : ℕ) → t ≡ u → Turned Lies c t me x later
+pub turned_as : {S : Type 0} {Lies : ℕ → S → List ℕ → Type 0} {c : Setup} {t u : Phase} {me later : Me S Known} {x : ℕ} → t ≡ u → Turned Lies c t me x later
     → Turned Lies c u me x later
-turned_as Lies c t u me later x same turned = subst (λ (z : Phase). Turned Lies c z me x later) same turned
+turned_as {Lies = Lies} {c = c} {me = me} {later = later} {x = x} same turned = subst (λ (z : Phase). Turned Lies c z me x later) same turned
+
+-- a word that is not the one that was known is higher
+pub higher : {x e : ℕ} {Above : Type 0} → x ≢ e → (x ≡ e) ⊎ Above → Above
+higher miss (inl same) = absurd (miss same)
+higher miss (inr up) = up
 
 -- a seat that stands alone may make the turn of its phase
 pub may_go : (c : Setup) (v : Known) (t : Phase) (s : Step) → IsAlone v → my_phase v ≡ t → turn_at c (my v).part.hand (my v).part.spent t s ≡ Some t

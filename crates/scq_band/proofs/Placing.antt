@@ -1,5 +1,5 @@
 -- The loop of E2 to E4: the exchange hits, or the entry has a higher rank than any that was found before.
-use Rattle.std.proofs.Common.{◌≡◌, ◌≢◌, ◌⊎◌, ℕ, ◌+◌, ◌-◌, ◌/◌, ◌^◌, ◌<◌, ◌≤◌, List, refl, ◌∙◌, ap, subst, inl, inr, arith, eq-eqb, ne_eqb}
+use Rattle.std.proofs.Common.{◌≡◌, ◌≢◌, ℕ, ◌+◌, ◌-◌, ◌/◌, ◌^◌, ◌<◌, ◌≤◌, List, refl, ◌∙◌, ap, subst, arith, eq-eqb, ne_eqb}
 use Rattle.std.proofs.Math.Nat.{div-le_self}
 use Rattle.atomic_table.specs.Table.{Me, rest}
 use Rattle.scq_word.specs.declared.setup.Setup.{Setup}
@@ -11,7 +11,7 @@ use Rattle.scq_core.specs.declared.phase.Phase.TheVariants.{AtE1, AtE2, AtE4, At
 use Rattle.scq_core.specs.Exports.{ring_slots, goes_on, hand_without}
 use Rattle.scq_band.specs.Known.{Known}
 use Rattle.scq_band.specs.Exports.{Turned, my, my_phase, IsAlone, goes_to, placed_to, put_index, content_of}
-use Rattle.scq_band.proofs.Outcomes.{goes_as, turned_as}
+use Rattle.scq_band.proofs.Outcomes.{goes_as, turned_as, higher}
 
 module _ {S : Type 0} (Lies : ℕ → S → List ℕ → Type 0) (c : Setup) (me later : Me S Known) (turn : Phase) (x r i : ℕ) (w : List ℕ) (t e : ℕ) where
   pub saw_missed : turn ≡ AtE4 r i w t e → IsAlone me.0 → x ≢ e → Turned Lies c turn me x later
@@ -30,19 +30,13 @@ module _ {S : Type 0} (Lies : ℕ → S → List ℕ → Type 0) (c : Setup) (me
 
   -- and its slot has gone with it, or stays
   pub hit_slots : turn ≡ AtE4 r i w t e → x ≡ e → Turned Lies c turn me x later → later.1 ≡ rest me.1
-  hit_slots is same turned = (turned_as Lies c turn (AtE4 r i w t e) me later x is turned).slots ∙ rw (eq-eqb x e same) refl
+  hit_slots is same turned = (turned_as is turned).slots ∙ rw (eq-eqb x e same) refl
 
   pub missed_slots : turn ≡ AtE4 r i w t e → x ≢ e → Turned Lies c turn me x later → later.1 ≡ me.1
-  missed_slots is miss turned = (turned_as Lies c turn (AtE4 r i w t e) me later x is turned).slots ∙ rw (ne_eqb x e miss) refl
+  missed_slots is miss turned = (turned_as is turned).slots ∙ rw (ne_eqb x e miss) refl
 
   pub missed_rises : turn ≡ AtE4 r i w t e → x ≢ e → Turned Lies c turn me x later → rank_in (ring_slots c) e < rank_in (ring_slots c) x
-  missed_rises is miss turned =
-      let u = turned_as Lies c turn (AtE4 r i w t e) me later x is turned in
-      higher (u.found.above)
-    where
-      higher : (x ≡ e) ⊎ (rank_in (ring_slots c) e < rank_in (ring_slots c) x) → rank_in (ring_slots c) e < rank_in (ring_slots c) x
-      higher (inl same) = absurd (miss same)
-      higher (inr up) = up
+  missed_rises is miss turned = higher miss (turned_as is turned).found.above
 
 -- the rank of a word of 64 bits is one
 pub rank_fits : (c : Setup) (x : ℕ) → x < 2 ^ 64 → rank_in (ring_slots c) x < 2 ^ 64

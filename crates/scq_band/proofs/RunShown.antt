@@ -5,7 +5,7 @@ use Rattle.std.proofs.Common.{◌≡◌, ◌≢◌, ℕ, zero, suc, ◌+◌, ◌
 use Rattle.std.specs.Prelude.{Option, Some, None, slice_index, slice_index_or, slice_set}
 use Rattle.std.specs.List.{Contains}
 use Rattle.std.proofs.lemmas.List.Elements.{Contains-append_cases}
-use Rattle.scq_core.specs.Exports.{updated, Busy, read, IsReachable, turn_of, location_of, writes}
+use Rattle.scq_core.specs.Exports.{updated, Busy, read, IsReachable, location_of, writes}
 use Rattle.scq_core.proofs.UpdatedLemmas.{updated_here, updated_else}
 use mathlib.Core.Option.{some, some-injective, some-ne-none}
 use lib.ListN.{get_elem?}
@@ -24,7 +24,8 @@ use Rattle.scq_band.specs.Exports.{IsAlone, looked, retired_at, Sight, known_in,
 use Rattle.scq_band.specs.Exports.{WasShownRun, HasFound, retired_ones, first_sight, ShowsRun, my, my_of, turned_member, MayTurn, Carries, Turned}
 use Rattle.scq_band.specs.Known.{Known}
 use Rattle.scq_band.specs.Shown.{Shown}
-use Rattle.scq_band.proofs.Moves.{Ground, moves_by}
+use Rattle.scq_band.proofs.Grounds.{ground}
+use Rattle.scq_band.proofs.Moves.{moves_by}
 use Rattle.scq_band.proofs.Gates.{looks, retires, ones_gone, ones_low}
 
 -- a list of views, without what was seen of the run
@@ -46,6 +47,33 @@ index_low : (l : List Known) (i : ℕ) (a : Known) → get_elem? l i ≡ some a 
 index_low [] i a e = absurd (some-ne-none a (sym e))
 index_low (y ∷ ys) zero a e = omega arith
 index_low (y ∷ ys) (suc i) a e = let low = index_low ys i a e in omega arith
+
+-- what each view has seen, and what a view that takes the place of one, or comes behind them, has seen, is what each then has seen
+each_set : (P : Seen → Type 0) (vs : List Sight) (id : ℕ) (w : Sight) → P w.seen → ((j : ℕ) (v : Sight) → get_elem? vs j ≡ some v → P v.seen)
+    → (j : ℕ) (v : Sight) → get_elem? (slice_set vs id w) j ≡ some v → P v.seen
+each_set P vs id w new each j v e =
+    elim (at_set vs id j w v e) [
+      | inl own ↦ subst (λ (u : Sight). P u.seen) own.1 new
+      | inr other ↦ each j v other.1
+    ]
+
+each_snoc : (P : Seen → Type 0) (vs : List Sight) (w : Sight) → P w.seen → ((j : ℕ) (v : Sight) → get_elem? vs j ≡ some v → P v.seen)
+    → (j : ℕ) (v : Sight) → get_elem? (vs ++ w ∷ []) j ≡ some v → P v.seen
+each_snoc P vs w new each j v e =
+    elim (at_snoc vs w v j e) [
+      | inl old ↦ each j v old
+      | inr same ↦ subst (λ (u : Sight). P u.seen) same new
+    ]
+
+-- prefixes of the run, and seats that have retired
+abbrev Began : List (ℕ × Step) → Seen → Type 0
+Began run x = AllPrefixes x.runs run
+
+abbrev AreGone : Setup → (ℕ → Option ℕ) → Seen → Type 0
+AreGone c gone x = (p : ℕ × ℕ) → Contains x.retirees p → (p.0 < c.seats) × (gone p.0 ≡ Some p.1)
+
+none_gone : (c : Setup) (gone : ℕ → Option ℕ) → AreGone c gone nothing_seen
+none_gone c gone p has = absurd (omega (arith, has.1))
 
 -- the run before some steps is a prefix of the run after them
 pub began : (c : Setup) (opening : List (List ℕ)) (a b : Sight) (went : Went c opening a b) → IsPrefix went.before went.after
@@ -104,15 +132,14 @@ module _ {S : Type 0} (Lies : ℕ → S → List ℕ → Type 0) where
       → i ≡ at c (location_of c t)
       → ((m : Machine) → IsReachable c m → Busy c m.cells may.member.part.hand t
       → f (read m.cells (location_of c t)) ≡ writes c t (read m.cells (location_of c t)))
-      → ((m : Machine) (k : ℕ) (s : Step) → IsReachable c m → k < c.seats → turn_of c (m.part k) s ≡ Some t → Ground c m k t)
       → Allows (ShowsRun Lies opening c) slots id me i f
       (λ x later. Turned Lies c t (known_me me) x (known_me later)
       × Went c opening me.0 later.0)
   unfolding stands_after
-  moves {opening} c slots id me t i f may carries word does grounds s sh many here small =
+  moves {opening} c slots id me t i f may carries word does s sh many here small =
       let there : get_elem? (map known_in s.views) id ≡ some me.0.known = known_at s.views id me.0 here in
-      let a = moves_by Lies {opening = opening} {gone = sh.gone} {run = sh.run} c slots id (known_me me) t i f may carries word does grounds
-      (known_state s) sh.shown there in
+      let a = moves_by Lies {opening = opening} {gone = sh.gone} {run = sh.run} c slots id (known_me me) t i f may carries word does
+      (λ m k step reach low enabled. ground c m k step t reach low enabled) (known_state s) sh.shown there in
       let longer = sh.run ++ (may.member.number, may.step) ∷ [] in
       let w : Sight = record { known = a.0; seen = with_run longer me.0.seen } in
       let grown : IsPrefix sh.run longer = record { more = (may.member.number, may.step) ∷ []; is = refl } in
@@ -122,19 +149,9 @@ module _ {S : Type 0} (Lies : ℕ → S → List ℕ → Type 0) where
         run = longer;
         shown = subst (λ (vs : List Known). Shown Lies opening c sh.gone longer (record { words = ws; homes = hs; views = vs })) (sym
             (known_set s.views id w)) a.3;
-        seen =
-            λ j v e.
-            elim (at_set s.views id j w v e) [
-              | inl own ↦ subst (λ (u : Sight). AllPrefixes u.seen.runs longer) own.1 (prefix_whole longer, tt)
-              | inr other ↦ all_prefixes v.seen.runs sh.run longer (sh.seen j v other.1) grown
-            ];
+        seen = each_set (Began longer) s.views id w (prefix_whole longer, tt) (λ j v e. all_prefixes v.seen.runs sh.run longer (sh.seen j v e) grown);
         gone = sh.gone;
-        retirees =
-            λ j v e p has.
-            elim (at_set s.views id j w v e) [
-              | inl own ↦ sh.retirees id me.0 here p (subst (λ (u : Sight). Contains u.seen.retirees p) (sym own.1) has)
-              | inr other ↦ sh.retirees j v other.1 p has
-            ];
+        retirees = each_set (AreGone c sh.gone) s.views id w (sh.retirees id me.0 here) sh.retirees;
       } in
       let before_alone : me.0.known.seats ≡ my me.0.known ∷ [] =
       subst (λ (xs : List Member). xs ≡ my_of xs ∷ []) (sym may.alone) refl in
@@ -177,19 +194,9 @@ module _ {S : Type 0} (Lies : ℕ → S → List ℕ → Type 0) where
         run = sh.run;
         shown = subst (λ (vs : List Known). Shown Lies opening c sh.gone sh.run (record { words = ws; homes = hs; views = vs })) (sym
             (known_set s.views id w)) a.3;
-        seen =
-            λ j v e.
-            elim (at_set s.views id j w v e) [
-              | inl own ↦ subst (λ (u : Sight). AllPrefixes u.seen.runs sh.run) own.1 (sh.seen id me.0 here)
-              | inr other ↦ sh.seen j v other.1
-            ];
+        seen = each_set (Began sh.run) s.views id w (sh.seen id me.0 here) sh.seen;
         gone = sh.gone;
-        retirees =
-            λ j v e p has.
-            elim (at_set s.views id j w v e) [
-              | inl own ↦ sh.retirees id me.0 here p (subst (λ (u : Sight). Contains u.seen.retirees p) (sym own.1) has)
-              | inr other ↦ sh.retirees j v other.1 p has
-            ];
+        retirees = each_set (AreGone c sh.gone) s.views id w (sh.retirees id me.0 here) sh.retirees;
       } in
       (w, a.1, a.2, shown, (a.4, refl))
 
@@ -212,33 +219,23 @@ module _ {S : Type 0} (Lies : ℕ → S → List ℕ → Type 0) where
       λ p was.
       let other : p.0 ≢ k = λ e. let never : None ≡ Some p.1 = sym a.1 ∙ ap sh.gone (sym e) ∙ was.1 in absurd (cc) in
       (was.0, updated_else sh.gone k (Some calls) p.0 other ∙ was.1) in
+      let mine : AreGone c gone w.seen =
+      λ p has.
+      elim (Contains-append_cases ((k, calls) ∷ []) me.0.seen.retirees p has) [
+        | inl itself ↦
+            let owns : Owns Lies c sh.shown.scene s.homes id (my me.0.known ∷ []) =
+            subst (λ (xs : List Member). Owns Lies c sh.shown.scene s.homes id xs) alone.seats (sh.shown.views id me.0.known there).seats in
+            subst (λ (q : ℕ × ℕ). (q.0 < c.seats) × (gone q.0 ≡ Some q.1)) (one_of (k, calls) p itself)
+            (owns.0.low, updated_here sh.gone k (Some calls))
+        | inr before ↦ stay p (sh.retirees id me.0 here p before)
+      ] in
       let shown : ShowsRun Lies opening c (stepped s 0 ((slice_index s.words 0 + (2 ^ 64 - 1)) % 2 ^ 64) id me.1 w keeps) = record {
         run = sh.run;
         gone = gone;
         shown = subst (λ (vs : List Known). Shown Lies opening c gone sh.run (record { words = ws; homes = s.homes; views = vs })) (sym
             (known_set s.views id w)) a.0;
-        seen =
-            λ j v e.
-            elim (at_set s.views id j w v e) [
-              | inl own ↦ subst (λ (u : Sight). AllPrefixes u.seen.runs sh.run) own.1 (sh.seen id me.0 here)
-              | inr other ↦ sh.seen j v other.1
-            ];
-        retirees =
-            λ j v e p has.
-            elim (at_set s.views id j w v e) [
-              | inl own ↦
-                  let either = Contains-append_cases ((k, calls) ∷ []) me.0.seen.retirees p
-                  (subst (λ (u : Sight). Contains u.seen.retirees p) (sym own.1) has) in
-                  elim either [
-                    | inl itself ↦
-                        let owns : Owns Lies c sh.shown.scene s.homes id (my me.0.known ∷ []) =
-                        subst (λ (xs : List Member). Owns Lies c sh.shown.scene s.homes id xs) alone.seats (sh.shown.views id me.0.known there).seats in
-                        subst (λ (q : ℕ × ℕ). (q.0 < c.seats) × (gone q.0 ≡ Some q.1)) (one_of (k, calls) p itself)
-                        (owns.0.low, updated_here sh.gone k (Some calls))
-                    | inr before ↦ stay p (sh.retirees id me.0 here p before)
-                  ]
-              | inr other ↦ stay p (sh.retirees j v other.1 p has)
-            ];
+        seen = each_set (Began sh.run) s.views id w (sh.seen id me.0 here) sh.seen;
+        retirees = each_set (AreGone c gone) s.views id w mine (λ j v e p has. stay p (sh.retirees j v e p has));
       } in
       (w, keeps, tt, shown, ((refl, refl), refl))
 
@@ -258,21 +255,9 @@ module _ {S : Type 0} (Lies : ℕ → S → List ℕ → Type 0) where
         run = sh.run;
         shown = subst (λ (vs : List Known). Shown Lies opening c sh.gone sh.run (record { words = ws; homes = hs; views = vs })) (sym
             (known_set s.views id w)) a.3;
-        seen =
-            λ j v e.
-            elim (at_set s.views id j w v e) [
-              | inl own ↦ subst (λ (u : Sight). AllPrefixes u.seen.runs sh.run) own.1 (prefix_whole sh.run, tt)
-              | inr other ↦ sh.seen j v other.1
-            ];
+        seen = each_set (Began sh.run) s.views id w (prefix_whole sh.run, tt) sh.seen;
         gone = sh.gone;
-        retirees =
-            λ j v e p has.
-            elim (at_set s.views id j w v e) [
-              | inl own ↦
-                  let mine = subst (λ (u : Sight). Contains u.seen.retirees p) (sym own.1) has in
-                  (ones_low sh.gone c.seats p mine, ones_gone sh.gone c.seats p mine)
-              | inr other ↦ sh.retirees j v other.1 p has
-            ];
+        retirees = each_set (AreGone c sh.gone) s.views id w (λ p has. (ones_low sh.gone c.seats p has, ones_gone sh.gone c.seats p has)) sh.retirees;
       } in
       let its : Looked c opening me.0 w (slice_index s.words 0) = record {
         after = sh.run;
@@ -315,19 +300,9 @@ module _ {S : Type 0} (Lies : ℕ → S → List ℕ → Type 0) where
         run = sh.run;
         shown = subst (λ (vs : List Known). Shown Lies opening c sh.gone sh.run (record { words = ws; homes = s.homes; views = vs })) (sym
             (known_set s.views id w ∙ set_again (map known_in s.views) id me.0.known there)) words;
-        seen =
-            λ j v e.
-            elim (at_set s.views id j w v e) [
-              | inl own ↦ subst (λ (u : Sight). AllPrefixes u.seen.runs sh.run) own.1 (prefix_whole sh.run, tt)
-              | inr other ↦ sh.seen j v other.1
-            ];
+        seen = each_set (Began sh.run) s.views id w (prefix_whole sh.run, tt) sh.seen;
         gone = sh.gone;
-        retirees =
-            λ j v e p has.
-            elim (at_set s.views id j w v e) [
-              | inl own ↦ sh.retirees id me.0 here p (subst (λ (u : Sight). Contains u.seen.retirees p) (sym own.1) has)
-              | inr other ↦ sh.retirees j v other.1 p has
-            ];
+        retirees = each_set (AreGone c sh.gone) s.views id w (sh.retirees id me.0 here) sh.retirees;
       } in
       let was : WasShownRun c opening me.0 w = record {
         steps = sh.run;
@@ -349,38 +324,18 @@ module _ {S : Type 0} (Lies : ℕ → S → List ℕ → Type 0) where
       → Splits (ShowsRun Lies opening c) id v left right
   splits_run {opening} c id v left right one other splits s sh here =
       let mine = sh.seen id v here in
+      let gone = sh.retirees id v here in
       let made = splits sh.gone sh.run (known_state s) sh.shown (known_at s.views id v here) in
       let lists : map known_in (slice_set s.views id left ++ right ∷ []) ≡ slice_set (map known_in s.views) id left.known ++ right.known ∷ [] =
       known_more (slice_set s.views id left) right ∙ ap (λ (l : List Known). l ++ right.known ∷ []) (known_set s.views id left) in
       record {
         run = sh.run;
         shown = subst (λ (vs : List Known). Shown Lies opening c sh.gone sh.run (record { words = s.words; homes = s.homes; views = vs })) (sym lists) made;
-        seen =
-            λ j u e.
-            elim (at_snoc (slice_set s.views id left) right u j e) [
-              | inl old ↦
-                  elim (at_set s.views id j left u old) [
-                    | inl own ↦
-                        subst (λ (w : Sight). AllPrefixes w.seen.runs sh.run) own.1 (subst (λ (x : Seen). AllPrefixes x.runs sh.run) (sym one) mine)
-                    | inr elsewhere ↦ sh.seen j u elsewhere.1
-                  ]
-              | inr new ↦ subst (λ (w : Sight). AllPrefixes w.seen.runs sh.run) new (subst (λ (x : Seen). AllPrefixes x.runs sh.run) (sym other) mine)
-            ];
+        seen = each_snoc (Began sh.run) (slice_set s.views id left) right (subst (Began sh.run) (sym other) mine)
+            (each_set (Began sh.run) s.views id left (subst (Began sh.run) (sym one) mine) sh.seen);
         gone = sh.gone;
-        retirees =
-            λ j u e p has.
-            elim (at_snoc (slice_set s.views id left) right u j e) [
-              | inl old ↦
-                  elim (at_set s.views id j left u old) [
-                    | inl own ↦
-                        let its = subst (λ (w : Sight). Contains w.seen.retirees p) (sym own.1) has in
-                        sh.retirees id v here p (subst (λ (x : Seen). Contains x.retirees p) one its)
-                    | inr elsewhere ↦ sh.retirees j u elsewhere.1 p has
-                  ]
-              | inr new ↦
-                  let its = subst (λ (w : Sight). Contains w.seen.retirees p) (sym new) has in
-                  sh.retirees id v here p (subst (λ (x : Seen). Contains x.retirees p) other its)
-            ];
+        retirees = each_snoc (AreGone c sh.gone) (slice_set s.views id left) right (subst (AreGone c sh.gone) (sym other) gone)
+            (each_set (AreGone c sh.gone) s.views id left (subst (AreGone c sh.gone) (sym one) gone) sh.retirees);
       }
 
   pub joins_run : {opening : List (List ℕ)} (c : Setup) (id : ℕ) (v : Sight) (other : ℕ) (w both spent : Sight) → both.seen ≡ both_seen v.seen w.seen
@@ -389,7 +344,14 @@ module _ {S : Type 0} (Lies : ℕ → S → List ℕ → Type 0) where
       → Joins (ShowsRun Lies opening c) id v other w both spent
   joins_run {opening} c id v other w both spent all none joins s sh here apart there =
       let mine = sh.seen id v here in
-      let its = sh.seen other w (sym (set_else s.views id other both apart) ∙ there) in
+      let at_other = sym (set_else s.views id other both apart) ∙ there in
+      let its = sh.seen other w at_other in
+      let gone : AreGone c sh.gone (both_seen v.seen w.seen) =
+      λ p has.
+      elim (Contains-append_cases v.seen.retirees w.seen.retirees p has) [
+        | inl first ↦ sh.retirees id v here p first
+        | inr second ↦ sh.retirees other w at_other p second
+      ] in
       let known_there : get_elem? (slice_set (map known_in s.views) id both.known) other ≡ some w.known =
       subst (λ (vs : List Known). get_elem? vs other ≡ some w.known) (known_set s.views id both) (known_at (slice_set s.views id both) other w there) in
       let made = joins sh.gone sh.run (known_state s) sh.shown (known_at s.views id v here) apart known_there in
@@ -399,52 +361,21 @@ module _ {S : Type 0} (Lies : ℕ → S → List ℕ → Type 0) where
       record {
         run = sh.run;
         shown = subst (λ (vs : List Known). Shown Lies opening c sh.gone sh.run (record { words = s.words; homes = s.homes; views = vs })) (sym lists) made;
-        seen =
-            λ j u e.
-            elim (at_set (slice_set s.views id both) other j spent u e) [
-              | inl at_other ↦
-                  subst (λ (x : Sight). AllPrefixes x.seen.runs sh.run) at_other.1 (subst (λ (y : Seen). AllPrefixes y.runs sh.run) (sym none) tt)
-              | inr beside ↦
-                  elim (at_set s.views id j both u beside.1) [
-                    | inl own ↦
-                        subst (λ (x : Sight). AllPrefixes x.seen.runs sh.run) own.1
-                        (subst (λ (y : Seen). AllPrefixes y.runs sh.run) (sym all) (both_prefixes v.seen.runs w.seen.runs sh.run mine its))
-                    | inr elsewhere ↦ sh.seen j u elsewhere.1
-                  ]
-            ];
+        seen = each_set (Began sh.run) (slice_set s.views id both) other spent (subst (Began sh.run) (sym none) tt)
+            (each_set (Began sh.run) s.views id both (subst (Began sh.run) (sym all) (both_prefixes v.seen.runs w.seen.runs sh.run mine its)) sh.seen);
         gone = sh.gone;
-        retirees =
-            λ j u e p has.
-            elim (at_set (slice_set s.views id both) other j spent u e) [
-              | inl at_other ↦
-                  let empty : Contains [] p =
-                  subst (λ (y : Seen). Contains y.retirees p) none (subst (λ (x : Sight). Contains x.seen.retirees p) (sym at_other.1) has) in
-                  absurd (omega (arith, empty.1))
-              | inr beside ↦
-                  elim (at_set s.views id j both u beside.1) [
-                    | inl own ↦
-                        let either : Contains (v.seen.retirees ++ w.seen.retirees) p =
-                        subst (λ (y : Seen). Contains y.retirees p) all (subst (λ (x : Sight). Contains x.seen.retirees p) (sym own.1) has) in
-                        elim (Contains-append_cases v.seen.retirees w.seen.retirees p either) [
-                          | inl first ↦ sh.retirees id v here p first
-                          | inr second ↦ sh.retirees other w (sym (set_else s.views id other both apart) ∙ there) p second
-                        ]
-                    | inr elsewhere ↦ sh.retirees j u elsewhere.1 p has
-                  ]
-            ];
+        retirees = each_set (AreGone c sh.gone) (slice_set s.views id both) other spent (subst (AreGone c sh.gone) (sym none) (none_gone c sh.gone))
+            (each_set (AreGone c sh.gone) s.views id both (subst (AreGone c sh.gone) (sym all) gone) sh.retirees);
       }
 
   -- the table at the start shows the run of no steps
   pub opens_run : (c : Setup) (ws : List ℕ) (xs : List S) (contents : List (List ℕ)) → Shown Lies contents c (λ k. None) [] (table.opening ws xs (first_view c))
       → ShowsRun Lies contents c (table.opening ws xs (first_sight c))
   opens_run c ws xs contents shown =
-      record { run = []; gone = λ k. None; shown = shown; seen = λ j v e. only j v e; retirees = λ j v e p has. none j v e p has }
-    where
-      only : (j : ℕ) (v : Sight) → get_elem? (first_sight c ∷ []) j ≡ some v → AllPrefixes v.seen.runs []
-      only zero v e = subst (λ (u : Sight). AllPrefixes u.seen.runs []) (some-injective (first_sight c) v e) tt
-      only (suc j) v e = absurd (some-ne-none v (sym e))
-
-      none : (j : ℕ) (v : Sight) → get_elem? (first_sight c ∷ []) j ≡ some v → (p : ℕ × ℕ) → Contains v.seen.retirees p → (p.0 < c.seats) × (None ≡ Some p.1)
-      none zero v e p has =
-          let empty = subst (λ (u : Sight). Contains u.seen.retirees p) (sym (some-injective (first_sight c) v e)) has in absurd (omega (arith, empty.1))
-      none (suc j) v e p has = absurd (some-ne-none v (sym e))
+      record {
+        run = [];
+        gone = λ k. None;
+        shown = shown;
+        seen = each_snoc (Began []) [] (first_sight c) tt (λ j v e. absurd (some-ne-none v (sym e)));
+        retirees = each_snoc (AreGone c (λ k. None)) [] (first_sight c) (none_gone c (λ k. None)) (λ j v e. absurd (some-ne-none v (sym e)));
+      }

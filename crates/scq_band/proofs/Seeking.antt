@@ -1,5 +1,5 @@
 -- The loop of D3 to D5: an index is taken, the ticket is given up, or the entry has a higher rank than any that was found.
-use Rattle.std.proofs.Common.{◌≡◌, ◌≢◌, ◌⊎◌, ℕ, ◌<◌, ◌≤◌, false, List, refl, sym, ◌∙◌, ap, subst, inl, inr, arith, eq-eqb, ne_eqb, lt-ltb, le-ltb}
+use Rattle.std.proofs.Common.{◌≡◌, ◌≢◌, ℕ, ◌<◌, ◌≤◌, false, List, refl, sym, ◌∙◌, ap, subst, inl, inr, arith, eq-eqb, ne_eqb, lt-ltb, le-ltb}
 use Rattle.std.proofs.lemmas.Bool.{cases_eq, true≢false}
 use Rattle.scq_word.specs.declared.entry.Entry.{Entry}
 use Rattle.scq_word.specs.Exports.{n_of, slots_of, cycle_of, entry_in, IsIndexOrMark, cycle_in, rank_in, index_in, is_none_in}
@@ -10,7 +10,7 @@ use Rattle.scq_core.specs.declared.phase.Phase.TheVariants.{AtD3, AtD4, AtD5, At
 use Rattle.scq_core.specs.Exports.{ring_slots, cycle, goes_on}
 use Rattle.scq_band.specs.Known.{Known}
 use Rattle.scq_band.specs.Exports.{Turned, Takes, my, IsAlone, SeatHasGot, goes_to, got_at}
-use Rattle.scq_band.proofs.Outcomes.{goes_as, turned_as, made_alone}
+use Rattle.scq_band.proofs.Outcomes.{goes_as, turned_as, made_alone, higher}
 
 apart_low : {a b : ℕ} → a < b → a ≢ b
 apart_low less e = absurd (omega arith)
@@ -48,7 +48,7 @@ module _ {S : Type 0} (Lies : ℕ → S → List ℕ → Type 0) (c : Setup) (me
   pub took : (v : Known) (slots : List (ℕ × S)) → turn ≡ AtD4 r h → IsAlone me.0 → me.0 ≡ goes_to (AtD4 r h) v → me.1 ≡ slots → Turned Lies c turn me x later
       → SeatHasGot Lies c r h (index_in (ring_slots c) x) (v, slots) later
   took v slots is alone here same turned =
-      let u = turned_as Lies c turn (AtD4 r h) me later x is turned in
+      let u = turned_as is turned in
       let i = index_in (ring_slots c) x in
       record {
         content = u.beside;
@@ -70,13 +70,7 @@ module _ {S : Type 0} (Lies : ℕ → S → List ℕ → Type 0) (c : Setup) (me
       turned
 
   pub passed_rises : (e : ℕ) → turn ≡ AtD5 r h e → x ≢ e → Turned Lies c turn me x later → rank_in (ring_slots c) e < rank_in (ring_slots c) x
-  passed_rises e is miss turned =
-      let u = turned_as Lies c turn (AtD5 r h e) me later x is turned in
-      higher (u.found.above)
-    where
-      higher : (x ≡ e) ⊎ (rank_in (ring_slots c) e < rank_in (ring_slots c) x) → rank_in (ring_slots c) e < rank_in (ring_slots c) x
-      higher (inl same) = absurd (miss same)
-      higher (inr up) = up
+  passed_rises e is miss turned = higher miss (turned_as is turned).found.above
 
 -- an entry that is neither of the ticket's cycle nor of a later one
 pub earlier_cycle_of : (c : Setup) (order t x cyc : ℕ) (entry : Entry) → order ≡ c.order → entry ≡ entry_in order x → cyc ≡ cycle_of (slots_of order) t

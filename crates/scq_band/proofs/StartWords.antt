@@ -1,13 +1,17 @@
 -- The words of the start are put where they stand one by one, and lists of buffers are turned to slots and back.
-use Rattle.std.proofs.Common.{◌≡◌, ℕ, suc, ◌+◌, List, [], ◌∷◌, ◌++◌, map, length, refl, sym, ◌∙◌, ap, inl, inr, arith}
+use Rattle.std.proofs.Common.{◌≡◌, ℕ, suc, ◌<◌, List, [], ◌∷◌, ◌++◌, map, length, refl, sym, ◌∙◌, ap, inl, inr, arith}
 use Rattle.std.specs.Prelude.{Some, None, Option, slice_set}
 use Rattle.std.proofs.lemmas.Bool.{cases_eq, cases_lt}
 use Rattle.std.proofs.lemmas.List.{length-set, get_or-set_same, get_or-set_other}
 use Rattle.scq_word.specs.declared.setup.Setup.{Setup}
-use Rattle.scq_core.specs.Exports.{Location, read, start_cells, ring_slots}
+use Rattle.scq_core.specs.Exports.{Location, read, start_cells}
 use Rattle.scq_band.specs.declared.slot.Slot.{Slot}
-use Rattle.scq_band.specs.Exports.{ring_at, IsLocation, offset_of, gate_word, word_count, at, full_slot, lifted, AllLaid, WordsAreOpened}
-use Rattle.scq_band.proofs.Layouts.{offset_low, same_offset, at_low, at_some, at_apart}
+use Rattle.scq_band.specs.Exports.{ring_at, IsLocation, offset_of, gate_word, at, full_slot, lifted, AllLaid, WordsAreOpened}
+use Rattle.scq_band.proofs.Layouts.{same_offset, at_low, at_some, at_apart}
+
+-- where a word stands, there is room for one
+pub stands_low : (c : Setup) (words : List ℕ) (r o i : ℕ) (l : Location) → WordsAreOpened c words r o → IsLocation c l → i ≡ at c l → i < length words
+stands_low c words r o i l before here at_l = let low = at_low c l here in let many = before.count in omega (arith, low, at_l, many)
 
 -- one word more is put where it stands
 pub opens_next : (c : Setup) (words : List ℕ) (r o i x : ℕ) (l : Location) → WordsAreOpened c words r o → IsLocation c l → ring_at l ≡ r → offset_of 1 l ≡ o

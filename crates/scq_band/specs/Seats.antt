@@ -1,6 +1,6 @@
 -- For private calls: the view of one seat that stands alone, and what becomes of it.
 use Rattle.std.specs.Prelude.{◌≡◌, ◌⊎◌, ◌+◌, ◌^◌, ◌<◌, ◌≤◌, ℕ, Bool, true, false, List, [], ◌∷◌}
-use Rattle.std.specs.Prelude.{◌++◌, length, Option, Some, None, slice_get}
+use Rattle.std.specs.Prelude.{◌++◌, length, Option, Some, slice_get}
 use Rattle.scq_word.specs.declared.setup.Setup.{Setup}
 use Rattle.scq_word.specs.Exports.{n_of}
 use Rattle.scq_law.specs.Exports.{times}

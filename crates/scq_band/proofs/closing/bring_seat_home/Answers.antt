@@ -24,27 +24,15 @@ bring_all-requires-clause-may g c κs within =
 pub returns-clause-member : goal.returns-clause-member
 returns-clause-member g c =
     let s = c.seat.inside in
-    let Same = g.B.Buffer.IsSameBuffer in
-    let contents = g.B.Buffer.contents in
-    let next = known_me c.bring_all.new.token.me in
-    let member = is_member Same s.key.value (known_me s.token.me) s.hand.items
-    (vec_capacity s.hand) s.numbers.items s.spent c.seat.invariant contents (map g.T.Lifted.pair c.args.out.now.items)
-    (map g.T.Lifted.pair c.bring_all.new.out.items) next c.bring_all.ensures.home s.token.me.0.seen s.token.table_id c.bring_all.ensures.none in
-    subst (λ (t : Standing g.row.B.Denot). IsMemberOf contents t (my next.0)) c.seat.view_is member
+    let member = is_member _ s.key.value _ _ _ _ _ c.seat.invariant _ _ _ _ c.bring_all.ensures.home s.token.me.0.seen s.token.table_id
+    c.bring_all.ensures.none in
+    subst (λ (t : Standing g.row.B.Denot). IsMemberOf g.B.Buffer.contents t (my c.bring_all.new.token.me.0.known)) c.seat.view_is member
 
 pub returns-clause-home : goal.returns-clause-home
-returns-clause-home g c =
-    let s = c.seat.inside in
-    out_or_home g.B.Buffer.IsSameBuffer s.key.value (known_me s.token.me) s.hand.items
-    (vec_capacity s.hand) s.numbers.items s.spent c.seat.invariant g.B.Buffer.contents (map g.T.Lifted.pair c.args.out.now.items)
-    (map g.T.Lifted.pair c.bring_all.new.out.items) (known_me c.bring_all.new.token.me) c.bring_all.ensures.home
+returns-clause-home g c = out_or_home _ _ _ _ _ _ _ c.seat.invariant _ _ _ _ c.bring_all.ensures.home
 
 pub returns-clause-alone : goal.returns-clause-alone
-returns-clause-alone g c =
-    let s = c.seat.inside in
-    leaves_alone g.B.Buffer.IsSameBuffer s.key.value (known_me s.token.me) s.hand.items
-    (vec_capacity s.hand) s.numbers.items s.spent c.seat.invariant g.B.Buffer.contents (map g.T.Lifted.pair c.args.out.now.items)
-    (map g.T.Lifted.pair c.bring_all.new.out.items) (known_me c.bring_all.new.token.me) c.bring_all.ensures.home
+returns-clause-alone g c = leaves_alone _ _ _ _ _ _ _ c.seat.invariant _ _ _ _ c.bring_all.ensures.home
 
 pub returns-clause-numbers : goal.returns-clause-numbers
 returns-clause-numbers g c =
@@ -61,10 +49,8 @@ returns-clause-gate g c =
 
 pub returns-clause-less : goal.returns-clause-less
 returns-clause-less g c i =
-    let s = c.seat.inside in
-    let Same = g.B.Buffer.IsSameBuffer in
-    let lifted = lifted_as Same s.key.value (known_me s.token.me) s.hand.items (vec_capacity s.hand) s.numbers.items s.spent c.seat.invariant i in
+    let lifted = lifted_as _ _ _ _ _ _ _ c.seat.invariant i in
     let all = c.bring_all.ensures.less i in
-    let hand : times i (lifted_of c.args.seat.hand) ≡ times_lifted i s.token.me.1 =
+    let hand : times i (lifted_of c.args.seat.hand) ≡ times_lifted i c.seat.inside.token.me.1 =
     ap (λ (t : Standing g.row.B.Denot). times i (lifted_of t.hand)) (sym c.seat.view_is) ∙ lifted in
     omega (arith, all, hand)

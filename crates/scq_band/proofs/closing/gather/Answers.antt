@@ -107,16 +107,12 @@ returns-clause-own g c = c.loop-seat.invariant.0
 pub returns-clause-all : goal.returns-clause-all
 returns-clause-all g c =
     let items : length c.loop-seat.seats.items ≡ 0 = omega (arith, c.in_default-pop.ensures.cases.0, c.loop-seat.seats.ok) in
-    let all = all_gathered g.B.Buffer.contents c.args.words.now.key.setup.rings c.args.seats.items c.loop-seat.seats.items c.loop-seat.first.me.0.known
-    c.loop-seat.first.me.0.seen c.loop-seat.invariant.4 items in
-    all.0
+    (all_gathered _ _ _ _ _ _ c.loop-seat.invariant.4 items).0
 
 pub returns-clause-seen : goal.returns-clause-seen
 returns-clause-seen g c =
     let items : length c.loop-seat.seats.items ≡ 0 = omega (arith, c.in_default-pop.ensures.cases.0, c.loop-seat.seats.ok) in
-    let all = all_gathered g.B.Buffer.contents c.args.words.now.key.setup.rings c.args.seats.items c.loop-seat.seats.items c.loop-seat.first.me.0.known
-    c.loop-seat.first.me.0.seen c.loop-seat.invariant.4 items in
-    all.1
+    (all_gathered _ _ _ _ _ _ c.loop-seat.invariant.4 items).1
 
 pub returns-clause-home : goal.returns-clause-home
 returns-clause-home g c =

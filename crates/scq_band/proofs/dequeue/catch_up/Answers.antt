@@ -17,8 +17,7 @@ alone g c =
 
 stays : (g : _) (c : After-exchange g) → c.exchange.new.token.me.1 ≡ c.args.token.now.me.1
 stays g c =
-    (turned_as _ c.args.words.now.key.setup _ (AtD7 c.args.ring.now.number c.args.ticket c.tries.from c.tries.to) (known_me c.tries.token.me)
-    (known_me c.exchange.new.token.me) c.exchange.result (ap my_phase c.tries.invariant.3) c.exchange.ensures.turned).slots
+    (turned_as (ap my_phase c.tries.invariant.3) c.exchange.ensures.turned).slots
     ∙ c.tries.invariant.2
 
 -- Tail was not lifted: it is to be loaded again, after Head
@@ -59,10 +58,8 @@ stay g c next seen =
     let k = c.args.words.now.key.setup in
     let r = c.args.ring.now.number in
     let h = c.args.ticket in
-    (turned_as _ k _ (AtD9 r h c.tries.from c.load-to.result) (known_me c.load-to.new.token.me) (known_me c.load-from.new.token.me) c.load-from.result
-    (third g c seen) c.load-from.ensures.turned).slots
-    ∙ (turned_as _ k _ (AtD8 r h c.tries.from) (known_me c.exchange.new.token.me) (known_me c.load-to.new.token.me) c.load-to.result
-    (ap (loading (ring_of_word k c.head.result)) (ap my_phase next)) c.load-to.ensures.turned).slots
+    (turned_as (third g c seen) c.load-from.ensures.turned).slots
+    ∙ (turned_as (ap (loading (ring_of_word k c.head.result)) (ap my_phase next)) c.load-to.ensures.turned).slots
 
 pub exchange-requires-clause-low : goal.exchange-requires-clause-low
 exchange-requires-clause-low g c κs within = tail_low c.requires.ring c.requires.ring.tail c.requires.own.1

@@ -106,7 +106,7 @@ returns-then-load-lt-ZERO_LEVEL-clause-nothing g c ticket is =
     let none : None ≡ ticket = same_drawn is in
     subst (λ (d : Option ℕ). HasFoundNone k r d me later) none
     (found_first k r me later (saw_empty Lie k me.0 me later _ c.load.result r turn c.requires.alone (omega arith) c.load.ensures.turned)
-    (turned_as Lie k _ (AtD1 r) me later c.load.result turn c.load.ensures.turned).slots)
+    (turned_as turn c.load.ensures.turned).slots)
 
 pub draws-init : goal.draws-init
 draws-init g c =
@@ -122,7 +122,7 @@ draws-init g c =
     let least : least_of (my_phase c.load.new.token.me.0.known) ≡ 0 = ap (λ u. least_of (my_phase u)) now in (
       c.load.ensures.own.0,
       c.load.ensures.own.1,
-      (turned_as Lie k _ (AtD1 r) (known_me c.args.token.now.me) (known_me c.load.new.token.me) c.load.result turn c.load.ensures.turned).slots,
+      (turned_as turn c.load.ensures.turned).slots,
       now
           ∙ ap (λ l. to_draw r l c.args.token.now.me.0.known) (sym least),
       inr c.load.ensures.went,
@@ -217,8 +217,7 @@ draws-smaller g c =
     let at = goal.at.draws-smaller g c in
     let limit = c.requires.ring.limit in
     let less = c.if-ticket-ring.false in
-    let found = (turned_as _ c.args.words.now.key.setup _ (AtD2 c.args.ring.now.number (least_of (my_phase c.draws.token.me.0.known)))
-    (known_me c.draws.token.me) (known_me c.draw-ticket.new.token.me) c.draw-ticket.result (next-turn g at.After-head) c.draw-ticket.ensures.turned).found in
+    let found = (turned_as (next-turn g at.After-head) c.draw-ticket.ensures.turned).found in
     let next : least_of (my_phase c.give_up.new.token.me.0.known) ≡ c.draw-ticket.result + 1 =
     ap (λ u. least_of (my_phase u)) (c.if-give_up.ensures.on refl) in
     omega (arith, limit, less, found, next)

@@ -1,7 +1,7 @@
 use Rattle.std.proofs.Common.{◌≡◌, ◌<◌, ◌≤◌, ◌+◌, refl, sym, ◌∙◌, ap, subst, arith, leb-true, leb-false, true, false}
 use Rattle.scq_core.specs.declared.phase.Phase.TheVariants.{AtD2, AtD6, AtD7, AtD10}
 use Rattle.scq_core.specs.declared.step.Step.TheVariants.{D6, D10}
-use Rattle.scq_core.specs.Exports.{zero_level}
+use Rattle.std.specs.Prelude.{IsTrue, IsFalse, nat_le}
 use Rattle.scq_core.proofs.Entries.{zero_level_is}
 use Rattle.scq_band.specs.Exports.{known_me, ring_of_word, changed, empties, LiesIn, my, my_phase, loading, load_turn, IsCountDown, IsAlone, at_phase}
 use Rattle.scq_band.specs.Exports.{seated, goes_to, nothing_at}
@@ -19,8 +19,7 @@ leaves g c = ap (loading (ring_of_word c.args.words.now.key.setup c.args.ring.no
 
 stays : (g : _) (c : After-load-tail g) → c.load-tail.new.token.me.1 ≡ c.args.token.now.me.1
 stays g c =
-    (turned_as _ c.args.words.now.key.setup _ (AtD6 c.args.ring.now.number c.args.ticket) (known_me c.args.token.now.me) (known_me c.load-tail.new.token.me)
-    c.load-tail.result (leaves g c) c.load-tail.ensures.turned).slots
+    (turned_as (leaves g c) c.load-tail.ensures.turned).slots
 
 -- Tail was at most one past the ticket
 saw-low : (g : _) (c : After-load-tail g) → c.load-tail.result ≤ c.args.ticket + 1 → c.load-tail.new.token.me.0.known
@@ -51,8 +50,8 @@ saw-high g c above =
 -- and then the failed attempt ends the call, or not
 counted : (g : _) (c : After-count_down-2 g)
     → c.load-tail.new.token.me.0.known ≡ goes_to (AtD10 c.args.ring.now.number c.args.ticket false) c.args.token.now.me.0.known
-    → (c.count_down-2.result ≤ zero_level → c.count_down-2.new.token.me.0.known ≡ nothing_at c.args.ring.now.number c.args.token.now.me.0.known)
-    × (zero_level < c.count_down-2.result
+    → (IsTrue (nat_le c.count_down-2.result 4294967296) → c.count_down-2.new.token.me.0.known ≡ nothing_at c.args.ring.now.number c.args.token.now.me.0.known)
+    × (IsFalse (nat_le c.count_down-2.result 4294967296)
     → c.count_down-2.new.token.me.0.known ≡ goes_to (AtD2 c.args.ring.now.number (c.args.ticket + 1)) c.args.token.now.me.0.known)
 counted g c seen =
     let k = c.args.words.now.key.setup in
@@ -62,9 +61,14 @@ counted g c seen =
     let h = c.args.ticket in
     let me = known_me c.load-tail.new.token.me in
     let later = known_me c.count_down-2.new.token.me in
-    let alone = alone_at v me.0 (AtD10 r h false) c.requires.alone seen in (
-      λ low. ran_out Lie k me later _ c.count_down-2.result r h v (ap my_phase seen) alone seen low c.count_down-2.ensures.turned,
-      λ high. goes_round Lie k me later _ c.count_down-2.result r h v (ap my_phase seen) alone seen high c.count_down-2.ensures.turned,
+    let alone = alone_at v me.0 (AtD10 r h false) c.requires.alone seen in
+    let level = zero_level_is in (
+      λ low.
+          let le = leb-true _ _ low in
+          ran_out Lie k me later _ c.count_down-2.result r h v (ap my_phase seen) alone seen (omega (arith, le, level)) c.count_down-2.ensures.turned,
+      λ high.
+          let gt = leb-false _ _ high in
+          goes_round Lie k me later _ c.count_down-2.result r h v (ap my_phase seen) alone seen (omega (arith, gt, level)) c.count_down-2.ensures.turned,
     )
 
 pub load-tail-requires-clause-low : goal.load-tail-requires-clause-low
@@ -148,33 +152,25 @@ returns-then-tail-ticket-clause-over g c _ =
 
 pub returns-then-tail-ticket-clause-slots : goal.returns-then-tail-ticket-clause-slots
 returns-then-tail-ticket-clause-slots g c =
-    (turned_as _ c.args.words.now.key.setup _ (AtD10 c.args.ring.now.number c.args.ticket true) (known_me c.catch_up.new.token.me)
-    (known_me c.count_down.new.token.me) c.count_down.result (ap my_phase c.catch_up.ensures.caught_up) c.count_down.ensures.turned).slots
+    (turned_as (ap my_phase c.catch_up.ensures.caught_up) c.count_down.ensures.turned).slots
     ∙ c.catch_up.ensures.slots
     ∙ stays g (goal.at.returns-then-tail-ticket-clause-slots g c).After-load-tail
 
 pub returns-clause-slots : goal.returns-clause-slots
 returns-clause-slots g c =
     let at = (goal.at.returns-clause-slots g c).After-load-tail in
-    (turned_as _ c.args.words.now.key.setup _ (AtD10 c.args.ring.now.number c.args.ticket false) (known_me c.load-tail.new.token.me)
-    (known_me c.count_down-2.new.token.me) c.count_down-2.result (ap my_phase (saw-high g at c.if-tail-ticket.false)) c.count_down-2.ensures.turned).slots
+    (turned_as (ap my_phase (saw-high g at c.if-tail-ticket.false)) c.count_down-2.ensures.turned).slots
     ∙ stays g at
 
 pub returns-clause-over : goal.returns-clause-over
-returns-clause-over g c low =
+returns-clause-over g c =
     let at = goal.at.returns-clause-over g c in
-    let its = counted g at.After-count_down-2 (saw-high g at.After-load-tail c.if-tail-ticket.false) in
-    let le = leb-true _ _ low in
-    let level = zero_level_is in
-    its.0 (omega (arith, le, level))
+    (counted g at.After-count_down-2 (saw-high g at.After-load-tail c.if-tail-ticket.false)).0
 
 pub returns-clause-on : goal.returns-clause-on
-returns-clause-on g c high =
+returns-clause-on g c =
     let at = goal.at.returns-clause-on g c in
-    let its = counted g at.After-count_down-2 (saw-high g at.After-load-tail c.if-tail-ticket.false) in
-    let gt = leb-false _ _ high in
-    let level = zero_level_is in
-    its.1 (omega (arith, gt, level))
+    (counted g at.After-count_down-2 (saw-high g at.After-load-tail c.if-tail-ticket.false)).1
 
 pub returns-then-tail-ticket-clause-went : goal.returns-then-tail-ticket-clause-went
 returns-then-tail-ticket-clause-went g c =

@@ -27,8 +27,7 @@ alone g c =
 
 stays : (g : _) (c : After-load-found g) → c.load-found.new.token.me.1 ≡ c.args.token.now.me.1
 stays g c =
-    (turned_as _ c.args.words.now.key.setup _ (AtD3 c.args.ring.now.number c.args.ticket _) (known_me c.tries.token.me) (known_me c.load-found.new.token.me)
-    c.load-found.result (seeks g c) c.load-found.ensures.turned).slots
+    (turned_as (seeks g c) c.load-found.ensures.turned).slots
     ∙ c.tries.invariant.2
 
 -- it found the entry of its own cycle
@@ -166,8 +165,7 @@ tries-smaller g c =
     ap (λ u. least_of (my_phase u)) (missed g at.After-exchange stands now c.if-exchange-found.false) in
     let fits = rank_fits k y c.exchange.type_inv in
     let found : least_of (my_phase c.tries.token.me.0.known) ≤ rank_in (ring_slots k) c.load-found.result =
-    (turned_as _ k _ (AtD3 c.args.ring.now.number c.args.ticket _) (known_me c.tries.token.me) (known_me c.load-found.new.token.me) c.load-found.result
-    (seeks g at.After-load-found) c.load-found.ensures.turned).found in
+    (turned_as (seeks g at.After-load-found) c.load-found.ensures.turned).found in
     omega (arith, up, least, fits, found)
 
 pub returns-then-is_of_cycle-clause-got : goal.returns-then-is_of_cycle-clause-got
@@ -215,8 +213,7 @@ pub returns-then-exchange-found-clause-slots : goal.returns-then-exchange-found-
 returns-then-exchange-found-clause-slots g c =
     let at = goal.at.returns-then-exchange-found-clause-slots g c in
     let now = earlier g at.After-passed (seeks g at.After-load-found) (alone g at.After-load-found) in
-    (turned_as _ c.args.words.now.key.setup _ (AtD5 c.args.ring.now.number c.args.ticket c.load-found.result) (known_me c.load-found.new.token.me)
-    (known_me c.exchange.new.token.me) c.exchange.result (ap my_phase now) c.exchange.ensures.turned).slots
+    (turned_as (ap my_phase now) c.exchange.ensures.turned).slots
     ∙ stays g at.After-load-found
 
 pub returns-then-unpack-cycle_of-clause-went : goal.returns-then-unpack-cycle_of-clause-went
@@ -246,8 +243,7 @@ tries-preserved g c =
     let again = goes_to (AtD3 r h (rank_in (ring_slots k) y)) in (
       c.exchange.ensures.own.0 ∙ c.load-found.ensures.own.0 ∙ c.tries.invariant.0,
       c.exchange.ensures.own.1 ∙ c.load-found.ensures.own.1 ∙ c.tries.invariant.1,
-      (turned_as _ k _ (AtD5 r h x) (known_me c.load-found.new.token.me) (known_me c.exchange.new.token.me) y
-          (ap my_phase now) c.exchange.ensures.turned).slots
+      (turned_as (ap my_phase now) c.exchange.ensures.turned).slots
           ∙ stays g at.After-load-found,
       next ∙ ap again now ∙ ap again c.tries.invariant.3 ∙ ap (λ l. goes_to (AtD3 r h l) c.args.token.now.me.0.known) (sym least),
       inr (goes_then c.tries.invariant.4 (went_on c.load-found.ensures.went c.exchange.ensures.went)),

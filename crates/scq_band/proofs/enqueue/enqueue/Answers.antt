@@ -19,8 +19,7 @@ drawn : (g : _) (c : After-draw-ticket g) → DrewFromTail c.args.words.now.key.
 drawn g c =
     let contents = g.B.Buffer.contents in
     let slots = c.args.token.now.me.1 in
-    let turn = turn_of_draw contents c.args.words.now.key.setup c.args.ring.now (known_me c.draws.token.me) slots c.args.index c.requires.ring
-    c.draws.invariant.2 c.requires.first c.draws.invariant.4 in
+    let turn = turn_of_draw g.B.Buffer.contents (known_me c.draws.token.me) c.requires.ring c.draws.invariant.2 c.requires.first c.draws.invariant.4 in
     drew_from_tail (LiesIn contents g.B.Buffer.IsSameBuffer c.args.words.now.key.given.value.items) c.args.words.now.key.setup c.args.token.now.me.0.known slots
     (known_me c.draws.token.me) (known_me c.draw-ticket.new.token.me) _ c.draw-ticket.result c.args.ring.now.number c.args.index
     (front_bytes contents slots) _ turn c.requires.alone c.draws.invariant.3 c.draws.invariant.2 c.draw-ticket.ensures.turned
@@ -28,12 +27,8 @@ drawn g c =
 -- the ticket is no lower than the least that was known
 least : (g : _) (c : After-draw-ticket g) → least_of (my_phase c.draws.token.me.0.known) ≤ c.draw-ticket.result
 least g c =
-    let contents = g.B.Buffer.contents in
-    let slots = c.args.token.now.me.1 in
-    let turn = turn_of_draw contents c.args.words.now.key.setup c.args.ring.now (known_me c.draws.token.me) slots c.args.index c.requires.ring
-    c.draws.invariant.2 c.requires.first c.draws.invariant.4 in
-    (turned_as _ c.args.words.now.key.setup _ (AtE1 c.args.ring.now.number c.args.index (front_bytes contents slots) _) (known_me c.draws.token.me)
-    (known_me c.draw-ticket.new.token.me) c.draw-ticket.result turn c.draw-ticket.ensures.turned).found
+    let turn = turn_of_draw g.B.Buffer.contents (known_me c.draws.token.me) c.requires.ring c.draws.invariant.2 c.requires.first c.draws.invariant.4 in
+    (turned_as turn c.draw-ticket.ensures.turned).found
 
 -- the ticket is below the limit
 below-limit : (g : _) (c : After-draw-ticket g) → c.draw-ticket.result < c.args.ring.now.limit → c.draw-ticket.new.token.me.0.known
@@ -52,8 +47,7 @@ draw-ticket-requires-clause-may g c κs within =
     let k = c.args.words.now.key.setup in
     let contents = g.B.Buffer.contents in
     let slots = c.args.token.now.me.1 in
-    let turn = turn_of_draw contents k c.args.ring.now (known_me c.draws.token.me) slots c.args.index c.requires.ring c.draws.invariant.2 c.requires.first
-    c.draws.invariant.4 in
+    let turn = turn_of_draw g.B.Buffer.contents (known_me c.draws.token.me) c.requires.ring c.draws.invariant.2 c.requires.first c.draws.invariant.4 in
     subst (λ (t : Phase). MayTurn k c.draws.token.me.0.known t) (sym turn)
     (may_draw k c.args.token.now.me.0.known c.draws.token.me.0.known c.args.ring.now.number c.args.index
     (front_bytes contents slots) c.requires.alone c.draws.invariant.3
@@ -62,10 +56,7 @@ draw-ticket-requires-clause-may g c κs within =
 pub draw-ticket-requires-clause-word : goal.draw-ticket-requires-clause-word
 draw-ticket-requires-clause-word g c κs within =
     let k = c.args.words.now.key.setup in
-    let contents = g.B.Buffer.contents in
-    let slots = c.args.token.now.me.1 in
-    let turn = turn_of_draw contents k c.args.ring.now (known_me c.draws.token.me) slots c.args.index c.requires.ring c.draws.invariant.2 c.requires.first
-    c.draws.invariant.4 in
+    let turn = turn_of_draw g.B.Buffer.contents (known_me c.draws.token.me) c.requires.ring c.draws.invariant.2 c.requires.first c.draws.invariant.4 in
     c.requires.ring.tail ∙ ap (λ t. at k (location_of k t)) (sym turn)
 
 pub returns-then-ticket-ring-clause-spent : goal.returns-then-ticket-ring-clause-spent

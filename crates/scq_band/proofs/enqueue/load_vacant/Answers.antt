@@ -20,7 +20,7 @@ told : (g : _) (c : After-load-found g) → Turned (LiesIn g.B.Buffer.contents g
     c.args.words.now.key.setup (AtE2 c.args.ring.now.number (put_index (my_phase c.args.token.now.me.0.known)) (content_of
     (my_phase c.args.token.now.me.0.known)) c.args.ticket (least_of (my_phase c.args.token.now.me.0.known)))
     (known_me c.args.token.now.me) c.load-found.result (known_me c.load-found.new.token.me)
-told g c = turned_as _ c.args.words.now.key.setup _ _ (known_me c.args.token.now.me) (known_me c.load-found.new.token.me) c.load-found.result (looks g c) c.load-found.ensures.turned
+told g c = turned_as (looks g c) c.load-found.ensures.turned
 
 -- it found the entry vacant and unsafe
 unsafe : (g : _) (c : After-head g) → load_turn c.args.words.now.key.setup c.args.word c.args.token.now.me.0.known

@@ -16,8 +16,7 @@ ending g c = ap (loading (ring_of_word c.args.words.now.key.setup c.threshold.re
 
 stays : (g : _) (c : After-load g) → c.load.new.token.me.1 ≡ c.args.token.now.me.1
 stays g c =
-    (turned_as _ c.args.words.now.key.setup _ _ (known_me c.args.token.now.me) (known_me c.load.new.token.me) c.load.result (ending g c)
-    c.load.ensures.turned).slots
+    (turned_as (ending g c) c.load.ensures.turned).slots
 
 -- it isn't at the reset value
 other : (g : _) (c : After-load g) → c.load.result ≢ c.args.ring.now.level → c.load.new.token.me.0.known
@@ -78,8 +77,7 @@ returns-then-load-ring-clause-done g c =
 pub returns-then-load-ring-clause-slots : goal.returns-then-load-ring-clause-slots
 returns-then-load-ring-clause-slots g c =
     let at = (goal.at.returns-then-load-ring-clause-slots g c).After-load in
-    (turned_as _ c.args.words.now.key.setup _ _ (known_me c.load.new.token.me) (known_me c.reset.new.token.me) c.args.ring.now.level
-    (ap my_phase (other g at c.if-load-ring.true)) c.reset.ensures.turned).slots
+    (turned_as (ap my_phase (other g at c.if-load-ring.true)) c.reset.ensures.turned).slots
     ∙ stays g at
 
 pub returns-else-load-ring-clause-done : goal.returns-else-load-ring-clause-done

@@ -1,11 +1,6 @@
-use Rattle.scq_band.specs.Exports.{LiesIn}
 use Rattle.scq_band.proofs.RunShown.{retires_run}
 use Rattle.scq_band.proofs.gate.retire.Goals as goal
 
 pub fetch_sub-requires : goal.fetch_sub-requires
 fetch_sub-requires g c =
-    let k = c.args.words.now.key in
-    let Lie = LiesIn g.B.Buffer.contents g.B.Buffer.IsSameBuffer k.given.value.items in
-    let me = c.args.token.now.me in
-    let slots = c.args.words.now.table_id.slots in
-    (c.requires.own, c.requires.room, retires_run Lie k.setup slots c.args.token.now.id me c.requires.alone c.requires.stays)
+    (c.requires.own, c.requires.room, retires_run _ _ _ _ _ c.requires.alone c.requires.stays)

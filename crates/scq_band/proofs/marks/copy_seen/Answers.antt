@@ -1,16 +1,9 @@
 use Rattle.std.proofs.Common.{refl}
-use Rattle.scq_band.specs.Exports.{LiesIn, mark_sight}
+use Rattle.scq_band.specs.Exports.{mark_sight}
 use Rattle.scq_band.proofs.RunShown.{splits_run}
 use Rattle.scq_band.proofs.Views.{marks}
 use Rattle.scq_band.proofs.marks.copy_seen.Goals as goal
 
 pub split_seat-requires : goal.split_seat-requires
 split_seat-requires g c =
-    let k = c.args.words.now.key in
-    let Lie = LiesIn g.B.Buffer.contents g.B.Buffer.IsSameBuffer k.given.value.items in
-    let v = c.args.token.now.me.0 in (
-      c.requires.own,
-      c.requires.room,
-      splits_run Lie k.setup c.args.token.now.id v v (mark_sight v) refl refl
-          (λ gone run. marks Lie k.setup c.args.token.now.id v.known),
-    )
+    (c.requires.own, c.requires.room, splits_run _ _ _ _ _ (mark_sight c.args.token.now.me.0) refl refl (λ gone run. marks _ _ _ _))

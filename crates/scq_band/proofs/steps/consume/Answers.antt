@@ -1,19 +1,10 @@
 use Rattle.std.specs.Prelude.{bit_or}
-use Rattle.scq_band.specs.Exports.{LiesIn, my_phase}
 use Rattle.scq_band.proofs.RunShown.{moves}
-use Rattle.scq_band.proofs.Grounds.{ground}
 use Rattle.scq_band.proofs.Operations.{consume_says, consume_carries}
 use Rattle.scq_band.proofs.steps.consume.Goals as goal
 
 pub fetch_or-requires : goal.fetch_or-requires
 fetch_or-requires g c =
-    let k = c.args.words.now.key in
-    let t = my_phase c.args.token.now.me.0.known in
-    let Lie = LiesIn g.B.Buffer.contents g.B.Buffer.IsSameBuffer k.given.value.items in (
-      c.requires.own,
-      c.requires.low,
-      moves Lie k.setup c.args.words.now.table_id.slots c.args.token.now.id c.args.token.now.me t c.args.word (λ n. bit_or n c.args.mark) c.requires.may
-          (consume_carries Lie t c.args.token.now.me.1 c.requires.kind) c.requires.word
-          (λ m r b. consume_says k.setup t _ c.args.mark c.requires.kind c.requires.mark)
-          (λ m seat s reach low e. ground k.setup m seat s t reach low e),
-    )
+    let k = c.args.words.now.key.setup in
+    (c.requires.own, c.requires.low, moves _ k _ _ _ _ _ (λ n. bit_or n c.args.mark) c.requires.may (consume_carries _ _ _ c.requires.kind) c.requires.word
+    (λ m r b. consume_says k _ _ _ c.requires.kind c.requires.mark))

@@ -1,20 +1,11 @@
 use Rattle.std.proofs.Common.{◌==◌}
 use prog.Atomic.{either}
-use Rattle.scq_band.specs.Exports.{LiesIn, my_phase}
 use Rattle.scq_band.proofs.RunShown.{moves}
-use Rattle.scq_band.proofs.Grounds.{ground}
 use Rattle.scq_band.proofs.Operations.{exchange_says}
 use Rattle.scq_band.proofs.steps.exchange.Goals as goal
 
 pub compare_exchange-requires : goal.compare_exchange-requires
 compare_exchange-requires g c =
-    let k = c.args.words.now.key in
-    let t = my_phase c.args.token.now.me.0.known in
-    let Lie = LiesIn g.B.Buffer.contents g.B.Buffer.IsSameBuffer k.given.value.items in (
-      c.requires.own,
-      c.requires.low,
-      moves Lie k.setup c.args.words.now.table_id.slots c.args.token.now.id c.args.token.now.me t c.args.word (λ n. either (n == c.args.old) c.args.new n)
-          c.requires.may
-          (c.requires.carries) c.requires.word (λ m r b. exchange_says k.setup t _ c.args.old c.args.new c.requires.kind)
-          (λ m seat s reach low e. ground k.setup m seat s t reach low e),
-    )
+    let k = c.args.words.now.key.setup in
+    (c.requires.own, c.requires.low, moves _ k _ _ _ _ _ (λ n. either (n == c.args.old) c.args.new n) c.requires.may c.requires.carries c.requires.word
+    (λ m r b. exchange_says k _ _ _ _ c.requires.kind))

@@ -30,38 +30,35 @@ same_ticket is = cc
 knows : (g : _) (c : After-index-known g) → c.index-known.result.now ≡ known_of c.seat.inside.numbers.items c.args.ring
 knows g c =
     known_read c.seat.inside.numbers.items c.args.ring c.index-known.result.now
-    (ring_there c.seat.inside.key.value c.seat.inside.token.me c.seat.inside.numbers.items c.args.ring c.seat.view_is c.requires.seat c.seat.invariant.rings
+    (ring_there c.seat.inside.key.value c.seat.inside.token.me _ c.seat.view_is c.requires.seat c.seat.invariant.rings
     c.requires.ring) c.index-known.ensures
+
+-- what is told of a ring of one band is told of the same ring of the same band
+told_of : {B : Type 0} {a b : Identity B} {n r : ℕ} (P : Identity B → ℕ → Type 0) → a ≡ b → n ≡ r → P a n → P b r
+told_of {B} {a} {b} {n} {r} P same number is = subst (λ (i : Identity B). P i r) same (subst (P a) number is)
 
 -- what was got, told of the seat's own ring and setup
 got : (g : _) (c : In-Ok g) → HasGotAfter (LiesIn g.B.Buffer.contents g.B.Buffer.IsSameBuffer c.seat.inside.key.value.given.value.items)
     c.seat.inside.key.value.setup c.args.ring c.in-Ok.place c.in-Ok.index (known_me c.seat.inside.token.me) (known_me c.dequeue-found.new.token.me)
 got g c =
-    let me = known_me c.seat.inside.token.me in
-    let later = known_me c.dequeue-found.new.token.me in
-    let k = c.self.inside.table.shared.key in
-    let Lie = LiesIn g.B.Buffer.contents g.B.Buffer.IsSameBuffer in
-    subst (λ (b : Identity g.row.B.Denot). HasGotAfter (Lie b.given) b.setup c.args.ring c.in-Ok.place c.in-Ok.index me later)
-    (sym (ap (λ (s : Standing g.row.B.Denot). s.band) c.seat.view_is ∙ c.requires.seat ∙ sym c.self.view_is))
-    (subst (λ n. HasGotAfter (Lie k.given.value.items) k.setup n c.in-Ok.place c.in-Ok.index me later) c.ring.ensures.number c.in-Ok.ensures.got)
+    told_of (λ (b : Identity g.row.B.Denot) r. HasGotAfter (LiesIn g.B.Buffer.contents g.B.Buffer.IsSameBuffer b.given) b.setup r c.in-Ok.place c.in-Ok.index
+    (known_me c.seat.inside.token.me) (known_me c.dequeue-found.new.token.me))
+    (sym (ap (λ (s : Standing g.row.B.Denot). s.band) c.seat.view_is ∙ c.requires.seat ∙ sym c.self.view_is)) c.ring.ensures.number c.in-Ok.ensures.got
 
 above : (g : _) (c : In-Ok g) → HasGotAfter (LiesIn g.B.Buffer.contents g.B.Buffer.IsSameBuffer c.seat.inside.key.value.given.value.items)
     c.seat.inside.key.value.setup c.args.ring c.in-Ok.place c.in-Ok.index (known_me c.seat.inside.token.me) (known_me c.dequeue-found.new.token.me)
     → (known_of c.seat.inside.numbers.items c.args.ring).head ≤ c.in-Ok.place
 above g c gets =
     known_so (λ x. x.head ≤ c.in-Ok.place) c.seat.inside.numbers.items _ c.args.ring c.args.ring c.seat.invariant.numbers refl
-    (ring_there c.seat.inside.key.value c.seat.inside.token.me c.seat.inside.numbers.items c.args.ring c.seat.view_is c.requires.seat c.seat.invariant.rings
+    (ring_there c.seat.inside.key.value c.seat.inside.token.me _ c.seat.view_is c.requires.seat c.seat.invariant.rings
     c.requires.ring) gets.above
 
 -- that nothing was found, told likewise
 found : (g : _) (c : In-Nothing g) → HasFoundNone c.args.self.now.setup c.args.ring c.in-Nothing.drawn (known_me c.seat.inside.token.me)
     (known_me c.dequeue-found.new.token.me)
 found g c =
-    let me = known_me c.seat.inside.token.me in
-    let later = known_me c.dequeue-found.new.token.me in
-    let none = c.dequeue-found.ensures.nothing c.in-Nothing.drawn (c.in-Err.is ∙ ap (λ w. Err w) c.in-Nothing.is) in
-    subst (λ (b : Identity g.row.B.Denot). HasFoundNone b.setup c.args.ring c.in-Nothing.drawn me later) c.self.view_is
-    (subst (λ n. HasFoundNone c.self.inside.table.shared.key.setup n c.in-Nothing.drawn me later) c.ring.ensures.number none)
+    told_of (λ (b : Identity g.row.B.Denot) r. HasFoundNone b.setup r c.in-Nothing.drawn (known_me c.seat.inside.token.me) (known_me c.dequeue-found.new.token.me))
+    c.self.view_is c.ring.ensures.number (c.dequeue-found.ensures.nothing c.in-Nothing.drawn (c.in-Err.is ∙ ap (λ w. Err w) c.in-Nothing.is))
 
 -- and the head number is that of what the seat knows now
 later-is : (g : _) (c : After-finds_none-later g) → c.index-known.result.now ≡ known_of c.seat.inside.numbers.items c.args.ring → c.finds_none-later.result ≡ empties (drew c.in-Nothing.drawn (known_of c.seat.inside.numbers.items c.args.ring))
@@ -92,13 +89,13 @@ still_spent g c fresh =
     no_ticket (sym fresh ∙ sym (c.seat.invariant.spent ∙ ap (λ (s : Standing g.row.B.Denot). s.spent) c.seat.view_is) ∙ c.in-Some.is)
 
 pub returns-in-Ok-clause-kept : goal.returns-in-Ok-clause-kept
-returns-in-Ok-clause-kept g c t is = absurd (keeps_none g.B.Buffer.IsSameBuffer c.seat.inside.token.me c.seat.invariant c.seat.view_is c.in_default.is is)
+returns-in-Ok-clause-kept g c t is = keeps_none _ c.seat.inside.token.me c.seat.invariant c.seat.view_is c.in_default.is is
 
 pub returns-in-Nothing-clause-kept : goal.returns-in-Nothing-clause-kept
-returns-in-Nothing-clause-kept g c t is = absurd (keeps_none g.B.Buffer.IsSameBuffer c.seat.inside.token.me c.seat.invariant c.seat.view_is c.in_default.is is)
+returns-in-Nothing-clause-kept g c t is = keeps_none _ c.seat.inside.token.me c.seat.invariant c.seat.view_is c.in_default.is is
 
 pub returns-in-Spent-clause-kept : goal.returns-in-Spent-clause-kept
-returns-in-Spent-clause-kept g c t is = absurd (keeps_none g.B.Buffer.IsSameBuffer c.seat.inside.token.me c.seat.invariant c.seat.view_is c.in_default.is is)
+returns-in-Spent-clause-kept g c t is = keeps_none _ c.seat.inside.token.me c.seat.invariant c.seat.view_is c.in_default.is is
 
 pub returns-in-Some-clause-spent : goal.returns-in-Some-clause-spent
 returns-in-Some-clause-spent g c t is fresh = absurd (still_spent g (goal.at.returns-in-Some-clause-spent g c).In-Some fresh)
@@ -153,11 +150,8 @@ note_head-requires-clause-rises g c =
 spends : (g : _) (c : In-Spent g) → HasSpentGet c.args.self.now.setup c.args.ring c.in-Spent.ticket (known_me c.seat.inside.token.me)
     (known_me c.dequeue-found.new.token.me)
 spends g c =
-    let me = known_me c.seat.inside.token.me in
-    let later = known_me c.dequeue-found.new.token.me in
-    let its = c.dequeue-found.ensures.spent c.in-Spent.ticket (c.in-Err.is ∙ ap (λ w. Err w) c.in-Spent.is) in
-    subst (λ (b : Identity g.row.B.Denot). HasSpentGet b.setup c.args.ring c.in-Spent.ticket me later) c.self.view_is
-    (subst (λ n. HasSpentGet c.self.inside.table.shared.key.setup n c.in-Spent.ticket me later) c.ring.ensures.number its)
+    told_of (λ (b : Identity g.row.B.Denot) r. HasSpentGet b.setup r c.in-Spent.ticket (known_me c.seat.inside.token.me) (known_me c.dequeue-found.new.token.me))
+    c.self.view_is c.ring.ensures.number (c.dequeue-found.ensures.spent c.in-Spent.ticket (c.in-Err.is ∙ ap (λ w. Err w) c.in-Spent.is))
 
 pub draws-requires : goal.draws-requires
 draws-requires g c = (spends g (goal.at.draws-requires g c).In-Spent).short
@@ -198,7 +192,7 @@ returns-in-Nothing-clause-empty g c head is =
     let numbers = c.seat.inside.numbers.items in
     let setup = sym (ap (λ (i : Identity g.row.B.Denot). i.setup) c.requires.seat) in
     let standing = c.seat.invariant.numbers ∙ ap (λ (s : Standing g.row.B.Denot). s.numbers) c.seat.view_is in
-    let there : r < length numbers = ring_there c.seat.inside.key.value c.seat.inside.token.me c.seat.inside.numbers.items c.args.ring c.seat.view_is c.requires.seat c.seat.invariant.rings
+    let there : r < length numbers = ring_there c.seat.inside.key.value c.seat.inside.token.me _ c.seat.view_is c.requires.seat c.seat.invariant.rings
     c.requires.ring in
     let answered : c.finds_none-later.result.head ≡ head = same_head is in
     let end : (known_of c.dequeue-found.new.token.me.0.known.numbers r).head ≡ (empties (drew drawn (known_of numbers r))).head =
@@ -219,30 +213,29 @@ returns-in-Nothing-clause-empty g c head is =
     }
 
 -- a call that ended is one of the run
-called : (g : _) (c : After-dequeue-found g) → (my c.dequeue-found.new.token.me.0.known).part.phase ≡ Idle
-    → (my c.dequeue-found.new.token.me.0.known).number ≡ (my c.seat.inside.token.me.0.known).number
+called : (g : _) (c : After-dequeue-found g) → {v : Known} → c.dequeue-found.new.token.me.0.known ≡ v → (my v).part.phase ≡ Idle
+    → (my v).number ≡ (my c.seat.inside.token.me.0.known).number
     → IsCallInRun c.args.self.now.setup (opening_of g.B.Buffer.contents c.args.self.now.given) (caller_of c.args.seat.now)
     (caller_of (standing_of c.dequeue-found.new.token.table_id c.seat.inside.key.value c.dequeue-found.new.token.me))
-called g c rests same =
+called g c view rests same =
     call_seen g.B.Buffer.contents c.seat.inside.token.table_id c.dequeue-found.new.token.table_id c.self.inside.table.shared.table_id c.seat.inside.key.value
     c.self.inside.table.shared.key c.args.self.now c.args.seat.now c.seat.inside.token.me c.dequeue-found.new.token.me c.seat.view_is c.requires.seat
-    c.self.view_is c.dequeue-found.ensures.went c.seat.invariant.idle rests same
+    c.self.view_is c.dequeue-found.ensures.went c.seat.invariant.idle view rests same
 
 pub returns-in-Ok-clause-run : goal.returns-in-Ok-clause-run
 returns-in-Ok-clause-run g c fresh =
-    let view = c.in-Ok.ensures.got.got.view in
-    called g (goal.at.returns-in-Ok-clause-run g c).After-dequeue-found (ap (λ (u : Known). (my u).part.phase) view) (ap (λ (u : Known). (my u).number) view)
+    called g (goal.at.returns-in-Ok-clause-run g c).After-dequeue-found c.in-Ok.ensures.got.got.view refl refl
 
 pub returns-in-Spent-clause-run : goal.returns-in-Spent-clause-run
 returns-in-Spent-clause-run g c fresh =
     let view = (c.dequeue-found.ensures.spent c.in-Spent.ticket (c.in-Err.is ∙ ap (λ w. Err w) c.in-Spent.is)).view in
-    called g (goal.at.returns-in-Spent-clause-run g c).After-dequeue-found (ap (λ (u : Known). (my u).part.phase) view) (ap (λ (u : Known). (my u).number) view)
+    called g (goal.at.returns-in-Spent-clause-run g c).After-dequeue-found view refl refl
 
 pub returns-in-Nothing-clause-run : goal.returns-in-Nothing-clause-run
 returns-in-Nothing-clause-run g c fresh =
     let at = goal.at.returns-in-Nothing-clause-run g c in
     let view = (found g at.In-Nothing).view in
-    called g at.After-dequeue-found (ap (λ (u : Known). (my u).part.phase) view) (ap (λ (u : Known). (my u).number) view)
+    called g at.After-dequeue-found view refl refl
 
 pub returns-in-Nothing-clause-empty_in_run : goal.returns-in-Nothing-clause-empty_in_run
 returns-in-Nothing-clause-empty_in_run g c head is_empty =
@@ -251,7 +244,7 @@ returns-in-Nothing-clause-empty_in_run g c head is_empty =
     let there : c.args.ring < length c.dequeue-found.new.token.me.0.known.numbers =
     let kept = invariant_of-seat-in-Nothing g c in
     subst (λ (ns : List Numbers). c.args.ring < length ns) kept.numbers
-    (ring_there c.seat.inside.key.value c.seat.inside.token.me _ c.args.ring c.seat.view_is c.requires.seat kept.rings c.requires.ring) in
+    (ring_there c.seat.inside.key.value c.seat.inside.token.me _ c.seat.view_is c.requires.seat kept.rings c.requires.ring) in
     empty_seen g.B.Buffer.contents c.seat.inside.token.table_id c.dequeue-found.new.token.table_id c.self.inside.table.shared.table_id
     c.seat.inside.key.value c.self.inside.table.shared.key c.args.self.now c.args.seat.now c.seat.inside.token.me c.dequeue-found.new.token.me c.args.ring head
     c.seat.view_is c.requires.seat c.self.view_is c.dequeue-found.ensures.went c.seat.invariant.idle (ap (λ (u : Known). (my u).part.phase) view)

@@ -1,11 +1,8 @@
-use Rattle.std.proofs.Common.{◌≡◌, ◌<◌, ◌≤◌, true, sym, ◌∙◌, ap, subst, List, Some}
+use Rattle.std.proofs.Common.{◌≡◌, ◌≤◌, true, sym, ◌∙◌, ap, subst, refl, Some}
 use Rattle.std.specs.Prelude.{vec_capacity}
 use Rattle.scq_word.specs.declared.setup.Setup.{Setup}
-use Rattle.scq_band.specs.declared.numbers.Numbers.{Numbers}
-use Rattle.scq_band.specs.Exports.{known_of, known_me, my, spent_at, Identity, having_seen, seat_after_spent_put, IsRing, standing_of, IsKept}
-use Rattle.scq_band.specs.Known.{Known}
-use Rattle.scq_band.specs.Standing.{Standing}
-use Rattle.scq_band.proofs.LaidFirst.{LaidFirst, keeps_none, ring_there, held_there, turned_first, refused_first, laid_held, laid_fronts, laid_some, laid_above, laid_kept, laid_put, laid_call}
+use Rattle.scq_band.specs.Exports.{known_me, spent_at, Identity, having_seen, seat_after_spent_put, IsRing, standing_of, IsKept}
+use Rattle.scq_band.proofs.LaidFirst.{LaidFirst, keeps_none, laid_idle, laid_place, ring_there, held_there, turned_first, refused_first, laid_held, laid_fronts, laid_some, laid_above, laid_kept, laid_put, laid_call}
 use Rattle.scq_band.proofs.band.Band.enq.Goals as goal
 use Rattle.scq_band.proofs.band.Band.enq.Goals.{After-bring_to_front, In-Err}
 
@@ -41,70 +38,53 @@ pub enqueue-requires-clause-alone : goal.enqueue-requires-clause-alone
 enqueue-requires-clause-alone g c κs within = (laid g (goal.at.enqueue-requires-clause-alone g c).After-bring_to_front).kept.alone
 
 pub enqueue-requires-clause-idle : goal.enqueue-requires-clause-idle
-enqueue-requires-clause-idle g c κs within =
-    let kept = (laid g (goal.at.enqueue-requires-clause-idle g c).After-bring_to_front).kept in
-    (kept.idle, sym kept.spent ∙ c.in_default.is)
+enqueue-requires-clause-idle g c κs within = laid_idle (laid g (goal.at.enqueue-requires-clause-idle g c).After-bring_to_front) c.in_default.is
 
 pub returns-in-Ok-clause-kept : goal.returns-in-Ok-clause-kept
-returns-in-Ok-clause-kept g c t is =
-    absurd (keeps_none g.B.Buffer.IsSameBuffer c.seat.inside.token.me c.seat.invariant c.seat.view_is c.in_default.is is)
+returns-in-Ok-clause-kept g c t is = keeps_none _ c.seat.inside.token.me c.seat.invariant c.seat.view_is c.in_default.is is
 
 pub returns-in-Err-clause-kept : goal.returns-in-Err-clause-kept
-returns-in-Err-clause-kept g c t is =
-    absurd (keeps_none g.B.Buffer.IsSameBuffer c.seat.inside.token.me c.seat.invariant c.seat.view_is c.in_default.is is)
+returns-in-Err-clause-kept g c t is = keeps_none _ c.seat.inside.token.me c.seat.invariant c.seat.view_is c.in_default.is is
 
 pub enqueue-requires-clause-held : goal.enqueue-requires-clause-held
-enqueue-requires-clause-held g c κs within =
-    let ident = ap (λ (s : Standing g.row.B.Denot). s.band) c.seat.view_is ∙ c.requires.seat ∙ sym c.self.view_is in
-    laid_held g.B.Buffer.contents g.B.Buffer.IsSameBuffer (laid g (goal.at.enqueue-requires-clause-held g c).After-bring_to_front) _
-    (ap (λ (i : Identity g.row.B.Denot). i.setup) ident)
+enqueue-requires-clause-held g c κs within = laid_held (laid g (goal.at.enqueue-requires-clause-held g c).After-bring_to_front) c.self.inside.table.shared.key c.requires.seat c.self.view_is
 
 pub enqueue-requires-clause-front : goal.enqueue-requires-clause-front
 enqueue-requires-clause-front g c κs within =
-    let ident = ap (λ (s : Standing g.row.B.Denot). s.band) c.seat.view_is ∙ c.requires.seat ∙ sym c.self.view_is in
-    laid_fronts g.B.Buffer.contents g.B.Buffer.IsSameBuffer (laid g (goal.at.enqueue-requires-clause-front g c).After-bring_to_front) _
-    (ap (λ (i : Identity g.row.B.Denot). i.given) ident)
+    laid_fronts g.B.Buffer.contents (laid g (goal.at.enqueue-requires-clause-front g c).After-bring_to_front) c.self.inside.table.shared.key c.requires.seat c.self.view_is
 
 pub let_go-requires-clause-low : goal.let_go-requires-clause-low
 let_go-requires-clause-low g c =
-    ring_there c.seat.inside.key.value c.seat.inside.token.me c.seat.inside.numbers.items c.args.ring c.seat.view_is c.requires.seat c.seat.invariant.rings
-    c.requires.ring
+    ring_there c.seat.inside.key.value c.seat.inside.token.me _ c.seat.view_is c.requires.seat c.seat.invariant.rings c.requires.ring
 
 pub let_go-requires-clause-some : goal.let_go-requires-clause-some
-let_go-requires-clause-some g c =
-    laid_some g.B.Buffer.contents g.B.Buffer.IsSameBuffer (laid g (goal.at.let_go-requires-clause-some g c).After-bring_to_front)
+let_go-requires-clause-some g c = laid_some (laid g (goal.at.let_go-requires-clause-some g c).After-bring_to_front)
 
 pub let_go-requires-clause-order : goal.let_go-requires-clause-order
 let_go-requires-clause-order g c = (c.seat.invariant.small c.args.ring).1
 
 pub let_go-requires-clause-above : goal.let_go-requires-clause-above
 let_go-requires-clause-above g c =
-    laid_above g.B.Buffer.contents g.B.Buffer.IsSameBuffer (laid g (goal.at.let_go-requires-clause-above g c).After-bring_to_front) c.enqueue.new.token.me
-    c.in-Ok.ensures.put c.ring.ensures.number (ring_there c.seat.inside.key.value c.seat.inside.token.me c.seat.inside.numbers.items c.args.ring c.seat.view_is c.requires.seat c.seat.invariant.rings
-    c.requires.ring)
+    laid_above g.B.Buffer.contents (laid g (goal.at.let_go-requires-clause-above g c).After-bring_to_front) c.enqueue.new.token.me c.in-Ok.ensures.put c.ring.ensures.number
+    (ring_there c.seat.inside.key.value c.seat.inside.token.me _ c.seat.view_is c.requires.seat c.seat.invariant.rings c.requires.ring)
 
 pub invariant_of-seat : goal.invariant_of-seat
 invariant_of-seat g c =
-    laid_kept g.B.Buffer.contents g.B.Buffer.IsSameBuffer (laid g (goal.at.invariant_of-seat g c).After-bring_to_front) c.enqueue.new.token.me
-    c.in-Ok.ensures.put c.ring.ensures.number c.let_go.ensures.hand c.let_go.ensures.room c.let_go.ensures.numbers
+    laid_kept g.B.Buffer.contents (laid g (goal.at.invariant_of-seat g c).After-bring_to_front) c.enqueue.new.token.me c.in-Ok.ensures.put c.ring.ensures.number
+    c.let_go.ensures.hand c.let_go.ensures.room c.let_go.ensures.numbers
 
 pub invariant_of-seat-in-Err : goal.invariant_of-seat-in-Err
 invariant_of-seat-in-Err g c = (refused g (goal.at.invariant_of-seat-in-Err g c).In-Err).0
 
 pub returns-in-Ok-clause-put : goal.returns-in-Ok-clause-put
 returns-in-Ok-clause-put g c =
-    laid_put g.B.Buffer.contents g.B.Buffer.IsSameBuffer (laid g (goal.at.returns-in-Ok-clause-put g c).After-bring_to_front) c.enqueue.new.token.me
+    laid_put g.B.Buffer.contents (laid g (goal.at.returns-in-Ok-clause-put g c).After-bring_to_front) c.enqueue.new.token.me
     c.in-Ok.ensures.put c.ring.ensures.number c.in-Ok.ensures.own.0
 
 pub returns-in-Ok-clause-place : goal.returns-in-Ok-clause-place
 returns-in-Ok-clause-place g c =
-    let numbers = c.seat.invariant.numbers ∙ ap (λ (s : Standing g.row.B.Denot). s.numbers) c.seat.view_is in (
-      subst (λ (s : Setup). c.in-Ok.place < s.limit) (ap (λ (i : Identity g.row.B.Denot). i.setup) c.self.view_is) c.in-Ok.ensures.put.low,
-      subst (λ (ns : List Numbers). (known_of ns c.args.ring).seen < c.in-Ok.place) numbers
-          (laid_above g.B.Buffer.contents g.B.Buffer.IsSameBuffer (laid g (goal.at.returns-in-Ok-clause-place g c).After-bring_to_front) c.enqueue.new.token.me
-          c.in-Ok.ensures.put c.ring.ensures.number (ring_there c.seat.inside.key.value c.seat.inside.token.me c.seat.inside.numbers.items c.args.ring c.seat.view_is c.requires.seat c.seat.invariant.rings
-          c.requires.ring)),
-    )
+    laid_place g.B.Buffer.contents (laid g (goal.at.returns-in-Ok-clause-place g c).After-bring_to_front) c.self.inside.table.shared.key c.enqueue.new.token.me c.in-Ok.ensures.put c.ring.ensures.number
+    (ring_there c.seat.inside.key.value c.seat.inside.token.me _ c.seat.view_is c.requires.seat c.seat.invariant.rings c.requires.ring) c.self.view_is
 
 pub returns-in-Err-clause-spent : goal.returns-in-Err-clause-spent
 returns-in-Err-clause-spent g c fresh =
@@ -113,14 +93,10 @@ returns-in-Err-clause-spent g c fresh =
 
 pub returns-in-Ok-clause-run : goal.returns-in-Ok-clause-run
 returns-in-Ok-clause-run g c fresh =
-    let view = c.in-Ok.ensures.put.view in
-    laid_call g.B.Buffer.contents g.B.Buffer.IsSameBuffer (laid g (goal.at.returns-in-Ok-clause-run g c).After-bring_to_front)
-    c.enqueue.new.token.table_id c.self.inside.table.shared.key c.enqueue.new.token.me c.requires.seat c.self.view_is c.in-Ok.ensures.went (ap (λ (u : Known). (my u).part.phase) view)
-    (ap (λ (u : Known). (my u).number) view)
+    laid_call g.B.Buffer.contents (laid g (goal.at.returns-in-Ok-clause-run g c).After-bring_to_front) c.enqueue.new.token.table_id c.self.inside.table.shared.key
+    c.enqueue.new.token.me c.requires.seat c.self.view_is c.in-Ok.ensures.went c.in-Ok.ensures.put.view refl refl
 
 pub returns-in-Err-clause-run : goal.returns-in-Err-clause-run
 returns-in-Err-clause-run g c fresh =
-    let view = c.in-Err.ensures.spent.view in
-    laid_call g.B.Buffer.contents g.B.Buffer.IsSameBuffer (laid g (goal.at.returns-in-Err-clause-run g c).After-bring_to_front)
-    c.enqueue.new.token.table_id c.self.inside.table.shared.key c.enqueue.new.token.me c.requires.seat c.self.view_is c.in-Err.ensures.went (ap (λ (u : Known). (my u).part.phase) view)
-    (ap (λ (u : Known). (my u).number) view)
+    laid_call g.B.Buffer.contents (laid g (goal.at.returns-in-Err-clause-run g c).After-bring_to_front) c.enqueue.new.token.table_id c.self.inside.table.shared.key
+    c.enqueue.new.token.me c.requires.seat c.self.view_is c.in-Err.ensures.went c.in-Err.ensures.spent.view refl refl

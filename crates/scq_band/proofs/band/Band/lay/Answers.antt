@@ -1,8 +1,7 @@
 use Rattle.std.proofs.Common.{sym, ◌∙◌, ap, subst}
 use Rattle.std.specs.Prelude.{Some, vec_capacity}
 use Rattle.scq_band.specs.Exports.{Identity, with_buffer, IsAsGiven}
-use Rattle.scq_band.specs.Standing.{Standing}
-use Rattle.scq_band.proofs.LaidFirst.{LaidFirst, held_there, came_first, front_slot, laid_first}
+use Rattle.scq_band.proofs.LaidFirst.{LaidFirst, held_there, one_band, came_first, front_slot, laid_first}
 use Rattle.scq_band.proofs.band.Band.lay.Goals as goal
 use Rattle.scq_band.proofs.band.Band.lay.Goals.{After-lay_first}
 
@@ -34,5 +33,5 @@ bring_to_front-requires-clause-held g c κs within = held_there g.B.Buffer.IsSam
 
 pub lay_first-requires-clause-own : goal.lay_first-requires-clause-own
 lay_first-requires-clause-own g c κs within =
-    let ident = ap (λ (s : Standing g.row.B.Denot). s.band) c.seat.view_is ∙ c.requires.seat ∙ sym c.self.view_is in
-    c.bring_to_front.ensures.own.0 ∙ ap (λ (i : Identity g.row.B.Denot). i.table) ident
+    c.bring_to_front.ensures.own.0 ∙ ap (λ (i : Identity g.row.B.Denot). i.table)
+    (one_band c.seat.inside.key.value c.self.inside.table.shared.key c.seat.inside.token.me c.seat.view_is c.requires.seat c.self.view_is)

@@ -5,7 +5,7 @@ use Rattle.scq_band.specs.declared.slot.Slot.{Slot}
 use Rattle.scq_band.specs.Exports.{known_me, Identity, with_buffer, IsAsGiven, standing_of, IsKept}
 use Rattle.scq_band.specs.Standing.{Standing}
 use Rattle.scq_band.proofs.Exchanging.{Brought, same_slot}
-use Rattle.scq_band.proofs.LaidFirst.{held_there, came_first, front_slot, lent_first}
+use Rattle.scq_band.proofs.LaidFirst.{held_there, one_band, came_first, front_slot, lent_first}
 use Rattle.scq_band.proofs.band.Band.lift.Goals as goal
 use Rattle.scq_band.proofs.band.Band.lift.Goals.{After-bring_to_front, After-lift_first}
 
@@ -66,5 +66,5 @@ returns-clause-lifted g c = (without g (goal.at.returns-clause-lifted g c).After
 
 pub lift_first-requires-clause-own : goal.lift_first-requires-clause-own
 lift_first-requires-clause-own g c κs within =
-    let ident = ap (λ (s : Standing g.row.B.Denot). s.band) c.seat.view_is ∙ c.requires.seat ∙ sym c.self.view_is in
-    c.bring_to_front.ensures.own.0 ∙ ap (λ (i : Identity g.row.B.Denot). i.table) ident
+    c.bring_to_front.ensures.own.0 ∙ ap (λ (i : Identity g.row.B.Denot). i.table)
+    (one_band c.seat.inside.key.value c.self.inside.table.shared.key c.seat.inside.token.me c.seat.view_is c.requires.seat c.self.view_is)

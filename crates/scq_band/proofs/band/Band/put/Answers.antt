@@ -1,16 +1,13 @@
-use Rattle.std.proofs.Common.{◌≡◌, ◌<◌, ◌≤◌, ℕ, List, ◌∷◌, sym, ◌∙◌, ap, subst}
+use Rattle.std.proofs.Common.{◌≡◌, ◌≤◌, ℕ, List, refl, ◌∷◌, sym, ◌∙◌, ap, subst}
 use Rattle.std.specs.Prelude.{Some, vec_capacity}
 use Rattle.atomic_table.specs.Table.{Me, rest}
 use Rattle.scq_word.specs.declared.setup.Setup.{Setup}
-use Rattle.scq_band.specs.declared.numbers.Numbers.{Numbers}
 use Rattle.scq_band.specs.declared.slot.Slot.{Slot}
-use Rattle.scq_band.specs.Exports.{opening_of, known_of, Sight, Went, known_me, my, front_index, HasSpentPut, Identity, with_buffer, IsAsGiven}
+use Rattle.scq_band.specs.Exports.{opening_of, Sight, Went, known_me, front_index, HasSpentPut, Identity, with_buffer, IsAsGiven}
 use Rattle.scq_band.specs.Exports.{having_seen, seat_after_spent_put, IsRing, standing_of, IsKept}
-use Rattle.scq_band.specs.Known.{Known}
-use Rattle.scq_band.specs.Standing.{Standing}
 use Rattle.scq_band.proofs.Exchanging.{same_slot}
 use Rattle.scq_band.proofs.Putting.{put_laid}
-use Rattle.scq_band.proofs.LaidFirst.{LaidFirst, keeps_none, ring_there, held_there, came_first, front_slot, laid_first, refused_laid, laid_held, laid_fronts, laid_some, laid_above, laid_kept, laid_put, laid_call}
+use Rattle.scq_band.proofs.LaidFirst.{LaidFirst, keeps_none, laid_idle, laid_place, ring_there, held_there, one_band, came_first, front_slot, laid_first, refused_laid, laid_held, laid_fronts, laid_some, laid_above, laid_kept, laid_put, laid_call}
 use Rattle.scq_band.proofs.band.Band.put.Goals as goal
 use Rattle.scq_band.proofs.band.Band.put.Goals.{After-lay_first, In-Err, After-lift_first-buffer}
 
@@ -50,8 +47,8 @@ bring_to_front-requires-clause-held g c κs within = held_there g.B.Buffer.IsSam
 
 pub lay_first-requires-clause-own : goal.lay_first-requires-clause-own
 lay_first-requires-clause-own g c κs within =
-    let ident = ap (λ (s : Standing g.row.B.Denot). s.band) c.seat.view_is ∙ c.requires.seat ∙ sym c.self.view_is in
-    c.bring_to_front.ensures.own.0 ∙ ap (λ (i : Identity g.row.B.Denot). i.table) ident
+    c.bring_to_front.ensures.own.0 ∙ ap (λ (i : Identity g.row.B.Denot). i.table)
+    (one_band c.seat.inside.key.value c.self.inside.table.shared.key c.seat.inside.token.me c.seat.view_is c.requires.seat c.self.view_is)
 
 pub lay_first-requires-clause-first : goal.lay_first-requires-clause-first
 lay_first-requires-clause-first g c κs within =
@@ -67,32 +64,23 @@ pub enqueue-requires-clause-alone : goal.enqueue-requires-clause-alone
 enqueue-requires-clause-alone g c κs within = (laid g (goal.at.enqueue-requires-clause-alone g c).After-lay_first).kept.alone
 
 pub enqueue-requires-clause-idle : goal.enqueue-requires-clause-idle
-enqueue-requires-clause-idle g c κs within =
-    let kept = (laid g (goal.at.enqueue-requires-clause-idle g c).After-lay_first).kept in
-    (kept.idle, sym kept.spent ∙ c.in_default.is)
+enqueue-requires-clause-idle g c κs within = laid_idle (laid g (goal.at.enqueue-requires-clause-idle g c).After-lay_first) c.in_default.is
 
 pub returns-in-Ok-clause-kept : goal.returns-in-Ok-clause-kept
-returns-in-Ok-clause-kept g c t is =
-    absurd (keeps_none g.B.Buffer.IsSameBuffer c.seat.inside.token.me c.seat.invariant c.seat.view_is c.in_default.is is)
+returns-in-Ok-clause-kept g c t is = keeps_none _ c.seat.inside.token.me c.seat.invariant c.seat.view_is c.in_default.is is
 
 pub returns-in-Err-clause-kept : goal.returns-in-Err-clause-kept
-returns-in-Err-clause-kept g c t is =
-    absurd (keeps_none g.B.Buffer.IsSameBuffer c.seat.inside.token.me c.seat.invariant c.seat.view_is c.in_default.is is)
+returns-in-Err-clause-kept g c t is = keeps_none _ c.seat.inside.token.me c.seat.invariant c.seat.view_is c.in_default.is is
 
 pub enqueue-requires-clause-held : goal.enqueue-requires-clause-held
-enqueue-requires-clause-held g c κs within =
-    let ident = ap (λ (s : Standing g.row.B.Denot). s.band) c.seat.view_is ∙ c.requires.seat ∙ sym c.self.view_is in
-    laid_held g.B.Buffer.contents g.B.Buffer.IsSameBuffer (laid g (goal.at.enqueue-requires-clause-held g c).After-lay_first) _
-    (ap (λ (i : Identity g.row.B.Denot). i.setup) ident)
+enqueue-requires-clause-held g c κs within = laid_held (laid g (goal.at.enqueue-requires-clause-held g c).After-lay_first) c.self.inside.table.shared.key c.requires.seat c.self.view_is
 
 pub enqueue-requires-clause-first : goal.enqueue-requires-clause-first
 enqueue-requires-clause-first g c κs within = ap (λ (m : Me (Slot g.row.B.Denot) Sight). front_index m.1) c.lay_first.ensures.laid
 
 pub enqueue-requires-clause-front : goal.enqueue-requires-clause-front
 enqueue-requires-clause-front g c κs within =
-    let ident = ap (λ (s : Standing g.row.B.Denot). s.band) c.seat.view_is ∙ c.requires.seat ∙ sym c.self.view_is in
-    laid_fronts g.B.Buffer.contents g.B.Buffer.IsSameBuffer (laid g (goal.at.enqueue-requires-clause-front g c).After-lay_first) _
-    (ap (λ (i : Identity g.row.B.Denot). i.given) ident)
+    laid_fronts g.B.Buffer.contents (laid g (goal.at.enqueue-requires-clause-front g c).After-lay_first) c.self.inside.table.shared.key c.requires.seat c.self.view_is
 
 pub lift_first-buffer-requires-clause-first : goal.lift_first-buffer-requires-clause-first
 lift_first-buffer-requires-clause-first g c κs within =
@@ -101,45 +89,37 @@ lift_first-buffer-requires-clause-first g c κs within =
 
 pub let_go-requires-clause-low : goal.let_go-requires-clause-low
 let_go-requires-clause-low g c =
-    ring_there c.seat.inside.key.value c.seat.inside.token.me c.seat.inside.numbers.items c.args.ring c.seat.view_is c.requires.seat c.seat.invariant.rings
-    c.requires.ring
+    ring_there c.seat.inside.key.value c.seat.inside.token.me _ c.seat.view_is c.requires.seat c.seat.invariant.rings c.requires.ring
 
 pub let_go-requires-clause-some : goal.let_go-requires-clause-some
-let_go-requires-clause-some g c =
-    laid_some g.B.Buffer.contents g.B.Buffer.IsSameBuffer (laid g (goal.at.let_go-requires-clause-some g c).After-lay_first)
+let_go-requires-clause-some g c = laid_some (laid g (goal.at.let_go-requires-clause-some g c).After-lay_first)
 
 pub let_go-requires-clause-order : goal.let_go-requires-clause-order
 let_go-requires-clause-order g c = (c.seat.invariant.small c.args.ring).1
 
 pub let_go-requires-clause-above : goal.let_go-requires-clause-above
 let_go-requires-clause-above g c =
-    laid_above g.B.Buffer.contents g.B.Buffer.IsSameBuffer (laid g (goal.at.let_go-requires-clause-above g c).After-lay_first) c.enqueue.new.token.me
-    c.in-Ok.ensures.put c.ring.ensures.number (ring_there c.seat.inside.key.value c.seat.inside.token.me c.seat.inside.numbers.items c.args.ring c.seat.view_is c.requires.seat c.seat.invariant.rings
-    c.requires.ring)
+    laid_above g.B.Buffer.contents (laid g (goal.at.let_go-requires-clause-above g c).After-lay_first) c.enqueue.new.token.me c.in-Ok.ensures.put c.ring.ensures.number
+    (ring_there c.seat.inside.key.value c.seat.inside.token.me _ c.seat.view_is c.requires.seat c.seat.invariant.rings c.requires.ring)
 
 pub invariant_of-seat : goal.invariant_of-seat
 invariant_of-seat g c =
-    laid_kept g.B.Buffer.contents g.B.Buffer.IsSameBuffer (laid g (goal.at.invariant_of-seat g c).After-lay_first) c.enqueue.new.token.me
-    c.in-Ok.ensures.put c.ring.ensures.number c.let_go.ensures.hand c.let_go.ensures.room c.let_go.ensures.numbers
+    laid_kept g.B.Buffer.contents (laid g (goal.at.invariant_of-seat g c).After-lay_first) c.enqueue.new.token.me c.in-Ok.ensures.put c.ring.ensures.number
+    c.let_go.ensures.hand c.let_go.ensures.room c.let_go.ensures.numbers
 
 pub invariant_of-seat-in-Err : goal.invariant_of-seat-in-Err
 invariant_of-seat-in-Err g c = (refused g (goal.at.invariant_of-seat-in-Err g c).After-lift_first-buffer).0
 
 pub returns-in-Ok-clause-put : goal.returns-in-Ok-clause-put
 returns-in-Ok-clause-put g c =
-    laid_put g.B.Buffer.contents g.B.Buffer.IsSameBuffer (laid g (goal.at.returns-in-Ok-clause-put g c).After-lay_first) c.enqueue.new.token.me
+    laid_put g.B.Buffer.contents (laid g (goal.at.returns-in-Ok-clause-put g c).After-lay_first) c.enqueue.new.token.me
     c.in-Ok.ensures.put c.ring.ensures.number c.in-Ok.ensures.own.0
     ∙ put_laid g.B.Buffer.contents c.enqueue.new.token.me.0.seen c.args.seat.now c.args.ring c.args.index c.in-Ok.place c.args.buffer c.requires.lifted
 
 pub returns-in-Ok-clause-place : goal.returns-in-Ok-clause-place
 returns-in-Ok-clause-place g c =
-    let numbers = c.seat.invariant.numbers ∙ ap (λ (s : Standing g.row.B.Denot). s.numbers) c.seat.view_is in (
-      subst (λ (s : Setup). c.in-Ok.place < s.limit) (ap (λ (i : Identity g.row.B.Denot). i.setup) c.self.view_is) c.in-Ok.ensures.put.low,
-      subst (λ (ns : List Numbers). (known_of ns c.args.ring).seen < c.in-Ok.place) numbers
-          (laid_above g.B.Buffer.contents g.B.Buffer.IsSameBuffer (laid g (goal.at.returns-in-Ok-clause-place g c).After-lay_first) c.enqueue.new.token.me
-          c.in-Ok.ensures.put c.ring.ensures.number (ring_there c.seat.inside.key.value c.seat.inside.token.me c.seat.inside.numbers.items c.args.ring c.seat.view_is c.requires.seat c.seat.invariant.rings
-          c.requires.ring)),
-    )
+    laid_place g.B.Buffer.contents (laid g (goal.at.returns-in-Ok-clause-place g c).After-lay_first) c.self.inside.table.shared.key c.enqueue.new.token.me c.in-Ok.ensures.put c.ring.ensures.number
+    (ring_there c.seat.inside.key.value c.seat.inside.token.me _ c.seat.view_is c.requires.seat c.seat.invariant.rings c.requires.ring) c.self.view_is
 
 pub returns-in-Err-clause-back : goal.returns-in-Err-clause-back
 returns-in-Err-clause-back g c =
@@ -156,18 +136,16 @@ returns-in-Err-clause-spent g c fresh = (
 
 pub returns-in-Ok-clause-run : goal.returns-in-Ok-clause-run
 returns-in-Ok-clause-run g c fresh =
-    let view = c.in-Ok.ensures.put.view in
-    laid_call g.B.Buffer.contents g.B.Buffer.IsSameBuffer (laid g (goal.at.returns-in-Ok-clause-run g c).After-lay_first)
-    c.enqueue.new.token.table_id c.self.inside.table.shared.key c.enqueue.new.token.me c.requires.seat c.self.view_is c.in-Ok.ensures.went (ap (λ (u : Known). (my u).part.phase) view)
-    (ap (λ (u : Known). (my u).number) view)
+    laid_call g.B.Buffer.contents (laid g (goal.at.returns-in-Ok-clause-run g c).After-lay_first) c.enqueue.new.token.table_id c.self.inside.table.shared.key
+    c.enqueue.new.token.me c.requires.seat c.self.view_is c.in-Ok.ensures.went c.in-Ok.ensures.put.view refl refl
 
 pub returns-in-Err-clause-run : goal.returns-in-Err-clause-run
 returns-in-Err-clause-run g c fresh =
     let k = c.self.inside.table.shared.key in
     let same = ap (λ (m : Me (Slot g.row.B.Denot) Sight). m.0) c.lift_first-buffer.ensures.lifted in
     let view = ap (λ (v : Sight). v.known) same ∙ c.in-Err.ensures.spent.view in
-    laid_call g.B.Buffer.contents g.B.Buffer.IsSameBuffer (laid g (goal.at.returns-in-Err-clause-run g c).After-lay_first)
+    laid_call g.B.Buffer.contents (laid g (goal.at.returns-in-Err-clause-run g c).After-lay_first)
     c.lift_first-buffer.new.token.table_id k c.lift_first-buffer.new.token.me
     c.requires.seat c.self.view_is
     (subst (λ (v : Sight). Went k.setup (opening_of g.B.Buffer.contents k.given.value.items) c.lay_first.new.token.me.0 v) (sym same)
-    c.in-Err.ensures.went) (ap (λ (u : Known). (my u).part.phase) view) (ap (λ (u : Known). (my u).number) view)
+    c.in-Err.ensures.went) view refl refl
