@@ -8,7 +8,7 @@ ghost use Rattle.scq_words.specs.Exports.{text_in, IsJudgeInRange};
 
 use crate::files::{MOST_RECORDINGS, files_of};
 use crate::number::optional_number;
-use crate::parsing::judge_matches;
+use crate::parsing::{judge_command, parse};
 use crate::request::JudgeRequest;
 use crate::{WordsError, WordsFault};
 use std::alloc::Global;
@@ -23,7 +23,7 @@ pub(crate) fn read_judge(alloc: Global, words: &[String]) -> Result<JudgeRequest
         → takes judge_app (map string_bytes words.now) ≡ false }
     ensures ranges { IfOk result (λ request. IsJudgeInRange (judge_of request)) }
 {
-    let matches = judge_matches(alloc, words)?;
+    let matches = parse(judge_command(alloc), words)?;
     let room = matches.get_str("room");
     let files = matches.get_strs("files").unwrap_or(&[]);
     check_judge(alloc, room, files)

@@ -8,7 +8,7 @@ ghost use Rattle.scq_words.specs.Exports.{topics_or_none, run_app, text_in, IsRu
 ghost use Rattle.clap.specs.Words.{takes};
 
 use crate::files::{MOST_FILES, files_of};
-use crate::parsing::run_matches;
+use crate::parsing::{parse, run_command};
 use crate::run_numbers::{RunNumbers, numbers_of};
 use crate::{RunRequest, WordsError, WordsFault};
 use scq_topics::Topics;
@@ -24,7 +24,7 @@ pub fn read_run(alloc: Global, words: &[String]) -> Result<RunRequest, WordsErro
         → takes run_app (map string_bytes words.now) ≡ false }
     ensures ranges { IfOk result (λ request. IsRunInRange (asked_run request)) }
 {
-    let matches = run_matches(alloc, words)?;
+    let matches = parse(run_command(alloc), words)?;
     let workers = matches.get_str("workers");
     let order = matches.get_str("order");
     let size = matches.get_str("size");

@@ -10,7 +10,7 @@ ghost use Rattle.scq_words.specs.Numbers.{text_in};
 ghost use Rattle.scq_words.specs.Ranges.{IsSelfInRange};
 
 use crate::number::optional_number;
-use crate::parsing::self_matches;
+use crate::parsing::{parse, self_command};
 use crate::workers::workers_of;
 use crate::{SelfRequest, WordsError, WordsFault};
 use std::alloc::Global;
@@ -28,7 +28,7 @@ pub fn read_self(alloc: Global, words: &[String]) -> Result<SelfRequest, WordsEr
         → takes self_app (map string_bytes words.now) ≡ false }
     ensures ranges { IfOk result (λ request. IsSelfInRange (self_of request)) }
 {
-    let matches = self_matches(alloc, words)?;
+    let matches = parse(self_command(alloc), words)?;
     let seed = matches.get_str("seed");
     let lines = matches.get_str("lines");
     let workers = matches.get_str("workers");

@@ -7,7 +7,7 @@ ghost use Rattle.scq_words.specs.Exports.{stages_of, stages_tests, texts_of_stag
 ghost use Rattle.scq_words.specs.Exports.{text_in, IsStagesInRange};
 
 use crate::files::{MOST_FILES, files_of};
-use crate::parsing::stages_matches;
+use crate::parsing::{parse, stages_command};
 use crate::run_numbers::{RunNumbers, numbers_of};
 use crate::{StagesRequest, WordsError, WordsFault};
 use std::alloc::Global;
@@ -22,7 +22,7 @@ pub fn read_stages(alloc: Global, words: &[String]) -> Result<StagesRequest, Wor
         → takes stages_app (map string_bytes words.now) ≡ false }
     ensures ranges { IfOk result (λ request. IsStagesInRange (stages_of request)) }
 {
-    let matches = stages_matches(alloc, words)?;
+    let matches = parse(stages_command(alloc), words)?;
     let workers = matches.get_str("workers");
     let order = matches.get_str("order");
     let size = matches.get_str("size");

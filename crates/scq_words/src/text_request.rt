@@ -5,7 +5,7 @@ ghost use Rattle.scq_words.specs.Commands.{text_app};
 ghost use Rattle.scq_words.specs.declared.fault.WordsFault.{WordsFault as TheFault};
 ghost use Rattle.scq_words.specs.Asked.{asked_of_text, text_of, whole, with_flag};
 
-use crate::parsing::text_matches;
+use crate::parsing::{parse, text_command};
 use crate::run::is_given;
 use crate::{WordsError, WordsFault};
 use std::alloc::Global;
@@ -42,7 +42,7 @@ pub(crate) fn read_text(
         → takes (text_app command) (map string_bytes words.now) ≡ false }
     ensures named { IfOk result (λ request. 0 < length (string_bytes request.file)) }
 {
-    let matches = text_matches(alloc, command, words)?;
+    let matches = parse(text_command(alloc, command), words)?;
     let name = matches.get_str("file").unwrap_or("");
     if name.is_empty() {
         return Err(WordsError::Refused(WordsFault::NoName { file: 1 }));
