@@ -1,12 +1,12 @@
 -- What a command answers, as the answer of the program that knows it.
-use Rattle.std.proofs.Common.{◌≡◌, ℕ, ◌-◌, ◌≤◌, Bool, false, List, [], ◌∷◌, length, map, take, drop, get_or, Option, Some, None, Result, Ok, Err, ◌∙◌, sym, ap, subst, arith}
+use Rattle.std.proofs.Common.{◌≡◌, ℕ, ◌-◌, ◌≤◌, Bool, List, [], ◌∷◌, length, map, take, drop, get_or, Option, Some, None, Result, Ok, Err, ◌∙◌, sym, ap, subst, arith}
 use Rattle.std.proofs.lemmas.List.{take_all}
 use Rattle.std.proofs.lemmas.Result.{IfOk-weaker}
 use Rattle.std.specs.Prelude.{◌≢◌, IfOk, IsErrOf, MatchResult}
 use Rattle.std.specs.Option.{option_or}
 use Rattle.std.specs.Result.{IsErrAnd, IsOkAnd}
 use Rattle.clap.specs.Words.{App, takes}
-use Rattle.scq_words.specs.Exports.{answered_by, asked_by, first_of_tests, refused_by_clap, IsInRange, Parses}
+use Rattle.scq_words.specs.Exports.{answered_by, asked_by, first_of_tests, refused_by_clap, Answered, IsInRange, Parses}
 use Rattle.scq_words.proofs.Answering.{answer-err, answer-ok, clap-refused, handed-on, refused-some, tests-answer}
 use Rattle.scq_words.specs.Asked.{Asked}
 use Rattle.scq_words.specs.declared.fault.WordsFault.{WordsFault}
@@ -14,13 +14,6 @@ use Rattle.scq_words.specs.declared.fault.WordsFault.TheVariants.{NotUnderstood}
 use Rattle.scq_words.specs.declared.fault.WordsError.{WordsError}
 use Rattle.scq_words.specs.declared.fault.WordsError.TheVariants.{Refused}
 use Rattle.scq_words.specs.declared.request.Request.{Request}
-
--- the clauses of a reader of words that ask for this, of which `clap` takes these
-pub record Answered {T : Type 0} (asks : T → Asked) (said : Result Asked WordsFault) (takes : Bool) (result : Result T WordsError) : Type 0 where
-  pub request : IfOk result (λ request. said ≡ Ok (asks request))
-  pub refused : (fault : WordsFault) → IsErrOf result (Refused fault) → said ≡ Err fault
-  pub taken : IsErrOf result (Refused NotUnderstood) → takes ≡ false
-  pub ranges : IfOk result (λ request. IsInRange (asks request))
 
 -- where `clap` refuses the words
 pub unparsed : {T : Type 0} (app : App) (words : List (List ℕ)) (rest : Option WordsFault) (what : Asked) (asks : T → Asked) (error : WordsError)

@@ -18,7 +18,7 @@ pub use Rattle.scq_words.specs.Asked.{judge_tests, room_of, judge_asked, asked_f
 pub use Rattle.scq_words.specs.Asked.{stages_of, self_of, judge_of, text_of, asked_by}
 unfoldable pub use Rattle.scq_words.specs.Asked.{asked_of_run, asked_of_stages, asked_of_self}
 unfoldable pub use Rattle.scq_words.specs.Asked.{asked_of_text, asked_of_judge}
-pub use Rattle.scq_words.specs.Parsing.{Parses}
+pub use Rattle.scq_words.specs.Parsing.{Answered, Parses}
 pub use Rattle.scq_words.specs.Ranges.{is_accepted, is_taken_for_run, IsRunInRange, IsStagesInRange}
 pub use Rattle.scq_words.specs.Ranges.{IsJudgeInRange, IsInRange}
 pub use Rattle.scq_words.specs.Tested.{numbers_tests, files_tests}

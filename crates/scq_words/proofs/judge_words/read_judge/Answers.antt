@@ -12,15 +12,14 @@ unfolding asked_of_judge
 returns c =
     let parsed = c.in_ok-matches.ensures judge_app refl c.judge_command.ensures in
     let its = c.check_judge.ensures in
-    let all = tested judge_app _ judge_tests judged judge_asked judge_of _ _ c.check_judge.result parsed.passes
+    tested judge_app _ judge_tests judged judge_asked judge_of _ _ c.check_judge.result parsed.passes
     (judge-texts (found_of c.in_ok-matches.matches) _ _ _ _ parsed.rows c.get_str-room.ensures
     c.get_strs.ensures (given_or_empty c.get_strs.result _ (λ s. map (λ v. v.now) s.now) c.unwrap_or-files.ensures refl))
-    (IfOk-weaker c.check_judge.result _ _ (λ request h. (h.0, λ i. record { room = h.1 i; files = h.2 i })) its.request) its.refused judge-other its.ranges in
-    record { request = all.request; refused = all.refused; taken = all.taken; ranges = all.ranges }
+    (IfOk-weaker c.check_judge.result _ _ (λ request h. (h.0, λ i. record { room = h.1 i; files = h.2 i })) its.request)
+    its.refused judge-other its.ranges
 
 pub returns-in_err-matches : goal.returns-in_err-matches
 unfolding asked_of_judge
 returns-in_err-matches c =
-    let all = unparsed judge_app _ _ _ (λ request. judged (judge_of request)) c.in_err-matches.field-0.0 c.from_residual.result
-    (c.in_err-matches.ensures judge_app refl c.judge_command.ensures) c.from_residual.ensures.1 in
-    record { request = all.request; refused = all.refused; taken = all.taken; ranges = all.ranges }
+    unparsed judge_app _ _ _ (λ request. judged (judge_of request)) c.in_err-matches.field-0.0 c.from_residual.result
+    (c.in_err-matches.ensures judge_app refl c.judge_command.ensures) c.from_residual.ensures.1

@@ -11,16 +11,14 @@ unfolding asked_of_run
 returns c =
     let parsed = c.in_ok-matches.ensures run_app refl c.run_command.ensures in
     let its = c.check_run.ensures in
-    let all = tested run_app _ run_tests run run_asked asked_run _ _ c.check_run.result parsed.passes
+    tested run_app _ run_tests run run_asked asked_run _ _ c.check_run.result parsed.passes
     (run-texts (found_of c.in_ok-matches.matches) _ _ _ _ _ _ _ _ _ parsed.rows c.get_str-workers.ensures
     c.get_str-order.ensures c.get_str-size.ensures c.get_str-topics.ensures c.get_str-batch.ensures c.get_str-report.ensures
     c.get_strs.ensures (given_or_empty c.get_strs.result _ (λ s. map (λ v. v.now) s.now) c.unwrap_or-files.ensures refl))
-    its.request its.refused run-other its.ranges in
-    record { request = all.request; refused = all.refused; taken = all.taken; ranges = all.ranges }
+    its.request its.refused run-other its.ranges
 
 pub returns-in_err-matches : goal.returns-in_err-matches
 unfolding asked_of_run
 returns-in_err-matches c =
-    let all = unparsed run_app _ _ _ (λ request. run (asked_run request)) c.in_err-matches.field-0.0 c.from_residual.result
-    (c.in_err-matches.ensures run_app refl c.run_command.ensures) c.from_residual.ensures.1 in
-    record { request = all.request; refused = all.refused; taken = all.taken; ranges = all.ranges }
+    unparsed run_app _ _ _ (λ request. run (asked_run request)) c.in_err-matches.field-0.0 c.from_residual.result
+    (c.in_err-matches.ensures run_app refl c.run_command.ensures) c.from_residual.ensures.1

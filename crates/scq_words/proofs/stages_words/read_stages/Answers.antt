@@ -11,16 +11,14 @@ unfolding asked_of_stages
 returns c =
     let parsed = c.in_ok-matches.ensures stages_app refl c.stages_command.ensures in
     let its = c.check_stages.ensures in
-    let all = tested stages_app _ stages_tests staged stages_asked stages_of _ _ c.check_stages.result parsed.passes
+    tested stages_app _ stages_tests staged stages_asked stages_of _ _ c.check_stages.result parsed.passes
     (stages-texts (found_of c.in_ok-matches.matches) _ _ _ _ _ _ parsed.rows c.get_str-workers.ensures
     c.get_str-order.ensures c.get_str-size.ensures
     c.get_strs.ensures (given_or_empty c.get_strs.result _ (λ s. map (λ v. v.now) s.now) c.unwrap_or-files.ensures refl))
-    its.request its.refused stages-other its.ranges in
-    record { request = all.request; refused = all.refused; taken = all.taken; ranges = all.ranges }
+    its.request its.refused stages-other its.ranges
 
 pub returns-in_err-matches : goal.returns-in_err-matches
 unfolding asked_of_stages
 returns-in_err-matches c =
-    let all = unparsed stages_app _ _ _ (λ request. staged (stages_of request)) c.in_err-matches.field-0.0 c.from_residual.result
-    (c.in_err-matches.ensures stages_app refl c.stages_command.ensures) c.from_residual.ensures.1 in
-    record { request = all.request; refused = all.refused; taken = all.taken; ranges = all.ranges }
+    unparsed stages_app _ _ _ (λ request. staged (stages_of request)) c.in_err-matches.field-0.0 c.from_residual.result
+    (c.in_err-matches.ensures stages_app refl c.stages_command.ensures) c.from_residual.ensures.1
