@@ -2,9 +2,8 @@
 pub use Rattle.scq_words.specs.Numbers.{number_in, fault_outside, refused_outside, number_or}
 pub use Rattle.scq_words.specs.Numbers.{text_in}
 pub use Rattle.scq_words.specs.Commands.{plain_app, option_rule, required_rule, flag_rule}
-pub use Rattle.scq_words.specs.Commands.{files_rule, workers_app, order_app, numbers_app}
-pub use Rattle.scq_words.specs.Commands.{topics_app, batch_app, report_app, run_app, stages_app}
-pub use Rattle.scq_words.specs.Commands.{seed_app, lines_app, self_app, room_app, judge_app}
+pub use Rattle.scq_words.specs.Commands.{files_rule, numbers_app, run_app, stages_app, self_app}
+pub use Rattle.scq_words.specs.Commands.{judge_app}
 pub use Rattle.scq_words.specs.Commands.{file_rule, named_app, text_app}
 pub use Rattle.scq_words.specs.Asked.{first_of_tests, refused_if, refused_by_clap, topics_or_none}
 pub use Rattle.scq_words.specs.Asked.{refused_topics, refused_names, is_given, asked, RunAsked}
@@ -21,4 +20,4 @@ unfoldable pub use Rattle.scq_words.specs.Asked.{asked_of_text, asked_of_judge}
 pub use Rattle.scq_words.specs.Parsing.{Answered, Parses}
 pub use Rattle.scq_words.specs.Ranges.{is_accepted, is_taken_for_run, IsRunInRange, IsStagesInRange}
 pub use Rattle.scq_words.specs.Ranges.{IsJudgeInRange, IsInRange}
-pub use Rattle.scq_words.specs.Tested.{numbers_tests, files_tests}
+pub use Rattle.scq_words.specs.Asked.{numbers_tests, files_tests}
