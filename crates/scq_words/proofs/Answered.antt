@@ -1,9 +1,13 @@
 -- What a command answers, as the answer of the program that knows it.
-use Rattle.std.proofs.Common.{◌≡◌, ℕ, ◌-◌, ◌≤◌, Bool, false, List, [], ◌∷◌, length, map, take, drop, get_or, Result, Ok, Err, ◌∙◌, sym, ap, subst, arith}
+use Rattle.std.proofs.Common.{◌≡◌, ℕ, ◌-◌, ◌≤◌, Bool, List, [], ◌∷◌, length, map, take, drop, get_or, Option, Some, None, Result, Ok, Err, ◌∙◌, sym, ap, subst, arith}
 use Rattle.std.proofs.lemmas.List.{take_all}
-use Rattle.std.specs.Prelude.{IfOk, IsErrOf, MatchResult}
-use Rattle.std.specs.Result.{IsOkAnd}
-use Rattle.scq_words.specs.Exports.{asked_by, IsInRange}
+use Rattle.std.proofs.lemmas.Result.{IfOk-weaker}
+use Rattle.std.specs.Prelude.{◌≢◌, IfOk, IsErrOf, MatchResult}
+use Rattle.std.specs.Option.{option_or}
+use Rattle.std.specs.Result.{IsErrAnd, IsOkAnd}
+use Rattle.clap.specs.Words.{App, takes}
+use Rattle.scq_words.specs.Exports.{answered_by, asked_by, first_of_tests, refused_by_clap, Answered, IsInRange, Parses}
+use Rattle.scq_words.proofs.Answering.{answer-err, answer-ok, clap-refused, handed-on, refused-some, tests-answer}
 use Rattle.scq_words.specs.Asked.{Asked}
 use Rattle.scq_words.specs.declared.fault.WordsFault.{WordsFault}
 use Rattle.scq_words.specs.declared.fault.WordsFault.TheVariants.{NotUnderstood}
@@ -11,12 +15,33 @@ use Rattle.scq_words.specs.declared.fault.WordsError.{WordsError}
 use Rattle.scq_words.specs.declared.fault.WordsError.TheVariants.{Refused}
 use Rattle.scq_words.specs.declared.request.Request.{Request}
 
--- the clauses of a reader of words that ask for this, of which `clap` takes these
-pub record Answered {T : Type 0} (asks : T → Asked) (said : Result Asked WordsFault) (takes : Bool) (result : Result T WordsError) : Type 0 where
-  pub request : IfOk result (λ request. said ≡ Ok (asks request))
-  pub refused : (fault : WordsFault) → IsErrOf result (Refused fault) → said ≡ Err fault
-  pub taken : IsErrOf result (Refused NotUnderstood) → takes ≡ false
-  pub ranges : IfOk result (λ request. IsInRange (asks request))
+-- where `clap` refuses the words
+pub unparsed : {T : Type 0} (app : App) (words : List (List ℕ)) (rest : Option WordsFault) (what : Asked) (asks : T → Asked) (error : WordsError)
+    (result : Result T WordsError) → Parses app words (Err error) → IsErrAnd result (λ passed. passed ≡ error)
+    → Answered asks (answered_by (option_or (refused_by_clap app words) rest) what) (takes app words) result
+unparsed app words rest what asks error (Ok request) its passed = absurd passed
+unparsed app words rest what asks error (Err e) its passed = record {
+  request = tt;
+  refused = λ fault is. clap-refused app words (Err e) error fault rest what its.refused passed is;
+  taken = λ is. (its.refused (refused-some error NotUnderstood (handed-on (Err e) error (Refused NotUnderstood) passed is))).2;
+  ranges = tt;
+}
+
+-- where it takes them, and the tests of their texts decide
+pub tested : {R T A : Type 0} (app : App) (words : List (List ℕ)) (tests : T → List (Option WordsFault)) (make : A → Asked) (of : T → A) (asks : R → A)
+    (t read : T) (result : Result R WordsError) → refused_by_clap app words ≡ None → t ≡ read
+    → IfOk result (λ request. (first_of_tests (tests t) ≡ None) × (of t ≡ asks request))
+    → ((fault : WordsFault) → IsErrOf result (Refused fault) → first_of_tests (tests t) ≡ Some fault)
+    → ((t : T) → first_of_tests (tests t) ≢ Some NotUnderstood)
+    → IfOk result (λ request. IsInRange (make (asks request)))
+    → Answered (λ request. make (asks request)) (answered_by (first_of_tests (refused_by_clap app words ∷ tests read)) (make (of read))) (takes app words) result
+tested app words tests make of asks t read result passes is request refused known ranges = record {
+  request = IfOk-weaker result _ _
+      (λ request h. tests-answer app words tests (λ t. make (of t)) t read (Ok (make (asks request))) passes is (answer-ok _ _ _ h.0 (ap make h.1))) request;
+  refused = λ fault e. tests-answer app words tests (λ t. make (of t)) t read (Err fault) passes is (answer-err _ _ fault (refused fault e));
+  taken = λ e. absurd (known t (refused NotUnderstood e));
+  ranges = ranges;
+}
 
 -- the request of a command as one of the program
 pub answered : {T : Type 0} (make : T → Request) (said : Result Asked WordsFault) (takes : Bool) (own : Result T WordsError) (result : Result Request WordsError)

@@ -102,9 +102,9 @@ text-answer command asks words file said passes is flag answer =
     (λ i. (is i, flag i)) answer
 
 -- what is given or nothing, behind references or not
-pub given_or_empty : {X A : Type 0} (o : Option X) (d : X) (f : X → List A) → f d ≡ [] → f (unwrap_or o d) ≡ unwrap_or (option_map f o) []
-given_or_empty None d f empty = empty
-given_or_empty (Some x) d f empty = refl
+pub given_or_empty : {X A : Type 0} (o : Option X) (d : X) (f : X → List A) {got : X} → got ≡ unwrap_or o d → f d ≡ [] → f got ≡ unwrap_or (option_map f o) []
+given_or_empty None d f is empty = ap f is ∙ empty
+given_or_empty (Some x) d f is empty = ap f is
 
 pub name-missing : (name : List ℕ) → eqb (length name) 0 ≡ true → first_of_tests (refused_names (name ∷ []) ∷ []) ≡ Some (NoName 1)
 name-missing name is = rw is refl
@@ -118,7 +118,7 @@ handed-on (Ok x) e f passed is = absurd passed
 handed-on (Err x) e f passed is = let same : x ≡ f = cc in sym passed ∙ same
 
 -- want of memory is no fault of the words
-refused-some : (e : WordsError) (fault : WordsFault) → e ≡ Refused fault → e ≢ NoMemory
+pub refused-some : (e : WordsError) (fault : WordsFault) → e ≡ Refused fault → e ≢ NoMemory
 refused-some e fault is = λ memory. cc
 
 refused-same : {fault other : WordsFault} → Refused fault ≡ Refused other → fault ≡ other

@@ -1,6 +1,6 @@
 -- What the words of a command line ask for, or the first test that refuses them.
 use Rattle.std.specs.Prelude.{ℕ, ◌+◌, ◌^◌, ◌==◌, Bool, true, false, nat_lt, min, string_bytes, List}
-use Rattle.std.specs.Prelude.{[], ◌∷◌, length, map, codes, Option, Some, None, option_map}
+use Rattle.std.specs.Prelude.{[], ◌∷◌, ◌++◌, length, map, codes, Option, Some, None, option_map}
 use Rattle.std.specs.Prelude.{unwrap_or, Result, Ok, Err, if◌then◌else◌}
 use Rattle.std.specs.List.{position}
 use Rattle.std.specs.Option.{option_or}
@@ -173,26 +173,29 @@ self_texts rows =
     texts_of_self (first_of (codes "seed") rows) (first_of (codes "lines") rows)
     (first_of (codes "workers") rows)
 
--- the tests of `run`'s arguments, in order
-abbrev pub run_tests : RunTexts → List (Option WordsFault)
-run_tests t =
-    refused_outside 1 4096 Workers t.workers
-    ∷ refused_outside 1 12 Order t.order
-    ∷ refused_outside 1 65536 Size t.size
-    ∷ refused_topics t.topics
-    ∷ refused_if (nat_lt 64 (length t.files)) TooManyFiles
-    ∷ refused_names t.files
+-- the tests of a run's numbers
+abbrev pub numbers_tests : Option (List ℕ) → Option (List ℕ) → Option (List ℕ)
+    → List (Option WordsFault)
+numbers_tests workers order size =
+    refused_outside 1 4096 Workers workers
+    ∷ refused_outside 1 12 Order order
+    ∷ refused_outside 1 65536 Size size
     ∷ []
+
+-- those of files, of which there are at most so many
+abbrev pub files_tests : ℕ → WordsFault → List (List ℕ) → List (Option WordsFault)
+files_tests most many files =
+    refused_if (nat_lt most (length files)) many ∷ refused_names files ∷ []
+
+-- those of `run`'s arguments, in order
+abbrev pub run_tests : RunTexts → List (Option WordsFault)
+run_tests t = numbers_tests t.workers t.order t.size ++ refused_topics t.topics
+    ∷ files_tests 64 TooManyFiles t.files
 
 -- those of `stages`: there are no topics to test
 abbrev pub stages_tests : StagesTexts → List (Option WordsFault)
 stages_tests t =
-    refused_outside 1 4096 Workers t.workers
-    ∷ refused_outside 1 12 Order t.order
-    ∷ refused_outside 1 65536 Size t.size
-    ∷ refused_if (nat_lt 64 (length t.files)) TooManyFiles
-    ∷ refused_names t.files
-    ∷ []
+    numbers_tests t.workers t.order t.size ++ files_tests 64 TooManyFiles t.files
 
 -- those of `self`, whose order is 6
 abbrev pub self_tests : SelfTexts → List (Option WordsFault)
@@ -277,10 +280,7 @@ judge_texts rows =
 -- those of `judge`
 abbrev pub judge_tests : JudgeTexts → List (Option WordsFault)
 judge_tests t =
-    refused_outside 1 4294967295 Room t.room
-    ∷ refused_if (nat_lt 4096 (length t.files)) TooManyRecordings
-    ∷ refused_names t.files
-    ∷ []
+    refused_outside 1 4294967295 Room t.room ∷ files_tests 4096 TooManyRecordings t.files
 
 -- the room, where it is given
 abbrev pub room_of : Option (List ℕ) → Option ℕ

@@ -1,7 +1,7 @@
 -- The commands as `clap` knows them: `run` and `stages` with options and files, `self` with
 -- options, `judge` with an option and files, `check` and `replay` with one file, and `replay` with
 -- a flag besides.
-use Rattle.std.specs.Prelude.{ℕ, List, Some, true, codes}
+use Rattle.std.specs.Prelude.{ℕ, List, [], ◌∷◌, Some, true, codes}
 use Rattle.clap.specs.Words.{App, Rule, new_app, new_rule, with_rule}
 use Rattle.scq_words.specs.declared.text_request.TextCommand.{TextCommand}
 use Rattle.scq_words.specs.declared.text_request.TextCommand.TheVariants.{Check}
@@ -35,48 +35,36 @@ flag_rule name = record (option_rule name) { action = Some SetTrue }
 abbrev pub files_rule : Rule
 files_rule = record (new_rule (codes "files")) { required = true; action = Some Append }
 
--- a command with the options that are numbers of a run, one after the other
-abbrev pub workers_app : List ℕ → App
-workers_app name = with_rule (plain_app name) (option_rule (codes "workers"))
+-- a command with arguments more, one after the other
+abbrev pub with_rules : App → List Rule → App
+with_rules app [] = app
+with_rules app (rule ∷ rules) = with_rules (with_rule app rule) rules
 
-abbrev pub order_app : List ℕ → App
-order_app name = with_rule (workers_app name) (option_rule (codes "order"))
-
+-- with the options that are numbers of a run
 abbrev pub numbers_app : List ℕ → App
-numbers_app name = with_rule (order_app name) (option_rule (codes "size"))
+numbers_app name =
+    with_rules (plain_app name) (option_rule (codes "workers") ∷ option_rule (codes "order")
+    ∷ option_rule (codes "size") ∷ [])
 
 -- `run` has an option and two flags more, and files
-abbrev pub topics_app : App
-topics_app = with_rule (numbers_app (codes "run")) (option_rule (codes "topics"))
-
-abbrev pub batch_app : App
-batch_app = with_rule topics_app (flag_rule (codes "batch"))
-
-abbrev pub report_app : App
-report_app = with_rule batch_app (flag_rule (codes "report"))
-
 abbrev pub run_app : App
-run_app = with_rule report_app files_rule
+run_app =
+    with_rules (numbers_app (codes "run")) (option_rule (codes "topics")
+    ∷ flag_rule (codes "batch") ∷ flag_rule (codes "report") ∷ files_rule ∷ [])
 
 abbrev pub stages_app : App
 stages_app = with_rule (numbers_app (codes "stages")) files_rule
 
 -- `self` has options alone
-abbrev pub seed_app : App
-seed_app = with_rule (plain_app (codes "self")) (required_rule (codes "seed"))
-
-abbrev pub lines_app : App
-lines_app = with_rule seed_app (required_rule (codes "lines"))
-
 abbrev pub self_app : App
-self_app = with_rule lines_app (option_rule (codes "workers"))
+self_app =
+    with_rules (plain_app (codes "self")) (required_rule (codes "seed")
+    ∷ required_rule (codes "lines") ∷ option_rule (codes "workers") ∷ [])
 
 -- recordings have an option, and files
-abbrev pub room_app : App
-room_app = with_rule (plain_app (codes "judge")) (option_rule (codes "room"))
-
 abbrev pub judge_app : App
-judge_app = with_rule room_app files_rule
+judge_app =
+    with_rules (plain_app (codes "judge")) (option_rule (codes "room") ∷ files_rule ∷ [])
 
 -- the one file
 abbrev pub file_rule : Rule

@@ -3,5 +3,4 @@ pub mod Commands
 pub mod Asked
 pub mod Parsing
 pub mod Ranges
-pub mod Tested
 pub mod Exports

@@ -2,8 +2,7 @@ ghost use Rattle.std.specs.Prelude.{◌≡◌, ◌<◌, ◌≤◌, None, Some, l
 ghost use Rattle.std.specs.Prelude.{IfOk, IsErrOf, OnOk};
 ghost use Rattle.std.specs.List.{All};
 ghost use Rattle.std.specs.Result.{result_err};
-ghost use Rattle.scq_words.specs.Asked.{first_of_tests, refused_names};
-ghost use Rattle.scq_words.specs.Tested.{files_tests};
+ghost use Rattle.scq_words.specs.Asked.{files_tests, first_of_tests, refused_names};
 ghost use Rattle.scq_words.specs.declared.fault.WordsFault.{WordsFault as TheFault};
 
 use crate::{WordsError, WordsFault};

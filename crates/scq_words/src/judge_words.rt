@@ -1,29 +1,24 @@
-ghost use Rattle.std.specs.Prelude.{◌≡◌, ◌≤◌, Ok, Err, None, Some, false, length, map};
+ghost use Rattle.std.specs.Prelude.{◌≡◌, ◌≤◌, None, Some, map};
 ghost use Rattle.std.specs.Prelude.{string_bytes, IfOk, IfSome, IsErrOf};
 ghost use Rattle.clap.specs.Words.{takes};
 ghost use Rattle.scq_words.specs.declared.fault.WordsFault.{WordsFault as TheFault};
 ghost use Rattle.scq_words.specs.Exports.{asked_of_judge, first_of_tests, judge_of, judge_tests};
 ghost use Rattle.scq_words.specs.Exports.{judged, room_of, texts_of_judge, judge_app, number_or};
-ghost use Rattle.scq_words.specs.Exports.{text_in, IsJudgeInRange};
+ghost use Rattle.scq_words.specs.Exports.{text_in, Answered, IsJudgeInRange};
 
 use crate::files::{MOST_RECORDINGS, files_of};
 use crate::number::optional_number;
-use crate::parsing::judge_matches;
+use crate::parsing::{judge_command, parse};
 use crate::request::JudgeRequest;
 use crate::{WordsError, WordsFault};
 use std::alloc::Global;
 
 /// What the words after `judge` ask for.
 pub(crate) fn read_judge(alloc: Global, words: &[String]) -> Result<JudgeRequest, WordsError>
-    ensures request { IfOk result (λ request.
-        asked_of_judge (map string_bytes words.now) ≡ Ok (judged (judge_of request))) }
-    ensures refused { (fault : TheFault) → IsErrOf result (WordsError.Refused fault)
-        → asked_of_judge (map string_bytes words.now) ≡ Err fault }
-    ensures taken { IsErrOf result (WordsError.Refused WordsFault.NotUnderstood)
-        → takes judge_app (map string_bytes words.now) ≡ false }
-    ensures ranges { IfOk result (λ request. IsJudgeInRange (judge_of request)) }
+    ensures { let words = map string_bytes words.now in
+        Answered (λ request. judged (judge_of request)) (asked_of_judge words) (takes judge_app words) result }
 {
-    let matches = judge_matches(alloc, words)?;
+    let matches = parse(judge_command(alloc), words)?;
     let room = matches.get_str("room");
     let files = matches.get_strs("files").unwrap_or(&[]);
     check_judge(alloc, room, files)

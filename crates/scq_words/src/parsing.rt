@@ -11,7 +11,7 @@ use clap::{Arg, ArgAction, ArgMatches, Command, Error};
 use std::alloc::{AllocError, Global};
 
 /// The matches of the words, or the one fault of words that this command refuses.
-fn parse<'a>(
+pub fn parse<'a>(
     command: Result<Command<'a>, AllocError>,
     words: &'a [String],
 ) -> Result<ArgMatches<'a>, WordsError>
@@ -25,14 +25,7 @@ fn parse<'a>(
     }
 }
 
-/// The matches of `run`'s words, or the one fault of words that `clap` refuses.
-pub fn run_matches<'a>(alloc: Global, words: &'a [String]) -> Result<ArgMatches<'a>, WordsError>
-    ensures { Parses run_app (map string_bytes words.entry.now) result }
-{
-    parse(run_command(alloc), words)
-}
-
-fn run_command<'a>(alloc: Global) -> Result<Command<'a>, AllocError>
+pub fn run_command<'a>(alloc: Global) -> Result<Command<'a>, AllocError>
     ensures { IfOk result (λ command. app_of command ≡ run_app) }
 {
     let numbers = numbers_command(alloc, "run");
@@ -51,27 +44,13 @@ fn numbers_command<'a>(alloc: Global, name: &'a str) -> Result<Command<'a>, Allo
     with(order, option(alloc, "size"))
 }
 
-/// The matches of `stages`'s words, or the one fault of words that `clap` refuses.
-pub fn stages_matches<'a>(alloc: Global, words: &'a [String]) -> Result<ArgMatches<'a>, WordsError>
-    ensures { Parses stages_app (map string_bytes words.entry.now) result }
-{
-    parse(stages_command(alloc), words)
-}
-
-fn stages_command<'a>(alloc: Global) -> Result<Command<'a>, AllocError>
+pub fn stages_command<'a>(alloc: Global) -> Result<Command<'a>, AllocError>
     ensures { IfOk result (λ command. app_of command ≡ stages_app) }
 {
     with(numbers_command(alloc, "stages"), files(alloc))
 }
 
-/// The matches of `self`'s words, or the one fault of words that `clap` refuses.
-pub fn self_matches<'a>(alloc: Global, words: &'a [String]) -> Result<ArgMatches<'a>, WordsError>
-    ensures { Parses self_app (map string_bytes words.entry.now) result }
-{
-    parse(self_command(alloc), words)
-}
-
-fn self_command<'a>(alloc: Global) -> Result<Command<'a>, AllocError>
+pub fn self_command<'a>(alloc: Global) -> Result<Command<'a>, AllocError>
     ensures { IfOk result (λ command. app_of command ≡ self_app) }
 {
     let seed = with(
@@ -82,32 +61,15 @@ fn self_command<'a>(alloc: Global) -> Result<Command<'a>, AllocError>
     with(lines, option(alloc, "workers"))
 }
 
-/// The matches of `judge`'s words, or the one fault of words that `clap` refuses.
-pub fn judge_matches<'a>(alloc: Global, words: &'a [String]) -> Result<ArgMatches<'a>, WordsError>
-    ensures { Parses judge_app (map string_bytes words.entry.now) result }
-{
-    parse(judge_command(alloc), words)
-}
-
-fn judge_command<'a>(alloc: Global) -> Result<Command<'a>, AllocError>
+pub fn judge_command<'a>(alloc: Global) -> Result<Command<'a>, AllocError>
     ensures { IfOk result (λ command. app_of command ≡ judge_app) }
 {
     let room = with(Ok(plain_command(alloc, "judge")), option(alloc, "room"));
     with(room, files(alloc))
 }
 
-/// The matches of the words of a command that takes one file.
-pub fn text_matches<'a>(
-    alloc: Global,
-    command: TextCommand,
-    words: &'a [String],
-) -> Result<ArgMatches<'a>, WordsError>
-    ensures { Parses (text_app command) (map string_bytes words.entry.now) result }
-{
-    parse(text_command(alloc, command), words)
-}
-
-fn text_command<'a>(alloc: Global, command: TextCommand) -> Result<Command<'a>, AllocError>
+/// A command that takes one file.
+pub fn text_command<'a>(alloc: Global, command: TextCommand) -> Result<Command<'a>, AllocError>
     ensures { IfOk result (λ app. app_of app ≡ text_app command) }
 {
     with(named_command(alloc, command), file(alloc))

@@ -1,14 +1,15 @@
-ghost use Rattle.std.specs.Prelude.{◌≡◌, ◌≤◌, Ok, Err, None, Some, false, length, map};
+ghost use Rattle.std.specs.Prelude.{◌≡◌, ◌≤◌, None, Some, length, map};
 ghost use Rattle.std.specs.Prelude.{string_bytes, IfOk, IsErrOf};
 ghost use Rattle.std.specs.Result.{result_err};
 ghost use Rattle.scq_words.specs.declared.fault.WordsFault.{WordsFault as TheFault};
 ghost use Rattle.scq_words.specs.Exports.{asked_of_run, first_of_tests, is_given, refused_topics};
 ghost use Rattle.scq_words.specs.Exports.{run, run_asked, asked_run, run_tests, texts_of_run};
-ghost use Rattle.scq_words.specs.Exports.{topics_or_none, run_app, text_in, IsRunInRange};
+ghost use Rattle.scq_words.specs.Exports.{topics_or_none, run_app, text_in, Answered};
+ghost use Rattle.scq_words.specs.Exports.{IsRunInRange};
 ghost use Rattle.clap.specs.Words.{takes};
 
 use crate::files::{MOST_FILES, files_of};
-use crate::parsing::run_matches;
+use crate::parsing::{parse, run_command};
 use crate::run_numbers::{RunNumbers, numbers_of};
 use crate::{RunRequest, WordsError, WordsFault};
 use scq_topics::Topics;
@@ -16,15 +17,10 @@ use std::alloc::Global;
 
 /// What the words after `run` ask for.
 pub fn read_run(alloc: Global, words: &[String]) -> Result<RunRequest, WordsError>
-    ensures request { IfOk result (λ request.
-        asked_of_run (map string_bytes words.now) ≡ Ok (run (asked_run request))) }
-    ensures refused { (fault : TheFault) → IsErrOf result (WordsError.Refused fault)
-        → asked_of_run (map string_bytes words.now) ≡ Err fault }
-    ensures taken { IsErrOf result (WordsError.Refused WordsFault.NotUnderstood)
-        → takes run_app (map string_bytes words.now) ≡ false }
-    ensures ranges { IfOk result (λ request. IsRunInRange (asked_run request)) }
+    ensures { let words = map string_bytes words.now in
+        Answered (λ request. run (asked_run request)) (asked_of_run words) (takes run_app words) result }
 {
-    let matches = run_matches(alloc, words)?;
+    let matches = parse(run_command(alloc), words)?;
     let workers = matches.get_str("workers");
     let order = matches.get_str("order");
     let size = matches.get_str("size");

@@ -1,8 +1,7 @@
 ghost use Rattle.std.specs.Prelude.{◌≡◌, ◌≤◌, IfOk};
 ghost use Rattle.std.specs.Result.{result_err};
-ghost use Rattle.scq_words.specs.Asked.{first_of_tests, workers_or};
+ghost use Rattle.scq_words.specs.Asked.{first_of_tests, numbers_tests, workers_or};
 ghost use Rattle.scq_words.specs.Numbers.{number_or, text_in};
-ghost use Rattle.scq_words.specs.Tested.{numbers_tests};
 
 use crate::WordsFault;
 use crate::number::optional_number;

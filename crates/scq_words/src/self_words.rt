@@ -1,16 +1,15 @@
-ghost use Rattle.std.specs.Prelude.{◌≡◌, Ok, Err, None, Some, false, map, string_bytes, IfOk};
-ghost use Rattle.std.specs.Prelude.{IsErrOf};
+ghost use Rattle.std.specs.Prelude.{◌≡◌, map, string_bytes, IfOk};
 ghost use Rattle.std.specs.Result.{result_err};
-ghost use Rattle.scq_words.specs.declared.fault.WordsFault.{WordsFault as TheFault};
 ghost use Rattle.scq_words.specs.Asked.{asked_of_self, first_of_tests, generated, self_asked};
 ghost use Rattle.scq_words.specs.Asked.{self_of, self_tests, texts_of_self};
 ghost use Rattle.clap.specs.Words.{takes};
 ghost use Rattle.scq_words.specs.Commands.{self_app};
 ghost use Rattle.scq_words.specs.Numbers.{text_in};
+ghost use Rattle.scq_words.specs.Parsing.{Answered};
 ghost use Rattle.scq_words.specs.Ranges.{IsSelfInRange};
 
 use crate::number::optional_number;
-use crate::parsing::self_matches;
+use crate::parsing::{parse, self_command};
 use crate::workers::workers_of;
 use crate::{SelfRequest, WordsError, WordsFault};
 use std::alloc::Global;
@@ -20,15 +19,10 @@ const ORDER: u32 = 6;
 
 /// What the words after `self` ask for.
 pub fn read_self(alloc: Global, words: &[String]) -> Result<SelfRequest, WordsError>
-    ensures request { IfOk result (λ request.
-        asked_of_self (map string_bytes words.now) ≡ Ok (generated (self_of request))) }
-    ensures refused { (fault : TheFault) → IsErrOf result (WordsError.Refused fault)
-        → asked_of_self (map string_bytes words.now) ≡ Err fault }
-    ensures taken { IsErrOf result (WordsError.Refused WordsFault.NotUnderstood)
-        → takes self_app (map string_bytes words.now) ≡ false }
-    ensures ranges { IfOk result (λ request. IsSelfInRange (self_of request)) }
+    ensures { let words = map string_bytes words.now in
+        Answered (λ request. generated (self_of request)) (asked_of_self words) (takes self_app words) result }
 {
-    let matches = self_matches(alloc, words)?;
+    let matches = parse(self_command(alloc), words)?;
     let seed = matches.get_str("seed");
     let lines = matches.get_str("lines");
     let workers = matches.get_str("workers");

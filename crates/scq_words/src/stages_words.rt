@@ -1,28 +1,23 @@
-ghost use Rattle.std.specs.Prelude.{◌≡◌, Ok, Err, None, Some, false, map, string_bytes, IfOk};
+ghost use Rattle.std.specs.Prelude.{◌≡◌, None, Some, map, string_bytes, IfOk};
 ghost use Rattle.std.specs.Prelude.{IsErrOf};
 ghost use Rattle.clap.specs.Words.{takes};
 ghost use Rattle.scq_words.specs.declared.fault.WordsFault.{WordsFault as TheFault};
 ghost use Rattle.scq_words.specs.Exports.{asked_of_stages, first_of_tests, staged, stages_asked};
 ghost use Rattle.scq_words.specs.Exports.{stages_of, stages_tests, texts_of_stages, stages_app};
-ghost use Rattle.scq_words.specs.Exports.{text_in, IsStagesInRange};
+ghost use Rattle.scq_words.specs.Exports.{text_in, Answered, IsStagesInRange};
 
 use crate::files::{MOST_FILES, files_of};
-use crate::parsing::stages_matches;
+use crate::parsing::{parse, stages_command};
 use crate::run_numbers::{RunNumbers, numbers_of};
 use crate::{StagesRequest, WordsError, WordsFault};
 use std::alloc::Global;
 
 /// What the words after `stages` ask for.
 pub fn read_stages(alloc: Global, words: &[String]) -> Result<StagesRequest, WordsError>
-    ensures request { IfOk result (λ request.
-        asked_of_stages (map string_bytes words.now) ≡ Ok (staged (stages_of request))) }
-    ensures refused { (fault : TheFault) → IsErrOf result (WordsError.Refused fault)
-        → asked_of_stages (map string_bytes words.now) ≡ Err fault }
-    ensures taken { IsErrOf result (WordsError.Refused WordsFault.NotUnderstood)
-        → takes stages_app (map string_bytes words.now) ≡ false }
-    ensures ranges { IfOk result (λ request. IsStagesInRange (stages_of request)) }
+    ensures { let words = map string_bytes words.now in
+        Answered (λ request. staged (stages_of request)) (asked_of_stages words) (takes stages_app words) result }
 {
-    let matches = stages_matches(alloc, words)?;
+    let matches = parse(stages_command(alloc), words)?;
     let workers = matches.get_str("workers");
     let order = matches.get_str("order");
     let size = matches.get_str("size");

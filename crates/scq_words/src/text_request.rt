@@ -1,11 +1,10 @@
-ghost use Rattle.std.specs.Prelude.{◌≡◌, ◌<◌, Ok, Err, false, length, map, string_bytes, IfOk};
-ghost use Rattle.std.specs.Prelude.{IsErrOf};
+ghost use Rattle.std.specs.Prelude.{◌≡◌, map, string_bytes};
 ghost use Rattle.clap.specs.Words.{takes};
 ghost use Rattle.scq_words.specs.Commands.{text_app};
-ghost use Rattle.scq_words.specs.declared.fault.WordsFault.{WordsFault as TheFault};
 ghost use Rattle.scq_words.specs.Asked.{asked_of_text, text_of, whole, with_flag};
+ghost use Rattle.scq_words.specs.Parsing.{Answered};
 
-use crate::parsing::text_matches;
+use crate::parsing::{parse, text_command};
 use crate::run::is_given;
 use crate::{WordsError, WordsFault};
 use std::alloc::Global;
@@ -34,15 +33,11 @@ pub(crate) fn read_text(
     command: TextCommand,
     words: &[String],
 ) -> Result<TextRequest, WordsError>
-    ensures request { IfOk result (λ request.
-        asked_of_text command (map string_bytes words.now) ≡ Ok (whole (text_of request))) }
-    ensures refused { (fault : TheFault) → IsErrOf result (WordsError.Refused fault)
-        → asked_of_text command (map string_bytes words.now) ≡ Err fault }
-    ensures taken { IsErrOf result (WordsError.Refused WordsFault.NotUnderstood)
-        → takes (text_app command) (map string_bytes words.now) ≡ false }
-    ensures named { IfOk result (λ request. 0 < length (string_bytes request.file)) }
+    ensures { let words = map string_bytes words.now in
+        Answered (λ request. whole (text_of request)) (asked_of_text command words)
+        (takes (text_app command) words) result }
 {
-    let matches = text_matches(alloc, command, words)?;
+    let matches = parse(text_command(alloc, command), words)?;
     let name = matches.get_str("file").unwrap_or("");
     if name.is_empty() {
         return Err(WordsError::Refused(WordsFault::NoName { file: 1 }));

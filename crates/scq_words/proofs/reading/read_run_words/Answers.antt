@@ -7,8 +7,7 @@ use Rattle.scq_words.proofs.reading.read_run_words.Goals as goal
 
 pub returns-in-run : goal.returns-in-run
 returns-in-run c =
-    let its = c.read_run.ensures in
     let all = answered-first string_bytes (λ (request : RunRequest). run (asked_run request)) asked_for_run is_taken_for_run
     c.args.words.now c.command-item.result c.as_str.result.now (codes "run") c.read_run.result c.in-len1-up.len_at_least c.command-item.is
-    c.as_str.ensures.value c.in-run.is (record { request = its.request; refused = its.refused; taken = its.taken; ranges = its.ranges }) in
+    c.as_str.ensures.value c.in-run.is c.read_run.ensures in
     record { request = all.request; refused = all.refused; taken = all.taken; ranges = all.ranges }
