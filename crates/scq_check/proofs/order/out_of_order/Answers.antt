@@ -1,6 +1,6 @@
 use Rattle.scq_hist.proofs.Firsts.{in_order_past}
 use Rattle.scq_check.proofs.FailureLemmas.{failures_all}
-use Rattle.scq_check.proofs.Saved.{judged_none, judged_more, kept_more, same_tallies}
+use Rattle.scq_check.proofs.Saved.{judged_none, judged_more, kept_more}
 use Rattle.scq_check.proofs.order.out_of_order.Goals as goal
 
 pub loop-e-init : goal.loop-e-init
@@ -9,7 +9,7 @@ loop-e-init c =
 
 pub loop-e-preserved : goal.loop-e-preserved
 loop-e-preserved c =
-    judged_more _ c.args.opening.now _ _ _ _ _ _ _ c.with-failures.ensures (c.is_in_order_at.ensures c.args.opening.now (same_tallies _ _ _ _ _ c.deref.ensures.value c.in_ok-tallies.ensures))
+    judged_more _ c.args.opening.now _ _ _ _ _ _ _ c.with-failures.ensures (c.is_in_order_at.ensures c.args.opening.now (rw c.deref.ensures.value c.in_ok-tallies.ensures))
     (let add = c.in_ok-add.ensures in kept_more _ _ _ _ _ add.tokens add.small add.at) c.loop-e.invariant
 
 pub returns-clause-failures : goal.returns-clause-failures
