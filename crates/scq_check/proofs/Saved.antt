@@ -9,7 +9,7 @@ use Rattle.scq_hist.specs.declared.events.Event.{Event}
 use Rattle.scq_hist.specs.declared.events.Event.TheVariants.{Start}
 use Rattle.scq_check.specs.Exports.{AreFailuresBefore, failures_with, IsQueueOf, queue_in, AreQueuesAt, CountsAreSmall, AreTallies}
 use Rattle.scq_check.specs.declared.failures.Failures.{Failures}
-use Rattle.scq_check.specs.declared.queues.Tally.{Tally}
+use Rattle.scq_hist.specs.declared.tallies.Tally.{Tally}
 use Rattle.scq_check.specs.declared.queues.Queues.{Queues}
 use Rattle.scq_check.proofs.FailureLemmas.{failures_none, failures_more}
 

@@ -8,9 +8,9 @@ ghost use Rattle.scq_check.specs.Exports.{AreFailures, AreQueuesAt, AreTallies, 
 ghost use Rattle.scq_check.specs.Exports.{HasEvent};
 
 use crate::failures::Failures;
-use crate::queues::{Queue, Queues, Tally};
+use crate::queues::{Queue, Queues};
 use crate::tables::Tables;
-use scq_hist::{Call, Event, PutName, nothing_end};
+use scq_hist::{Call, Event, PutName, Tally, nothing_end};
 use scq_word::{Bytes, NoMemory};
 use std::alloc::Global;
 
