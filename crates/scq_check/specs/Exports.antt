@@ -24,4 +24,4 @@ pub use Rattle.scq_check.specs.Full.{IsTaking, IsFreeing, HoldsBefore, held_at_s
 pub use Rattle.scq_check.specs.Full.{IsFullWithin, IsFullRightAt, NoPutAt}
 pub use Rattle.scq_check.specs.Full.{IsUsedUp, one_more_if, untouched, places_in, IsFullBy}
 pub use Rattle.scq_check.specs.Full.{ArePlacesOf, ArePlacesAt}
-pub use Rattle.scq_check.specs.Found.{AreFound}
+pub use Rattle.scq_check.specs.Found.{AreFoundOf, AreFound}

@@ -1,10 +1,10 @@
 //! The Gots that name puts which their queues refused.
 
-ghost use Rattle.std.specs.Prelude.{◌≡◌, ◌+◌, ◌<◌, ◌↔◌, IsTrue, Some, IfOk, IfSome, OnOk, length};
+ghost use Rattle.std.specs.Prelude.{◌≡◌, ◌+◌, ◌<◌, ◌↔◌, IsTrue, Some, IfOk, OnOk, length};
 ghost use Rattle.std.specs.Prelude.{MatchOption, is_some};
 ghost use Rattle.scq_hist.specs.Exports.{got_name};
 ghost use Rattle.scq_hist.specs.declared.events.PutName.TheVariants.{Of};
-ghost use Rattle.scq_check.specs.Exports.{place_in, AreFailures, NamesNoPut, IsRefusals};
+ghost use Rattle.scq_check.specs.Exports.{place_in, AreFoundOf, NamesNoPut, IsRefusals};
 ghost use Rattle.scq_check.specs.Exports.{IsAcceptedAt, AreOfLawful, HasEvent};
 
 use crate::by_name::ByName;
@@ -86,8 +86,7 @@ pub(crate) fn refused_gots(
     events: &[Event],
 ) -> Result<Failures, NoMemory>
     requires { AreOfLawful events.now tables.now }
-    ensures failures { IfOk result (AreFailures (IsAcceptedAt events.now)) }
-    ensures within { IfOk result (λ failures. IfSome failures.first (λ e. e < length events.now)) }
+    ensures { IfOk result (AreFoundOf (IsAcceptedAt events.now) events.now) }
 {
     let refusals = refusals(alloc, tables, events)?;
     let mut failures = Failures::none();
