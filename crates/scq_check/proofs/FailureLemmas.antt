@@ -1,10 +1,11 @@
 -- The failures of an aspect, event by event
-use Rattle.std.proofs.Common.{◌≡◌, ℕ, ◌+◌, ◌<◌, ◌≤◌, ◌↔◌, Bool, true, false, IsTrue, inl, inr, Option, Some, None, refl, sym, subst, arith, below_more}
+use Rattle.std.proofs.Common.{◌≡◌, ℕ, ◌+◌, ◌<◌, ◌≤◌, ◌↔◌, Bool, true, false, IsTrue, inl, inr, Option, Some, None, IfSome, List, length, refl, sym, subst, arith, below_more}
 use Rattle.std.specs.Option.{option_or}
 use Rattle.scq_hist.specs.Exports.{IsFirstFailing, IsCount}
 use Rattle.std.proofs.lemmas.Bool.{cases_lt, cases_eq, iff_false}
 use Rattle.scq_hist.proofs.Counting.{count_none, count_more, count_same}
-use Rattle.scq_check.specs.Exports.{AreFailures, AreFailuresBefore, IsFirstBefore, failures_with}
+use Rattle.scq_check.specs.Exports.{AreFailures, AreFailuresBefore, AreFoundOf, IsFirstBefore, failures_with}
+use Rattle.scq_hist.specs.declared.events.Event.{Event}
 use Rattle.scq_check.specs.declared.failures.Failures.{Failures}
 
 -- before any event
@@ -57,4 +58,16 @@ failures_all Holds m i f reached is past = record {
   count = count_same (λ e. (e < i) × (¬ Holds e)) (λ e. ¬ Holds e) f.count is.count
       (λ e h. h.1)
       (λ e h. elim (cases_lt e i) [ inl lt ↦ (lt, h) | inr ge ↦ absurd (h (past e (omega arith))) ]);
+}
+
+-- and the first that breaks it is one of the list
+first_within : (Holds : ℕ → Type 0) (i n : ℕ) (first : Option ℕ) → i ≤ n → IsFirstBefore Holds i first → IfSome first (λ e. e < n)
+first_within Holds i n None le is = tt
+first_within Holds i n (Some e) le is = let lt = is.0 in omega arith
+
+pub found_all : (Holds : ℕ → Type 0) (events : List Event) (i : ℕ) (f : Failures) → length events ≤ i → i ≤ length events → AreFailuresBefore Holds i f
+    → ((e : ℕ) → length events ≤ e → Holds e) → AreFoundOf Holds events f
+found_all Holds events i f reached end is past = record {
+  failures = failures_all Holds (length events) i f reached is past;
+  within = first_within Holds i (length events) f.first end is.first;
 }

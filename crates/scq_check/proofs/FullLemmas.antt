@@ -1,13 +1,13 @@
 -- The places of queues, event by event, and the refusals that they tell to be right
-use Rattle.std.proofs.Common.{◌≡◌, ℕ, suc, ◌+◌, ◌<◌, ◌≤◌, ◌⊎◌, ◌↔◌, inl, inr, Bool, true, false, not, IsTrue, List, Option, Some, None, is_some, unwrap_or, nat_eq, cond}
-use Rattle.std.proofs.Common.{slice_get, length, if◌then◌else◌, refl, sym, ◌∙◌, subst, ap, arith}
+use Rattle.std.proofs.Common.{◌≡◌, ℕ, suc, ◌+◌, ◌<◌, ◌≤◌, ◌⊎◌, ◌↔◌, inl, inr, Bool, true, false, not, IsTrue, List, Some, is_some, unwrap_or, nat_eq, cond}
+use Rattle.std.proofs.Common.{slice_get, length, refl, sym, ◌∙◌, subst, ap, arith}
 use Rattle.std.specs.Ordering.{nat_cmp}
-use Rattle.std.specs.BTreeMap.{get, is_at, IsEmpty}
-use Rattle.std.specs.Map.{lookup}
+use Rattle.std.specs.BTreeMap.{get}
 use Rattle.std.proofs.lemmas.Bool.{cases_eq, cases_lt}
 use Rattle.std.proofs.lemmas.Bool.Decides.{eqb_tells}
 use Rattle.std.proofs.lemmas.Option.{slice_get_within}
-use Rattle.scq_hist.specs.Exports.{puts_before, IsCall, IsPut, IsGetOf, IsCount, EndsNoGet}
+use Rattle.scq_hist.specs.Exports.{puts_before, IsCall, IsGetOf, IsCount, EndsNoGet}
+use Rattle.scq_hist.specs.declared.ended.EndedPut.{EndedPut}
 use Rattle.scq_hist.specs.declared.events.Call.TheVariants.{Put, Get}
 use Rattle.scq_hist.specs.declared.events.Event.{Event}
 use Rattle.scq_hist.specs.declared.events.Event.TheVariants.{Start, End}
@@ -181,14 +181,14 @@ full_since room opening events queue s e places b before is test = (
 )
 
 -- the one refusal that ends there decides
-pub refusal_decides : (room : ℕ) (opening : List (List ℕ)) (events : List Event) (e queue s : ℕ) (b : Bool) → IsRefusalAt events e queue s
-    → (IsTrue b ↔ IsFullWithin room opening events queue s e) → IsTrue b ↔ IsFullRightAt room opening events e
-refusal_decides room opening events e queue s b here test = (
+pub refusal_decides : (room : ℕ) (opening : List (List ℕ)) (events : List Event) (e : ℕ) (put : EndedPut) (b : Bool) → IsRefusalAt events e put
+    → (IsTrue b ↔ IsFullWithin room opening events put.queue put.start e) → IsTrue b ↔ IsFullRightAt room opening events e
+refusal_decides room opening events e put b here test = (
   λ t r k q content call.
-      let same = same_call events here.seat k s r e (Put queue here.content) (Put q content) Spent Spent here.call call in
-      let queues : queue ≡ q = (let calls = same.calls in cc) in
-      subst (λ n. IsFullWithin room opening events n r e) queues (subst (λ n. IsFullWithin room opening events queue n e) same.starts (test.0 t)),
-  λ h. test.1 (h s here.seat queue here.content here.call),
+      let same = same_call events put.seat k put.start r e (Put put.queue here.content) (Put q content) Spent Spent here.call call in
+      let queues : put.queue ≡ q = (let calls = same.calls in cc) in
+      subst (λ n. IsFullWithin room opening events n r e) queues (subst (λ n. IsFullWithin room opening events put.queue n e) same.starts (test.0 t)),
+  λ h. test.1 (h put.start put.seat put.queue here.content here.call),
 )
 
 pub full_right_past : (room : ℕ) (opening : List (List ℕ)) (events : List Event) (e : ℕ) → length events ≤ e → IsFullRightAt room opening events e

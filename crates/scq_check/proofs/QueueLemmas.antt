@@ -15,7 +15,7 @@ use Rattle.scq_hist.proofs.Counting.{count_none}
 use Rattle.scq_hist.proofs.Pending.{pending_same}
 use Rattle.scq_hist.proofs.TallyLemmas.{finished_same}
 use Rattle.scq_check.specs.Exports.{IsQueueOf, AreClaimed, unseen, queue_in, IsRightAt, IsRightBy, IsQueueAt, AreQueuesAt, CountsAreSmall}
-use Rattle.scq_check.specs.declared.queues.Tally.{Tally}
+use Rattle.scq_hist.specs.declared.tallies.Tally.{Tally}
 use Rattle.scq_check.specs.declared.queues.Queue.{Queue}
 use Rattle.scq_check.specs.declared.queues.Queues.{Queues}
 

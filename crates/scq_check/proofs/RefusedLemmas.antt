@@ -4,13 +4,13 @@ use Rattle.std.proofs.Common.{◌≤◌, sym, subst, ap, refl, arith, ◌∙◌}
 use Rattle.std.proofs.lemmas.Bool.{cases_eq}
 use Rattle.std.proofs.lemmas.Bool.Decides.{eqb_tells}
 use Rattle.std.proofs.lemmas.Option.{slice_get_within}
-use Rattle.scq_hist.specs.Exports.{puts_before, got_name}
+use Rattle.scq_hist.specs.Exports.{puts_before, got_name, NoneEnds}
 use Rattle.scq_hist.specs.declared.events.Event.{Event}
 use Rattle.scq_hist.specs.declared.events.Event.TheVariants.{End}
 use Rattle.scq_hist.specs.declared.events.PutName.TheVariants.{Opening, Of}
 use Rattle.scq_hist.specs.declared.events.Reply.TheVariants.{Spent}
 use Rattle.scq_hist.proofs.NamesLemmas.{names_there, named_there, same_name as one_name}
-use Rattle.scq_check.specs.Exports.{same_name, place_in, IsSpentAt, IsRefused, IsAcceptedAt, NoneSpentAt, NotSpentBefore, NamesNoPut, IsRefusals}
+use Rattle.scq_check.specs.Exports.{same_name, place_in, IsSpentAt, IsRefused, IsAcceptedAt, NotSpentBefore, NamesNoPut, IsRefusals}
 use Rattle.scq_check.specs.declared.by_name.ByName.{ByName}
 
 -- before any event
@@ -31,9 +31,9 @@ kept events m seat number None here old = record {
 }
 kept events m seat number (Some e) here old = old
 
-pub refusals_same : (events : List Event) (m : ℕ) (names : ByName) → NoneSpentAt events m → IsRefusals events m names → IsRefusals events (m + 1) names
+pub refusals_same : (events : List Event) (m : ℕ) (names : ByName) → NoneEnds true events m → IsRefusals events m names → IsRefusals events (m + 1) names
 refusals_same events m names none is = record {
-  each = λ seat number. kept events m seat number (place_in names seat number) (none.none seat number) (is.each seat number);
+  each = λ seat number. kept events m seat number (place_in names seat number) (λ spent. none.none spent.s seat spent.queue spent.content spent.call) (is.each seat number);
 }
 
 -- two seats' names are the same or aren't

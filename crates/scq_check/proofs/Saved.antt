@@ -1,17 +1,16 @@
 -- One tally more, kept of the queue of an event just before it
-use Rattle.std.proofs.Common.{◌≡◌, ℕ, zero, suc, ◌+◌, ◌<◌, ◌≤◌, ◌↔◌, inl, inr, Bool, IsTrue, List, [], ◌∷◌, ◌++◌, Some, None, slice_get, length, length-append, refl, sym, ◌∙◌}
+use Rattle.std.proofs.Common.{◌≡◌, ℕ, zero, suc, ◌+◌, ◌<◌, ◌≤◌, inl, inr, List, [], ◌∷◌, ◌++◌, Some, slice_get, length, length-append, refl, sym, ◌∙◌}
 use Rattle.std.proofs.Common.{subst, ap, arith}
 use Rattle.std.proofs.lemmas.Bool.{cases_eq}
 use Rattle.std.proofs.lemmas.Option.{slice_get_within}
-use Rattle.scq_hist.specs.Exports.{IsFinishedAt, IsTally}
+use Rattle.scq_hist.specs.Exports.{IsFinishedAt, IsTally, IsFreshAt, IsOnceAt, IsInOrderAt, IsEmptyRightAt}
 use Rattle.scq_hist.specs.declared.events.Call.TheVariants.{Put}
 use Rattle.scq_hist.specs.declared.events.Event.{Event}
 use Rattle.scq_hist.specs.declared.events.Event.TheVariants.{Start}
-use Rattle.scq_check.specs.Exports.{AreFailuresBefore, failures_with, IsQueueOf, queue_in, AreQueuesAt, CountsAreSmall, AreTallies}
-use Rattle.scq_check.specs.declared.failures.Failures.{Failures}
-use Rattle.scq_check.specs.declared.queues.Tally.{Tally}
+use Rattle.scq_check.specs.Exports.{AreFailuresBefore, IsQueueOf, queue_in, AreQueuesAt, CountsAreSmall, AreTallies}
+use Rattle.scq_hist.specs.declared.tallies.Tally.{Tally}
 use Rattle.scq_check.specs.declared.queues.Queues.{Queues}
-use Rattle.scq_check.proofs.FailureLemmas.{failures_none, failures_more}
+use Rattle.scq_check.specs.declared.verdicts.Found.{Found}
 
 still : {X : Type 0} (xs : List X) (x : X) (k : ℕ) → k < length xs → slice_get (xs ++ x ∷ []) k ≡ slice_get xs k
 still {X} [] x k lt = absurd (omega arith)
@@ -62,18 +61,10 @@ kept_more opening events e old new tokens small at is = record {
   at = at opening is.at;
 }
 
--- and beside them the events so far that break an aspect
-pub record AreJudged (Holds : ℕ → Type 0) (opening : List (List ℕ)) (events : List Event) (e : ℕ) (queues : Queues) (found : Failures) : Type 0 where
+-- and beside them the events so far that break each aspect
+pub record AreFoundBefore (opening : List (List ℕ)) (events : List Event) (e : ℕ) (queues : Queues) (found : Found) : Type 0 where
   pub kept : AreKept opening events e queues
-  pub failures : AreFailuresBefore Holds e found
-
-pub judged_none : (Holds : ℕ → Type 0) (opening : List (List ℕ)) (events : List Event) (queues : Queues) (f : Failures) → queues.tokens.ungot ≤ length opening
-    → CountsAreSmall 0 queues → AreQueuesAt opening events 0 queues → f.first ≡ None → f.count ≡ 0 → AreJudged Holds opening events 0 queues f
-judged_none Holds opening events queues f few small at first count =
-    record { kept = record { few = few; small = small; at = at }; failures = failures_none Holds f first count }
-
-pub judged_more : (Holds : ℕ → Type 0) (opening : List (List ℕ)) (events : List Event) (e : ℕ) (old new : Queues) (f g : Failures) (holds : Bool)
-    → g ≡ failures_with f e holds → (AreQueuesAt opening events e old → IsTrue holds ↔ Holds e)
-    → (AreKept opening events e old → AreKept opening events (e + 1) new) → AreJudged Holds opening events e old f → AreJudged Holds opening events (e + 1) new g
-judged_more Holds opening events e old new f g holds with test kept is =
-    record { kept = kept is.kept; failures = rw with (failures_more Holds e f holds (test is.kept.at) is.failures) }
+  pub fresh : AreFailuresBefore (IsFreshAt opening events) e found.fresh
+  pub once : AreFailuresBefore (IsOnceAt events) e found.once
+  pub in_order : AreFailuresBefore (IsInOrderAt opening events) e found.in_order
+  pub empty_right : AreFailuresBefore (IsEmptyRightAt opening events) e found.empty_right

@@ -9,18 +9,19 @@ pub use Rattle.scq_check.specs.Calls.{own_start, IsCalls}
 pub use Rattle.scq_check.specs.Puts.{put_number, IsPutStart, StartsNoPut, StartsPut, IsPuts}
 pub use Rattle.scq_check.specs.Gots.{is_same_put, found_in, NotNamed, IsGots, IsGotOf, IsNoGot}
 pub use Rattle.scq_check.specs.Tables.{IsTables, AreOfLawful, HasEvent, IsOf, IsCallOf, IsQueueOf}
+pub use Rattle.scq_check.specs.Tables.{IsRefusalAt}
 pub use Rattle.scq_check.specs.Queues.{AreClaimed, unseen, queue_in, IsRightAt, IsRightBy}
 pub use Rattle.scq_check.specs.Queues.{IsQueueAt, AreQueuesAt, CountsAreSmall, AreTallies}
 pub use Rattle.scq_check.specs.Failures.{AreFailures, IsFirstBefore, AreFailuresBefore}
 pub use Rattle.scq_check.specs.Failures.{failures_with}
-pub use Rattle.scq_check.specs.Refused.{IsSpentAt, IsRefused, IsAcceptedAt, NoneSpentAt}
-pub use Rattle.scq_check.specs.Refused.{NotSpentBefore, NamesNoPut, IsRefusals}
+pub use Rattle.scq_check.specs.Refused.{IsSpentAt, IsRefused, IsAcceptedAt, NotSpentBefore}
+pub use Rattle.scq_check.specs.Refused.{NamesNoPut, IsRefusals}
 pub use Rattle.scq_check.specs.Waiting.{IsLeftOut, IsTokenLeftOut, IsPutLeftOut, told_of, IsToldPut}
 pub use Rattle.scq_check.specs.Waiting.{IsToldWithin}
 pub use Rattle.scq_check.specs.Counterparts.{IsOrigin, IsOfOrigin, NamesNone, IsOriginWithin}
 pub use Rattle.scq_check.specs.Counterparts.{IsRepeatOf, IsOfRefused, AtFirst}
 pub use Rattle.scq_check.specs.Full.{IsTaking, IsFreeing, HoldsBefore, held_at_start, IsFullAt}
-pub use Rattle.scq_check.specs.Full.{IsFullWithin, IsFullRightAt, NoPutAt, IsRefusalAt, NoRefusalAt}
+pub use Rattle.scq_check.specs.Full.{IsFullWithin, IsFullRightAt, NoPutAt}
 pub use Rattle.scq_check.specs.Full.{IsUsedUp, one_more_if, untouched, places_in, IsFullBy}
 pub use Rattle.scq_check.specs.Full.{ArePlacesOf, ArePlacesAt}
-pub use Rattle.scq_check.specs.Found.{AreFound}
+pub use Rattle.scq_check.specs.Found.{AreFoundOf, AreFound}

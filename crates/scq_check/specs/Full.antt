@@ -73,16 +73,6 @@ pub record NoPutAt (events : List Event) (queue s : ℕ) : Type 0 where
   pub none : (seat : ℕ) (content : List ℕ)
       → ¬ (slice_get events s ≡ Some (Start seat (Put queue content)))
 
--- a put of this queue that starts at position s ends with Spent at position e
-pub record IsRefusalAt (events : List Event) (e queue s : ℕ) : Type 0 where
-  pub seat : ℕ
-  pub content : List ℕ
-  pub call : IsCall events seat (Put queue content) s e Spent
-
-pub record NoRefusalAt (events : List Event) (e : ℕ) : Type 0 where
-  pub none : (s seat queue : ℕ) (content : List ℕ)
-      → ¬ IsCall events seat (Put queue content) s e Spent
-
 -- by its numbers no place of the queue is free for certain
 abbrev pub IsUsedUp : ℕ → List (List ℕ) → ℕ → Places → Type 0
 IsUsedUp room opening queue places =

@@ -7,7 +7,7 @@ use Rattle.scq_hist.specs.Exports.{IsFinishedAt, IsPending, AllClaimed, IsCount,
 use Rattle.scq_hist.specs.declared.events.Call.TheVariants.{Put}
 use Rattle.scq_hist.specs.declared.events.Event.{Event}
 use Rattle.scq_hist.specs.declared.events.Event.TheVariants.{Start}
-use Rattle.scq_check.specs.declared.queues.Tally.{Tally}
+use Rattle.scq_hist.specs.declared.tallies.Tally.{Tally}
 use Rattle.scq_check.specs.declared.queues.Queue.{Queue}
 use Rattle.scq_check.specs.declared.queues.Queues.{Queues}
 

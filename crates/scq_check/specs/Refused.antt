@@ -26,11 +26,7 @@ IsRefused events (Of seat number) = (e : ℕ) × IsSpentAt events seat number e
 abbrev pub IsAcceptedAt : List Event → ℕ → Type 0
 IsAcceptedAt events e = (name : PutName) → Names events e name → ¬ IsRefused events name
 
--- For private calls: no put ends with Spent at position e; and the seat's put of this number
--- doesn't before position m
-pub record NoneSpentAt (events : List Event) (e : ℕ) : Type 0 where
-  pub none : (seat number : ℕ) → ¬ IsSpentAt events seat number e
-
+-- For private calls: the seat's put of this number doesn't end with Spent before position m
 pub record NotSpentBefore (events : List Event) (m seat number : ℕ) : Type 0 where
   pub none : (e : ℕ) → e < m → ¬ IsSpentAt events seat number e
 

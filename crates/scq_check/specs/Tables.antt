@@ -1,11 +1,13 @@
 -- For private calls: what the tables of a history answer
 use Rattle.std.specs.Prelude.{◌≡◌, ◌<◌, ℕ, suc, List, Option, Some, None, length, slice_get}
 use Rattle.scq_hist.specs.Exports.{IsLawful, under_way, IsCall, IsPending, NoDoneAt}
+use Rattle.scq_hist.specs.declared.ended.EndedPut.{EndedPut}
 use Rattle.scq_hist.specs.declared.events.Call.{Call}
 use Rattle.scq_hist.specs.declared.events.Call.TheVariants.{Put, Get}
 use Rattle.scq_hist.specs.declared.events.Event.{Event}
 use Rattle.scq_hist.specs.declared.events.Event.TheVariants.{Start, End}
 use Rattle.scq_hist.specs.declared.events.Reply.{Reply}
+use Rattle.scq_hist.specs.declared.events.Reply.TheVariants.{Spent}
 use Rattle.scq_check.specs.Calls.{IsCalls}
 use Rattle.scq_check.specs.Gots.{IsGots}
 use Rattle.scq_check.specs.Puts.{IsPuts}
@@ -39,6 +41,11 @@ pub record IsCallOf (events : List Event) (e s : ℕ) (call : Call) : Type 0 whe
   pub seat : ℕ
   pub starts : slice_get events s ≡ Some (Start seat call)
   pub own : IsOf events seat s e (slice_get events e)
+
+-- this put ends with Spent at position e
+pub record IsRefusalAt (events : List Event) (e : ℕ) (put : EndedPut) : Type 0 where
+  pub content : List ℕ
+  pub call : IsCall events put.seat (Put put.queue content) put.start e Spent
 
 -- the event at position e is of a call of this queue: so is a put that starts there and a get that
 -- ends there, and no put of another queue ends with Done there, nor does a get of another start

@@ -1,12 +1,9 @@
 //! The Gots that aren't fresh, and those that name the put of an earlier one.
 
-ghost use Rattle.std.specs.Prelude.{◌<◌, ◌↔◌, ℕ, IsTrue, length, IfSome};
-ghost use Rattle.std.specs.Prelude.{MatchOption};
+ghost use Rattle.std.specs.Prelude.{◌<◌, ◌↔◌, ℕ, IsTrue, length, MatchOption};
 ghost use Rattle.scq_hist.specs.Exports.{IsPut, IsBegun, IsFreshAt, IsOnceAt};
-ghost use Rattle.scq_check.specs.Exports.{AreOfLawful, HasEvent, IsTables, IsGotOf, IsNoGot};
-ghost use Rattle.scq_check.specs.Exports.{AreFailures};
+ghost use Rattle.scq_check.specs.Exports.{HasEvent, IsTables, IsGotOf, IsNoGot};
 
-use crate::failures::Failures;
 use crate::tables::Tables;
 use scq_hist::{Event, PutName, Reply, got_name, is_earlier_put, is_token};
 use scq_word::Bytes;
@@ -61,8 +58,9 @@ fn is_begun(
     }
 }
 
-// Whether the Got that stands at this position, if one does, is fresh.
-fn is_fresh_at(tables: &Tables, opening: &[Bytes], events: &[Event], e: usize) -> bool
+/// Whether the Got that stands at this position, if one does, is fresh. `opening` has the contents
+/// of the tokens that stand in queue 0 before the list.
+pub(crate) fn is_fresh_at(tables: &Tables, opening: &[Bytes], events: &[Event], e: usize) -> bool
     requires { HasEvent events.now tables.now e }
     ensures { IsTrue result ↔ IsFreshAt opening.now events.now e }
 {
@@ -75,22 +73,8 @@ fn is_fresh_at(tables: &Tables, opening: &[Bytes], events: &[Event], e: usize) -
     }
 }
 
-/// The Gots that aren't fresh. `opening` has the contents of the tokens that stand in queue 0
-/// before the list.
-pub(crate) fn unfresh(tables: &Tables, opening: &[Bytes], events: &[Event]) -> Failures
-    requires { AreOfLawful events.now tables.now }
-    ensures failures { AreFailures (IsFreshAt opening.now events.now) result }
-    ensures within { IfSome result.first (λ e. e < length events.now) }
-{
-    let mut failures = Failures::none();
-    for e in 0..events.len() {
-        failures = failures.with(e, is_fresh_at(tables, opening, events, e));
-    }
-    failures
-}
-
-// Whether no Got before this one names the same put, if one stands at this position.
-fn is_once_at(tables: &Tables, events: &[Event], e: usize) -> bool
+/// Whether no Got before this one names the same put, if one stands at this position.
+pub(crate) fn is_once_at(tables: &Tables, events: &[Event], e: usize) -> bool
     requires tables { IsTables events.now tables.now }
     requires within { e < length events.now }
     ensures { IsTrue result ↔ IsOnceAt events.now e }
@@ -99,17 +83,4 @@ fn is_once_at(tables: &Tables, events: &[Event], e: usize) -> bool
         Some(name) => tables.first_named(events, name) == Some(e),
         None => true,
     }
-}
-
-/// The Gots that name the put of an earlier one.
-pub(crate) fn repeated(tables: &Tables, events: &[Event]) -> Failures
-    requires { IsTables events.now tables.now }
-    ensures failures { AreFailures (IsOnceAt events.now) result }
-    ensures within { IfSome result.first (λ e. e < length events.now) }
-{
-    let mut failures = Failures::none();
-    for e in 0..events.len() {
-        failures = failures.with(e, is_once_at(tables, events, e));
-    }
-    failures
 }

@@ -5,9 +5,8 @@ ghost use Rattle.std.specs.Prelude.{◌≡◌, ◌+◌, ◌<◌, ◌≤◌, ◌^
 ghost use Rattle.std.specs.Prelude.{length, IfOk, IfSome, OnOk};
 ghost use Rattle.scq_hist.specs.Exports.{IsLawful};
 ghost use Rattle.scq_check.specs.Failures.{AreFailures};
-ghost use Rattle.scq_check.specs.Full.{IsTaking, IsFreeing, IsPutAt, NoPutAt, IsRefusalAt};
-ghost use Rattle.scq_check.specs.Full.{NoRefusalAt, IsUsedUp, one_more_if, held_at_start};
-ghost use Rattle.scq_check.specs.Full.{places_in};
+ghost use Rattle.scq_check.specs.Full.{IsTaking, IsFreeing, IsPutAt, NoPutAt, IsUsedUp};
+ghost use Rattle.scq_check.specs.Full.{one_more_if, held_at_start, places_in};
 ghost use Rattle.scq_check.specs.Full.{untouched, ArePlacesOf, ArePlacesAt, IsFullRightAt};
 ghost use Rattle.scq_check.specs.Refused.{IsRefusals};
 ghost use Rattle.scq_check.specs.Tables.{HasEvent, IsTables};
@@ -73,19 +72,6 @@ fn frees(tables: &Tables, events: &[Event], queue: u32, e: usize) -> bool
         Some(_) => tables.queue_of(events, e) == queue,
         None => false,
     }
-}
-
-// The put that ends with Spent at this position: the position of its Start, and its queue.
-fn refusal_at(tables: &Tables, events: &[Event], e: usize) -> Option<(usize, u32)>
-    requires { HasEvent events.now tables.now e }
-    ensures { MatchOption result (NoRefusalAt events.now e) (λ put.
-        IsRefusalAt events.now e put.1 put.0) }
-{
-    let put = tables.ended_put(events, e)?;
-    if !put.refused {
-        return None;
-    }
-    Some((put.start, put.queue))
 }
 
 // How many places of the queue the opening tokens have.
@@ -223,9 +209,11 @@ fn is_full_right_at(
     requires places { ArePlacesAt room opening.now events.now e places.now }
     ensures { IsTrue result ↔ IsFullRightAt room opening.now events.now e }
 {
-    match refusal_at(tables, events, e) {
+    match tables.refused_put(events, e) {
         None => true,
-        Some((start, queue)) => places.get(queue).was_used_up(room, opening, queue, start),
+        Some(put) => places
+            .get(put.queue)
+            .was_used_up(room, opening, put.queue, put.start),
     }
 }
 

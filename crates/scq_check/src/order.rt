@@ -1,21 +1,19 @@
 //! The Gots that overtake, and the wrong Empties.
 
 ghost use Rattle.std.specs.Prelude.{◌≡◌, ◌+◌, ◌<◌, ◌≤◌, ◌^◌, ◌↔◌, ℕ, List, IsTrue, MatchOption};
-ghost use Rattle.std.specs.Prelude.{length, IfOk, IfSome};
+ghost use Rattle.std.specs.Prelude.{length, IfOk};
 ghost use Rattle.scq_hist.specs.Exports.{IsInOrderAt, IsEmptyRightAt, IsPutGotAt, NoPutGotAt};
 ghost use Rattle.scq_hist.specs.Exports.{IsEmptyAt, NoEmptyAt};
-ghost use Rattle.scq_check.specs.Exports.{AreFailures, AreQueuesAt, AreTallies, AreOfLawful};
-ghost use Rattle.scq_check.specs.Exports.{HasEvent};
+ghost use Rattle.scq_check.specs.Exports.{AreQueuesAt, AreTallies, AreOfLawful, HasEvent};
 
-use crate::failures::Failures;
-use crate::queues::{Queue, Queues, Tally};
+use crate::queues::{Queue, Queues};
 use crate::tables::Tables;
-use scq_hist::{Call, Event, PutName, nothing_end};
+use scq_hist::{Call, Event, PutName, Tally, nothing_end};
 use scq_word::{Bytes, NoMemory};
 use std::alloc::Global;
 
-// For each event the tally of its call's queue just before it.
-fn tallies_before(
+/// For each event the tally of its call's queue just before it.
+pub(crate) fn tallies_before(
     alloc: Global,
     tables: &Tables,
     opening: &[Bytes],
@@ -52,9 +50,9 @@ pub(crate) fn put_got_at(tables: &Tables, events: &[Event], e: usize) -> Option<
     }
 }
 
-// Whether all that precede the put which the get that ends at this position has got are claimed by
-// then.
-fn is_in_order_at(
+/// Whether all that precede the put which the get that ends at this position has got are claimed by
+/// then.
+pub(crate) fn is_in_order_at(
     tables: &Tables,
     events: &[Event],
     tallies: &[Tally],
@@ -80,27 +78,6 @@ fn is_in_order_at(
     }
 }
 
-/// The Gots that are the gets of puts before which others had to be claimed, and weren't.
-pub(crate) fn out_of_order(
-    alloc: Global,
-    tables: &Tables,
-    opening: &[Bytes],
-    events: &[Event],
-) -> Result<Failures, NoMemory>
-    requires { AreOfLawful events.now tables.now }
-    ensures failures { IfOk result (AreFailures (IsInOrderAt opening.now events.now)) }
-    ensures within { IfOk result (λ failures. IfSome failures.first (λ e. e < length events.now)) }
-{
-    let tallies = tallies_before(alloc, tables, opening, events)?;
-    let mut queues = Queues::new(alloc, tables, opening, events);
-    let mut failures = Failures::none();
-    for e in 0..events.len() {
-        failures = failures.with(e, is_in_order_at(tables, events, &tallies, &queues, e));
-        queues.add(tables, events, e)?;
-    }
-    Ok(failures)
-}
-
 // The get that ends with Nothing at this position: the position of its Start, and its queue.
 pub(crate) fn empty_at(tables: &Tables, events: &[Event], e: usize) -> Option<(usize, u32)>
     requires { HasEvent events.now tables.now e }
@@ -115,8 +92,13 @@ pub(crate) fn empty_at(tables: &Tables, events: &[Event], e: usize) -> Option<(u
     }
 }
 
-// Whether an Empty that ends at this position, if one does, is right.
-fn is_empty_right_at(tables: &Tables, events: &[Event], queues: &Queues, e: usize) -> bool
+/// Whether an Empty that ends at this position, if one does, is right.
+pub(crate) fn is_empty_right_at(
+    tables: &Tables,
+    events: &[Event],
+    queues: &Queues,
+    e: usize,
+) -> bool
     requires { HasEvent events.now tables.now e }
     ensures { (opening : List (List ℕ))
         → AreQueuesAt opening events.now e queues.now
@@ -126,24 +108,4 @@ fn is_empty_right_at(tables: &Tables, events: &[Event], queues: &Queues, e: usiz
         None => true,
         Some((start, queue)) => queues.get(queue).was_claimed(start, e),
     }
-}
-
-/// The Empties that aren't right.
-pub(crate) fn wrong_empties(
-    alloc: Global,
-    tables: &Tables,
-    opening: &[Bytes],
-    events: &[Event],
-) -> Result<Failures, NoMemory>
-    requires { AreOfLawful events.now tables.now }
-    ensures failures { IfOk result (AreFailures (IsEmptyRightAt opening.now events.now)) }
-    ensures within { IfOk result (λ failures. IfSome failures.first (λ e. e < length events.now)) }
-{
-    let mut queues = Queues::new(alloc, tables, opening, events);
-    let mut failures = Failures::none();
-    for e in 0..events.len() {
-        failures = failures.with(e, is_empty_right_at(tables, events, &queues, e));
-        queues.add(tables, events, e)?;
-    }
-    Ok(failures)
 }

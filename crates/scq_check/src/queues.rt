@@ -2,7 +2,7 @@
 
 ghost use Rattle.std.specs.Prelude.{◌≡◌, ◌+◌, ◌<◌, ◌≤◌, ◌^◌, ◌↔◌, ◌⊎◌, ℕ, List, IsTrue};
 ghost use Rattle.std.specs.Prelude.{MatchOption, length, OnOk};
-ghost use Rattle.scq_hist.specs.Exports.{IsFinishedAt, IsPending, IsCount, IsTally, AddsPut};
+ghost use Rattle.scq_hist.specs.Exports.{IsFinishedAt, IsPending, IsCount, IsTally};
 ghost use Rattle.scq_hist.specs.Exports.{IsTokenGotAt, NoTokenGotAt};
 ghost use Rattle.scq_check.specs.Tables.{AreOfLawful, HasEvent, IsTables};
 ghost use Rattle.scq_check.specs.Queues.{AreClaimed, IsQueueAt, AreQueuesAt, CountsAreSmall};
@@ -10,18 +10,10 @@ ghost use Rattle.scq_check.specs.Queues.{queue_in};
 ghost use Rattle.scq_check.specs.Queues.{unseen};
 
 use crate::tables::Tables;
-use scq_hist::{Event, PutName};
+use scq_hist::{Event, PutName, Tally, with_put};
 use scq_word::{Bytes, NoMemory};
 use std::alloc::Global;
 use std::collections::BTreeMap;
-
-/// Of some finished puts: how many no End has got, and the first moment by which the gets of the
-/// others have started.
-#[derive(Clone, Copy)]
-pub(crate) struct Tally {
-    pub(crate) ungot: usize,
-    pub(crate) claimed_from: usize,
-}
 
 /// A queue at a moment: its finished puts, how many of its gets that started by then never end, and
 /// the last moment found so far at which all its finished puts were claimed, or 0.
@@ -40,25 +32,6 @@ pub(crate) struct Queues {
     known: BTreeMap<u32, Queue>,
 }
 
-// The tally of one put more.
-fn with_put(tally: Tally, tables: &Tables, events: &[Event], name: PutName) -> Tally
-    requires known { AreOfLawful events.now tables.now }
-    requires room { tally.ungot + 1 < 2 ^ 64 }
-    ensures { AddsPut events.now name tally.ungot tally.claimed_from result.ungot
-        result.claimed_from }
-{
-    match tables.get_of(events, name) {
-        None => Tally {
-            ungot: tally.ungot + 1,
-            ..tally
-        },
-        Some(start) => Tally {
-            claimed_from: tally.claimed_from.max(start + 1),
-            ..tally
-        },
-    }
-}
-
 // From the puts of this queue that are finished just before the event at position e to those that
 // are finished just after it.
 fn tally_after(tally: Tally, tables: &Tables, events: &[Event], queue: u32, e: usize) -> Tally
@@ -73,7 +46,7 @@ fn tally_after(tally: Tally, tables: &Tables, events: &[Event], queue: u32, e: u
 {
     match tables.done_put(events, queue, e) {
         None => tally,
-        Some(name) => with_put(tally, tables, events, name),
+        Some(name) => with_put(tally, tables.get_of(events, name)),
     }
 }
 

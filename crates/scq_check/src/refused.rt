@@ -1,12 +1,11 @@
 //! The Gots that name puts which their queues refused.
 
-ghost use Rattle.std.specs.Prelude.{◌≡◌, ◌+◌, ◌<◌, ◌↔◌, IsTrue, Some, IfOk, IfSome, OnOk, length};
+ghost use Rattle.std.specs.Prelude.{◌≡◌, ◌+◌, ◌<◌, ◌↔◌, IsTrue, Some, IfOk, OnOk, length};
 ghost use Rattle.std.specs.Prelude.{MatchOption, is_some};
 ghost use Rattle.scq_hist.specs.Exports.{got_name};
 ghost use Rattle.scq_hist.specs.declared.events.PutName.TheVariants.{Of};
-ghost use Rattle.scq_check.specs.Exports.{place_in, AreFailures, IsSpentAt, NoneSpentAt};
-ghost use Rattle.scq_check.specs.Exports.{NamesNoPut, IsRefusals, IsAcceptedAt, AreOfLawful};
-ghost use Rattle.scq_check.specs.Exports.{HasEvent};
+ghost use Rattle.scq_check.specs.Exports.{place_in, AreFoundOf, NamesNoPut, IsRefusals};
+ghost use Rattle.scq_check.specs.Exports.{IsAcceptedAt, AreOfLawful, HasEvent};
 
 use crate::by_name::ByName;
 use crate::failures::Failures;
@@ -14,19 +13,6 @@ use crate::tables::Tables;
 use scq_hist::{Event, PutName, Reply};
 use scq_word::NoMemory;
 use std::alloc::Global;
-
-// The put that ends with Spent at this position: its seat and number.
-fn spent_at(tables: &Tables, events: &[Event], e: usize) -> Option<(u32, u64)>
-    requires { HasEvent events.now tables.now e }
-    ensures { MatchOption result (NoneSpentAt events.now e) (λ put.
-        IsSpentAt events.now put.0 put.1 e) }
-{
-    let put = tables.ended_put(events, e)?;
-    if !put.refused {
-        return None;
-    }
-    Some((put.seat, tables.number(events, put.start)))
-}
 
 // Where each put that ended with Spent did.
 pub(crate) fn refusals(alloc: Global, tables: &Tables, events: &[Event]) -> Result<ByName, NoMemory>
@@ -51,8 +37,8 @@ fn add_refusal(
     requires before { IsRefusals events.now e refusals.old }
     ensures { OnOk result (IsRefusals events.now (e + 1) refusals.new) }
 {
-    if let Some((seat, number)) = spent_at(tables, events, e) {
-        refusals.set(seat, number, e)?;
+    if let Some(put) = tables.refused_put(events, e) {
+        refusals.set(put.seat, tables.number(events, put.start), e)?;
     }
     Ok(())
 }
@@ -100,8 +86,7 @@ pub(crate) fn refused_gots(
     events: &[Event],
 ) -> Result<Failures, NoMemory>
     requires { AreOfLawful events.now tables.now }
-    ensures failures { IfOk result (AreFailures (IsAcceptedAt events.now)) }
-    ensures within { IfOk result (λ failures. IfSome failures.first (λ e. e < length events.now)) }
+    ensures { IfOk result (AreFoundOf (IsAcceptedAt events.now) events.now) }
 {
     let refusals = refusals(alloc, tables, events)?;
     let mut failures = Failures::none();

@@ -1,11 +1,13 @@
 //! What stands where in a history, looked up in tables that are made once.
 
 ghost use Rattle.std.specs.Prelude.{◌≡◌, ◌<◌, ◌↔◌, ℕ, suc, IsTrue, length, slice_get, IfOk};
-ghost use Rattle.std.specs.Prelude.{MatchOption};
+ghost use Rattle.std.specs.Prelude.{MatchOption, true};
 ghost use Rattle.scq_hist.specs.Exports.{IsPut, IsGot, IsGetOf, IsPending, IsFirstNamed, EndsNoGet};
 ghost use Rattle.scq_hist.specs.Exports.{NoPutBefore, EndsDone, NoDoneAt, EndsPut, NoPutEnds};
+ghost use Rattle.scq_hist.specs.Exports.{NoneEnds};
 ghost use Rattle.scq_check.specs.Puts.{put_number};
 ghost use Rattle.scq_check.specs.Tables.{AreOfLawful, HasEvent, IsCallOf, IsQueueOf, IsTables};
+ghost use Rattle.scq_check.specs.Tables.{IsRefusalAt};
 
 use crate::calls::Calls;
 use crate::gots::Gots;
@@ -100,6 +102,18 @@ impl Tables {
             }),
             Call::Get { .. } => None,
         }
+    }
+
+    /// The put that ends with Spent at this position.
+    pub(crate) fn refused_put(&self, events: &[Event], e: usize) -> Option<EndedPut>
+        requires { HasEvent events.now self.now e }
+        ensures { MatchOption result (NoneEnds true events.now e) (IsRefusalAt events.now e) }
+    {
+        let put = self.ended_put(events, e)?;
+        if !put.refused {
+            return None;
+        }
+        Some(put)
     }
 
     /// The put of this queue that ends with Done at this position.

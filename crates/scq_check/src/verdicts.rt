@@ -13,8 +13,9 @@ use crate::counterparts::{
     Counterparts, named_first, origin_of_first, overtaken, refused_first, waiting_beside,
 };
 use crate::failures::Failures;
-use crate::freshness::{repeated, unfresh};
-use crate::order::{out_of_order, wrong_empties};
+use crate::freshness::{is_fresh_at, is_once_at};
+use crate::order::{is_empty_right_at, is_in_order_at, tallies_before};
+use crate::queues::Queues;
 use crate::refused::refused_gots;
 use crate::tables::Tables;
 use itoa::Buffer;
@@ -74,12 +75,25 @@ fn find(
     requires { AreOfLawful events.now tables.now }
     ensures { IfOk result (AreFound opening.now events.now) }
 {
-    Ok(Found {
-        fresh: unfresh(tables, opening, events),
-        once: repeated(tables, events),
-        in_order: out_of_order(alloc, tables, opening, events)?,
-        empty_right: wrong_empties(alloc, tables, opening, events)?,
-    })
+    let tallies = tallies_before(alloc, tables, opening, events)?;
+    let mut queues = Queues::new(alloc, tables, opening, events);
+    let none = Failures::none();
+    let mut found = Found {
+        fresh: none,
+        once: none,
+        in_order: none,
+        empty_right: none,
+    };
+    for e in 0..events.len() {
+        let in_order = is_in_order_at(tables, events, &tallies, &queues, e);
+        let empty_right = is_empty_right_at(tables, events, &queues, e);
+        found.fresh = found.fresh.with(e, is_fresh_at(tables, opening, events, e));
+        found.once = found.once.with(e, is_once_at(tables, events, e));
+        found.in_order = found.in_order.with(e, in_order);
+        found.empty_right = found.empty_right.with(e, empty_right);
+        queues.add(tables, events, e)?;
+    }
+    Ok(found)
 }
 
 /// Of a lawful history the events that break each aspect. `opening` has the contents of the tokens

@@ -1,5 +1,5 @@
 -- The puts that end, and the gets that find nothing: by their Ends and the calls that the seats have under way there
-use Rattle.std.proofs.Common.{◌≡◌, ℕ, suc, List, Bool, true, false, not, Some, None, slice_get, refl, sym, ap, ◌∙◌, subst}
+use Rattle.std.proofs.Common.{◌≡◌, ℕ, suc, List, Bool, true, false, not, Some, None, slice_get, refl, subst}
 use Rattle.scq_hist.specs.Exports.{under_way, puts_before, IsCall, IsDoneAt, put_reply, EndsNoPut, EndsPut, NoneEnds, NoPutEnds, FindsSomething}
 use Rattle.scq_hist.specs.Exports.{HasUnderWay, NoDoneAt, IsEmptyAt, NoEmptyAt}
 use Rattle.scq_hist.specs.declared.ended.EndedPut.{EndedPut}

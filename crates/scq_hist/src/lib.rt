@@ -24,3 +24,4 @@ pub use gets::got_name;
 pub use lawful::{is_lawful_at, lawful_calls};
 pub use names::{first_repeated, once};
 pub use order::{first_out_of_order, in_order};
+pub use tallies::{Tally, with_put};

@@ -2,10 +2,11 @@
 //! started.
 
 ghost use Rattle.std.specs.Prelude.{◌≡◌, ◌+◌, ◌<◌, ◌≤◌, ◌^◌, ◌↔◌, ℕ, List, IsTrue, MatchOption};
-ghost use Rattle.std.specs.Prelude.{length};
-ghost use Rattle.scq_hist.specs.Calls.{IsFinishedAt};
+ghost use Rattle.std.specs.Prelude.{length, IfSome};
+ghost use Rattle.scq_hist.specs.Calls.{IsFinishedAt, IsGot, IsGetOf};
 ghost use Rattle.scq_hist.specs.Aspects.{IsLawful};
 ghost use Rattle.scq_hist.specs.declared.events.Event.{Event};
+ghost use Rattle.scq_hist.specs.declared.events.PutName.{PutName};
 ghost use Rattle.scq_hist.specs.Tallies.{IsTally, AddsPut, IsTokenGotAt, NoTokenGotAt};
 
 use crate::calls::done_put;
@@ -16,19 +17,21 @@ use scq_word::Bytes;
 /// Of some finished puts: how many no End has got, and the first moment by which the gets of the
 /// others have started.
 #[derive(Clone, Copy)]
-pub(crate) struct Tally {
-    pub(crate) ungot: usize,
-    pub(crate) claimed_from: usize,
+pub struct Tally {
+    pub ungot: usize,
+    pub claimed_from: usize,
 }
 
-/// The tally of one put more.
-fn with_put(tally: Tally, events: &[Event], name: PutName) -> Tally
-    requires lawful { IsLawful events.now }
+/// The tally of one put more: `get` is where its get starts, if some End has got it.
+pub fn with_put(tally: Tally, get: Option<usize>) -> Tally
     requires room { tally.ungot + 1 < 2 ^ 64 }
-    ensures { AddsPut events.now name tally.ungot tally.claimed_from result.ungot
-        result.claimed_from }
+    requires start { IfSome get (λ s. s + 1 < 2 ^ 64) }
+    ensures few { result.ungot ≤ tally.ungot + 1 }
+    ensures adds { (events : List Event) (name : PutName)
+        → MatchOption get (¬ (IsGot events name)) (λ s. (e : ℕ) × IsGetOf events name s e)
+        → AddsPut events name tally.ungot tally.claimed_from result.ungot result.claimed_from }
 {
-    match get_of(events, name) {
+    match get {
         None => Tally {
             ungot: tally.ungot + 1,
             ..tally
@@ -55,7 +58,7 @@ pub(crate) fn tally_after(tally: Tally, events: &[Event], queue: u32, e: usize) 
 {
     match done_put(events, queue, e) {
         None => tally,
-        Some(name) => with_put(tally, events, name),
+        Some(name) => with_put(tally, get_of(events, name)),
     }
 }
 

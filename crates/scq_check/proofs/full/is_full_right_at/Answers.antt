@@ -7,7 +7,7 @@ use Rattle.scq_check.proofs.full.is_full_right_at.Goals as goal
 
 pub returns-in-Some : goal.returns-in-Some
 returns-in-Some c =
-    refusal_decides c.args.room c.args.opening.now _ _ _ _ _ c.in-Some.ensures
+    refusal_decides c.args.room c.args.opening.now _ _ _ _ c.in-Some.ensures
     (full_since _ _ _ _ _ _ c.get.result _ (started _ _ _ _ c.in-Some.ensures.call.under_way_till).before
-    (subst (λ (p : Places). ArePlacesOf c.args.room c.args.opening.now c.args.events.now c.in-Some.queue c.args.e p) (sym c.get.ensures)
-    (c.requires.places.each c.in-Some.queue)) c.was_used_up.ensures)
+    (subst (λ (p : Places). ArePlacesOf c.args.room c.args.opening.now c.args.events.now c.in-Some.put.queue c.args.e p) (sym c.get.ensures)
+    (c.requires.places.each c.in-Some.put.queue)) c.was_used_up.ensures)

@@ -1,4 +1,3 @@
-use Rattle.std.proofs.Common.{refl}
 use Rattle.scq_check.proofs.FullLemmas.{takes_none, takes_there}
 use Rattle.scq_check.proofs.full.takes.Goals as goal
 

@@ -1,4 +1,4 @@
-use Rattle.scq_check.proofs.FailureLemmas.{failures_none, failures_more, failures_all}
+use Rattle.scq_check.proofs.FailureLemmas.{failures_none, failures_more, found_all}
 use Rattle.scq_check.proofs.RefusedLemmas.{accepted_past}
 use Rattle.scq_check.proofs.refused.refused_gots.Goals as goal
 
@@ -8,5 +8,5 @@ loop-e-init c = failures_none _ _ c.none-failures.ensures.first c.none-failures.
 pub loop-e-preserved : goal.loop-e-preserved
 loop-e-preserved c = rw c.with-failures.ensures (failures_more _ _ _ _ c.is_accepted_at.ensures c.loop-e.invariant)
 
-pub returns-clause-failures : goal.returns-clause-failures
-returns-clause-failures c = failures_all _ _ _ _ c.loop-e-test.false c.loop-e.invariant (accepted_past c.args.events.now)
+pub returns : goal.returns
+returns c = found_all _ _ _ _ c.loop-e-test.false c.loop-e.auto.e-end c.loop-e.invariant (accepted_past c.args.events.now)
