@@ -19,6 +19,19 @@ pub record PassesAreGathered (queue : PortQueue) (slots : List Laid) (i : ℕ) (
       → (p : PassStanding PortBuffer) × (get_elem? slots k ≡ some (Some p)) × (slice_get passes k ≡ Some p) × IsPassOf queue k p
   pub held : length passes ≡ i → AreTheHeld queue passes values
 
+pub gathered_none : (queue : PortQueue) (slots : List Laid) (passes : List (PassStanding PortBuffer)) (values : List Value) → passes ≡ [] → values ≡ []
+    → PassesAreGathered queue slots 0 passes values
+gathered_none queue slots passes values none empty =
+    record {
+      few = subst (λ (l : List (PassStanding PortBuffer)). length l ≤ 0) (sym none) (omega arith);
+      each = λ full k low. absurd (omega (arith, low));
+      held =
+          λ full.
+          subst (λ (l : List (PassStanding PortBuffer)). AreTheHeld queue l values) (sym none)
+          (subst (λ (l : List Value). AreTheHeld queue [] l) (sym empty)
+          (record { queue_of = λ k h at. let no : None ≡ Some h = at in absurd (cc); all = λ i. refl }));
+    }
+
 -- a pass was missing
 pub gathered_less : (queue : PortQueue) (slots : List Laid) (i : ℕ) (passes more : List (PassStanding PortBuffer)) (values after : List Value)
     → PassesAreGathered queue slots i passes values → more ≡ passes → PassesAreGathered queue slots (i + 1) more after

@@ -22,9 +22,9 @@ none_set : (slots : List (Option Value)) (i j : ℕ) (y : Option Value) (x : Opt
 none_set slots i j y x is none e = let here : Some y ≡ None = sym (set_here slots i x y is) ∙ ap (λ k. slice_get (slice_set slots i y) k) (sym e) ∙ none in cc
 
 -- the place of a value that came was free
-pub place_free : (queue : PortQueue) (p : PassStanding PortBuffer) (slots : List (Option Value)) (used hold i : ℕ) → Keeps queue p slots used hold
+pub place_free : {queue : PortQueue} {p : PassStanding PortBuffer} {slots : List (Option Value)} {used hold : ℕ} (i : ℕ) → Keeps queue p slots used hold
     → i < n_of queue.setup.order → (Contains p.held i → ⊥) → slice_get slots i ≡ Some None
-place_free queue p slots used hold i before low came =
+place_free {p = p} {slots = slots} i before low came =
     let there = place_there slots i (subst (λ (n : ℕ). i < n) (sym before.places) low) in
     by there.0 there.1
   where
@@ -33,9 +33,9 @@ place_free queue p slots used hold i before low came =
     by (Some h) is = absurd (came (contains_times p.held i (let one = (before.here i h is).holds in omega (arith, one))))
 
 -- a value that stands at its place is held by the pass
-pub place_held : (queue : PortQueue) (p : PassStanding PortBuffer) (slots : List (Option Value)) (used hold i : ℕ) (h : Value) → Keeps queue p slots used hold
-    → slice_get slots i ≡ Some (Some h) → IsHeldBy p h
-place_held queue p slots used hold i h before is =
+pub place_held : {queue : PortQueue} {p : PassStanding PortBuffer} {slots : List (Option Value)} {used hold : ℕ} (i : ℕ) {h : Value}
+    → Keeps queue p slots used hold → slice_get slots i ≡ Some (Some h) → IsHeldBy p h
+place_held {p = p} i {h = h} before is =
     let stands = before.here i h is in
     record {
       queue = stands.queue_of ∙ sym before.own;
@@ -46,9 +46,9 @@ place_held queue p slots used hold i h before is =
     }
 
 -- where no value stands at a place, the pass holds none of this index
-pub none_held : (queue : PortQueue) (p : PassStanding PortBuffer) (slots : List (Option Value)) (used hold i : ℕ) → Keeps queue p slots used hold
+pub none_held : {queue : PortQueue} {p : PassStanding PortBuffer} {slots : List (Option Value)} {used hold : ℕ} (i : ℕ) → Keeps queue p slots used hold
     → ((h : Value) → slice_get slots i ≡ Some (Some h) → ⊥) → Contains p.held i → ⊥
-none_held queue p slots used hold i before none there = by (slice_get slots i) refl
+none_held {p = p} {slots = slots} i before none there = by (slice_get slots i) refl
   where
     some : 0 < times i p.held
     some = times_contains p.held i there
@@ -109,7 +109,7 @@ keeps_more queue old new slots used hold h ring place w before is held came low 
     number = ap (λ (p : PassStanding PortBuffer). p.number) is
 
     was : slice_get slots h.index ≡ Some None
-    was = place_free queue old slots used hold h.index before low came
+    was = place_free h.index before low came
 
     other_place : (j : ℕ) → j ≢ h.index → slice_get slots j ≡ slice_get (slice_set slots h.index (Some h)) j
     other_place j differs = sym (set_other slots h.index j (Some h) differs)

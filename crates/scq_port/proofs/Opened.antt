@@ -8,6 +8,7 @@ use Rattle.scq_queue.specs.Exports.{PassStanding, first_pass, first_passes}
 use Rattle.scq_port.specs.declared.port_buffer.PortBuffer.{PortBuffer}
 use Rattle.scq_port.specs.Exports.{PortQueue, PortStanding, new_port, HoldsNothing}
 use Rattle.scq_queue.proofs.Leaving.{get_last}
+use Rattle.scq_queue.proofs.NewPasses.{as_many_passes}
 use Rattle.scq_port.proofs.Unpacking.{before_last}
 
 -- the passes of a new queue hold nothing, from the last to the first
@@ -16,13 +17,6 @@ all_fresh queue zero = λ k d low. absurd (omega (arith, low))
 all_fresh queue (suc n) =
     subst (λ (l : List (PassStanding PortBuffer)). All (HoldsNothing queue) l) (sym (reverse-append (first_passes queue n) (first_pass queue n ∷ [])))
     (All-cons (HoldsNothing queue) (first_pass queue n) (reverse (first_passes queue n)) (record { own = refl; awake = refl; none = refl }) (all_fresh queue n))
-
-pub first_passes_length : (queue : PortQueue) (n : ℕ) → length (first_passes queue n) ≡ n
-first_passes_length queue zero = refl
-first_passes_length queue (suc n) =
-    let e = first_passes_length queue n in
-    let more = length-append (first_passes queue n) (first_pass queue n ∷ []) in
-    omega (arith, e, more)
 
 -- what holds of all of a list holds of its last, and of the others
 pub all_last : {A : Type 0} (P : A → Type 0) (xs : List A) (x : A) → All P (xs ++ x ∷ []) → P x
@@ -63,7 +57,7 @@ new_number queue hold (suc n) k s at =
     before = map (new_port hold) (first_passes queue n)
 
     many : length before ≡ n
-    many = length-map (first_passes queue n) (new_port hold) ∙ first_passes_length queue n
+    many = length-map (first_passes queue n) (new_port hold) ∙ as_many_passes queue n
 
     here : slice_get (before ++ new_port hold (first_pass queue n) ∷ []) k ≡ Some s
     here =

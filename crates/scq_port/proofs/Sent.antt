@@ -66,17 +66,17 @@ setup_sent = search (sendable, crossing.crosses) depth 20
 ring_sent : IsSend ring.the_row
 ring_sent = search (sendable, crossing.crosses) depth 20
 
-table_sent : IsSend (table.the_row (slot.the_row buffer.the_row) view.the_row (key.the_row buffer.the_row) rule.the_row alloc.the_row (rules.ghosts buffer.the_row buffers.ghosts rules.no_dict) ghosts)
-table_sent =
-    declared_send (table.the_type (slot.the_row buffer.the_row) view.the_row (key.the_row buffer.the_row) rule.the_row alloc.the_row (rules.ghosts buffer.the_row buffers.ghosts rules.no_dict) ghosts) (
-      words.the_send (slot.the_row buffer.the_row) view.the_row (key.the_row buffer.the_row) rule.the_row (rules.ghosts buffer.the_row buffers.ghosts rules.no_dict) slot_sent,
+table_sent : (T V K R : RattleType) (g : _) → IsSend T → IsSend (table.the_row T V K R alloc.the_row g ghosts)
+table_sent T V K R g sends =
+    declared_send (table.the_type T V K R alloc.the_row g ghosts) (
+      words.the_send T V K R g sends,
       (
         usize_sent,
         (
           usize_sent,
           (
             lease.the_send u64 alloc.the_row ghosts heap.the_send crossing.frees,
-            (lease.the_send (slot.the_row buffer.the_row) alloc.the_row ghosts heap.the_send crossing.frees, (heap.the_send, tt)),
+            (lease.the_send T alloc.the_row ghosts heap.the_send crossing.frees, (heap.the_send, tt)),
           ),
         ),
       ),
@@ -86,7 +86,7 @@ band_sent : IsSend (band.the_row buffer.the_row buffers.ghosts)
 band_sent =
     view_send (band_inside.the_row buffer.the_row buffers.ghosts) _ _ _ _
     (declared_send (band_inside.the_type buffer.the_row buffers.ghosts) (
-      table_sent,
+      table_sent (slot.the_row buffer.the_row) view.the_row (key.the_row buffer.the_row) rule.the_row (rules.ghosts buffer.the_row buffers.ghosts rules.no_dict) slot_sent,
       (setup_sent, (vec_sent ring.the_row ring_sent, (vec_sent buffer.the_row buffer_sent, (vec_sent u64 u64_sent, tt)))),
     ))
 
@@ -122,22 +122,6 @@ leaving_sent =
 
 left_sent : IsSend (option.the_row leaving.the_row)
 left_sent = option_sent leaving.the_row leaving_sent
-
-end_table_sent : IsSend (table.the_row (option.the_row leaving.the_row) knows.the_row (snapshot.the_row (queue.the_row buffer.the_row buffers.ghosts)) end_rule.the_row alloc.the_row end_rules.ghosts ghosts)
-end_table_sent =
-    declared_send (table.the_type (option.the_row leaving.the_row) knows.the_row (snapshot.the_row (queue.the_row buffer.the_row buffers.ghosts)) end_rule.the_row alloc.the_row end_rules.ghosts ghosts) (
-      words.the_send (option.the_row leaving.the_row) knows.the_row (snapshot.the_row (queue.the_row buffer.the_row buffers.ghosts)) end_rule.the_row end_rules.ghosts left_sent,
-      (
-        usize_sent,
-        (
-          usize_sent,
-          (
-            lease.the_send u64 alloc.the_row ghosts heap.the_send crossing.frees,
-            (lease.the_send (option.the_row leaving.the_row) alloc.the_row ghosts heap.the_send crossing.frees, (heap.the_send, tt)),
-          ),
-        ),
-      ),
-    )
 
 end_table_sync : IsSync (table.the_row (option.the_row leaving.the_row) knows.the_row (snapshot.the_row (queue.the_row buffer.the_row buffers.ghosts)) end_rule.the_row alloc.the_row end_rules.ghosts ghosts)
 end_table_sync =
@@ -179,7 +163,11 @@ held_sync =
     ))
 
 ends_sent : IsSend ends.the_row
-ends_sent = declared_send ends.the_type (end_table_sent, tt)
+ends_sent =
+    declared_send ends.the_type (
+      table_sent (option.the_row leaving.the_row) knows.the_row (snapshot.the_row (queue.the_row buffer.the_row buffers.ghosts)) end_rule.the_row end_rules.ghosts left_sent,
+      tt,
+    )
 
 ends_sync : IsSync ends.the_row
 ends_sync = declared_sync ends.the_type (end_table_sync, tt)

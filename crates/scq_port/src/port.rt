@@ -1,15 +1,12 @@
 //! A port.
-ghost use Rattle.std.specs.Prelude.{◌≡◌, ◌==◌, ℕ, suc, ◌+◌, ◌<◌, ◌≤◌, is_none, length, map, Some};
-ghost use Rattle.std.specs.Prelude.{None, Err, IfOk, IfErr, IfSome};
-ghost use Rattle.std.specs.Arc.{arc_value};
+ghost use Rattle.std.specs.Prelude.{◌≡◌, ◌==◌, ℕ, suc, ◌+◌, ◌<◌, ◌≤◌, length, map, Some, None, Err};
+ghost use Rattle.std.specs.Prelude.{IfOk, IfErr, IfSome};
 ghost use Rattle.scq_word.specs.Exports.{n_of};
 ghost use Rattle.scq_queue.specs.Exports.{counts_of, lists_of};
-ghost use Rattle.scq_port.specs.Calls.{PortHasRetired, HasAsked, HasCounted, retired_pass};
-ghost use Rattle.scq_port.specs.Calls.{retired_port, IsLent, ValueIsTaken, IsSent};
-ghost use Rattle.scq_port.specs.Calls.{ValueIsGivenBack, WasFull};
+ghost use Rattle.scq_port.specs.Calls.{PortHasRetired, HasAsked, HasCounted, retired_port, IsLent};
+ghost use Rattle.scq_port.specs.Calls.{ValueIsTaken, IsSent, ValueIsGivenBack, WasFull};
 ghost use Rattle.scq_port.specs.Calls.{WasEmpty, IsSpentGet, IsSpentPut, HasNoRoom, HasTopic};
 ghost use Rattle.scq_port.specs.Calls.{HasNoTopic, HoldsNoSuch, HasPassEnded};
-ghost use Rattle.scq_port.specs.Kept.{KeepsHand, seen_as};
 ghost use Rattle.scq_port.specs.Ports.{buffer_bytes};
 ghost use Rattle.scq_port.specs.Closed.{HasClosedPorts};
 
@@ -206,59 +203,29 @@ impl Port {
     {
         let Port {
             owner,
-            pass,
+            mut pass,
             hand,
             topics: _,
             number,
             awake,
         } = self;
-        end(owner, pass, hand, number, awake)
+        retire(&owner.queue, &mut pass, awake);
+        let (ended, leaving) = let_go(owner.alloc, &owner.queue, pass, hand);
+        let last = Snapshot::of(&leaving);
+        let Some(token) = owner.ends.leave(number, leaving) else {
+            return (ended, None);
+        };
+        // who gets the queue back closes it
+        let Some(owner) = Arc::into_inner(owner) else {
+            return (ended, None);
+        };
+        let closed = owner.close(token, last);
+        (ended, closed)
     }
-}
-
-/// Retires a port, gives back what it holds, leaves its pass with the others, and lets go of its
-/// share of the queue; who gets the queue back closes it.
-fn end(
-    owner: Arc<Owner, Global>,
-    mut pass: Pass<PortBuffer>,
-    hand: Hand,
-    number: u32,
-    awake: bool,
-) -> (Snapshot<Pass<PortBuffer>>, Option<Closed<PortBuffer>>)
-    requires kept { KeepsHand (arc_value owner).queue pass hand }
-    requires number { pass.number ≡ number }
-    requires low { number < (arc_value owner).queue.setup.seats }
-    requires awake { awake ≡ is_none pass.retired }
-    ensures ended { HasPassEnded (seen_as (retired_pass pass) hand) result.0.value }
-    ensures closed { IfSome result.1 (λ closed.
-        HasClosedPorts (arc_value owner).queue result.0.value closed.passes.value.items
-        closed.left.items (map buffer_bytes closed.buffers.items)) }
-    ensures counts { IfSome result.1 (λ closed.
-        closed.counts.items ≡ map (λ p. counts_of (lists_of p)) closed.passes.value.items) }
-{
-    retire(&owner.queue, &mut pass, awake);
-    let (ended, leaving) = let_go(owner.alloc, &owner.queue, pass, hand);
-    let last = Snapshot::of(&leaving);
-    let Some(token) = owner.ends.leave(number, leaving) else {
-        return (ended, None);
-    };
-    let Some(owner) = Arc::into_inner(owner) else {
-        return (ended, None);
-    };
-    let closed = owner.close(token, last);
-    (ended, closed)
 }
 
 impl Drop for Port {
     fn drop(self) {
-        let Port {
-            owner,
-            pass,
-            hand,
-            topics: _,
-            number,
-            awake,
-        } = self;
-        let _ended = end(owner, pass, hand, number, awake);
+        let _ended = self.close();
     }
 }

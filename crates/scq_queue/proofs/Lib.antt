@@ -3,7 +3,7 @@ pub mod Records
 pub mod HeldValues
 pub mod Leaving
 pub mod PassSteps
-mod NewPasses
+pub mod NewPasses
 mod Ends
 pub mod HeldOnce
 pub mod PassesSent

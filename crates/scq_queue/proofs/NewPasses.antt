@@ -28,6 +28,10 @@ module _ {B : Type 0} where
       map-append (λ (s : Standing B). pass_over s []) (first_standings band k) (first_standing band k ∷ [])
       ∙ ap (λ (l : List (PassStanding B)). l ++ first_pass band k ∷ []) (passes_over band k)
 
+  pub as_many_passes : (queue : Identity B) (k : ℕ) → length (first_passes queue k) ≡ k
+  as_many_passes queue zero = refl
+  as_many_passes queue (suc k) = length_push (first_passes queue k) (first_pass queue k) ∙ (let rest = as_many_passes queue k in omega arith)
+
   pub all_own : (queue : Identity B) (k : ℕ) → All (λ (p : PassStanding B). p.queue ≡ queue) (first_passes queue k)
   all_own queue zero = All-nil (λ (p : PassStanding B). p.queue ≡ queue)
   all_own queue (suc k) = All-push (λ (p : PassStanding B). p.queue ≡ queue) (first_passes queue k) (first_pass queue k) (all_own queue k) refl

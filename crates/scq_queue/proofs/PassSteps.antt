@@ -1,16 +1,16 @@
 -- What a call of its seat makes of a pass: what it keeps, and how its caller sees it.
-use Rattle.std.proofs.Common.{◌≡◌, ℕ, suc, ◌+◌, ◌-◌, ◌^◌, ◌<◌, List, [], ◌∷◌, ◌++◌, length, sym, ◌∙◌, ap, subst, inl, inr, arith, add-one}
+use Rattle.std.proofs.Common.{◌≡◌, ℕ, suc, ◌+◌, ◌-◌, ◌^◌, ◌<◌, List, [], ◌∷◌, ◌++◌, length, sym, ◌∙◌, ap, subst, refl, inl, inr, arith, add-one}
+use mathlib.Core.Path.{transport}
 use Rattle.std.specs.Prelude.{Bool, Some, None, min}
 use Rattle.std.proofs.lemmas.List.{length-append}
 use Rattle.scq_core.specs.declared.ended.Ended.{Ended}
-use Rattle.scq_core.specs.declared.ended.Ended.TheVariants.{Done, Got, Nothing}
+use Rattle.scq_core.specs.declared.ended.Ended.TheVariants.{Done, Got, Nothing, Spent}
 use Rattle.scq_law.specs.Exports.{tally}
-use Rattle.scq_band.specs.Exports.{Identity}
+use Rattle.scq_band.specs.Exports.{Identity, Caller, IsCallInRun, opening_of}
 use Rattle.scq_band.specs.Standing.{Standing}
 use Rattle.scq_queue.specs.declared.counts.Counts.{Counts}
 use Rattle.scq_queue.specs.Exports.{was_full, fulls_in, with_send, with_take, counted, counts_of, PassStanding, HeldStanding, WasGivenBack, lists_of}
-use Rattle.scq_queue.specs.Exports.{was_told, CameOff, WasLentOne, WasPutOn, FoundRingEmpty, FoundNoneFree, WasSpent, IsInRun, StaysLifted, IsPass}
-use Rattle.scq_queue.specs.Exports.{pass_over}
+use Rattle.scq_queue.specs.Exports.{was_told, CameOff, WasLentOne, WasPutOn, FoundRingEmpty, WasSpent, StaysLifted, IsPass, pass_over, caller_of}
 use Rattle.scq_queue.proofs.HeldValues.{cases_spent}
 
 -- one Full more in a record, or none
@@ -27,7 +27,7 @@ length_more xs x = ap counted (length-append xs (x ∷ [])) ∙ sym (counted_mor
 
 module _ {B : Type 0} where
   -- what a pass keeps, once its seat made a call
-  module _ {saw : Bool} (s later : Standing B) (heads : List ℕ) (counts : Counts) (is : IsPass s heads counts saw) (stays : StaysLifted s later) where
+  module _ {saw : Bool} {s later : Standing B} {heads : List ℕ} {counts : Counts} (is : IsPass s heads counts saw) (stays : StaysLifted s later) where
     keeps : (more : List ℕ) (now : Counts) (e : Ended) → later.calls ≡ s.calls ++ e ∷ [] → length more ≡ length heads + was_full e
         → now ≡ counts_of (lists_of (pass_over later more)) → IsPass later more now saw
     keeps more now e calls longer counts_now =
@@ -43,20 +43,24 @@ module _ {B : Type 0} where
         → IsPass later heads counts saw
     keeps_same e none calls lists = keeps heads counts e calls (let full = none in omega arith) (is.counted ∙ ap counts_of (sym lists))
 
-    pub keeps_sent : (queue : Identity B) (t place i : ℕ) (w : List ℕ) (sent : ℕ)
-        → WasPutOn queue (suc t) place i w (pass_over s heads) (pass_over later heads) → sent ≡ min (counts.sent + 1) (2 ^ 64 - 1)
+    pub keeps_sent : {queue : Identity B} (t : ℕ) {place i : ℕ} {w : List ℕ} {sent : ℕ}
+        → WasPutOn queue (t + 1) place i w (pass_over s heads) (pass_over later heads) → sent ≡ min (counts.sent + 1) (2 ^ 64 - 1)
         → IsPass later heads (record counts { sent = sent }) saw
-    keeps_sent queue t place i w sent put one =
+    keeps_sent {queue = queue} t {place = place} {i = i} {w = w} {sent = sent} on one =
+        let put : WasPutOn queue (suc t) place i w (pass_over s heads) (pass_over later heads) =
+        transport (λ k. WasPutOn queue (add-one t k) place i w (pass_over s heads) (pass_over later heads)) on in
         let l = lists_of (pass_over s heads) in
         keeps heads (record counts { sent = sent }) (Done (suc t) place w) (ap (λ (p : PassStanding B). p.calls) put.pass) (omega arith)
         (ap (λ (n : ℕ). record counts { sent = n }) (one ∙ ap (λ (c : Counts). min (c.sent + 1) (2 ^ 64 - 1)) is.counted
         ∙ sym (length_more l.sends (record { topic = t; place = place; bytes = w })))
         ∙ ap (λ (c : Counts). record c { sent = counted (length (with_send t place w l).sends) }) is.counted ∙ ap counts_of (sym put.lists))
 
-    pub keeps_taken : (contents : B → List ℕ) (IsSame : B → B → Type 0) (queue : Identity B) (t place : ℕ) (h : HeldStanding B) (taken : ℕ)
-        → CameOff contents IsSame queue (suc t) place (pass_over s heads) (pass_over later heads) h → taken ≡ min (counts.taken + 1) (2 ^ 64 - 1)
+    pub keeps_taken : {contents : B → List ℕ} {IsSame : B → B → Type 0} {queue : Identity B} (t : ℕ) {place : ℕ} {h : HeldStanding B} {taken : ℕ}
+        → CameOff contents IsSame queue (t + 1) place (pass_over s heads) (pass_over later heads) h → taken ≡ min (counts.taken + 1) (2 ^ 64 - 1)
         → IsPass later heads (record counts { taken = taken }) saw
-    keeps_taken contents IsSame queue t place h taken came one =
+    keeps_taken {contents = contents} {IsSame = IsSame} {queue = queue} t {place = place} {h = h} {taken = taken} off one =
+        let came : CameOff contents IsSame queue (suc t) place (pass_over s heads) (pass_over later heads) h =
+        transport (λ k. CameOff contents IsSame queue (add-one t k) place (pass_over s heads) (pass_over later heads) h) off in
         let l = lists_of (pass_over s heads) in
         let w = contents h.buffer in
         keeps heads (record counts { taken = taken }) (Got (suc t) place w) (ap (λ (p : PassStanding B). p.calls) came.got.pass) (omega arith)
@@ -64,10 +68,10 @@ module _ {B : Type 0} where
         ∙ sym (length_more l.takes (record { topic = t; place = place; bytes = w })))
         ∙ ap (λ (c : Counts). record c { taken = counted (length (with_take t place w l).takes) }) is.counted ∙ ap counts_of (sym came.lists))
 
-    pub keeps_full : (contents : B → List ℕ) (queue : Identity B) (head : ℕ) (more : List ℕ) (full : ℕ) → more ≡ heads ++ head ∷ []
+    pub keeps_full : {contents : B → List ℕ} {queue : Identity B} {head : ℕ} {more : List ℕ} {full : ℕ} → more ≡ heads ++ head ∷ []
         → FoundRingEmpty contents queue 0 head (pass_over s more) (pass_over later more) → full ≡ min (counts.full + 1) (2 ^ 64 - 1)
         → IsPass later more (record counts { full = full }) saw
-    keeps_full contents queue head more full grown found one =
+    keeps_full {head = head} {more = more} {full = full} grown found one =
         keeps more (record counts { full = full }) (Nothing 0) (ap (λ (p : PassStanding B). p.calls) found.found.pass)
         (ap length grown ∙ length-append heads (head ∷ []))
         (ap (λ (n : ℕ). record counts { full = n }) (one ∙ ap (λ (c : Counts). min (c.full + 1) (2 ^ 64 - 1)) is.counted ∙ sym (length_more heads head))
@@ -75,38 +79,30 @@ module _ {B : Type 0} where
         ∙ ap (λ (l : List ℕ). counts_of (lists_of (pass_over s l))) (sym grown) ∙ ap counts_of (sym found.lists))
 
     -- where the call was refused for a spent ticket, which the pass kept or drew now
-    pub keeps_spent : {X : ℕ → Type 0} (queue : Identity B) (ticket : ℕ) (after : PassStanding B) (e : Ended) → was_full e ≡ 0
-        → after.calls ≡ s.calls ++ e ∷ [] → WasSpent queue ticket after (pass_over s heads) (pass_over later heads)
+    pub keeps_spent : {X : ℕ → Type 0} {queue : Identity B} {ticket : ℕ} {after : PassStanding B} (ring : ℕ) (is_put : Bool)
+        → WasSpent queue ticket after (pass_over s heads) (pass_over later heads) → after.calls ≡ s.calls ++ Spent ring ticket is_put ∷ []
         → ((old : ℕ) → s.spent ≡ Some old → X old × (later ≡ s)) → IsPass later heads counts saw
-    keeps_spent queue ticket after e none calls spent kept =
+    keeps_spent {ticket = ticket} ring is_put spent calls kept =
         elim (cases_spent s.spent) [
-          | inl fresh ↦ keeps_same e none (ap (λ (p : PassStanding B). p.calls) (spent.drawn fresh).0 ∙ calls) spent.lists
+          | inl fresh ↦
+              keeps_same (Spent ring ticket is_put) refl (ap (λ (p : PassStanding B). p.calls) (spent.drawn fresh).0 ∙ calls) spent.lists
           | inr some ↦ subst (λ (t : Standing B). IsPass t heads counts saw) (sym (kept some.0 some.1).1) is
         ]
 
-  -- what is said of a band, and of a pass over a seat, is said of the queue and the pass as the caller sees them
-  pub as_seen : (P : Identity B → PassStanding B → Type 0) {band queue : Identity B} {p old : PassStanding B} → band ≡ queue → p ≡ old → P band p → P queue old
-  as_seen P {band = band} {old = old} same view said = subst (λ (q : Identity B). P q old) same (subst (λ (x : PassStanding B). P band x) view said)
+  -- what is said of a band, and of a pass over a seat, is said of the queue and the pass as the caller sees them: that a call was in the run, that a
+  -- value was lent, and that one was given back
+  pub in_run_seen : (contents : B → List ℕ) {later : Caller} {band queue : Identity B} {p old : PassStanding B} → band ≡ queue → p ≡ old
+      → (p.spent ≡ None → List ℕ → IsCallInRun band.setup (opening_of contents band.given) (caller_of p) later) → old.spent ≡ None
+      → IsCallInRun queue.setup (opening_of contents queue.given) (caller_of old) later
+  in_run_seen contents {later = later} same view said fresh =
+      transport (λ i. IsCallInRun (same i).setup (opening_of contents (same i).given) (caller_of (view i)) later)
+      (said (ap (λ (p : PassStanding B). p.spent) view ∙ fresh) [])
 
-  pub on_topic_seen : (P : Identity B → ℕ → PassStanding B → Type 0) (t : ℕ) {band queue : Identity B} {p old : PassStanding B} → band ≡ queue → p ≡ old
-      → P band (t + 1) p → P queue (suc t) old
-  on_topic_seen P t {band = band} {p = p} same view said =
-      as_seen (λ (q : Identity B) (x : PassStanding B). P q (suc t) x) same view (subst (λ (r : ℕ). P band r p) (add-one t) said)
-
-  pub in_run_seen : (contents : B → List ℕ) (s later : Standing B) (heads : List ℕ) {band queue : Identity B} {old : PassStanding B} → band ≡ queue
-      → pass_over s heads ≡ old → (s.spent ≡ None → (fulls : List ℕ) → IsInRun contents band (pass_over s fulls) (pass_over later fulls))
-      → old.spent ≡ None → IsInRun contents queue old (pass_over later heads)
-  in_run_seen contents s later heads same view said fresh =
-      as_seen (λ (q : Identity B) (p : PassStanding B). IsInRun contents q p (pass_over later heads)) same view
-      (said (ap (λ (p : PassStanding B). p.spent) view ∙ fresh) heads)
-
-  -- a value that was lent, and one that was given back
-  pub lent_seen : (contents : B → List ℕ) (IsSame : B → B → Type 0) (place : ℕ) (new : PassStanding B) (h : HeldStanding B) {band queue : Identity B}
+  pub lent_seen : {contents : B → List ℕ} {IsSame : B → B → Type 0} {place : ℕ} {new : PassStanding B} {h : HeldStanding B} {band queue : Identity B}
       {p old : PassStanding B} → band ≡ queue → p ≡ old → old.queue ≡ queue → CameOff contents IsSame band 0 place p new h
       → WasLentOne contents IsSame queue old new h
-  lent_seen contents IsSame place new h {queue = queue} {old = old} same view own off =
-      let came : CameOff contents IsSame queue 0 place old new h =
-      as_seen (λ (q : Identity B) (x : PassStanding B). CameOff contents IsSame q 0 place x new h) same view off in
+  lent_seen {contents = contents} {IsSame = IsSame} {place = place} {new = new} {h = h} {queue = queue} {old = old} same view own off =
+      let came : CameOff contents IsSame queue 0 place old new h = transport (λ i. CameOff contents IsSame (same i) 0 place (view i) new h) off in
       record {
         lent = record {
           place = place;
@@ -119,10 +115,10 @@ module _ {B : Type 0} where
         lists = came.lists;
       }
 
-  pub given_seen : (place i : ℕ) (w : List ℕ) (new : PassStanding B) {band queue : Identity B} {p old : PassStanding B} → band ≡ queue → p ≡ old
+  pub given_seen : {place i : ℕ} {w : List ℕ} {new : PassStanding B} {band queue : Identity B} {p old : PassStanding B} → band ≡ queue → p ≡ old
       → old.queue ≡ queue → WasPutOn band 0 place i w p new → WasGivenBack w i old new
-  given_seen place i w new {queue = queue} {old = old} same view own on =
-      let put : WasPutOn queue 0 place i w old new = as_seen (λ (q : Identity B) (x : PassStanding B). WasPutOn q 0 place i w x new) same view on in
+  given_seen {place = place} {i = i} {w = w} {new = new} {queue = queue} {old = old} same view own on =
+      let put : WasPutOn queue 0 place i w old new = transport (λ k. WasPutOn (same k) 0 place i w (view k) new) on in
       record {
         place = place;
         pass = put.pass;
@@ -130,12 +126,3 @@ module _ {B : Type 0} where
         known = put.known;
         lists = put.lists;
       }
-
-  -- no buffer was free: the pass has one Full reply more
-  pub full_seen : (contents : B → List ℕ) (s later : Standing B) (heads more : List ℕ) (head : ℕ) {band queue : Identity B} {old : PassStanding B}
-      → band ≡ queue → pass_over s heads ≡ old → more ≡ heads ++ head ∷ []
-      → FoundRingEmpty contents band 0 head (pass_over s (heads ++ head ∷ [])) (pass_over later (heads ++ head ∷ []))
-      → FoundNoneFree contents queue head old (pass_over later more)
-  full_seen contents s later heads more head {band = band} same view grown found =
-      as_seen (λ (q : Identity B) (p : PassStanding B). FoundNoneFree contents q head p (pass_over later more)) same view
-      (subst (λ (l : List ℕ). FoundRingEmpty contents band 0 head (pass_over s (heads ++ head ∷ [])) (pass_over later l)) (sym grown) found)

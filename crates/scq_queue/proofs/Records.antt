@@ -4,7 +4,7 @@ use Rattle.std.specs.Prelude.{Option, Some, None, ◌==◌, if◌then◌else◌,
 use Rattle.std.specs.List.{filter_map}
 use Rattle.std.proofs.lemmas.List.{append-nil}
 use Rattle.std.proofs.lemmas.List.Elements.{filter_map-append}
-use Rattle.std.proofs.lemmas.List.Sums.{sum_by-cons}
+use Rattle.std.proofs.lemmas.List.Sums.{sum_by-append}
 use Rattle.std.proofs.Math.Dec.{eqb-suc-suc, eqb-zero-suc}
 use Rattle.scq_core.specs.declared.ended.Ended.{Ended}
 use Rattle.scq_core.specs.declared.ended.Ended.TheVariants.{Done, Got, Nothing, Spent}
@@ -111,30 +111,32 @@ taken_call (Done r p w) m e = absurd (cc)
 taken_call (Nothing r) m e = absurd (cc)
 taken_call (Spent r t is_put) m e = absurd (cc)
 
--- how many of a list are of a topic, with one more in front
-on_topic-cons : (t : ℕ) (m : Placed) (ms : List Placed) → on_topic t (m ∷ ms) ≡ (if m.topic == t then 1 else 0) + on_topic t ms
-on_topic-cons t m ms = sum_by-cons (λ (u : Placed). cond (u.topic == t) 1 0) m ms
-
-none_more : (n : ℕ) → 0 + n ≡ n
-none_more n = omega arith
+-- the calls that count for a topic are as many as the members of the topic that all calls give, where each call counts for what it gives
+tallied : (t : ℕ) (count : Ended → ℕ) (h : Ended → Option Placed) → ((e : Ended) → count e ≡ on_topic t (filter_map h (e ∷ [])))
+    → (calls : List Ended) → tally count calls ≡ on_topic t (filter_map h calls)
+tallied t count h one [] = refl
+tallied t count h one (x ∷ xs) =
+    rw (one x, tallied t count h one xs)
+    (sym (ap (on_topic t) (filter_map-append h (x ∷ []) xs)
+    ∙ sum_by-append (λ (u : Placed). cond (u.topic == t) 1 0) (filter_map h (x ∷ [])) (filter_map h xs)))
 
 -- the puts that a record has of a topic's ring are its sends of the topic, and the gets its takes
 pub done_sent : (t : ℕ) (calls : List Ended) → tally (was_done (suc t)) calls ≡ on_topic t (sends_of calls)
-done_sent t [] = refl
-done_sent t (Done zero p w ∷ xs) = rw (eqb-zero-suc t) (none_more (tally (was_done (suc t)) xs) ∙ done_sent t xs)
-done_sent t (Done (suc q) p w ∷ xs) =
-    rw (eqb-suc-suc q t) (ap (λ (n : ℕ). (if q == t then 1 else 0) + n) (done_sent t xs)
-    ∙ sym (on_topic-cons t (record { topic = q; place = p; bytes = w }) (sends_of xs)))
-done_sent t (Got r p w ∷ xs) = none_more (tally (was_done (suc t)) xs) ∙ done_sent t xs
-done_sent t (Nothing r ∷ xs) = none_more (tally (was_done (suc t)) xs) ∙ done_sent t xs
-done_sent t (Spent r k is_put ∷ xs) = none_more (tally (was_done (suc t)) xs) ∙ done_sent t xs
+done_sent t = tallied t (was_done (suc t)) sent_by one
+  where
+    one : (e : Ended) → was_done (suc t) e ≡ on_topic t (sends_of (e ∷ []))
+    one (Done zero p w) = rw (eqb-zero-suc t) refl
+    one (Done (suc q) p w) = rw (eqb-suc-suc q t) (omega arith)
+    one (Got r p w) = refl
+    one (Nothing r) = refl
+    one (Spent r k is_put) = refl
 
 pub got_taken : (t : ℕ) (calls : List Ended) → tally (was_got (suc t)) calls ≡ on_topic t (takes_of calls)
-got_taken t [] = refl
-got_taken t (Got zero p w ∷ xs) = rw (eqb-zero-suc t) (none_more (tally (was_got (suc t)) xs) ∙ got_taken t xs)
-got_taken t (Got (suc q) p w ∷ xs) =
-    rw (eqb-suc-suc q t) (ap (λ (n : ℕ). (if q == t then 1 else 0) + n) (got_taken t xs)
-    ∙ sym (on_topic-cons t (record { topic = q; place = p; bytes = w }) (takes_of xs)))
-got_taken t (Done r p w ∷ xs) = none_more (tally (was_got (suc t)) xs) ∙ got_taken t xs
-got_taken t (Nothing r ∷ xs) = none_more (tally (was_got (suc t)) xs) ∙ got_taken t xs
-got_taken t (Spent r k is_put ∷ xs) = none_more (tally (was_got (suc t)) xs) ∙ got_taken t xs
+got_taken t = tallied t (was_got (suc t)) taken_by one
+  where
+    one : (e : Ended) → was_got (suc t) e ≡ on_topic t (takes_of (e ∷ []))
+    one (Done r p w) = refl
+    one (Got zero p w) = rw (eqb-zero-suc t) refl
+    one (Got (suc q) p w) = rw (eqb-suc-suc q t) (omega arith)
+    one (Nothing r) = refl
+    one (Spent r k is_put) = refl

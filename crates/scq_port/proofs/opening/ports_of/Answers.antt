@@ -5,7 +5,8 @@ use Rattle.std.proofs.lemmas.List.{reverse-reverse, length-append}
 use Rattle.scq_queue.specs.Exports.{PassStanding}
 use Rattle.scq_port.specs.declared.port_buffer.PortBuffer.{PortBuffer}
 use Rattle.scq_port.specs.Exports.{PortStanding, new_port, HoldsNothing}
-use Rattle.scq_port.proofs.Opened.{all_fresh, all_last, all_others, one_more, next_number, first_passes_length}
+use Rattle.scq_queue.proofs.NewPasses.{as_many_passes}
+use Rattle.scq_port.proofs.Opened.{all_fresh, all_last, all_others, one_more, next_number}
 use Rattle.scq_port.proofs.opening.ports_of.Goals as goal
 
 pub loop-pass-init : goal.loop-pass-init
@@ -18,7 +19,7 @@ loop-pass-init c =
       subst (λ (l : List (PassStanding PortBuffer)). All (HoldsNothing queue) l)
           (ap (λ (l : List (PassStanding PortBuffer)). reverse l) (sym c.requires.passes) ∙ sym turned) (all_fresh queue c.args.setup.seats),
       let none : length c.in_ok-ports.ports.items ≡ 0 = ap length c.in_ok-ports.ensures.items in
-          omega (arith, none, c.reverse.ensures.len, c.args.passes.ok.0, ap length c.requires.passes, first_passes_length queue c.args.setup.seats),
+          omega (arith, none, c.reverse.ensures.len, c.args.passes.ok.0, ap length c.requires.passes, as_many_passes queue c.args.setup.seats),
     )
 
 pub port_of-requires-clause-fresh : goal.port_of-requires-clause-fresh

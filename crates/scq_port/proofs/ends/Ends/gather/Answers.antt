@@ -8,7 +8,7 @@ use Rattle.scq_band.proofs.Unloading.{read_word, length_next, empty_next, full_n
 use Rattle.scq_port.specs.declared.port_buffer.PortBuffer.{PortBuffer}
 use Rattle.scq_port.specs.Exports.{PortQueue, Laid, IsPassOf, AreAdded}
 use Rattle.scq_port.proofs.EndSteps.{left_there, own_there}
-use Rattle.scq_port.proofs.Gathering.{gathered_less, gathered_more, gathered_all}
+use Rattle.scq_port.proofs.Gathering.{PassesAreGathered, gathered_less, gathered_more, gathered_all}
 use Rattle.scq_port.proofs.ends.Ends.gather.Goals as goal
 use Rattle.scq_port.proofs.ends.Ends.gather.Goals.{then-word-eq-LAID+in-Some, in-Some-unpack, in_default-unpack, else-word-eq-LAID}
 
@@ -45,6 +45,15 @@ loop-slot-preserved c =
     let low : i < length (slots_items closed.slots) =
     omega (arith, c.loop-slot-test.true, c.slot_count.ensures, inv.1, closed.slots.ok.0) in
     let less : i < slots_len c.loop-slot.closed.slots = omega (arith, c.loop-slot-test.true, c.slot_count.ensures) in
+    let passed = c.if-word-eq-LAID.passes in
+    let Went : Type 0 = (vec_capacity passed ≡ vec_capacity c.args.passes) × (length passed.items ≤ i + 1)
+    × PassesAreGathered queue (slots_items closed.slots) (i + 1) passed.items c.if-word-eq-LAID.values.items in
+    let stayed : passed ≡ c.loop-slot.passes → Went = λ kept. (
+      subst (λ v. vec_capacity v ≡ vec_capacity c.args.passes) (sym kept) inv.3,
+      subst (λ v. length v.items ≤ i + 1) (sym kept) (let few = inv.4 in omega (arith, few)),
+      gathered_less queue (slots_items closed.slots) i passes passed.items values c.if-word-eq-LAID.values.items inv.8 (ap (λ v. v.items) kept),
+    ) in
+    let went : Went =
     elim c.if-word-eq-LAID.branch [
       | then-word-eq-LAID+in-Some w ↦
           let word : slice_index (slots_items closed.words) i ≡ 2 =
@@ -58,54 +67,33 @@ loop-slot-preserved c =
           let here : get_elem? (slots_items closed.slots) i ≡ some (Some q) = at ∙ ap some w.in-Some.is in
           elim w.match-unpack.branch [
             | in-Some-unpack w' ↦
-                let list : c.if-word-eq-LAID.passes.items ≡ passes ++ w'.in-Some-unpack.pass ∷ [] =
+                let list : passed.items ≡ passes ++ w'.in-Some-unpack.pass ∷ [] =
                 subst (λ v. v.items ≡ passes ++ w'.in-Some-unpack.pass ∷ []) (sym (w.passes-is ∙ w'.passes-is)) w'.push_reserved.ensures.items in
-                let more : c.if-word-eq-LAID.passes.items ≡ passes ++ q ∷ [] =
+                let more : passed.items ≡ passes ++ q ∷ [] =
                 list ∙ ap (λ (p : PassStanding PortBuffer). passes ++ p ∷ []) w'.in-Some-unpack.ensures.pass in
-                let many : length c.if-word-eq-LAID.passes.items ≡ length passes + 1 = ap length more ∙ length_next passes q in
+                let many : length passed.items ≡ length passes + 1 = ap length more ∙ length_next passes q in
                 let added : AreAdded queue q values c.if-word-eq-LAID.values.items =
                 subst (λ v. AreAdded queue q values v.items) (sym w.values-is)
                 (subst (λ (z : PortQueue). AreAdded z q values w.unpack.new.values.items) mine.own w'.in-Some-unpack.ensures.added) in (
-                  o.0 ∙ inv.0,
-                  o.2 ∙ inv.1,
-                  o.3 ∙ inv.2,
                   subst (λ v. vec_capacity v ≡ vec_capacity c.args.passes) (sym (w.passes-is ∙ w'.passes-is))
                       (w'.push_reserved.ensures.capacity ∙ inv.3),
                   omega (arith, many, inv.4),
-                  omega (arith, less, o.2),
-                  λ k under. rw o.1 (empty_next filled i inv.6 k under),
-                  λ k past under. rw o.1 (full_next filled i (slots_len c.loop-slot.closed.slots) inv.7 k past (omega (arith, under, o.2))),
-                  gathered_more queue (slots_items closed.slots) i passes c.if-word-eq-LAID.passes.items values c.if-word-eq-LAID.values.items q
-                      inv.8 here mine more added,
+                  gathered_more queue (slots_items closed.slots) i passes passed.items values c.if-word-eq-LAID.values.items q inv.8 here mine more added,
                 )
-            | in_default-unpack w' ↦
-                let kept = w.passes-is ∙ w'.passes-is in (
-                  o.0 ∙ inv.0,
-                  o.2 ∙ inv.1,
-                  o.3 ∙ inv.2,
-                  subst (λ v. vec_capacity v ≡ vec_capacity c.args.passes) (sym kept) inv.3,
-                  subst (λ v. length v.items ≤ i + 1) (sym kept) (let few = inv.4 in omega (arith, few)),
-                  omega (arith, less, o.2),
-                  λ k under. rw o.1 (empty_next filled i inv.6 k under),
-                  λ k past under. rw o.1 (full_next filled i (slots_len c.loop-slot.closed.slots) inv.7 k past (omega (arith, under, o.2))),
-                  gathered_less queue (slots_items closed.slots) i passes c.if-word-eq-LAID.passes.items values c.if-word-eq-LAID.values.items
-                      inv.8 (ap (λ v. v.items) kept),
-                )
+            | in_default-unpack w' ↦ stayed (w.passes-is ∙ w'.passes-is)
           ]
-      | else-word-eq-LAID w ↦
-          let kept = w.passes-is in (
-            o.0 ∙ inv.0,
-            o.2 ∙ inv.1,
-            o.3 ∙ inv.2,
-            subst (λ v. vec_capacity v ≡ vec_capacity c.args.passes) (sym kept) inv.3,
-            subst (λ v. length v.items ≤ i + 1) (sym kept) (let few = inv.4 in omega (arith, few)),
-            omega (arith, less, o.2),
-            λ k under. rw o.1 (empty_next filled i inv.6 k under),
-            λ k past under. rw o.1 (full_next filled i (slots_len c.loop-slot.closed.slots) inv.7 k past (omega (arith, under, o.2))),
-            gathered_less queue (slots_items closed.slots) i passes c.if-word-eq-LAID.passes.items values c.if-word-eq-LAID.values.items inv.8
-                (ap (λ v. v.items) kept),
-          )
-    ]
+      | else-word-eq-LAID w ↦ stayed w.passes-is
+    ] in (
+      o.0 ∙ inv.0,
+      o.2 ∙ inv.1,
+      o.3 ∙ inv.2,
+      went.0,
+      went.1,
+      omega (arith, less, o.2),
+      λ k under. rw o.1 (empty_next filled i inv.6 k under),
+      λ k past under. rw o.1 (full_next filled i (slots_len c.loop-slot.closed.slots) inv.7 k past (omega (arith, under, o.2))),
+      went.2,
+    )
 
 pub returns : goal.returns
 returns c =
