@@ -11,7 +11,7 @@ use Rattle.scq_core.specs.declared.step.Step.{Step}
 use Rattle.scq_core.specs.declared.slot.Cell.{Cell}
 use Rattle.scq_core.specs.declared.slot.Slot.{Slot}
 use Rattle.scq_core.specs.Exports.{SeatPart, writes, stores, after, turn_of, ring_of, cell_of, RingLists, IsCell, word_in, content_in, ring_with}
-use Rattle.scq_core.specs.Exports.{ring_in, no_slot, no_ring, HasRings, copied, started, ends_call, found_by, beside_by, WantsMemory, Advances}
+use Rattle.scq_core.specs.Exports.{ring_in, no_slot, no_ring, HasRings, copied, started, ends_call, found_by, beside_by, WantsMemory, Advances, CanTurn, IsReady}
 use Rattle.scq_core.proofs.TurnCells.{is_cell}
 use Rattle.scq_core.proofs.Turns.{enabled_turn}
 
@@ -58,6 +58,21 @@ advanced c step rings seat seat_then turn i ring lent ring_then p found word bes
       part = rw (← read, ← near) (part beside (sym copy_is));
     }
 
+-- the word that was read is the one that the turn finds
+found_is_read : (c : Setup) (rings : List RingLists) (turn : Phase) (i : ℕ) (ring : RingLists) (p : Cell) (found : ℕ) → HasRings c rings
+    → ring_of turn < c.rings → i ≡ ring_of turn → ring ≡ slice_index_or rings i ring → p ≡ cell_of c turn
+    → ((past : Slot) → found ≡ word_in past ring p) → found ≡ found_by c rings turn
+found_is_read c rings turn i ring p found has low at is cell found_is =
+    let within : i < length rings = omega (arith, has.0) in
+    let one : ring ≡ ring_in c rings (ring_of turn) = ring_read c rings i ring within is ∙ ap (ring_in c rings) at in
+    rw (← one, ← cell) (found_is (no_slot c))
+
+pub is_ready : (c : Setup) (rings : List RingLists) (turn : Phase) (i : ℕ) (ring : RingLists) (p : Cell) (found : ℕ) → HasRings c rings
+    → CanTurn c rings turn → i ≡ ring_of turn → ring ≡ slice_index_or rings i ring → p ≡ cell_of c turn
+    → ((past : Slot) → found ≡ word_in past ring p) → IsReady c turn found
+is_ready c rings turn i ring p found has can at is cell found_is =
+    rw (found_is_read c rings turn i ring p found has can.ring at is cell found_is) can.ready
+
 -- a step that is enabled isn't answered with NotEnabled
 pub wanted : (result : Result (Unit {0}) ApplyFault) → IsErrAnd result (λ fault. fault ≡ NoMemory) → ¬ (result ≡ Err NotEnabled)
 wanted (Ok u) h = λ e. absurd cc
@@ -73,8 +88,6 @@ pub wants_end : (c : Setup) (step : Step) (rings : List RingLists) (seat : SeatP
     → HasRings c rings → ring_of turn < c.rings → turn_of c seat step ≡ Some turn → i ≡ ring_of turn → ring ≡ slice_index_or rings i ring
     → p ≡ cell_of c turn → ((past : Slot) → found ≡ word_in past ring p) → ends_call c turn found ≡ true → WantsMemory c seat step rings
 wants_end c step rings seat turn i ring p found has low enabled at is cell found_is ends =
-    let within : i < length rings = omega (arith, has.0) in
-    let one : ring ≡ ring_in c rings (ring_of turn) = ring_read c rings i ring within is ∙ ap (ring_in c rings) at in
-    let read : found ≡ found_by c rings turn = rw (← one, ← cell) (found_is (no_slot c)) in
+    let read = found_is_read c rings turn i ring p found has low at is cell found_is in
     let here : ends_call c turn (found_by c rings turn) ≡ true = rw (← read) ends in
     inr (λ other other_is. let same : turn ≡ other = cc in subst (λ t. ends_call c t (found_by c rings t) ≡ true) same here)
