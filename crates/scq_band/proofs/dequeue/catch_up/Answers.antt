@@ -10,38 +10,33 @@ use Rattle.scq_band.proofs.RunShown.{went_on, goes_then}
 use Rattle.scq_band.proofs.dequeue.catch_up.Goals as goal
 use Rattle.scq_band.proofs.dequeue.catch_up.Goals.{After-exchange, After-head, After-load-to, After-load-from}
 
-alone : (g : _) (c : After-exchange g) → IsAlone c.tries.token.me.0.known
-alone g c =
-    alone_at c.args.token.now.me.0.known c.tries.token.me.0.known (AtD7 c.args.ring.now.number c.args.ticket c.tries.from c.tries.to) c.requires.alone
-    c.tries.invariant.3
-
 stays : (g : _) (c : After-exchange g) → c.exchange.new.token.me.1 ≡ c.args.token.now.me.1
 stays g c =
     (turned_as (ap my_phase c.tries.invariant.3) c.exchange.ensures.turned).slots
     ∙ c.tries.invariant.2
 
 -- Tail was not lifted: it is to be loaded again, after Head
-missed : (g : _) (c : After-head g) → IsAlone c.tries.token.me.0.known
-    → c.exchange.new.token.me.0.known ≡ goes_to (AtD8 c.args.ring.now.number c.args.ticket c.tries.from) c.tries.token.me.0.known
-missed g c stands =
-    lift_missed _ c.args.words.now.key.setup (known_me c.tries.token.me) (known_me c.exchange.new.token.me) _ c.exchange.result c.args.ring.now.number
-    c.args.ticket c.tries.from c.tries.to (ap my_phase c.tries.invariant.3) stands c.if-exchange-from.false c.exchange.ensures.turned
-
-beside : (g : _) (c : After-head g) → IsAlone c.tries.token.me.0.known → IsAlone c.exchange.new.token.me.0.known
-beside g c stands =
-    alone_at c.tries.token.me.0.known c.exchange.new.token.me.0.known (AtD8 c.args.ring.now.number c.args.ticket c.tries.from) stands (missed g c stands)
+missed : (g : _) (c : After-head g)
+    → (c.exchange.new.token.me.0.known ≡ goes_to (AtD8 c.args.ring.now.number c.args.ticket c.tries.from) c.tries.token.me.0.known)
+    × IsAlone c.exchange.new.token.me.0.known
+missed g c =
+    let stands = alone_at _ _ _ c.requires.alone c.tries.invariant.3 in
+    let next = lift_missed _ c.args.words.now.key.setup (known_me c.tries.token.me) (known_me c.exchange.new.token.me) _ c.exchange.result
+    c.args.ring.now.number c.args.ticket c.tries.from c.tries.to (ap my_phase c.tries.invariant.3) stands c.if-exchange-from.false
+    c.exchange.ensures.turned in
+    (next, alone_at _ _ _ stands next)
 
 -- and Head was loaded
-again : (g : _) (c : After-load-to g) → IsAlone c.tries.token.me.0.known
-    → c.exchange.new.token.me.0.known ≡ goes_to (AtD8 c.args.ring.now.number c.args.ticket c.tries.from) c.tries.token.me.0.known
-    → c.load-to.new.token.me.0.known ≡ goes_to (AtD9 c.args.ring.now.number c.args.ticket c.tries.from c.load-to.result) c.exchange.new.token.me.0.known
-again g c stands next =
-    let k = c.args.words.now.key.setup in
-    let r = c.args.ring.now.number in
-    let h = c.args.ticket in
-    saw_head_again _ k (known_me c.exchange.new.token.me) (known_me c.load-to.new.token.me) _ c.load-to.result r h c.tries.from
-    (ap (loading (ring_of_word k c.head.result)) (ap my_phase next))
-    (alone_at c.tries.token.me.0.known c.exchange.new.token.me.0.known (AtD8 r h c.tries.from) stands next) c.load-to.ensures.turned
+again : (g : _) (c : After-load-to g)
+    → (c.exchange.new.token.me.0.known ≡ goes_to (AtD8 c.args.ring.now.number c.args.ticket c.tries.from) c.tries.token.me.0.known)
+    × IsAlone c.exchange.new.token.me.0.known
+    → (c.load-to.new.token.me.0.known ≡ goes_to (AtD9 c.args.ring.now.number c.args.ticket c.tries.from c.load-to.result) c.exchange.new.token.me.0.known)
+    × IsAlone c.load-to.new.token.me.0.known
+again g c next =
+    let seen = saw_head_again _ c.args.words.now.key.setup (known_me c.exchange.new.token.me) (known_me c.load-to.new.token.me) _ c.load-to.result
+    c.args.ring.now.number c.args.ticket c.tries.from (ap (loading (ring_of_word c.args.words.now.key.setup c.head.result)) (ap my_phase next.0)) next.1
+    c.load-to.ensures.turned in
+    (seen, alone_at _ _ _ next.1 seen)
 
 -- and Tail: the turn of that load, and what it left of the slots
 third : (g : _) (c : After-load-from g)
@@ -93,27 +88,18 @@ load-to-requires-clause-low g c κs within = head_low c.requires.ring (c.head.en
 
 pub load-to-requires-clause-may : goal.load-to-requires-clause-may
 load-to-requires-clause-may g c κs within =
-    let at = goal.at.load-to-requires-clause-may g c in
-    let w = c.exchange.new.token.me.0.known in
-    let turn = AtD8 c.args.ring.now.number c.args.ticket c.tries.from in
-    let stands = alone g at.After-exchange in
-    let next = missed g at.After-head stands in
-    may_load c.args.words.now.key.setup w c.head.result turn D8 (beside g at.After-head stands) (ap my_phase next) refl refl
+    let next = missed g (goal.at.load-to-requires-clause-may g c).After-head in
+    may_load c.args.words.now.key.setup _ c.head.result _ D8 next.1 (ap my_phase next.0) refl refl
 
 pub load-to-requires-clause-kind : goal.load-to-requires-clause-kind
 load-to-requires-clause-kind g c κs within =
-    let at = goal.at.load-to-requires-clause-kind g c in
-    let next = missed g at.After-head (alone g at.After-exchange) in
-    load_kind c.args.words.now.key.setup c.exchange.new.token.me.0.known c.head.result (AtD8 c.args.ring.now.number c.args.ticket c.tries.from)
-    (ap my_phase next) refl tt
+    let next = missed g (goal.at.load-to-requires-clause-kind g c).After-head in
+    load_kind c.args.words.now.key.setup c.exchange.new.token.me.0.known c.head.result _ (ap my_phase next.0) refl tt
 
 pub load-to-requires-clause-word : goal.load-to-requires-clause-word
 load-to-requires-clause-word g c κs within =
-    let k = c.args.words.now.key.setup in
-    let at = goal.at.load-to-requires-clause-word g c in
-    let next = missed g at.After-head (alone g at.After-exchange) in
-    load_word k c.exchange.new.token.me.0.known c.head.result (AtD8 c.args.ring.now.number c.args.ticket c.tries.from) (ap my_phase next) refl
-    (c.head.ensures k c.requires.ring)
+    let next = missed g (goal.at.load-to-requires-clause-word g c).After-head in
+    load_word c.args.words.now.key.setup c.exchange.new.token.me.0.known c.head.result _ (ap my_phase next.0) refl (c.head.ensures _ c.requires.ring)
 
 pub load-from-requires-clause-low : goal.load-from-requires-clause-low
 load-from-requires-clause-low g c κs within = tail_low c.requires.ring c.requires.ring.tail c.requires.own.1
@@ -121,31 +107,20 @@ load-from-requires-clause-low g c κs within = tail_low c.requires.ring c.requir
 pub load-from-requires-clause-may : goal.load-from-requires-clause-may
 load-from-requires-clause-may g c κs within =
     let at = goal.at.load-from-requires-clause-may g c in
-    let r = c.args.ring.now.number in
-    let h = c.args.ticket in
-    let w = c.exchange.new.token.me.0.known in
-    let u = c.load-to.new.token.me.0.known in
-    let turn = AtD9 r h c.tries.from c.load-to.result in
-    let stands = alone g at.After-exchange in
-    let next = missed g at.After-head stands in
-    let seen = again g at.After-load-to stands next in
-    may_load c.args.words.now.key.setup u c.args.ring.now.tail turn D9 (alone_at w u turn (beside g at.After-head stands) seen) (ap my_phase seen) refl refl
+    let seen = again g at.After-load-to (missed g at.After-head) in
+    may_load c.args.words.now.key.setup _ c.args.ring.now.tail _ D9 seen.1 (ap my_phase seen.0) refl refl
 
 pub load-from-requires-clause-kind : goal.load-from-requires-clause-kind
 load-from-requires-clause-kind g c κs within =
     let at = goal.at.load-from-requires-clause-kind g c in
-    let stands = alone g at.After-exchange in
-    load_kind c.args.words.now.key.setup c.load-to.new.token.me.0.known c.args.ring.now.tail
-    (AtD9 c.args.ring.now.number c.args.ticket c.tries.from c.load-to.result)
-    (ap my_phase (again g at.After-load-to stands (missed g at.After-head stands))) refl tt
+    let seen = again g at.After-load-to (missed g at.After-head) in
+    load_kind c.args.words.now.key.setup c.load-to.new.token.me.0.known c.args.ring.now.tail _ (ap my_phase seen.0) refl tt
 
 pub load-from-requires-clause-word : goal.load-from-requires-clause-word
 load-from-requires-clause-word g c κs within =
     let at = goal.at.load-from-requires-clause-word g c in
-    let stands = alone g at.After-exchange in
-    load_word c.args.words.now.key.setup c.load-to.new.token.me.0.known c.args.ring.now.tail
-    (AtD9 c.args.ring.now.number c.args.ticket c.tries.from c.load-to.result)
-    (ap my_phase (again g at.After-load-to stands (missed g at.After-head stands))) refl c.requires.ring.tail
+    let seen = again g at.After-load-to (missed g at.After-head) in
+    load_word c.args.words.now.key.setup c.load-to.new.token.me.0.known c.args.ring.now.tail _ (ap my_phase seen.0) refl c.requires.ring.tail
 
 pub returns-then-exchange-from-clause-went : goal.returns-then-exchange-from-clause-went
 returns-then-exchange-from-clause-went g c =
@@ -156,7 +131,7 @@ returns-then-exchange-from-clause-caught_up g c =
     let r = c.args.ring.now.number in
     let h = c.args.ticket in
     lift_hit _ c.args.words.now.key.setup (known_me c.tries.token.me) (known_me c.exchange.new.token.me) _ c.exchange.result r h c.tries.from c.tries.to
-    (ap my_phase c.tries.invariant.3) (alone g (goal.at.returns-then-exchange-from-clause-caught_up g c).After-exchange) c.if-exchange-from.true
+    (ap my_phase c.tries.invariant.3) (alone_at _ _ _ c.requires.alone c.tries.invariant.3) c.if-exchange-from.true
     c.exchange.ensures.turned
     ∙ ap (goes_to (AtD10 r h true)) c.tries.invariant.3
 
@@ -172,40 +147,33 @@ returns-then-from-to-clause-caught_up g c =
     let at = goal.at.returns-then-from-to-clause-caught_up g c in
     let r = c.args.ring.now.number in
     let h = c.args.ticket in
-    let w = c.exchange.new.token.me.0.known in
-    let turn = AtD9 r h c.tries.from c.load-to.result in
-    let stands = alone g at.After-exchange in
-    let next = missed g at.After-head stands in
-    let seen = again g at.After-load-to stands next in
+    let next = missed g at.After-head in
+    let seen = again g at.After-load-to next in
     saw_tail_past _ c.args.words.now.key.setup (known_me c.load-to.new.token.me) (known_me c.load-from.new.token.me) _ c.load-from.result r h c.tries.from
-    c.load-to.result (third g at.After-load-from seen) (alone_at w c.load-to.new.token.me.0.known turn (beside g at.After-head stands) seen) c.if-from-to.true c.load-from.ensures.turned
-    ∙ ap (goes_to (AtD10 r h true)) (seen ∙ ap (goes_to turn) (next ∙ ap (goes_to (AtD8 r h c.tries.from)) c.tries.invariant.3))
+    c.load-to.result (third g at.After-load-from seen.0) seen.1 c.if-from-to.true c.load-from.ensures.turned
+    ∙ ap (goes_to (AtD10 r h true))
+    (seen.0 ∙ ap (goes_to (AtD9 r h c.tries.from c.load-to.result)) (next.0 ∙ ap (goes_to (AtD8 r h c.tries.from)) c.tries.invariant.3))
 
 pub returns-then-from-to-clause-slots : goal.returns-then-from-to-clause-slots
 returns-then-from-to-clause-slots g c =
     let at = goal.at.returns-then-from-to-clause-slots g c in
-    let stands = alone g at.After-exchange in
-    let next = missed g at.After-head stands in
-    stay g at.After-load-from next (again g at.After-load-to stands next) ∙ stays g at.After-exchange
+    let next = missed g at.After-head in
+    stay g at.After-load-from next.0 (again g at.After-load-to next).0 ∙ stays g at.After-exchange
 
 pub tries-preserved : goal.tries-preserved
 tries-preserved g c =
     let at = goal.at.tries-preserved g c in
     let r = c.args.ring.now.number in
     let h = c.args.ticket in
-    let w = c.exchange.new.token.me.0.known in
-    let turn = AtD9 r h c.tries.from c.load-to.result in
-    let stands = alone g at.After-exchange in
-    let next = missed g at.After-head stands in
-    let seen = again g at.After-load-to stands next in
+    let next = missed g at.After-head in
+    let seen = again g at.After-load-to next in
     let low = saw_tail_again _ c.args.words.now.key.setup (known_me c.load-to.new.token.me) (known_me c.load-from.new.token.me) _ c.load-from.result r h
-    c.tries.from c.load-to.result (third g at.After-load-from seen) (alone_at w c.load-to.new.token.me.0.known turn (beside g at.After-head stands) seen) c.if-from-to.false
-    c.load-from.ensures.turned in (
+    c.tries.from c.load-to.result (third g at.After-load-from seen.0) seen.1 c.if-from-to.false c.load-from.ensures.turned in (
       c.load-from.ensures.own.0 ∙ c.load-to.ensures.own.0 ∙ c.exchange.ensures.own.0 ∙ c.tries.invariant.0,
       c.load-from.ensures.own.1 ∙ c.load-to.ensures.own.1 ∙ c.exchange.ensures.own.1 ∙ c.tries.invariant.1,
-      stay g at.After-load-from next seen ∙ stays g at.After-exchange,
+      stay g at.After-load-from next.0 seen.0 ∙ stays g at.After-exchange,
       low ∙ ap (goes_to (AtD7 r h c.load-from.result c.load-to.result))
-          (seen ∙ ap (goes_to turn) (next ∙ ap (goes_to (AtD8 r h c.tries.from)) c.tries.invariant.3)),
+          (seen.0 ∙ ap (goes_to (AtD9 r h c.tries.from c.load-to.result)) (next.0 ∙ ap (goes_to (AtD8 r h c.tries.from)) c.tries.invariant.3)),
       inr (goes_then c.tries.invariant.4 (went_on c.exchange.ensures.went
           (went_on c.load-to.ensures.went c.load-from.ensures.went))),
     )

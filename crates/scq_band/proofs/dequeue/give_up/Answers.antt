@@ -61,7 +61,7 @@ counted g c seen =
     let h = c.args.ticket in
     let me = known_me c.load-tail.new.token.me in
     let later = known_me c.count_down-2.new.token.me in
-    let alone = alone_at v me.0 (AtD10 r h false) c.requires.alone seen in
+    let alone = alone_at _ _ _ c.requires.alone seen in
     let level = zero_level_is in (
       λ low.
           let le = leb-true _ _ low in
@@ -76,19 +76,15 @@ load-tail-requires-clause-low g c κs within = tail_low c.requires.ring c.requir
 
 pub load-tail-requires-clause-may : goal.load-tail-requires-clause-may
 load-tail-requires-clause-may g c κs within =
-    may_load c.args.words.now.key.setup c.args.token.now.me.0.known c.args.ring.now.tail
-    (AtD6 c.args.ring.now.number c.args.ticket) D6 c.requires.alone c.requires.given_up
-    refl refl
+    may_load c.args.words.now.key.setup _ c.args.ring.now.tail _ D6 c.requires.alone c.requires.given_up refl refl
 
 pub load-tail-requires-clause-kind : goal.load-tail-requires-clause-kind
 load-tail-requires-clause-kind g c κs within =
-    load_kind c.args.words.now.key.setup c.args.token.now.me.0.known c.args.ring.now.tail (AtD6 c.args.ring.now.number c.args.ticket) c.requires.given_up
-    refl tt
+    load_kind c.args.words.now.key.setup c.args.token.now.me.0.known c.args.ring.now.tail _ c.requires.given_up refl tt
 
 pub load-tail-requires-clause-word : goal.load-tail-requires-clause-word
 load-tail-requires-clause-word g c κs within =
-    load_word c.args.words.now.key.setup c.args.token.now.me.0.known c.args.ring.now.tail (AtD6 c.args.ring.now.number c.args.ticket) c.requires.given_up
-    refl c.requires.ring.tail
+    load_word c.args.words.now.key.setup c.args.token.now.me.0.known c.args.ring.now.tail _ c.requires.given_up refl c.requires.ring.tail
 
 pub catch_up-requires-clause-alone : goal.catch_up-requires-clause-alone
 catch_up-requires-clause-alone g c κs within = alone-low g (goal.at.catch_up-requires-clause-alone g c).After-load-tail c.if-tail-ticket.true
@@ -102,11 +98,9 @@ count_down-requires-clause-low g c κs within = threshold_low c.requires.ring (c
 
 pub count_down-requires-clause-may : goal.count_down-requires-clause-may
 count_down-requires-clause-may g c κs within =
-    let turn = AtD10 c.args.ring.now.number c.args.ticket true in
     let beside = alone-low g (goal.at.count_down-requires-clause-may g c).After-load-tail c.if-tail-ticket.true in
     let up = c.catch_up.ensures.caught_up in
-    let u = c.catch_up.new.token.me.0.known in
-    may_phase c.args.words.now.key.setup u turn D10 (alone_at c.load-tail.new.token.me.0.known u turn beside up) (ap my_phase up) refl
+    may_phase c.args.words.now.key.setup _ _ D10 (alone_at _ _ _ beside up) (ap my_phase up) refl
 
 pub count_down-requires-clause-kind : goal.count_down-requires-clause-kind
 count_down-requires-clause-kind g c κs within = subst IsCountDown (sym (ap my_phase c.catch_up.ensures.caught_up)) tt
@@ -114,18 +108,16 @@ count_down-requires-clause-kind g c κs within = subst IsCountDown (sym (ap my_p
 pub count_down-requires-clause-word : goal.count_down-requires-clause-word
 count_down-requires-clause-word g c κs within =
     let k = c.args.words.now.key.setup in
-    phase_word k c.catch_up.new.token.me.0.known c.threshold.result (AtD10 c.args.ring.now.number c.args.ticket true)
-    (ap my_phase c.catch_up.ensures.caught_up) (c.threshold.ensures k c.requires.ring)
+    phase_word k c.catch_up.new.token.me.0.known c.threshold.result _ (ap my_phase c.catch_up.ensures.caught_up)
+    (c.threshold.ensures k c.requires.ring)
 
 pub count_down-requires-2-clause-low : goal.count_down-requires-2-clause-low
 count_down-requires-2-clause-low g c κs within = threshold_low c.requires.ring (c.threshold-2.ensures _ c.requires.ring) c.requires.own.1
 
 pub count_down-requires-2-clause-may : goal.count_down-requires-2-clause-may
 count_down-requires-2-clause-may g c κs within =
-    let turn = AtD10 c.args.ring.now.number c.args.ticket false in
-    let w = c.load-tail.new.token.me.0.known in
     let seen = saw-high g (goal.at.count_down-requires-2-clause-may g c).After-load-tail c.if-tail-ticket.false in
-    may_phase c.args.words.now.key.setup w turn D10 (alone_at c.args.token.now.me.0.known w turn c.requires.alone seen) (ap my_phase seen) refl
+    may_phase c.args.words.now.key.setup _ _ D10 (alone_at _ _ _ c.requires.alone seen) (ap my_phase seen) refl
 
 pub count_down-requires-2-clause-kind : goal.count_down-requires-2-clause-kind
 count_down-requires-2-clause-kind g c κs within =
@@ -136,18 +128,16 @@ pub count_down-requires-2-clause-word : goal.count_down-requires-2-clause-word
 count_down-requires-2-clause-word g c κs within =
     let k = c.args.words.now.key.setup in
     let seen = saw-high g (goal.at.count_down-requires-2-clause-word g c).After-load-tail c.if-tail-ticket.false in
-    phase_word k c.load-tail.new.token.me.0.known c.threshold-2.result (AtD10 c.args.ring.now.number c.args.ticket false) (ap my_phase seen)
-    (c.threshold-2.ensures k c.requires.ring)
+    phase_word k c.load-tail.new.token.me.0.known c.threshold-2.result _ (ap my_phase seen) (c.threshold-2.ensures k c.requires.ring)
 
 pub returns-then-tail-ticket-clause-over : goal.returns-then-tail-ticket-clause-over
 returns-then-tail-ticket-clause-over g c _ =
     let turn = AtD10 c.args.ring.now.number c.args.ticket true in
     let at = (goal.at.returns-then-tail-ticket-clause-over g c).After-load-tail in
     let up = c.catch_up.ensures.caught_up in
-    let u = c.catch_up.new.token.me.0.known in
     left _ c.args.words.now.key.setup (known_me c.catch_up.new.token.me) (known_me c.count_down.new.token.me) _ c.count_down.result c.args.ring.now.number
     c.args.ticket c.args.token.now.me.0.known (ap my_phase up)
-    (alone_at c.load-tail.new.token.me.0.known u turn (alone-low g at c.if-tail-ticket.true) up) (up ∙ ap (goes_to turn) (saw-low g at c.if-tail-ticket.true))
+    (alone_at _ _ _ (alone-low g at c.if-tail-ticket.true) up) (up ∙ ap (goes_to turn) (saw-low g at c.if-tail-ticket.true))
     c.count_down.ensures.turned
 
 pub returns-then-tail-ticket-clause-slots : goal.returns-then-tail-ticket-clause-slots

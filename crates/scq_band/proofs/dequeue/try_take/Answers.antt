@@ -15,15 +15,10 @@ use Rattle.scq_band.proofs.RunShown.{went_on, goes_then}
 use Rattle.scq_band.proofs.dequeue.try_take.Goals as goal
 use Rattle.scq_band.proofs.dequeue.try_take.Goals.{After-load-found, After-passed, After-exchange}
 
--- the get is about to look at its ticket's slot, and stands alone
+-- the get is about to look at its ticket's slot
 seeks : (g : _) (c : After-load-found g) → load_turn c.args.words.now.key.setup c.entry-word.result c.tries.token.me.0.known
     ≡ AtD3 c.args.ring.now.number c.args.ticket (least_of (my_phase c.tries.token.me.0.known))
 seeks g c = ap (loading (ring_of_word c.args.words.now.key.setup c.entry-word.result)) (ap my_phase c.tries.invariant.3)
-
-alone : (g : _) (c : After-load-found g) → IsAlone c.tries.token.me.0.known
-alone g c =
-    alone_at c.args.token.now.me.0.known c.tries.token.me.0.known (AtD3 c.args.ring.now.number c.args.ticket (least_of (my_phase c.tries.token.me.0.known)))
-    c.requires.alone c.tries.invariant.3
 
 stays : (g : _) (c : After-load-found g) → c.load-found.new.token.me.1 ≡ c.args.token.now.me.1
 stays g c =
@@ -32,31 +27,35 @@ stays g c =
 
 -- it found the entry of its own cycle
 own-cycle : (g : _) (c : After-load-found g) → cycle_in (ring_slots c.args.words.now.key.setup) c.load-found.result ≡ cycle c.args.words.now.key.setup c.args.ticket
-    → c.load-found.new.token.me.0.known ≡ goes_to (AtD4 c.args.ring.now.number c.args.ticket) c.tries.token.me.0.known
+    → (c.load-found.new.token.me.0.known ≡ goes_to (AtD4 c.args.ring.now.number c.args.ticket) c.tries.token.me.0.known)
+    × IsAlone c.load-found.new.token.me.0.known
 own-cycle g c same =
-    saw_own_cycle _ c.args.words.now.key.setup (known_me c.tries.token.me) (known_me c.load-found.new.token.me) _ c.load-found.result c.args.ring.now.number
-    c.args.ticket _ (seeks g c) (alone g c) same c.load-found.ensures.turned
+    let stands = alone_at _ _ _ c.requires.alone c.tries.invariant.3 in
+    let now = saw_own_cycle _ c.args.words.now.key.setup (known_me c.tries.token.me) (known_me c.load-found.new.token.me) _ c.load-found.result
+    c.args.ring.now.number c.args.ticket _ (seeks g c) stands same c.load-found.ensures.turned in
+    (now, alone_at _ _ _ stands now)
 
 -- it found an entry of an earlier cycle
-earlier : (g : _) (c : After-passed g) → load_turn c.args.words.now.key.setup c.entry-word.result c.tries.token.me.0.known
-    ≡ AtD3 c.args.ring.now.number c.args.ticket (least_of (my_phase c.tries.token.me.0.known)) → IsAlone c.tries.token.me.0.known → c.load-found.new.token.me.0.known
-    ≡ goes_to (AtD5 c.args.ring.now.number c.args.ticket c.load-found.result) c.tries.token.me.0.known
-earlier g c turn alone =
+earlier : (g : _) (c : After-passed g)
+    → (c.load-found.new.token.me.0.known ≡ goes_to (AtD5 c.args.ring.now.number c.args.ticket c.load-found.result) c.tries.token.me.0.known)
+    × IsAlone c.load-found.new.token.me.0.known
+earlier g c =
     let k = c.args.words.now.key.setup in
     let low = earlier_cycle_of k _ c.args.ticket c.load-found.result c.cycle_of.result c.unpack.result c.requires.ring.order c.unpack.ensures.entry
     c.cycle_of.ensures (c.is_of_cycle.ensures.other c.if-is_of_cycle.false k c.requires.ring) c.if-unpack-cycle_of.false in
-    saw_earlier (LiesIn g.B.Buffer.contents g.B.Buffer.IsSameBuffer c.args.words.now.key.given.value.items) k (known_me c.tries.token.me)
-    (known_me c.load-found.new.token.me) _ c.load-found.result c.args.ring.now.number c.args.ticket _ turn alone low c.load-found.ensures.turned
+    let stands = alone_at _ _ _ c.requires.alone c.tries.invariant.3 in
+    let now = saw_earlier _ k (known_me c.tries.token.me) (known_me c.load-found.new.token.me) _ c.load-found.result c.args.ring.now.number c.args.ticket _
+    (ap (loading (ring_of_word k c.entry-word.result)) (ap my_phase c.tries.invariant.3)) stands low c.load-found.ensures.turned in
+    (now, alone_at _ _ _ stands now)
 
 -- and the exchange failed
-missed : (g : _) (c : After-exchange g) → IsAlone c.tries.token.me.0.known → c.load-found.new.token.me.0.known
-    ≡ goes_to (AtD5 c.args.ring.now.number c.args.ticket c.load-found.result) c.tries.token.me.0.known → c.exchange.result ≢ c.load-found.result → c.exchange.new.token.me.0.known
+missed : (g : _) (c : After-exchange g)
+    → (c.load-found.new.token.me.0.known ≡ goes_to (AtD5 c.args.ring.now.number c.args.ticket c.load-found.result) c.tries.token.me.0.known)
+    × IsAlone c.load-found.new.token.me.0.known → c.exchange.result ≢ c.load-found.result → c.exchange.new.token.me.0.known
     ≡ goes_to (AtD3 c.args.ring.now.number c.args.ticket (rank_in (ring_slots c.args.words.now.key.setup) c.exchange.result)) c.load-found.new.token.me.0.known
-missed g c alone now miss =
-    let beside = alone_at c.tries.token.me.0.known c.load-found.new.token.me.0.known (AtD5 c.args.ring.now.number c.args.ticket c.load-found.result) alone now in
-    passed_missed (LiesIn g.B.Buffer.contents g.B.Buffer.IsSameBuffer c.args.words.now.key.given.value.items) c.args.words.now.key.setup
-    (known_me c.load-found.new.token.me) (known_me c.exchange.new.token.me) _ c.exchange.result c.args.ring.now.number c.args.ticket c.load-found.result
-    (ap my_phase now) beside miss c.exchange.ensures.turned
+missed g c now miss =
+    passed_missed _ c.args.words.now.key.setup (known_me c.load-found.new.token.me) (known_me c.exchange.new.token.me) _ c.exchange.result
+    c.args.ring.now.number c.args.ticket c.load-found.result (ap my_phase now.0) now.1 miss c.exchange.ensures.turned
 
 pub entry-word-requires : goal.entry-word-requires
 entry-word-requires g c = tail_fits c.args.words.now.key.setup c.args.ring.now c.requires.ring
@@ -66,50 +65,34 @@ load-found-requires-clause-low g c κs within = entry_low c.args.ticket c.requir
 
 pub load-found-requires-clause-may : goal.load-found-requires-clause-may
 load-found-requires-clause-may g c κs within =
-    let k = c.args.words.now.key.setup in
-    let v = c.tries.token.me.0.known in
-    let turn = AtD3 c.args.ring.now.number c.args.ticket (least_of (my_phase v)) in
-    may_load k v c.entry-word.result turn D3 (alone_at c.args.token.now.me.0.known v turn c.requires.alone c.tries.invariant.3)
-    (ap my_phase c.tries.invariant.3) refl refl
+    may_load c.args.words.now.key.setup _ c.entry-word.result _ D3 (alone_at _ _ _ c.requires.alone c.tries.invariant.3) (ap my_phase c.tries.invariant.3) refl refl
 
 pub load-found-requires-clause-kind : goal.load-found-requires-clause-kind
 load-found-requires-clause-kind g c κs within =
-    let v = c.tries.token.me.0.known in
-    load_kind c.args.words.now.key.setup v c.entry-word.result (AtD3 c.args.ring.now.number c.args.ticket (least_of (my_phase v)))
-    (ap my_phase c.tries.invariant.3) refl tt
+    load_kind c.args.words.now.key.setup c.tries.token.me.0.known c.entry-word.result _ (ap my_phase c.tries.invariant.3) refl tt
 
 pub load-found-requires-clause-word : goal.load-found-requires-clause-word
 load-found-requires-clause-word g c κs within =
-    let k = c.args.words.now.key.setup in
-    let v = c.tries.token.me.0.known in
-    load_word k v c.entry-word.result (AtD3 c.args.ring.now.number c.args.ticket (least_of (my_phase v))) (ap my_phase c.tries.invariant.3) refl
-    (c.entry-word.ensures k c.requires.ring)
+    load_word c.args.words.now.key.setup c.tries.token.me.0.known c.entry-word.result _ (ap my_phase c.tries.invariant.3) refl
+    (c.entry-word.ensures _ c.requires.ring)
 
 pub consume-old-requires-clause-low : goal.consume-old-requires-clause-low
 consume-old-requires-clause-low g c κs within = entry_low c.args.ticket c.requires.ring (c.entry-word.ensures _ c.requires.ring) c.requires.own.1
 
 pub consume-old-requires-clause-may : goal.consume-old-requires-clause-may
 consume-old-requires-clause-may g c κs within =
-    let k = c.args.words.now.key.setup in
-    let at = (goal.at.consume-old-requires-clause-may g c).After-load-found in
-    let turn = AtD4 c.args.ring.now.number c.args.ticket in
-    let w = c.load-found.new.token.me.0.known in
-    let now = own-cycle g at (c.is_of_cycle.ensures.own c.if-is_of_cycle.true k c.requires.ring) in
-    may_phase k w turn D4 (alone_at c.tries.token.me.0.known w turn (alone g at) now) (ap my_phase now) refl
+    let now = own-cycle g (goal.at.consume-old-requires-clause-may g c).After-load-found (c.is_of_cycle.ensures.own c.if-is_of_cycle.true _ c.requires.ring) in
+    may_phase c.args.words.now.key.setup _ _ D4 now.1 (ap my_phase now.0) refl
 
 pub consume-old-requires-clause-kind : goal.consume-old-requires-clause-kind
 consume-old-requires-clause-kind g c κs within =
-    let at = (goal.at.consume-old-requires-clause-kind g c).After-load-found in
-    let now = own-cycle g at (c.is_of_cycle.ensures.own c.if-is_of_cycle.true c.args.words.now.key.setup c.requires.ring) in
-    subst IsTakingTurn (sym (ap my_phase now)) tt
+    let now = own-cycle g (goal.at.consume-old-requires-clause-kind g c).After-load-found (c.is_of_cycle.ensures.own c.if-is_of_cycle.true _ c.requires.ring) in
+    subst IsTakingTurn (sym (ap my_phase now.0)) tt
 
 pub consume-old-requires-clause-word : goal.consume-old-requires-clause-word
 consume-old-requires-clause-word g c κs within =
-    let k = c.args.words.now.key.setup in
-    let at = (goal.at.consume-old-requires-clause-word g c).After-load-found in
-    let now = own-cycle g at (c.is_of_cycle.ensures.own c.if-is_of_cycle.true k c.requires.ring) in
-    phase_word k c.load-found.new.token.me.0.known c.entry-word.result (AtD4 c.args.ring.now.number c.args.ticket) (ap my_phase now)
-    (c.entry-word.ensures k c.requires.ring)
+    let now = own-cycle g (goal.at.consume-old-requires-clause-word g c).After-load-found (c.is_of_cycle.ensures.own c.if-is_of_cycle.true _ c.requires.ring) in
+    phase_word c.args.words.now.key.setup c.load-found.new.token.me.0.known c.entry-word.result _ (ap my_phase now.0) (c.entry-word.ensures _ c.requires.ring)
 
 pub exchange-requires-clause-low : goal.exchange-requires-clause-low
 exchange-requires-clause-low g c κs within = entry_low c.args.ticket c.requires.ring (c.entry-word.ensures _ c.requires.ring) c.requires.own.1
@@ -123,46 +106,36 @@ passed-requires-clause-fits g c =
 
 pub exchange-requires-clause-may : goal.exchange-requires-clause-may
 exchange-requires-clause-may g c κs within =
-    let at = goal.at.exchange-requires-clause-may g c in
-    let turn = AtD5 c.args.ring.now.number c.args.ticket c.load-found.result in
-    let w = c.load-found.new.token.me.0.known in
-    let stands = alone g at.After-load-found in
-    let now = earlier g at.After-passed (seeks g at.After-load-found) stands in
-    may_phase c.args.words.now.key.setup w turn D5 (alone_at c.tries.token.me.0.known w turn stands now) (ap my_phase now) refl
+    let now = earlier g (goal.at.exchange-requires-clause-may g c).After-passed in
+    may_phase c.args.words.now.key.setup _ _ D5 now.1 (ap my_phase now.0) refl
 
 pub exchange-requires-clause-kind : goal.exchange-requires-clause-kind
 exchange-requires-clause-kind g c κs within =
     let k = c.args.words.now.key.setup in
-    let at = goal.at.exchange-requires-clause-kind g c in
-    let now = earlier g at.After-passed (seeks g at.After-load-found) (alone g at.After-load-found) in
-    subst (λ (p : Phase). Exchanges k p c.load-found.result c.passed.result) (sym (ap my_phase now)) (refl, c.passed.ensures k c.requires.ring.order)
+    let now = earlier g (goal.at.exchange-requires-clause-kind g c).After-passed in
+    subst (λ (p : Phase). Exchanges k p c.load-found.result c.passed.result) (sym (ap my_phase now.0)) (refl, c.passed.ensures k c.requires.ring.order)
 
 pub exchange-requires-clause-word : goal.exchange-requires-clause-word
 exchange-requires-clause-word g c κs within =
-    let k = c.args.words.now.key.setup in
-    let at = goal.at.exchange-requires-clause-word g c in
-    let now = earlier g at.After-passed (seeks g at.After-load-found) (alone g at.After-load-found) in
-    phase_word k c.load-found.new.token.me.0.known c.entry-word.result (AtD5 c.args.ring.now.number c.args.ticket c.load-found.result) (ap my_phase now)
-    (c.entry-word.ensures k c.requires.ring)
+    let now = earlier g (goal.at.exchange-requires-clause-word g c).After-passed in
+    phase_word c.args.words.now.key.setup c.load-found.new.token.me.0.known c.entry-word.result _ (ap my_phase now.0) (c.entry-word.ensures _ c.requires.ring)
 
 pub exchange-requires-clause-carries : goal.exchange-requires-clause-carries
 exchange-requires-clause-carries g c κs within =
-    let at = goal.at.exchange-requires-clause-carries g c in
-    let now = earlier g at.After-passed (seeks g at.After-load-found) (alone g at.After-load-found) in
+    let now = earlier g (goal.at.exchange-requires-clause-carries g c).After-passed in
     let Lie = LiesIn g.B.Buffer.contents g.B.Buffer.IsSameBuffer c.args.words.now.key.given.value.items in
-    subst (λ (p : Phase). Carries Lie p c.load-found.new.token.me.1) (sym (ap my_phase now)) tt
+    subst (λ (p : Phase). Carries Lie p c.load-found.new.token.me.1) (sym (ap my_phase now.0)) tt
 
 pub tries-smaller : goal.tries-smaller
 tries-smaller g c =
     let k = c.args.words.now.key.setup in
     let at = goal.at.tries-smaller g c in
-    let stands = alone g at.After-load-found in
-    let now = earlier g at.After-passed (seeks g at.After-load-found) stands in
+    let now = earlier g at.After-passed in
     let y = c.exchange.result in
     let up = passed_rises _ k (known_me c.load-found.new.token.me) (known_me c.exchange.new.token.me) _ y c.args.ring.now.number c.args.ticket
-    c.load-found.result (ap my_phase now) c.if-exchange-found.false c.exchange.ensures.turned in
+    c.load-found.result (ap my_phase now.0) c.if-exchange-found.false c.exchange.ensures.turned in
     let least : least_of (my_phase c.exchange.new.token.me.0.known) ≡ rank_in (ring_slots k) y =
-    ap (λ u. least_of (my_phase u)) (missed g at.After-exchange stands now c.if-exchange-found.false) in
+    ap (λ u. least_of (my_phase u)) (missed g at.After-exchange now c.if-exchange-found.false) in
     let fits = rank_fits k y c.exchange.type_inv in
     let found : least_of (my_phase c.tries.token.me.0.known) ≤ rank_in (ring_slots k) c.load-found.result =
     (turned_as (seeks g at.After-load-found) c.load-found.ensures.turned).found in
@@ -174,14 +147,12 @@ returns-then-is_of_cycle-clause-got g c =
     let at = (goal.at.returns-then-is_of_cycle-clause-got g c).After-load-found in
     let r = c.args.ring.now.number in
     let h = c.args.ticket in
-    let turn = AtD4 r h in
-    let w = c.load-found.new.token.me.0.known in
     let later = known_me c.consume-old.new.token.me in
     let Lie = LiesIn g.B.Buffer.contents g.B.Buffer.IsSameBuffer c.args.words.now.key.given.value.items in
     let now = own-cycle g at (c.is_of_cycle.ensures.own c.if-is_of_cycle.true k c.requires.ring) in
     subst (λ (i : ℕ). SeatHasGot Lie k r h i (known_me c.args.token.now.me) later) (sym (c.index.ensures k c.requires.ring))
-    (took Lie k (known_me c.load-found.new.token.me) later _ c.consume-old.result r h c.args.token.now.me.0.known c.args.token.now.me.1 (ap my_phase now)
-    (alone_at c.tries.token.me.0.known w turn (alone g at) now) (now ∙ ap (goes_to turn) c.tries.invariant.3) (stays g at) c.consume-old.ensures.turned)
+    (took Lie k (known_me c.load-found.new.token.me) later _ c.consume-old.result r h c.args.token.now.me.0.known c.args.token.now.me.1 (ap my_phase now.0)
+    now.1 (now.0 ∙ ap (goes_to (AtD4 r h)) c.tries.invariant.3) (stays g at) c.consume-old.ensures.turned)
 
 pub returns-then-unpack-cycle_of-clause-given_up : goal.returns-then-unpack-cycle_of-clause-given_up
 returns-then-unpack-cycle_of-clause-given_up g c =
@@ -190,7 +161,7 @@ returns-then-unpack-cycle_of-clause-given_up g c =
     let high = later_cycle_of k _ c.args.ticket c.load-found.result c.cycle_of.result c.unpack.result c.requires.ring.order c.unpack.ensures.entry
     c.cycle_of.ensures c.if-unpack-cycle_of.true in
     saw_later _ k (known_me c.tries.token.me) (known_me c.load-found.new.token.me) _ c.load-found.result c.args.ring.now.number c.args.ticket _ (seeks g at)
-    (alone g at) high c.load-found.ensures.turned
+    (alone_at _ _ _ c.requires.alone c.tries.invariant.3) high c.load-found.ensures.turned
     ∙ ap (goes_to (AtD6 c.args.ring.now.number c.args.ticket)) c.tries.invariant.3
 
 pub returns-then-unpack-cycle_of-clause-slots : goal.returns-then-unpack-cycle_of-clause-slots
@@ -198,23 +169,17 @@ returns-then-unpack-cycle_of-clause-slots g c = stays g (goal.at.returns-then-un
 
 pub returns-then-exchange-found-clause-given_up : goal.returns-then-exchange-found-clause-given_up
 returns-then-exchange-found-clause-given_up g c =
-    let k = c.args.words.now.key.setup in
-    let at = goal.at.returns-then-exchange-found-clause-given_up g c in
     let r = c.args.ring.now.number in
     let h = c.args.ticket in
-    let w = c.load-found.new.token.me.0.known in
-    let stands = alone g at.After-load-found in
-    let now = earlier g at.After-passed (seeks g at.After-load-found) stands in
-    passed_hit _ k (known_me c.load-found.new.token.me) (known_me c.exchange.new.token.me) _ c.exchange.result r h c.load-found.result (ap my_phase now)
-    (alone_at c.tries.token.me.0.known w (AtD5 r h c.load-found.result) stands now) c.if-exchange-found.true c.exchange.ensures.turned
-    ∙ ap (goes_to (AtD6 r h)) (now ∙ ap (goes_to (AtD5 r h c.load-found.result)) c.tries.invariant.3)
+    let now = earlier g (goal.at.returns-then-exchange-found-clause-given_up g c).After-passed in
+    passed_hit _ c.args.words.now.key.setup (known_me c.load-found.new.token.me) (known_me c.exchange.new.token.me) _ c.exchange.result r h c.load-found.result
+    (ap my_phase now.0) now.1 c.if-exchange-found.true c.exchange.ensures.turned
+    ∙ ap (goes_to (AtD6 r h)) (now.0 ∙ ap (goes_to (AtD5 r h c.load-found.result)) c.tries.invariant.3)
 
 pub returns-then-exchange-found-clause-slots : goal.returns-then-exchange-found-clause-slots
 returns-then-exchange-found-clause-slots g c =
     let at = goal.at.returns-then-exchange-found-clause-slots g c in
-    let now = earlier g at.After-passed (seeks g at.After-load-found) (alone g at.After-load-found) in
-    (turned_as (ap my_phase now) c.exchange.ensures.turned).slots
-    ∙ stays g at.After-load-found
+    (turned_as (ap my_phase (earlier g at.After-passed).0) c.exchange.ensures.turned).slots ∙ stays g at.After-load-found
 
 pub returns-then-unpack-cycle_of-clause-went : goal.returns-then-unpack-cycle_of-clause-went
 returns-then-unpack-cycle_of-clause-went g c =
@@ -232,19 +197,16 @@ pub tries-preserved : goal.tries-preserved
 tries-preserved g c =
     let k = c.args.words.now.key.setup in
     let at = goal.at.tries-preserved g c in
-    let stands = alone g at.After-load-found in
     let r = c.args.ring.now.number in
     let h = c.args.ticket in
-    let x = c.load-found.result in
     let y = c.exchange.result in
-    let now = earlier g at.After-passed (seeks g at.After-load-found) stands in
-    let next = missed g at.After-exchange stands now c.if-exchange-found.false in
+    let now = earlier g at.After-passed in
+    let next = missed g at.After-exchange now c.if-exchange-found.false in
     let least : least_of (my_phase c.exchange.new.token.me.0.known) ≡ rank_in (ring_slots k) y = ap (λ u. least_of (my_phase u)) next in
     let again = goes_to (AtD3 r h (rank_in (ring_slots k) y)) in (
       c.exchange.ensures.own.0 ∙ c.load-found.ensures.own.0 ∙ c.tries.invariant.0,
       c.exchange.ensures.own.1 ∙ c.load-found.ensures.own.1 ∙ c.tries.invariant.1,
-      (turned_as (ap my_phase now) c.exchange.ensures.turned).slots
-          ∙ stays g at.After-load-found,
-      next ∙ ap again now ∙ ap again c.tries.invariant.3 ∙ ap (λ l. goes_to (AtD3 r h l) c.args.token.now.me.0.known) (sym least),
+      (turned_as (ap my_phase now.0) c.exchange.ensures.turned).slots ∙ stays g at.After-load-found,
+      next ∙ ap again now.0 ∙ ap again c.tries.invariant.3 ∙ ap (λ l. goes_to (AtD3 r h l) c.args.token.now.me.0.known) (sym least),
       inr (goes_then c.tries.invariant.4 (went_on c.load-found.ensures.went c.exchange.ensures.went)),
     )

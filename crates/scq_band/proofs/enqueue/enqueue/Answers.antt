@@ -37,7 +37,7 @@ below-limit : (g : _) (c : After-draw-ticket g) → c.draw-ticket.result < c.arg
 below-limit g c less = let limit = c.requires.ring.limit in (drawn g c).within (omega (arith, limit, less))
 
 alone : (g : _) (c : After-draw-ticket g) → c.draw-ticket.result < c.args.ring.now.limit → IsAlone c.draw-ticket.new.token.me.0.known
-alone g c less = alone_at c.args.token.now.me.0.known c.draw-ticket.new.token.me.0.known _ c.requires.alone (below-limit g c less)
+alone g c less = alone_at _ _ _ c.requires.alone (below-limit g c less)
 
 pub draw-ticket-requires-clause-low : goal.draw-ticket-requires-clause-low
 draw-ticket-requires-clause-low g c κs within = tail_low c.requires.ring c.requires.ring.tail c.requires.own.1

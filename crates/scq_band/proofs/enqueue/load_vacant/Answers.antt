@@ -45,10 +45,7 @@ load-found-requires-clause-low g c κs within = entry_low c.args.ticket c.requir
 
 pub load-found-requires-clause-may : goal.load-found-requires-clause-may
 load-found-requires-clause-may g c κs within =
-    let p = my_phase c.args.token.now.me.0.known in
-    may_load c.args.words.now.key.setup c.args.token.now.me.0.known c.args.word (AtE2 c.args.ring.now.number (put_index p) (content_of p) c.args.ticket
-    (least_of p))
-    E2 c.requires.alone c.requires.looks refl refl
+    may_load c.args.words.now.key.setup _ c.args.word _ E2 c.requires.alone c.requires.looks refl refl
 
 pub load-found-requires-clause-kind : goal.load-found-requires-clause-kind
 load-found-requires-clause-kind g c κs within =
@@ -80,27 +77,22 @@ pub load-requires-clause-may : goal.load-requires-clause-may
 load-requires-clause-may g c κs within =
     let at = goal.at.load-requires-clause-may g c in
     let v = c.args.token.now.me.0.known in
-    let p = my_phase v in
     let now = unsafe g at.After-head (looks g at.After-load-found) in
-    may_load c.args.words.now.key.setup c.load-found.new.token.me.0.known c.head.result
-    (AtE3 c.args.ring.now.number (put_index p) (content_of p) c.args.ticket c.load-found.result) E3
-    (alone_seated v c.load-found.new.token.me.0.known _ _ c.requires.alone.out now) (ap my_phase now) refl refl
+    may_load c.args.words.now.key.setup _ c.head.result _ E3 (alone_seated v c.load-found.new.token.me.0.known _ _ c.requires.alone.out now)
+    (ap my_phase now) refl refl
 
 pub load-requires-clause-kind : goal.load-requires-clause-kind
 load-requires-clause-kind g c κs within =
     let at = goal.at.load-requires-clause-kind g c in
-    let p = my_phase c.args.token.now.me.0.known in
-    load_kind c.args.words.now.key.setup c.load-found.new.token.me.0.known c.head.result
-    (AtE3 c.args.ring.now.number (put_index p) (content_of p) c.args.ticket c.load-found.result)
+    load_kind c.args.words.now.key.setup c.load-found.new.token.me.0.known c.head.result _
     (ap my_phase (unsafe g at.After-head (looks g at.After-load-found))) refl tt
 
 pub load-requires-clause-word : goal.load-requires-clause-word
 load-requires-clause-word g c κs within =
     let at = goal.at.load-requires-clause-word g c in
     let k = c.args.words.now.key.setup in
-    let p = my_phase c.args.token.now.me.0.known in
-    load_word k c.load-found.new.token.me.0.known c.head.result (AtE3 c.args.ring.now.number (put_index p) (content_of p) c.args.ticket c.load-found.result)
-    (ap my_phase (unsafe g at.After-head (looks g at.After-load-found))) refl (c.head.ensures k c.requires.ring)
+    load_word k c.load-found.new.token.me.0.known c.head.result _ (ap my_phase (unsafe g at.After-head (looks g at.After-load-found))) refl
+    (c.head.ensures k c.requires.ring)
 
 pub returns-then-load-ticket-clause-no_room : goal.returns-then-load-ticket-clause-no_room
 returns-then-load-ticket-clause-no_room g c =

@@ -32,9 +32,7 @@ load-requires-clause-low g c κs within = threshold_low c.requires.ring (c.thres
 
 pub load-requires-clause-may : goal.load-requires-clause-may
 load-requires-clause-may g c κs within =
-    let p = my_phase c.args.token.now.me.0.known in
-    may_load c.args.words.now.key.setup c.args.token.now.me.0.known c.threshold.result (AtE5 c.args.ring.now.number (put_index p) (content_of p) c.args.ticket) E5
-    c.requires.alone c.requires.placed refl refl
+    may_load c.args.words.now.key.setup _ c.threshold.result _ E5 c.requires.alone c.requires.placed refl refl
 
 pub load-requires-clause-kind : goal.load-requires-clause-kind
 load-requires-clause-kind g c κs within =
@@ -47,12 +45,8 @@ load-requires-clause-word g c κs within =
 
 pub reset-requires-clause-may : goal.reset-requires-clause-may
 reset-requires-clause-may g c κs within =
-    let v = c.args.token.now.me.0.known in
-    let p = my_phase v in
     let now = other g (goal.at.reset-requires-clause-may g c).After-load c.if-load-ring.true in
-    may_phase c.args.words.now.key.setup c.load.new.token.me.0.known (AtE6 c.args.ring.now.number (put_index p) (content_of p) c.args.ticket) E6
-    (alone_at v c.load.new.token.me.0.known _ c.requires.alone now)
-    (ap my_phase now) refl
+    may_phase c.args.words.now.key.setup _ _ E6 (alone_at _ _ _ c.requires.alone now) (ap my_phase now) refl
 
 pub reset-requires-clause-kind : goal.reset-requires-clause-kind
 reset-requires-clause-kind g c κs within =
@@ -61,10 +55,9 @@ reset-requires-clause-kind g c κs within =
 pub reset-requires-clause-word : goal.reset-requires-clause-word
 reset-requires-clause-word g c κs within =
     let k = c.args.words.now.key.setup in
-    let p = my_phase c.args.token.now.me.0.known in
     let now = other g (goal.at.reset-requires-clause-word g c).After-load c.if-load-ring.true in
-    phase_word k c.load.new.token.me.0.known c.threshold-then-load-ring.result (AtE6 c.args.ring.now.number (put_index p) (content_of p) c.args.ticket)
-    (ap my_phase now) (c.threshold-then-load-ring.ensures k c.requires.ring)
+    phase_word k c.load.new.token.me.0.known c.threshold-then-load-ring.result _ (ap my_phase now)
+    (c.threshold-then-load-ring.ensures k c.requires.ring)
 
 pub returns-then-load-ring-clause-done : goal.returns-then-load-ring-clause-done
 returns-then-load-ring-clause-done g c =
@@ -72,7 +65,7 @@ returns-then-load-ring-clause-done g c =
     let p = my_phase v in
     let now = other g (goal.at.returns-then-load-ring-clause-done g c).After-load c.if-load-ring.true in
     was_reset _ c.args.words.now.key.setup (known_me c.load.new.token.me) (known_me c.reset.new.token.me) _ c.args.ring.now.level c.args.ring.now.number
-    (put_index p) (content_of p) c.args.ticket v (ap my_phase now) (alone_at v c.load.new.token.me.0.known _ c.requires.alone now) now c.reset.ensures.turned
+    (put_index p) (content_of p) c.args.ticket v (ap my_phase now) (alone_at _ _ _ c.requires.alone now) now c.reset.ensures.turned
 
 pub returns-then-load-ring-clause-slots : goal.returns-then-load-ring-clause-slots
 returns-then-load-ring-clause-slots g c =

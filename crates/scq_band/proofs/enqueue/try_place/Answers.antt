@@ -26,9 +26,7 @@ room g c =
 
 alone : (g : _) (c : In-Some g) → IsAlone c.load_vacant.new.token.me.0.known
 alone g c =
-    let v = c.args.token.now.me.0.known in
-    alone_at v c.load_vacant.new.token.me.0.known
-    (AtE4 c.args.ring.now.number c.args.index (content_of (my_phase v)) c.args.ticket c.in-Some.found) c.requires.alone (room g c)
+    alone_at _ _ _ c.requires.alone (room g c)
 
 pub load_vacant-requires-clause-new : goal.load_vacant-requires-clause-new
 load_vacant-requires-clause-new g c κs within =
@@ -43,7 +41,7 @@ exchange-requires-clause-low g c κs within = entry_low c.args.ticket c.requires
 
 pub load_vacant-requires-clause-alone : goal.load_vacant-requires-clause-alone
 load_vacant-requires-clause-alone g c κs within =
-    alone_at c.args.token.now.me.0.known c.tries.token.me.0.known _ c.requires.alone c.tries.invariant.3
+    alone_at _ _ _ c.requires.alone c.tries.invariant.3
 
 pub load_vacant-requires-clause-looks : goal.load_vacant-requires-clause-looks
 load_vacant-requires-clause-looks g c κs within =
@@ -54,9 +52,7 @@ load_vacant-requires-clause-looks g c κs within =
 pub exchange-requires-clause-may : goal.exchange-requires-clause-may
 exchange-requires-clause-may g c κs within =
     let at = (goal.at.exchange-requires-clause-may g c).In-Some in
-    may_phase c.args.words.now.key.setup c.load_vacant.new.token.me.0.known
-    (AtE4 c.args.ring.now.number c.args.index (content_of (my_phase c.args.token.now.me.0.known)) c.args.ticket c.in-Some.found) E4 (alone g at)
-    (ap my_phase (room g at)) refl
+    may_phase c.args.words.now.key.setup _ _ E4 (alone g at) (ap my_phase (room g at)) refl
 
 pub exchange-requires-clause-kind : goal.exchange-requires-clause-kind
 exchange-requires-clause-kind g c κs within =
@@ -67,8 +63,7 @@ exchange-requires-clause-kind g c κs within =
 pub exchange-requires-clause-word : goal.exchange-requires-clause-word
 exchange-requires-clause-word g c κs within =
     let k = c.args.words.now.key.setup in
-    phase_word k c.load_vacant.new.token.me.0.known c.entry-word.result
-    (AtE4 c.args.ring.now.number c.args.index (content_of (my_phase c.args.token.now.me.0.known)) c.args.ticket c.in-Some.found)
+    phase_word k c.load_vacant.new.token.me.0.known c.entry-word.result _
     (ap my_phase (room g (goal.at.exchange-requires-clause-word g c).In-Some)) (c.entry-word.ensures k c.requires.ring)
 
 pub exchange-requires-clause-carries : goal.exchange-requires-clause-carries

@@ -19,8 +19,7 @@ laid g c =
 pub lay_first-requires-clause-first : goal.lay_first-requires-clause-first
 lay_first-requires-clause-first g c κs within =
     let to = c.bring_to_front.ensures in
-    front_slot g.B.Buffer.IsSameBuffer (came_first g.B.Buffer.IsSameBuffer c.seat.inside.token.me c.bring_to_front.new.token.me.1 c.seat.invariant
-    c.seat.view_is to.turned to.first c.requires.lifted)
+    front_slot _ (came_first _ c.seat.inside.token.me _ c.seat.invariant c.seat.view_is to.turned to.first c.requires.lifted)
 
 pub invariant_of-seat : goal.invariant_of-seat
 invariant_of-seat g c = (laid g (goal.at.invariant_of-seat g c).After-lay_first).kept

@@ -53,8 +53,7 @@ lay_first-requires-clause-own g c κs within =
 pub lay_first-requires-clause-first : goal.lay_first-requires-clause-first
 lay_first-requires-clause-first g c κs within =
     let to = c.bring_to_front.ensures in
-    front_slot g.B.Buffer.IsSameBuffer (came_first g.B.Buffer.IsSameBuffer c.seat.inside.token.me c.bring_to_front.new.token.me.1 c.seat.invariant
-    c.seat.view_is to.turned to.first c.requires.lifted)
+    front_slot _ (came_first _ c.seat.inside.token.me _ c.seat.invariant c.seat.view_is to.turned to.first c.requires.lifted)
 
 pub enqueue-requires-clause-ring : goal.enqueue-requires-clause-ring
 enqueue-requires-clause-ring g c κs within =

@@ -1,7 +1,7 @@
 use Rattle.std.proofs.Common.{◌≡◌, ◌-◌}
 use Rattle.std.specs.Prelude.{vec_len}
 use Rattle.scq_band.proofs.Slots.{Sought}
-use Rattle.scq_band.proofs.hand.turn_to_front.Given as goal
+use Rattle.scq_band.proofs.hand.bring_to_front.Given as goal
 
 abbrev pub invariant-deeper : goal.invariant-deeper
 invariant-deeper g l =
