@@ -17,55 +17,40 @@ use Rattle.scq_words.specs.declared.fault.WordsError.{WordsError}
 use Rattle.scq_words.specs.declared.fault.WordsError.TheVariants.{Refused, NoMemory}
 
 -- a text that was got by its name
-text-same : (f : Found) (rows : List Row) (name : List ℕ) (text : Option (List ℕ)) → rows_of f ≡ rows → text ≡ first_value f name → text ≡ first_of name rows
-text-same f rows name text same got = got ∙ first_value-rows f name ∙ ap (first_of name) same
+text-same : (f : Found) {rows : List Row} (name : List ℕ) {text : Option (List ℕ)} → rows_of f ≡ rows → text ≡ first_value f name
+    → text ≡ first_of name rows
+text-same f name same got = got ∙ first_value-rows f name ∙ ap (first_of name) same
 
-files-same : (f : Found) (rows : List Row) (name : List ℕ) (files : Option (List (List ℕ))) → rows_of f ≡ rows
-    → files ≡ option_map raw_values (matched_of f name)
-    → unwrap_or files [] ≡ unwrap_or (all_of name rows) []
-files-same f rows name files same got = ap (λ o. unwrap_or o []) (got ∙ raw_values-rows f name ∙ ap (all_of name) same)
+files-same : (f : Found) {rows : List Row} {files : Option (List (List ℕ))} {names : List (List ℕ)} → rows_of f ≡ rows
+    → files ≡ option_map raw_values (matched_of f (codes "files")) → names ≡ unwrap_or files [] → names ≡ unwrap_or (all_of (codes "files") rows) []
+files-same f same got is = is ∙ ap (λ o. unwrap_or o []) (got ∙ raw_values-rows f (codes "files") ∙ ap (all_of (codes "files")) same)
 
-pub run-texts : (f : Found) (rows : List Row) (workers order size topics batch report : Option (List ℕ)) (files : Option (List (List ℕ))) (names : List (List ℕ))
-    → rows_of f ≡ rows → workers ≡ first_value f (codes "workers") → order ≡ first_value f (codes "order") → size ≡ first_value f (codes "size")
-    → topics ≡ first_value f (codes "topics") → batch ≡ first_value f (codes "batch") → report ≡ first_value f (codes "report")
-    → files ≡ option_map raw_values (matched_of f (codes "files")) → names ≡ unwrap_or files []
+pub run-texts : (f : Found) {rows : List Row} {workers order size topics batch report : Option (List ℕ)} {files : Option (List (List ℕ))}
+    {names : List (List ℕ)} → rows_of f ≡ rows → workers ≡ first_value f (codes "workers") → order ≡ first_value f (codes "order")
+    → size ≡ first_value f (codes "size") → topics ≡ first_value f (codes "topics") → batch ≡ first_value f (codes "batch")
+    → report ≡ first_value f (codes "report") → files ≡ option_map raw_values (matched_of f (codes "files")) → names ≡ unwrap_or files []
     → texts_of_run workers order size topics batch report names ≡ run_texts rows
-run-texts f rows workers order size topics batch report files names same w o s t b r fs is =
-    let ew = text-same f rows (codes "workers") workers same w in
-    let eo = text-same f rows (codes "order") order same o in
-    let es = text-same f rows (codes "size") size same s in
-    let et = text-same f rows (codes "topics") topics same t in
-    let eb = text-same f rows (codes "batch") batch same b in
-    let er = text-same f rows (codes "report") report same r in
-    let ef = is ∙ files-same f rows (codes "files") files same fs in
-    λ i. texts_of_run (ew i) (eo i) (es i) (et i) (eb i) (er i) (ef i)
+run-texts f same w o s t b r fs is = λ i.
+    texts_of_run (text-same f (codes "workers") same w i) (text-same f (codes "order") same o i) (text-same f (codes "size") same s i)
+    (text-same f (codes "topics") same t i) (text-same f (codes "batch") same b i) (text-same f (codes "report") same r i) (files-same f same fs is i)
 
-pub stages-texts : (f : Found) (rows : List Row) (workers order size : Option (List ℕ)) (files : Option (List (List ℕ))) (names : List (List ℕ))
+pub stages-texts : (f : Found) {rows : List Row} {workers order size : Option (List ℕ)} {files : Option (List (List ℕ))} {names : List (List ℕ)}
     → rows_of f ≡ rows → workers ≡ first_value f (codes "workers") → order ≡ first_value f (codes "order") → size ≡ first_value f (codes "size")
     → files ≡ option_map raw_values (matched_of f (codes "files")) → names ≡ unwrap_or files [] → texts_of_stages workers order size names ≡ stages_texts rows
-stages-texts f rows workers order size files names same w o s fs is =
-    let ew = text-same f rows (codes "workers") workers same w in
-    let eo = text-same f rows (codes "order") order same o in
-    let es = text-same f rows (codes "size") size same s in
-    let ef = is ∙ files-same f rows (codes "files") files same fs in
-    λ i. texts_of_stages (ew i) (eo i) (es i) (ef i)
+stages-texts f same w o s fs is = λ i.
+    texts_of_stages (text-same f (codes "workers") same w i) (text-same f (codes "order") same o i) (text-same f (codes "size") same s i)
+    (files-same f same fs is i)
 
-pub self-texts : (f : Found) (rows : List Row) (seed lines workers : Option (List ℕ)) → rows_of f ≡ rows
+pub self-texts : (f : Found) {rows : List Row} {seed lines workers : Option (List ℕ)} → rows_of f ≡ rows
     → seed ≡ first_value f (codes "seed") → lines ≡ first_value f (codes "lines") → workers ≡ first_value f (codes "workers")
     → texts_of_self seed lines workers ≡ self_texts rows
-self-texts f rows seed lines workers same s l w =
-    let es = text-same f rows (codes "seed") seed same s in
-    let el = text-same f rows (codes "lines") lines same l in
-    let ew = text-same f rows (codes "workers") workers same w in
-    λ i. texts_of_self (es i) (el i) (ew i)
+self-texts f same s l w = λ i.
+    texts_of_self (text-same f (codes "seed") same s i) (text-same f (codes "lines") same l i) (text-same f (codes "workers") same w i)
 
-pub judge-texts : (f : Found) (rows : List Row) (room : Option (List ℕ)) (files : Option (List (List ℕ))) (names : List (List ℕ)) → rows_of f ≡ rows
+pub judge-texts : (f : Found) {rows : List Row} {room : Option (List ℕ)} {files : Option (List (List ℕ))} {names : List (List ℕ)} → rows_of f ≡ rows
     → room ≡ first_value f (codes "room") → files ≡ option_map raw_values (matched_of f (codes "files")) → names ≡ unwrap_or files []
     → texts_of_judge room names ≡ judge_texts rows
-judge-texts f rows room files names same r got is =
-    let er = text-same f rows (codes "room") room same r in
-    let ef = is ∙ files-same f rows (codes "files") files same got in
-    λ i. texts_of_judge (er i) (ef i)
+judge-texts f same r got is = λ i. texts_of_judge (text-same f (codes "room") same r i) (files-same f same got is i)
 
 -- `clap` takes the words, and then the tests of their texts decide
 pub tests-answer : {T : Type 0} (app : App) (words : List (List ℕ)) (tests : T → List (Option WordsFault)) (what : T → Asked) (t read : T)
@@ -83,12 +68,12 @@ answer-err test what fault some = ap (λ t. answered_by t what) some
 
 pub file-text : (f : Found) (rows : List Row) (file : Option (List ℕ)) → rows_of f ≡ rows → file ≡ first_value f (codes "file")
     → unwrap_or file [] ≡ text_file rows
-file-text f rows file same got = ap (λ o. unwrap_or o []) (text-same f rows (codes "file") file same got)
+file-text f rows file same got = ap (λ o. unwrap_or o []) (text-same f (codes "file") same got)
 
 -- the flag of `replay`
 pub flag-text : (command : TextCommand) (f : Found) (rows : List Row) (text : Option (List ℕ)) → rows_of f ≡ rows → text ≡ first_value f (codes "order")
     → with_flag command (is_given text) ≡ text_command command rows
-flag-text command f rows text same got = ap (λ o. with_flag command (is_given o)) (text-same f rows (codes "order") text same got)
+flag-text command f rows text same got = ap (λ o. with_flag command (is_given o)) (text-same f (codes "order") same got)
 
 pub text-answer : (command asks : TextCommand) (words : List (List ℕ)) (file : List ℕ) (said : Result Asked WordsFault)
     → refused_by_clap (text_app command) words ≡ None → file ≡ text_file (matches_of (text_app command) words)

@@ -13,7 +13,7 @@ returns c =
     let parsed = c.in_ok-matches.ensures judge_app refl c.judge_command.ensures in
     let its = c.check_judge.ensures in
     tested judge_app _ judge_tests judged judge_asked judge_of _ _ c.check_judge.result parsed.passes
-    (judge-texts (found_of c.in_ok-matches.matches) _ _ _ _ parsed.rows c.get_str-room.ensures
+    (judge-texts (found_of c.in_ok-matches.matches) parsed.rows c.get_str-room.ensures
     c.get_strs.ensures (given_or_empty c.get_strs.result _ (λ s. map (λ v. v.now) s.now) c.unwrap_or-files.ensures refl))
     (IfOk-weaker c.check_judge.result _ _ (λ request h. (h.0, λ i. record { room = h.1 i; files = h.2 i })) its.request)
     its.refused judge-other its.ranges

@@ -12,7 +12,7 @@ returns c =
     let parsed = c.in_ok-matches.ensures run_app refl c.run_command.ensures in
     let its = c.check_run.ensures in
     tested run_app _ run_tests run run_asked asked_run _ _ c.check_run.result parsed.passes
-    (run-texts (found_of c.in_ok-matches.matches) _ _ _ _ _ _ _ _ _ parsed.rows c.get_str-workers.ensures
+    (run-texts (found_of c.in_ok-matches.matches) parsed.rows c.get_str-workers.ensures
     c.get_str-order.ensures c.get_str-size.ensures c.get_str-topics.ensures c.get_str-batch.ensures c.get_str-report.ensures
     c.get_strs.ensures (given_or_empty c.get_strs.result _ (λ s. map (λ v. v.now) s.now) c.unwrap_or-files.ensures refl))
     its.request its.refused run-other its.ranges

@@ -12,7 +12,7 @@ unfolding asked_of_self
 returns-in-Ok c =
     let parsed = c.in_ok-matches.ensures self_app refl c.self_command.ensures in
     tested self_app _ self_tests generated self_asked self_of _ _ (Ok c.in-Ok.request) parsed.passes
-    (self-texts (found_of c.in_ok-matches.matches) _ _ _ _ parsed.rows c.get_str-seed.ensures c.get_str-lines.ensures c.get_str-workers.ensures)
+    (self-texts (found_of c.in_ok-matches.matches) parsed.rows c.get_str-seed.ensures c.get_str-lines.ensures c.get_str-workers.ensures)
     (sym c.in-Ok.ensures.refused, c.in-Ok.ensures.request) (λ fault is. cc) self-other c.in-Ok.ensures.ranges
 
 pub returns : goal.returns
@@ -20,7 +20,7 @@ unfolding asked_of_self
 returns c =
     let parsed = c.in_ok-matches.ensures self_app refl c.self_command.ensures in
     tested self_app _ self_tests generated self_asked self_of _ _ (Err (Refused c.in-Err.fault)) parsed.passes
-    (self-texts (found_of c.in_ok-matches.matches) _ _ _ _ parsed.rows c.get_str-seed.ensures c.get_str-lines.ensures c.get_str-workers.ensures)
+    (self-texts (found_of c.in_ok-matches.matches) parsed.rows c.get_str-seed.ensures c.get_str-lines.ensures c.get_str-workers.ensures)
     tt (λ fault is. let same : c.in-Err.fault ≡ fault = cc in sym c.in-Err.ensures.refused ∙ ap Some same) self-other tt
 
 pub returns-in_err-matches : goal.returns-in_err-matches

@@ -12,8 +12,7 @@ returns c =
     let parsed = c.in_ok-matches.ensures stages_app refl c.stages_command.ensures in
     let its = c.check_stages.ensures in
     tested stages_app _ stages_tests staged stages_asked stages_of _ _ c.check_stages.result parsed.passes
-    (stages-texts (found_of c.in_ok-matches.matches) _ _ _ _ _ _ parsed.rows c.get_str-workers.ensures
-    c.get_str-order.ensures c.get_str-size.ensures
+    (stages-texts (found_of c.in_ok-matches.matches) parsed.rows c.get_str-workers.ensures c.get_str-order.ensures c.get_str-size.ensures
     c.get_strs.ensures (given_or_empty c.get_strs.result _ (λ s. map (λ v. v.now) s.now) c.unwrap_or-files.ensures refl))
     its.request its.refused stages-other its.ranges
 
