@@ -10,7 +10,8 @@ ghost use Rattle.scq_judge.specs.Exports.{verdict_text, waiting_line, waiting_te
 
 use crate::counting::Counts;
 use crate::judging::Report;
-use crate::telling::{Teller, add_event_at, add_number, add_token};
+use crate::teller::Teller;
+use crate::telling::{add_event_at, add_number, add_token};
 use scq_check::{Failures, Origin, Waiting};
 use scq_word::{Bytes, NoMemory};
 use std::alloc::Global;
@@ -22,7 +23,6 @@ pub(crate) fn report_text(
     teller: Teller<'_>,
     report: &Report,
 ) -> Result<Bytes, NoMemory>
-    requires many { length teller.places.now ≡ length teller.events.now }
     requires within { AreWithin (length teller.events.now) report.now.breaches }
     requires full_within { IfSome report.now.full (λ full.
         IfSome full.first (λ e. e < length teller.events.now)) }
@@ -75,8 +75,7 @@ fn add_plain(
     teller: Teller<'_>,
     failures: &Failures,
 ) -> Result<(), NoMemory>
-    requires many { length teller.places.now ≡ length teller.events.now }
-    requires within { IfSome failures.now.first (λ e. e < length teller.events.now) }
+    requires { IfSome failures.now.first (λ e. e < length teller.events.now) }
     ensures { OnOk result (text.new.items
         ≡ text.old.items ++ plain_line name.now (told_by teller.entry) failures.now) }
 {
@@ -93,7 +92,6 @@ fn add_origin(
     failures: &Failures,
     origin: Option<Origin>,
 ) -> Result<(), NoMemory>
-    requires many { length teller.places.now ≡ length teller.events.now }
     requires first { IfSome failures.now.first (λ e. e < length teller.events.now) }
     requires origin { IfSome origin (IsOriginWithin (length teller.events.now)) }
     ensures { OnOk result (text.new.items
@@ -111,8 +109,7 @@ fn add_put_of(
     teller: Teller<'_>,
     origin: Option<Origin>,
 ) -> Result<(), NoMemory>
-    requires many { length teller.places.now ≡ length teller.events.now }
-    requires within { IfSome origin (IsOriginWithin (length teller.events.now)) }
+    requires { IfSome origin (IsOriginWithin (length teller.events.now)) }
     ensures { OnOk result (text.new.items
         ≡ text.old.items ++ origin_text (told_by teller.entry) origin) }
 {
@@ -137,8 +134,7 @@ fn add_put_of(
 
 // The line on refusals, where they are judged.
 fn add_full(text: &mut Vec<u8>, teller: Teller<'_>, full: Option<Failures>) -> Result<(), NoMemory>
-    requires many { length teller.places.now ≡ length teller.events.now }
-    requires within { IfSome full (λ full. IfSome full.first (λ e. e < length teller.events.now)) }
+    requires { IfSome full (λ full. IfSome full.first (λ e. e < length teller.events.now)) }
     ensures { OnOk result (text.new.items
         ≡ text.old.items ++ full_line (told_by teller.entry) full) }
 {
@@ -157,7 +153,6 @@ fn add_beside(
     words: &[u8],
     event: Option<usize>,
 ) -> Result<(), NoMemory>
-    requires many { length teller.places.now ≡ length teller.events.now }
     requires first { IfSome failures.now.first (λ e. e < length teller.events.now) }
     requires event { IfSome event (λ e. e < length teller.events.now) }
     ensures { OnOk result (text.new.items
@@ -178,7 +173,6 @@ fn add_waiting(
     failures: &Failures,
     waiting: Option<Waiting>,
 ) -> Result<(), NoMemory>
-    requires many { length teller.places.now ≡ length teller.events.now }
     requires first { IfSome failures.now.first (λ e. e < length teller.events.now) }
     requires waiting { IfSome waiting (IsToldWithin (length teller.events.now)) }
     ensures { OnOk result (text.new.items
@@ -199,7 +193,6 @@ fn add_order(
     waiting: Option<Waiting>,
     overtaker: Option<Origin>,
 ) -> Result<(), NoMemory>
-    requires many { length teller.places.now ≡ length teller.events.now }
     requires first { IfSome failures.now.first (λ e. e < length teller.events.now) }
     requires waiting { IfSome waiting (IsToldWithin (length teller.events.now)) }
     requires overtaker { IfSome overtaker (IsOriginWithin (length teller.events.now)) }
@@ -220,8 +213,7 @@ fn add_overtaker(
     teller: Teller<'_>,
     overtaker: Option<Origin>,
 ) -> Result<(), NoMemory>
-    requires many { length teller.places.now ≡ length teller.events.now }
-    requires within { IfSome overtaker (IsOriginWithin (length teller.events.now)) }
+    requires { IfSome overtaker (IsOriginWithin (length teller.events.now)) }
     ensures { OnOk result (text.new.items
         ≡ text.old.items ++ overtaker_text (told_by teller.entry) overtaker) }
 {
@@ -240,8 +232,7 @@ fn add_verdict(
     teller: Teller<'_>,
     failures: &Failures,
 ) -> Result<(), NoMemory>
-    requires many { length teller.places.now ≡ length teller.events.now }
-    requires within { IfSome failures.now.first (λ e. e < length teller.events.now) }
+    requires { IfSome failures.now.first (λ e. e < length teller.events.now) }
     ensures { OnOk result (text.new.items
         ≡ text.old.items ++ verdict_text name.now (told_by teller.entry) failures.now) }
 {
@@ -269,8 +260,7 @@ fn add_event(
     teller: Teller<'_>,
     event: Option<usize>,
 ) -> Result<(), NoMemory>
-    requires many { length teller.places.now ≡ length teller.events.now }
-    requires within { IfSome event (λ e. e < length teller.events.now) }
+    requires { IfSome event (λ e. e < length teller.events.now) }
     ensures { OnOk result (text.new.items
         ≡ text.old.items ++ event_text words.now (told_by teller.entry) event) }
 {
@@ -289,8 +279,7 @@ fn add_puts(
     teller: Teller<'_>,
     waiting: Option<Waiting>,
 ) -> Result<(), NoMemory>
-    requires many { length teller.places.now ≡ length teller.events.now }
-    requires within { IfSome waiting (IsToldWithin (length teller.events.now)) }
+    requires { IfSome waiting (IsToldWithin (length teller.events.now)) }
     ensures { OnOk result (text.new.items
         ≡ text.old.items ++ waiting_text (told_by teller.entry) waiting) }
 {
@@ -305,8 +294,7 @@ fn add_puts(
 }
 
 fn add_got(text: &mut Vec<u8>, teller: Teller<'_>, got: Option<usize>) -> Result<(), NoMemory>
-    requires many { length teller.places.now ≡ length teller.events.now }
-    requires within { IfSome got (λ e. e < length teller.events.now) }
+    requires { IfSome got (λ e. e < length teller.events.now) }
     ensures { OnOk result (text.new.items ≡ text.old.items ++ got_text (told_by teller.entry) got) }
 {
     match got {
@@ -328,7 +316,6 @@ fn add_put(
     token: Option<usize>,
     put: Option<usize>,
 ) -> Result<(), NoMemory>
-    requires many { length teller.places.now ≡ length teller.events.now }
     requires token { IfSome token (λ number. number < 2 ^ 32) }
     requires put { IfSome put (λ d. d < length teller.events.now) }
     ensures { OnOk result (text.new.items
