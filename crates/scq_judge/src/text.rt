@@ -1,12 +1,12 @@
 //! A report as text.
 
-ghost use Rattle.std.specs.Prelude.{◌≡◌, ◌<◌, ◌^◌, ◌++◌, codes, decimal, length, Some, IfOk};
-ghost use Rattle.std.specs.Prelude.{IfSome, OnOk};
+ghost use Rattle.std.specs.Prelude.{◌≡◌, ◌<◌, ◌^◌, ◌++◌, codes, length, Some, IfOk, IfSome};
+ghost use Rattle.std.specs.Prelude.{OnOk};
 ghost use Rattle.scq_check.specs.Exports.{IsOriginWithin, AreWithin, IsToldWithin};
-ghost use Rattle.scq_judge.specs.Exports.{told_by, beside_line, count_line, event_text, full_line};
-ghost use Rattle.scq_judge.specs.Exports.{got_text, order_line, origin_line, origin_text};
-ghost use Rattle.scq_judge.specs.Exports.{overtaker_text, plain_line, put_text, report_lines};
-ghost use Rattle.scq_judge.specs.Exports.{verdict_text, waiting_line, waiting_text};
+ghost use Rattle.scq_judge.specs.Exports.{told_by, beside_line, count_line, full_line, got_text};
+ghost use Rattle.scq_judge.specs.Exports.{order_line, origin_line, origin_text, overtaker_text};
+ghost use Rattle.scq_judge.specs.Exports.{put_text, report_lines, verdict_text, waiting_line};
+ghost use Rattle.scq_judge.specs.Exports.{waiting_text};
 
 use crate::counting::Counts;
 use crate::judging::Report;
@@ -68,22 +68,6 @@ pub(crate) fn report_text(
     Ok(Bytes::from(text))
 }
 
-// The line of an aspect whose breach stands against nothing.
-fn add_plain(
-    text: &mut Vec<u8>,
-    name: &[u8],
-    teller: Teller<'_>,
-    failures: &Failures,
-) -> Result<(), NoMemory>
-    requires { IfSome failures.now.first (λ e. e < length teller.events.now) }
-    ensures { OnOk result (text.new.items
-        ≡ text.old.items ++ plain_line name.now (told_by teller.entry) failures.now) }
-{
-    add_verdict(text, name, teller, failures)?;
-    text.extend_from_slice(b"\n")?;
-    Ok(())
-}
-
 // The line of an aspect whose first breach names a put.
 fn add_origin(
     text: &mut Vec<u8>,
@@ -138,10 +122,11 @@ fn add_full(text: &mut Vec<u8>, teller: Teller<'_>, full: Option<Failures>) -> R
     ensures { OnOk result (text.new.items
         ≡ text.old.items ++ full_line (told_by teller.entry) full) }
 {
-    match full {
-        None => Ok(()),
-        Some(failures) => add_plain(text, b"full", teller, &failures),
+    if let Some(failures) = full {
+        add_verdict(text, b"full", teller, &failures)?;
+        text.extend_from_slice(b"\n")?;
     }
+    Ok(())
 }
 
 // The line of an aspect whose first breach stands against an event.
@@ -160,7 +145,10 @@ fn add_beside(
         ++ beside_line name.now (told_by teller.entry) failures.now words.now event) }
 {
     add_verdict(text, name, teller, failures)?;
-    add_event(text, words, teller, event)?;
+    if let Some(at) = event {
+        text.extend_from_slice(words)?;
+        add_event_at(text, teller, at)?;
+    }
     text.extend_from_slice(b"\n")?;
     Ok(())
 }
@@ -249,26 +237,6 @@ fn add_verdict(
             add_number(text, failures.count as u64)?;
             text.extend_from_slice(b" in all")?;
             Ok(())
-        }
-    }
-}
-
-// These words and the place of this event, where there is one.
-fn add_event(
-    text: &mut Vec<u8>,
-    words: &[u8],
-    teller: Teller<'_>,
-    event: Option<usize>,
-) -> Result<(), NoMemory>
-    requires { IfSome event (λ e. e < length teller.events.now) }
-    ensures { OnOk result (text.new.items
-        ≡ text.old.items ++ event_text words.now (told_by teller.entry) event) }
-{
-    match event {
-        None => Ok(()),
-        Some(at) => {
-            text.extend_from_slice(words)?;
-            add_event_at(text, teller, at)
         }
     }
 }
