@@ -1,12 +1,12 @@
 -- What is told beside the first event that breaks an aspect
-use Rattle.std.proofs.Common.{◌≡◌, ℕ, ◌<◌, List, Option, Some, None, length, slice_get, sym, subst, refl}
+use Rattle.std.proofs.Common.{◌≡◌, ℕ, ◌<◌, List, Option, Some, None, length, slice_get, get_or, sym, subst, refl}
 use Rattle.std.specs.Prelude.{IfSome, MatchOption}
 use Rattle.std.proofs.lemmas.Option.{slice_get_within}
 use Rattle.scq_hist.specs.Exports.{IsFreshAt, IsOnceAt, IsInOrderAt, IsGot, IsFirstFailing, got_name, IsFirstNamed}
 use Rattle.scq_hist.specs.declared.events.Event.{Event}
 use Rattle.scq_hist.specs.declared.events.PutName.{PutName}
 use Rattle.scq_hist.specs.declared.events.PutName.TheVariants.{Of}
-use Rattle.scq_hist.proofs.NamesLemmas.{names_there, named_there}
+use Rattle.scq_hist.proofs.NamesLemmas.{names_there, named_there, read}
 use Rattle.scq_check.specs.Exports.{place_in, AtFirst, IsOrigin, IsOfOrigin, IsRepeatOf, IsOfRefused, NamesNone, IsAcceptedAt, IsRefusals}
 use Rattle.scq_check.specs.Exports.{NotSpentBefore, IsSpentAt}
 use Rattle.scq_check.specs.declared.by_name.ByName.{ByName}
@@ -16,6 +16,10 @@ use Rattle.scq_check.proofs.RefusedLemmas.{accepted_there}
 -- the first event breaks the aspect
 pub fails_there : (Holds : ℕ → Type 0) (first : Option ℕ) (e : ℕ) → first ≡ Some e → IsFirstFailing Holds first → ¬ Holds e
 fails_there Holds first e is failing = let there = subst (IsFirstFailing Holds) is failing in there.0
+
+pub read_first : (events : List Event) (event : Event) (first : Option ℕ) (e : ℕ) → first ≡ Some e → IfSome first (λ e. e < length events)
+    → event ≡ get_or events e event → slice_get events e ≡ Some event
+read_first events event first e is within seen = read events e event event (subst (λ o. IfSome o (λ e. e < length events)) is within) seen refl
 
 pub told_there : {X : Type 0} (P : ℕ → X → Type 0) (first : Option ℕ) (e : ℕ) (told : Option X) → first ≡ Some e → AtFirst P (Some e) told → AtFirst P first told
 told_there P first e told is at = subst (λ o. AtFirst P o told) (sym is) at

@@ -4,7 +4,7 @@ use Rattle.std.proofs.Common.{if◌then◌else◌, refl, sym, ◌∙◌, subst, 
 use Rattle.std.specs.Ordering.{nat_cmp}
 use Rattle.std.specs.BTreeMap.{get, is_at, IsEmpty}
 use Rattle.std.specs.Map.{lookup}
-use Rattle.std.proofs.lemmas.Bool.{cases_eq, cases_lt}
+use Rattle.std.proofs.lemmas.Bool.{cases_eq, cases_lt, iff_false}
 use Rattle.std.proofs.lemmas.Bool.Decides.{eqb_tells}
 use Rattle.scq_hist.specs.Exports.{IsFinishedAt, IsPending, IsGot, IsLawful, IsRightWithin, IsCount, NoDoneAt, IsTally}
 use Rattle.scq_hist.specs.declared.events.Event.{Event}
@@ -12,9 +12,9 @@ use Rattle.scq_hist.specs.declared.events.PutName.{PutName}
 use Rattle.scq_hist.specs.declared.events.PutName.TheVariants.{Opening, Of}
 use Rattle.scq_hist.proofs.Claims.{claims_iff}
 use Rattle.scq_hist.proofs.Counting.{count_none}
-use Rattle.scq_hist.proofs.Pending.{pending_same}
+use Rattle.scq_hist.proofs.Pending.{pending_more, pending_same}
 use Rattle.scq_hist.proofs.TallyLemmas.{finished_same}
-use Rattle.scq_check.specs.Exports.{IsQueueOf, AreClaimed, unseen, queue_in, IsRightAt, IsRightBy, IsQueueAt, AreQueuesAt, CountsAreSmall}
+use Rattle.scq_check.specs.Exports.{IsQueueOf, AreClaimed, unseen, queue_in, IsRightAt, IsRightBy, IsQueueAt, AreQueuesAt, CountsAreSmall, one_more_if}
 use Rattle.scq_hist.specs.declared.tallies.Tally.{Tally}
 use Rattle.scq_check.specs.declared.queues.Queue.{Queue}
 use Rattle.scq_check.specs.declared.queues.Queues.{Queues}
@@ -76,6 +76,12 @@ idle opening events number e queue lawful no_done no_get is =
         | inr now ↦ (let from = now.0 in let few = now.1 in inr (omega arith, omega arith))
       ]);
     }
+
+-- its gets that never end, with the one that starts there, if one does
+pub pending_by : (events : List Event) (number e n m : ℕ) (b : Bool) → m ≡ one_more_if n b → (IsTrue b ↔ IsPending events number (suc e) e)
+    → IsCount (IsPending events number e) n → IsCount (IsPending events number (e + 1)) m
+pending_by events number e n m true is test count = rw is (pending_more events number e n count (test.0 refl))
+pending_by events number e n m false is test count = rw is (pending_same events number e n count (iff_false test refl))
 
 -- the queue of the event: what its numbers say just before the event is kept
 by_answer : (opening : List (List ℕ)) (events : List Event) (number e : ℕ) (old new : Queue) (b : Bool) → IsLawful events

@@ -1,18 +1,19 @@
 //! The refused puts that had found a place, where it is known for how many values each queue has
 //! room.
 
-ghost use Rattle.std.specs.Prelude.{◌≡◌, ◌+◌, ◌<◌, ◌≤◌, ◌^◌, ◌↔◌, ◌⊎◌, ℕ, IsTrue, MatchOption};
+ghost use Rattle.std.specs.Prelude.{◌≡◌, ◌+◌, ◌<◌, ◌^◌, ◌↔◌, ◌⊎◌, ℕ, IsTrue, MatchOption};
 ghost use Rattle.std.specs.Prelude.{length, IfOk, IfSome, OnOk};
 ghost use Rattle.scq_hist.specs.Exports.{IsLawful};
 ghost use Rattle.scq_check.specs.Failures.{AreFailures};
 ghost use Rattle.scq_check.specs.Full.{IsTaking, IsFreeing, IsPutAt, NoPutAt, IsUsedUp};
-ghost use Rattle.scq_check.specs.Full.{one_more_if, held_at_start, places_in};
+ghost use Rattle.scq_check.specs.Full.{held_at_start, places_in};
 ghost use Rattle.scq_check.specs.Full.{untouched, ArePlacesOf, ArePlacesAt, IsFullRightAt};
 ghost use Rattle.scq_check.specs.Refused.{IsRefusals};
 ghost use Rattle.scq_check.specs.Tables.{HasEvent, IsTables};
 
 use crate::by_name::ByName;
 use crate::failures::Failures;
+use crate::queues::counted;
 use crate::refused::{is_among, refusals};
 use crate::tables::Tables;
 use scq_hist::{Call, Event};
@@ -79,14 +80,6 @@ fn held_at_start(opening: &[Bytes], queue: u32) -> usize
     ensures { result ≡ held_at_start opening.now queue }
 {
     if queue == 0 { opening.len() } else { 0 }
-}
-
-// A number, or one more.
-fn counted(number: usize, more: bool) -> usize
-    requires { number + 1 < 2 ^ 64 }
-    ensures { result ≡ one_more_if number more }
-{
-    if more { number + 1 } else { number }
 }
 
 impl Places {

@@ -1,7 +1,6 @@
 //! The Gots that overtake, and the wrong Empties.
 
-ghost use Rattle.std.specs.Prelude.{◌≡◌, ◌+◌, ◌<◌, ◌≤◌, ◌^◌, ◌↔◌, ℕ, List, IsTrue, MatchOption};
-ghost use Rattle.std.specs.Prelude.{length, IfOk};
+ghost use Rattle.std.specs.Prelude.{◌≡◌, ◌<◌, ◌↔◌, ℕ, List, IsTrue, MatchOption, length, IfOk};
 ghost use Rattle.scq_hist.specs.Exports.{IsInOrderAt, IsEmptyRightAt, IsPutGotAt, NoPutGotAt};
 ghost use Rattle.scq_hist.specs.Exports.{IsEmptyAt, NoEmptyAt};
 ghost use Rattle.scq_check.specs.Exports.{AreQueuesAt, AreTallies, AreOfLawful, HasEvent};

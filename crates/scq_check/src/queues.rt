@@ -2,9 +2,9 @@
 
 ghost use Rattle.std.specs.Prelude.{◌≡◌, ◌+◌, ◌<◌, ◌≤◌, ◌^◌, ◌↔◌, ◌⊎◌, ℕ, List, IsTrue};
 ghost use Rattle.std.specs.Prelude.{MatchOption, length, OnOk};
-ghost use Rattle.scq_hist.specs.Exports.{IsFinishedAt, IsPending, IsCount, IsTally};
-ghost use Rattle.scq_hist.specs.Exports.{IsTokenGotAt, NoTokenGotAt};
-ghost use Rattle.scq_check.specs.Tables.{AreOfLawful, HasEvent, IsTables};
+ghost use Rattle.scq_hist.specs.Exports.{IsFinishedAt, IsTally, IsTokenGotAt, NoTokenGotAt};
+ghost use Rattle.scq_check.specs.Full.{one_more_if};
+ghost use Rattle.scq_check.specs.Tables.{AreOfLawful, HasEvent};
 ghost use Rattle.scq_check.specs.Queues.{AreClaimed, IsQueueAt, AreQueuesAt, CountsAreSmall};
 ghost use Rattle.scq_check.specs.Queues.{queue_in};
 ghost use Rattle.scq_check.specs.Queues.{unseen};
@@ -50,21 +50,13 @@ fn tally_after(tally: Tally, tables: &Tables, events: &[Event], queue: u32, e: u
     }
 }
 
-// From the number of gets of this queue that started before position s and are under way at the end
-// of the list to that of those which started up to position s.
-fn pending_after(pending: usize, tables: &Tables, events: &[Event], queue: u32, s: usize) -> usize
-    requires tables { IsTables events.now tables.now }
-    requires within { s < length events.now }
-    requires room { pending + 1 < 2 ^ 64 }
-    ensures few { result ≤ pending + 1 }
-    ensures count { IsCount (IsPending events.now queue s) pending
-        → IsCount (IsPending events.now queue (s + 1)) result }
+/// A number, or one more.
+pub(crate) fn counted(number: usize, more: bool) -> usize
+    requires { number + 1 < 2 ^ 64 }
+    ensures value { result ≡ one_more_if number more }
+    ensures few { result ≤ number + 1 }
 {
-    if tables.never_ends(events, queue, s) {
-        pending + 1
-    } else {
-        pending
-    }
+    if more { number + 1 } else { number }
 }
 
 // The position of the Start of the get that ends at this position and has got an opening token.
@@ -163,7 +155,7 @@ impl Queue {
     {
         Queue {
             tally: tally_after(self.tally, tables, events, queue, e),
-            pending: pending_after(self.pending, tables, events, queue, e),
+            pending: counted(self.pending, tables.never_ends(events, queue, e)),
             right_till: self.right_till_now(e),
         }
     }

@@ -11,7 +11,7 @@ use Rattle.scq_hist.specs.declared.events.PutName.TheVariants.{Opening, Of}
 use Rattle.scq_hist.specs.declared.events.Reply.TheVariants.{Got}
 use Rattle.scq_check.specs.Exports.{own_start}
 use Rattle.scq_judge.specs.declared.recorded.Place.{Place}
-use Rattle.scq_judge.specs.declared.telling.Teller.{Teller}
+use Rattle.scq_judge.specs.declared.teller.Teller.{Teller}
 
 -- what places and events are told by: the names of the files, the place of each event, and the
 -- history

@@ -14,7 +14,7 @@ use crate::merging::{MergeFault, Merged, merge};
 use crate::recorded::{Place, Recorded};
 use crate::runs::first_other_run;
 use crate::seats::first_apart;
-use crate::telling::Teller;
+use crate::teller::Teller;
 use crate::text::report_text;
 use scq_check::{Breaches, Failures, find_breaches, find_wrong_refusals, first_unlawful};
 use scq_hist::Event;
@@ -221,7 +221,6 @@ fn judge_history(
     opening: &[Bytes],
     teller: Teller<'_>,
 ) -> Result<Bytes, JudgeFault>
-    requires { length teller.places.now ≡ length teller.events.now }
     ensures reported { IfOk result
         (IsReportOf (map string_bytes teller.entry.names.now) room opening.now
         teller.entry.events.now teller.entry.places.now) }
@@ -246,8 +245,7 @@ fn judge_lawful(
     opening: &[Bytes],
     teller: Teller<'_>,
 ) -> Result<Bytes, JudgeFault>
-    requires many { length teller.places.now ≡ length teller.events.now }
-    requires lawful { IsLawful teller.events.now }
+    requires { IsLawful teller.events.now }
     ensures reported { IfOk result
         (IsReportOf (map string_bytes teller.entry.names.now) room opening.now
         teller.entry.events.now teller.entry.places.now) }

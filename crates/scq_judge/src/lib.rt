@@ -16,6 +16,7 @@ mod reading;
 mod recorded;
 mod runs;
 mod seats;
+mod teller;
 mod telling;
 mod text;
 

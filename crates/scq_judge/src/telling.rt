@@ -8,23 +8,14 @@ ghost use Rattle.scq_judge.specs.Telling.{put_name_text, got_name_text, seat_tex
 ghost use Rattle.scq_judge.specs.Telling.{call_at_text, event_at_text, token_text, told_by};
 
 use crate::recorded::Place;
+use crate::teller::Teller;
 use itoa::Buffer;
 use scq_hist::{Call, Event, PutName, Reply, puts_before, under_way};
 use scq_word::NoMemory;
 
-/// What places and events are told by: the names of the files, the place of each event, and the
-/// history.
-#[derive(Clone, Copy)]
-pub(crate) struct Teller<'a> {
-    pub names: &'a [String],
-    pub places: &'a [Place],
-    pub events: &'a [Event],
-}
-
 /// The event at this position: the file's name, the line, and what it is.
 pub(crate) fn add_event_at(text: &mut Vec<u8>, teller: Teller<'_>, e: usize) -> Result<(), NoMemory>
-    requires many { length teller.places.now ≡ length teller.events.now }
-    requires within { e < length teller.events.now }
+    requires { e < length teller.events.now }
     ensures { OnOk result (text.new.items
         ≡ text.old.items ++ event_at_text (told_by teller.entry) e) }
 {

@@ -1,16 +1,17 @@
 //! A report as text.
 
-ghost use Rattle.std.specs.Prelude.{◌≡◌, ◌<◌, ◌^◌, ◌++◌, codes, decimal, length, Some, IfOk};
-ghost use Rattle.std.specs.Prelude.{IfSome, OnOk};
+ghost use Rattle.std.specs.Prelude.{◌≡◌, ◌<◌, ◌^◌, ◌++◌, codes, length, Some, IfOk, IfSome};
+ghost use Rattle.std.specs.Prelude.{OnOk};
 ghost use Rattle.scq_check.specs.Exports.{IsOriginWithin, AreWithin, IsToldWithin};
-ghost use Rattle.scq_judge.specs.Exports.{told_by, beside_line, count_line, event_text, full_line};
-ghost use Rattle.scq_judge.specs.Exports.{got_text, order_line, origin_line, origin_text};
-ghost use Rattle.scq_judge.specs.Exports.{overtaker_text, plain_line, put_text, report_lines};
-ghost use Rattle.scq_judge.specs.Exports.{verdict_text, waiting_line, waiting_text};
+ghost use Rattle.scq_judge.specs.Exports.{told_by, beside_line, count_line, full_line, got_text};
+ghost use Rattle.scq_judge.specs.Exports.{order_line, origin_line, origin_text, overtaker_text};
+ghost use Rattle.scq_judge.specs.Exports.{put_text, report_lines, verdict_text, waiting_line};
+ghost use Rattle.scq_judge.specs.Exports.{waiting_text};
 
 use crate::counting::Counts;
 use crate::judging::Report;
-use crate::telling::{Teller, add_event_at, add_number, add_token};
+use crate::teller::Teller;
+use crate::telling::{add_event_at, add_number, add_token};
 use scq_check::{Failures, Origin, Waiting};
 use scq_word::{Bytes, NoMemory};
 use std::alloc::Global;
@@ -22,7 +23,6 @@ pub(crate) fn report_text(
     teller: Teller<'_>,
     report: &Report,
 ) -> Result<Bytes, NoMemory>
-    requires many { length teller.places.now ≡ length teller.events.now }
     requires within { AreWithin (length teller.events.now) report.now.breaches }
     requires full_within { IfSome report.now.full (λ full.
         IfSome full.first (λ e. e < length teller.events.now)) }
@@ -68,23 +68,6 @@ pub(crate) fn report_text(
     Ok(Bytes::from(text))
 }
 
-// The line of an aspect whose breach stands against nothing.
-fn add_plain(
-    text: &mut Vec<u8>,
-    name: &[u8],
-    teller: Teller<'_>,
-    failures: &Failures,
-) -> Result<(), NoMemory>
-    requires many { length teller.places.now ≡ length teller.events.now }
-    requires within { IfSome failures.now.first (λ e. e < length teller.events.now) }
-    ensures { OnOk result (text.new.items
-        ≡ text.old.items ++ plain_line name.now (told_by teller.entry) failures.now) }
-{
-    add_verdict(text, name, teller, failures)?;
-    text.extend_from_slice(b"\n")?;
-    Ok(())
-}
-
 // The line of an aspect whose first breach names a put.
 fn add_origin(
     text: &mut Vec<u8>,
@@ -93,7 +76,6 @@ fn add_origin(
     failures: &Failures,
     origin: Option<Origin>,
 ) -> Result<(), NoMemory>
-    requires many { length teller.places.now ≡ length teller.events.now }
     requires first { IfSome failures.now.first (λ e. e < length teller.events.now) }
     requires origin { IfSome origin (IsOriginWithin (length teller.events.now)) }
     ensures { OnOk result (text.new.items
@@ -111,8 +93,7 @@ fn add_put_of(
     teller: Teller<'_>,
     origin: Option<Origin>,
 ) -> Result<(), NoMemory>
-    requires many { length teller.places.now ≡ length teller.events.now }
-    requires within { IfSome origin (IsOriginWithin (length teller.events.now)) }
+    requires { IfSome origin (IsOriginWithin (length teller.events.now)) }
     ensures { OnOk result (text.new.items
         ≡ text.old.items ++ origin_text (told_by teller.entry) origin) }
 {
@@ -137,15 +118,15 @@ fn add_put_of(
 
 // The line on refusals, where they are judged.
 fn add_full(text: &mut Vec<u8>, teller: Teller<'_>, full: Option<Failures>) -> Result<(), NoMemory>
-    requires many { length teller.places.now ≡ length teller.events.now }
-    requires within { IfSome full (λ full. IfSome full.first (λ e. e < length teller.events.now)) }
+    requires { IfSome full (λ full. IfSome full.first (λ e. e < length teller.events.now)) }
     ensures { OnOk result (text.new.items
         ≡ text.old.items ++ full_line (told_by teller.entry) full) }
 {
-    match full {
-        None => Ok(()),
-        Some(failures) => add_plain(text, b"full", teller, &failures),
+    if let Some(failures) = full {
+        add_verdict(text, b"full", teller, &failures)?;
+        text.extend_from_slice(b"\n")?;
     }
+    Ok(())
 }
 
 // The line of an aspect whose first breach stands against an event.
@@ -157,7 +138,6 @@ fn add_beside(
     words: &[u8],
     event: Option<usize>,
 ) -> Result<(), NoMemory>
-    requires many { length teller.places.now ≡ length teller.events.now }
     requires first { IfSome failures.now.first (λ e. e < length teller.events.now) }
     requires event { IfSome event (λ e. e < length teller.events.now) }
     ensures { OnOk result (text.new.items
@@ -165,7 +145,10 @@ fn add_beside(
         ++ beside_line name.now (told_by teller.entry) failures.now words.now event) }
 {
     add_verdict(text, name, teller, failures)?;
-    add_event(text, words, teller, event)?;
+    if let Some(at) = event {
+        text.extend_from_slice(words)?;
+        add_event_at(text, teller, at)?;
+    }
     text.extend_from_slice(b"\n")?;
     Ok(())
 }
@@ -178,7 +161,6 @@ fn add_waiting(
     failures: &Failures,
     waiting: Option<Waiting>,
 ) -> Result<(), NoMemory>
-    requires many { length teller.places.now ≡ length teller.events.now }
     requires first { IfSome failures.now.first (λ e. e < length teller.events.now) }
     requires waiting { IfSome waiting (IsToldWithin (length teller.events.now)) }
     ensures { OnOk result (text.new.items
@@ -199,7 +181,6 @@ fn add_order(
     waiting: Option<Waiting>,
     overtaker: Option<Origin>,
 ) -> Result<(), NoMemory>
-    requires many { length teller.places.now ≡ length teller.events.now }
     requires first { IfSome failures.now.first (λ e. e < length teller.events.now) }
     requires waiting { IfSome waiting (IsToldWithin (length teller.events.now)) }
     requires overtaker { IfSome overtaker (IsOriginWithin (length teller.events.now)) }
@@ -220,8 +201,7 @@ fn add_overtaker(
     teller: Teller<'_>,
     overtaker: Option<Origin>,
 ) -> Result<(), NoMemory>
-    requires many { length teller.places.now ≡ length teller.events.now }
-    requires within { IfSome overtaker (IsOriginWithin (length teller.events.now)) }
+    requires { IfSome overtaker (IsOriginWithin (length teller.events.now)) }
     ensures { OnOk result (text.new.items
         ≡ text.old.items ++ overtaker_text (told_by teller.entry) overtaker) }
 {
@@ -240,8 +220,7 @@ fn add_verdict(
     teller: Teller<'_>,
     failures: &Failures,
 ) -> Result<(), NoMemory>
-    requires many { length teller.places.now ≡ length teller.events.now }
-    requires within { IfSome failures.now.first (λ e. e < length teller.events.now) }
+    requires { IfSome failures.now.first (λ e. e < length teller.events.now) }
     ensures { OnOk result (text.new.items
         ≡ text.old.items ++ verdict_text name.now (told_by teller.entry) failures.now) }
 {
@@ -262,35 +241,13 @@ fn add_verdict(
     }
 }
 
-// These words and the place of this event, where there is one.
-fn add_event(
-    text: &mut Vec<u8>,
-    words: &[u8],
-    teller: Teller<'_>,
-    event: Option<usize>,
-) -> Result<(), NoMemory>
-    requires many { length teller.places.now ≡ length teller.events.now }
-    requires within { IfSome event (λ e. e < length teller.events.now) }
-    ensures { OnOk result (text.new.items
-        ≡ text.old.items ++ event_text words.now (told_by teller.entry) event) }
-{
-    match event {
-        None => Ok(()),
-        Some(at) => {
-            text.extend_from_slice(words)?;
-            add_event_at(text, teller, at)
-        }
-    }
-}
-
 // How many puts wait, and of the one that is told where it was put and where it is got.
 fn add_puts(
     text: &mut Vec<u8>,
     teller: Teller<'_>,
     waiting: Option<Waiting>,
 ) -> Result<(), NoMemory>
-    requires many { length teller.places.now ≡ length teller.events.now }
-    requires within { IfSome waiting (IsToldWithin (length teller.events.now)) }
+    requires { IfSome waiting (IsToldWithin (length teller.events.now)) }
     ensures { OnOk result (text.new.items
         ≡ text.old.items ++ waiting_text (told_by teller.entry) waiting) }
 {
@@ -305,8 +262,7 @@ fn add_puts(
 }
 
 fn add_got(text: &mut Vec<u8>, teller: Teller<'_>, got: Option<usize>) -> Result<(), NoMemory>
-    requires many { length teller.places.now ≡ length teller.events.now }
-    requires within { IfSome got (λ e. e < length teller.events.now) }
+    requires { IfSome got (λ e. e < length teller.events.now) }
     ensures { OnOk result (text.new.items ≡ text.old.items ++ got_text (told_by teller.entry) got) }
 {
     match got {
@@ -328,7 +284,6 @@ fn add_put(
     token: Option<usize>,
     put: Option<usize>,
 ) -> Result<(), NoMemory>
-    requires many { length teller.places.now ≡ length teller.events.now }
     requires token { IfSome token (λ number. number < 2 ^ 32) }
     requires put { IfSome put (λ d. d < length teller.events.now) }
     ensures { OnOk result (text.new.items

@@ -1,16 +1,12 @@
-use Rattle.std.proofs.Common.{◌<◌, length, refl, subst}
-use Rattle.std.specs.Prelude.{IfSome}
-use Rattle.scq_hist.proofs.NamesLemmas.{read}
 use Rattle.scq_check.specs.Exports.{IsOfRefused}
-use Rattle.scq_check.proofs.CounterpartLemmas.{fails_there, told_there, refused_there, refused_within}
+use Rattle.scq_check.proofs.CounterpartLemmas.{read_first, fails_there, told_there, refused_there, refused_within}
 use Rattle.scq_check.proofs.RefusedLemmas.{accepted_other}
 use Rattle.scq_check.proofs.counterparts.refused_first.Goals as goal
 
 pub returns-in-Some-named_put-clause-first : goal.returns-in-Some-named_put-clause-first
 returns-in-Some-named_put-clause-first c =
-    let within : c.in-Some.e < length c.args.events.now = subst (λ o. IfSome o (λ e. e < length c.args.events.now)) c.in-Some.is c.requires.within in
     told_there (IsOfRefused c.args.events.now) _ _ _ c.in-Some.is
-    (refused_there _ _ _ _ _ _ _ c.get.ensures (read _ _ _ _ within c.index-events-e.is refl) c.in-Some-named_put.ensures c.in_ok-refusals.ensures
+    (refused_there _ _ _ _ _ _ _ c.get.ensures (read_first _ _ _ _ c.in-Some.is c.requires.within c.index-events-e.is) c.in-Some-named_put.ensures c.in_ok-refusals.ensures
     (fails_there _ _ _ c.in-Some.is c.requires.failures.first))
 
 pub returns-in-Some-named_put-clause-within : goal.returns-in-Some-named_put-clause-within
@@ -18,6 +14,5 @@ returns-in-Some-named_put-clause-within c = refused_within _ _ _ _ _ c.get.ensur
 
 pub returns-clause-first : goal.returns-clause-first
 returns-clause-first c =
-    let within : c.in-Some.e < length c.args.events.now = subst (λ o. IfSome o (λ e. e < length c.args.events.now)) c.in-Some.is c.requires.within in
     absurd (fails_there _ _ _ c.in-Some.is c.requires.failures.first
-    (accepted_other _ _ _ (read _ _ _ _ within c.index-events-e.is refl) c.in-None.ensures))
+    (accepted_other _ _ _ (read_first _ _ _ _ c.in-Some.is c.requires.within c.index-events-e.is) c.in-None.ensures))
