@@ -6,8 +6,9 @@ use Rattle.std.proofs.lemmas.Option.{slice_get_read}
 use Rattle.std.proofs.Common.{Box, Global}
 use Rattle.scq_port.specs.declared.port.Port.{Port}
 use Rattle.scq_word.specs.declared.setup.Setup.{Setup}
-use Rattle.scq_queue.specs.Exports.{first_pass, first_passes}
-use Rattle.scq_port.specs.Exports.{AreOpened, new_port, PortStanding, PortQueue}
+use Rattle.scq_queue.specs.Exports.{first_passes}
+use Rattle.scq_queue.proofs.NewPasses.{as_many_passes}
+use Rattle.scq_port.specs.Exports.{AreOpened, new_port, PortStanding}
 use Rattle.scq_c.specs.declared.c_port.CPort.{CPort}
 use Rattle.scq_c.specs.declared.c_port.Memory.{Memory}
 use Rattle.scq_c.specs.Exports.{IsClosed, ports_of, memories_of}
@@ -168,14 +169,9 @@ handed b = Some b.value
 pub length_alike : (hs gs : List CPort) → ports_of hs ≡ ports_of gs → length hs ≡ length gs
 length_alike hs gs same = sym (length_ports hs) ∙ ap length same ∙ length_ports gs
 
-first_many : (queue : PortQueue) (n : ℕ) → length (first_passes queue n) ≡ n
-first_many queue zero = refl
-first_many queue (suc n) =
-    let both = length-append (first_passes queue n) (first_pass queue n ∷ []) in let rest = first_many queue n in omega (arith, both, rest)
-
 pub length_opened : (c : Setup) (hold : ℕ) (ports : List PortStanding) → AreOpened c hold ports → length ports ≡ c.seats
 length_opened c hold ports are =
-    ap length are.ports ∙ length-map (first_passes are.queue c.seats) (new_port hold) ∙ first_many are.queue c.seats
+    ap length are.ports ∙ length-map (first_passes are.queue c.seats) (new_port hold) ∙ as_many_passes are.queue c.seats
 
 pub map_twice : {A B C : Type 0} (f : A → B) (g : B → C) (xs : List A) → map g (map f xs) ≡ map (λ x. g (f x)) xs
 map_twice f g [] = refl

@@ -3,14 +3,12 @@ ghost use Rattle.std.specs.Prelude.{◌≡◌, ℕ, Some, None};
 ghost use Rattle.scq_word.specs.Exports.{n_of};
 ghost use Rattle.scq_queue.specs.Exports.{counts_of, lists_of};
 ghost use Rattle.scq_port.specs.Exports.{PortStanding, retired_port};
-ghost use Rattle.scq_c.specs.Answers.{OfLend, OfTake, OfSend, OfGiveBack, OfOpen, OfEnd, OfRetired};
+ghost use Rattle.scq_c.specs.Answers.{OfLend, OfTake, OfSend, OfGiveBack, OfEnd, OfRetired};
 ghost use Rattle.scq_c.specs.Answers.{OfCount, shown_at};
 ghost use Rattle.scq_c.specs.Codes.{scq_ok, scq_spent, scq_closed};
 
 use crate::answers::{CLOSED, EMPTY, FULL, NO_ROOM, NO_TOPIC, NOT_HELD, OK, RETIRED, SPENT};
-use crate::c_port::{CPort, Memory};
 use crate::handle::{Handle, put, taken};
-use crate::opening::open;
 use crate::tally::{Tally, write_out};
 use scq_port::{GiveBackRefusal, LendRefusal, Port, SendRefusal, TakeRefusal};
 use std::alloc::Global;
@@ -40,22 +38,6 @@ pub extern "C" fn scq_version() -> u32
     ensures { result ≡ 2 }
 {
     2
-}
-
-/// Opens a queue: the ports of a new one, each of which is told where C has the buffers' bytes.
-#[unsafe(no_mangle)]
-pub extern "C" fn scq_open_over(
-    alloc: Global,
-    order: u32,
-    topics: u32,
-    hold: u32,
-    limit: u64,
-    memory: &Memory,
-    ports: &mut [CPort],
-) -> u32
-    ensures { OfOpen order topics hold limit memory.now result ports.old ports.new }
-{
-    open(alloc, order, topics, hold, limit, memory, ports)
 }
 
 /// Writes out the index of a value, and its place.

@@ -109,7 +109,8 @@ fn fill(ports: &mut [CPort], mut boxes: Vec<Box<Port>>)
 }
 
 /// Opens a queue: the ports of a new one, each of which is told where C has the buffers' bytes.
-pub(crate) fn open(
+#[unsafe(no_mangle)]
+pub extern "C" fn scq_open_over(
     alloc: Global,
     order: u32,
     topics: u32,

@@ -1,13 +1,7 @@
-use Rattle.std.proofs.Common.{sym, ◌∙◌, subst}
-use Rattle.scq_port.specs.Exports.{PortStanding}
 use Rattle.scq_c.specs.Exports.{OfLend, OfMany}
-use Rattle.scq_c.proofs.Somes.{same_value}
+use Rattle.scq_c.proofs.Somes.{answered}
 use Rattle.scq_c.proofs.many.scq_lend_index_many.Goals as goal
 
 pub returns-clause-answered : goal.returns-clause-answered
 returns-clause-answered c x was =
-    let from = c.deref_mut.ensures.value ∙ same_value c.in-Some.port.value x (sym c.in-Some.ensures.taken ∙ was) in (
-      c.lend_each-went.new.port,
-      c.put.ensures,
-      subst (λ (p : PortStanding). OfMany OfLend c.lend_each-went.result.1 c.lend_each-went.result.0 c.args.out.now c.lend_each-went.new.out p c.lend_each-went.new.port) from c.lend_each-went.ensures,
-    )
+    answered (OfMany OfLend _ _ _ _) c.deref_mut.ensures.value c.in-Some.ensures.taken was c.put.ensures c.lend_each-went.ensures

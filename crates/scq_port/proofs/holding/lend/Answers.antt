@@ -1,4 +1,4 @@
-use Rattle.std.proofs.Common.{sym, ℕ, refl}
+use Rattle.std.proofs.Common.{sym, refl}
 use Rattle.scq_queue.proofs.HeldOnce.{lend_refused}
 use Rattle.scq_port.proofs.Keeping.{place_free}
 use Rattle.scq_port.proofs.Records.{unspent, still_more, still_alike, in_run, empty_in_run, came_of, spent_of}

@@ -5,7 +5,7 @@ use Rattle.scq_word.specs.Exports.{n_of}
 use Rattle.scq_port.specs.Exports.{PortStanding}
 use Rattle.scq_c.proofs.Handed.{closed_alike, length_alike, length_opened, inside, map_twice}
 use Rattle.scq_c.proofs.Openings.{open_opened}
-use Rattle.scq_c.proofs.opening.open.Goals as goal
+use Rattle.scq_c.proofs.opening.scq_open_over.Goals as goal
 
 pub fill-requires-clause-closed : goal.fill-requires-clause-closed
 fill-requires-clause-closed c =
