@@ -2,6 +2,7 @@
 use Rattle.std.proofs.Common.{◌≡◌, ℕ, ◌<◌, ◌↔◌, inr, refl, sym, ◌∙◌, ap, subst, arith, Option, Some, None, Result, Ok, Err, List, length}
 use Rattle.std.specs.Prelude.{is_some, unwrap_or, slice_index_or, slice_set, true}
 use Rattle.std.specs.Result.{IsErrAnd}
+use Rattle.std.proofs.lemmas.Grind.{common_steps}
 use Rattle.std.proofs.lemmas.List.{get_or_default}
 use Rattle.scq_word.specs.declared.setup.Setup.{Setup}
 use Rattle.scq_core.specs.declared.advance.ApplyFault.{ApplyFault}
@@ -11,7 +12,8 @@ use Rattle.scq_core.specs.declared.step.Step.{Step}
 use Rattle.scq_core.specs.declared.slot.Cell.{Cell}
 use Rattle.scq_core.specs.declared.slot.Slot.{Slot}
 use Rattle.scq_core.specs.Exports.{SeatPart, writes, stores, after, turn_of, ring_of, cell_of, RingLists, IsCell, word_in, content_in, ring_with}
-use Rattle.scq_core.specs.Exports.{ring_in, no_slot, no_ring, HasRings, copied, started, ends_call, found_by, beside_by, WantsMemory, Advances, CanTurn, IsReady}
+use Rattle.scq_core.specs.Exports.{ring_in, no_slot, no_ring, HasRings, copied, started, ends_call, found_by, beside_by, WantsMemory, Advances}
+use Rattle.scq_core.specs.Exports.{CanTurn, IsReady, copies_content, needs_copy}
 use Rattle.scq_core.proofs.TurnCells.{is_cell}
 use Rattle.scq_core.proofs.Turns.{enabled_turn}
 
@@ -82,6 +84,11 @@ pub enabled_fault : (turn : Option Phase) (result : Result (Unit {0}) ApplyFault
     → (result ≡ Err NotEnabled) ↔ (turn ≡ None)
 enabled_fault (Some turn) result enabled other = (λ e. absurd (other e), λ none. absurd cc)
 enabled_fault None result enabled other = absurd cc
+
+-- a turn that copies a content is of a step that does
+pub wants_copy : (c : Setup) (seat : SeatPart) (step : Step) (turn : Phase) → turn_of c seat step ≡ Some turn → needs_copy turn ≡ true
+    → copies_content step ≡ true
+wants_copy c seat step turn is needs = grind (arith, common_steps)
 
 -- the call that couldn't be recorded ends
 pub wants_end : (c : Setup) (step : Step) (rings : List RingLists) (seat : SeatPart) (turn : Phase) (i : ℕ) (ring : RingLists) (p : Cell) (found : ℕ)

@@ -1,9 +1,10 @@
 -- The ring that is read is the one of the turn, and its cell is one of the ring's; then the clauses of the pieces say what
 -- the words and the seat's part are.
-use Rattle.std.proofs.Common.{◌≡◌, List, ℕ, inl, true, rules, Some}
+use Rattle.std.proofs.Common.{◌≡◌, List, ℕ, inl, true, rules, Some, subst}
 use Rattle.std.specs.Prelude.{unwrap_or}
-use Rattle.scq_core.specs.Exports.{after, stores, copied, ends_call, turn_of}
-use Rattle.scq_core.proofs.Advancing.{cell_fits, is_ready, turn_is, advanced, wanted, enabled_fault, wants_end}
+use Rattle.scq_core.specs.Exports.{after, stores, copied, ends_call, turn_of, IsReady}
+use Rattle.scq_core.specs.declared.phase.Phase.{Phase}
+use Rattle.scq_core.proofs.Advancing.{cell_fits, is_ready, turn_is, advanced, wanted, enabled_fault, wants_copy, wants_end}
 use Rattle.scq_core.proofs.advance.advance.Goals as goal
 use Rattle.scq_core.proofs.advance.advance.Goals.{After-turn-turn}
 
@@ -32,8 +33,10 @@ written-word-requires c =
 pub proceed-requires : goal.proceed-requires
 proceed-requires c =
     let ready = c.requires.ready c.turn-turn.result.now (enabled (goal.at.proceed-requires c).After-turn-turn) in
-    rw (← c.turn-turn.ensures) (is_ready c.args.setup.now c.args.rings.now.items c.turn-turn.result.now c.ring_of-index.result c.index-ring.result.now
-    c.cell_of-cell.result c.read-found.result c.requires.rings ready c.ring_of-index.ensures c.index-ring.ensures c.cell_of-cell.ensures c.read-found.ensures)
+    subst (λ (turn : Phase). IsReady c.args.setup.now turn c.read-found.result) c.turn-turn.ensures
+    (is_ready c.args.setup.now c.args.rings.now.items c.turn-turn.result.now c.ring_of-index.result c.index-ring.result.now
+    c.cell_of-cell.result c.read-found.result c.requires.rings ready c.ring_of-index.ensures c.index-ring.ensures c.cell_of-cell.ensures
+    c.read-found.ensures)
 
 pub write-requires : goal.write-requires
 write-requires c =
@@ -63,6 +66,11 @@ returns-in_err-started-clause-no_memory c wants = inl c.in_err-started.ensures.e
 
 pub returns-in_err-copy-clause-not_enabled : goal.returns-in_err-copy-clause-not_enabled
 returns-in_err-copy-clause-not_enabled c = enabled_fault _ _ (search rules) (wanted _ c.from_residual-in_err-copy.ensures.1)
+
+pub returns-in_err-copy-clause-no_memory : goal.returns-in_err-copy-clause-no_memory
+returns-in_err-copy-clause-no_memory c wants =
+    inl (wants_copy c.args.setup.now c.args.seat.now c.args.step.now c.turn-turn.result.now
+    (enabled (goal.at.returns-in_err-copy-clause-no_memory c).After-turn-turn) c.in_err-copy.ensures.err)
 
 pub returns-in_err-laid-clause-not_enabled : goal.returns-in_err-laid-clause-not_enabled
 returns-in_err-laid-clause-not_enabled c = enabled_fault _ _ (search rules) (wanted _ c.from_residual-in_err-laid.ensures.1)
