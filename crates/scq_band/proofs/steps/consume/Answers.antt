@@ -5,6 +5,9 @@ use Rattle.scq_band.proofs.steps.consume.Goals as goal
 
 pub fetch_or-requires : goal.fetch_or-requires
 fetch_or-requires g c =
-    let k = c.args.words.now.key.setup in
-    (c.requires.own, c.requires.low, moves _ k _ _ _ _ _ (λ n. bit_or n c.args.mark) c.requires.may (consume_carries _ _ _ c.requires.kind) c.requires.word
-    (λ m r b. consume_says k _ _ _ c.requires.kind c.requires.mark))
+    let k = c.args.words.now.key.setup in (
+      c.requires.own,
+      c.requires.low,
+      moves _ k _ _ _ _ _ (λ n. bit_or n c.args.mark) c.requires.may (consume_carries _ _ _ c.requires.kind) c.requires.word
+          (λ m r b. consume_says k _ _ _ c.requires.kind c.requires.mark),
+    )

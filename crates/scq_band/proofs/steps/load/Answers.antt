@@ -4,6 +4,9 @@ use Rattle.scq_band.proofs.steps.load.Goals as goal
 
 pub load-requires : goal.load-requires
 load-requires g c =
-    let k = c.args.words.now.key.setup in
-    (c.requires.own, c.requires.low, moves _ k _ _ _ _ _ (λ n. n) c.requires.may (load_carries _ _ _ c.requires.kind) c.requires.word
-    (λ m r b. load_says k _ _ c.requires.kind))
+    let k = c.args.words.now.key.setup in (
+      c.requires.own,
+      c.requires.low,
+      moves _ k _ _ _ _ _ (λ n. n) c.requires.may (load_carries _ _ _ c.requires.kind) c.requires.word
+          (λ m r b. load_says k _ _ c.requires.kind),
+    )
