@@ -42,11 +42,9 @@ pub enum HistoryFault {
 }
 
 impl From<NoMemory> for HistoryFault {
-    ghost use Rattle.scq_check.specs.declared.history.HistoryFault.TheVariants.{
-      NoMemory as OutOfMemory,
-    };
+    ghost use Rattle.scq_check.specs.declared.history.HistoryFault.TheVariants.{NoMemory as Wanted};
 
-    ghost from_gives = { λ _ fault. fault ≡ OutOfMemory };
+    ghost from_gives = { λ _ fault. fault ≡ Wanted };
 
     fn from(_: NoMemory) -> HistoryFault {
         HistoryFault::NoMemory
@@ -54,11 +52,9 @@ impl From<NoMemory> for HistoryFault {
 }
 
 impl<T: Drop> From<AllocFailed<T>> for HistoryFault {
-    ghost use Rattle.scq_check.specs.declared.history.HistoryFault.TheVariants.{
-      NoMemory as OutOfMemory,
-    };
+    ghost use Rattle.scq_check.specs.declared.history.HistoryFault.TheVariants.{NoMemory as Wanted};
 
-    ghost from_gives = { λ _ fault. fault ≡ OutOfMemory };
+    ghost from_gives = { λ _ fault. fault ≡ Wanted };
 
     fn from(_: AllocFailed<T>) -> HistoryFault {
         HistoryFault::NoMemory

@@ -24,11 +24,9 @@ pub enum ApplyFault {
 }
 
 impl From<NoMemory> for ApplyFault {
-    ghost use Rattle.scq_core.specs.declared.advance.ApplyFault.TheVariants.{
-      NoMemory as OutOfMemory,
-    };
+    ghost use Rattle.scq_core.specs.declared.advance.ApplyFault.TheVariants.{NoMemory as Wanted};
 
-    ghost from_gives = { λ _ fault. fault ≡ OutOfMemory };
+    ghost from_gives = { λ _ fault. fault ≡ Wanted };
 
     fn from(_: NoMemory) -> ApplyFault {
         ApplyFault::NoMemory

@@ -29,11 +29,9 @@ pub enum OrderFault {
 }
 
 impl From<NoMemory> for OrderFault {
-    ghost use Rattle.scq_law.specs.declared.ordered.OrderFault.TheVariants.{
-      NoMemory as OutOfMemory,
-    };
+    ghost use Rattle.scq_law.specs.declared.ordered.OrderFault.TheVariants.{NoMemory as Wanted};
 
-    ghost from_gives = { λ _ fault. fault ≡ OutOfMemory };
+    ghost from_gives = { λ _ fault. fault ≡ Wanted };
 
     fn from(_: NoMemory) -> OrderFault {
         OrderFault::NoMemory

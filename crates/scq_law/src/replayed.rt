@@ -29,11 +29,9 @@ pub enum ReplayFault {
 }
 
 impl From<NoMemory> for ReplayFault {
-    ghost use Rattle.scq_law.specs.declared.replayed.ReplayFault.TheVariants.{
-      NoMemory as OutOfMemory,
-    };
+    ghost use Rattle.scq_law.specs.declared.replayed.ReplayFault.TheVariants.{NoMemory as Wanted};
 
-    ghost from_gives = { λ _ fault. fault ≡ OutOfMemory };
+    ghost from_gives = { λ _ fault. fault ≡ Wanted };
 
     fn from(_: NoMemory) -> ReplayFault {
         ReplayFault::NoMemory

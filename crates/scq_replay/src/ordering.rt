@@ -15,9 +15,7 @@ ghost use Rattle.scq_replay.specs.Steps.{LineIsRefused};
 ghost use Rattle.scq_replay.specs.declared.replaying.ScheduleFault.TheVariants.{
   Unfinished as IsUnended,
 };
-ghost use Rattle.scq_replay.specs.declared.replaying.ScheduleFault.TheVariants.{
-  NoMemory as OutOfMemory,
-};
+ghost use Rattle.scq_replay.specs.declared.replaying.ScheduleFault.TheVariants.{NoMemory as Wanted};
 
 use crate::ScheduleFault;
 use crate::printing::{add_number, add_reply};
@@ -42,7 +40,7 @@ pub(crate) struct Schedule {
 pub fn order_text(alloc: Global, text: &[u8]) -> Result<Bytes, ScheduleFault>
     ensures written { IfOk result (λ written. IsOrderText (lines_of text.now) written) }
     ensures refused { IfErr result (λ fault.
-        (fault ≡ OutOfMemory) ⊎ HasNoOrders (lines_of text.now) fault) }
+        (fault ≡ Wanted) ⊎ HasNoOrders (lines_of text.now) fault) }
 {
     let schedule = schedule_of(alloc, text)?;
     let mut written = Vec::new(alloc);
@@ -57,7 +55,7 @@ pub fn order_text(alloc: Global, text: &[u8]) -> Result<Bytes, ScheduleFault>
 fn schedule_of(alloc: Global, text: &[u8]) -> Result<Schedule, ScheduleFault>
     ensures schedule { IfOk result (IsScheduleOf (lines_of text.now)) }
     ensures refused { IfErr result (λ fault.
-        (fault ≡ OutOfMemory) ⊎ Gives (lines_of text.now) (Err fault)) }
+        (fault ≡ Wanted) ⊎ Gives (lines_of text.now) (Err fault)) }
 {
     let (setup, lines) = first_line(text)?;
     let state = State::start(alloc, setup, no_contents(alloc, &setup)?)?;
@@ -73,7 +71,7 @@ fn with_lines(alloc: Global, start: Schedule, lines: &[u8]) -> Result<Schedule, 
     ensures schedule { (text : List (List ℕ)) → HasSetup text start.state.setup (lines_of lines.now)
         → IfOk result (IsScheduleOf text) }
     ensures refused { (text : List (List ℕ)) → HasSetup text start.state.setup (lines_of lines.now)
-        → IfErr result (λ fault. (fault ≡ OutOfMemory) ⊎ Gives text (Err fault)) }
+        → IfErr result (λ fault. (fault ≡ Wanted) ⊎ Gives text (Err fault)) }
 {
     let mut schedule = start;
     let mut number = 1;
@@ -94,7 +92,7 @@ impl Schedule {
         ensures few { OnOk result (number ≤ 10000) }
         ensures added { OnOk result
             (IsAdded self.old.state.setup number line.now self.old self.new) }
-        ensures refused { IfErr result (λ fault. (fault ≡ OutOfMemory)
+        ensures refused { IfErr result (λ fault. (fault ≡ Wanted)
             ⊎ LineIsRefused self.old.state.setup number line.now (machine_of self.old.state)
             fault) }
     {
@@ -114,7 +112,7 @@ fn order_of(alloc: Global, schedule: &Schedule, ring: u32) -> Result<Vec<Ordered
     ensures finished { OnOk result (IsFinishedRun (run_of_schedule schedule.now)) }
     ensures order { IfOk result (λ order.
         IsLinearization (run_of_schedule schedule.now) ring order.items) }
-    ensures refused { IfErr result (λ fault. (fault ≡ OutOfMemory)
+    ensures refused { IfErr result (λ fault. (fault ≡ Wanted)
         ⊎ ((seat : ℕ) × (fault ≡ IsUnended seat)
         × IsUnfinished (run_of_schedule schedule.now) seat)) }
 {

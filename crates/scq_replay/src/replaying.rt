@@ -5,9 +5,7 @@ ghost use Rattle.scq_core.specs.Exports.{IsReachable, machine_of};
 ghost use Rattle.scq_lines.specs.Exports.{lines_of};
 ghost use Rattle.scq_replay.specs.Replay.{steps_from, Gives};
 ghost use Rattle.scq_replay.specs.Steps.{IsMade, LineIsRefused};
-ghost use Rattle.scq_replay.specs.declared.replaying.ScheduleFault.TheVariants.{
-  NoMemory as OutOfMemory,
-};
+ghost use Rattle.scq_replay.specs.declared.replaying.ScheduleFault.TheVariants.{NoMemory as Wanted};
 
 use crate::printing::{add_step, call_ring};
 use crate::stepping::{first_line, make_step, no_contents, turn_of_line};
@@ -36,10 +34,10 @@ pub enum ScheduleFault {
 
 impl From<NoMemory> for ScheduleFault {
     ghost use Rattle.scq_replay.specs.declared.replaying.ScheduleFault.TheVariants.{
-      NoMemory as OutOfMemory,
+      NoMemory as Wanted,
     };
 
-    ghost from_gives = { λ _ fault. fault ≡ OutOfMemory };
+    ghost from_gives = { λ _ fault. fault ≡ Wanted };
 
     fn from(_: NoMemory) -> ScheduleFault {
         ScheduleFault::NoMemory
@@ -53,7 +51,7 @@ impl From<NoMemory> for ScheduleFault {
 pub fn schedule_text(alloc: Global, text: &[u8]) -> Result<Bytes, ScheduleFault>
     ensures printed { IfOk result (λ printed. Gives (lines_of text.now) (Ok printed)) }
     ensures refused { IfErr result (λ fault.
-        (fault ≡ OutOfMemory) ⊎ Gives (lines_of text.now) (Err fault)) }
+        (fault ≡ Wanted) ⊎ Gives (lines_of text.now) (Err fault)) }
     ensures of_line { (seat : ℕ) → result ≡ Err (ScheduleFault.Unfinished seat) → ⊥ }
 {
     let (setup, steps) = first_line(text)?;
@@ -72,7 +70,7 @@ fn steps_text(
     requires reachable { IsReachable start.setup (machine_of start) }
     ensures printed { IfOk result (λ printed.
         steps_from setup.now (machine_of start) 1 (lines_of text.now) ≡ Ok printed) }
-    ensures refused { IfErr result (λ fault. (fault ≡ OutOfMemory)
+    ensures refused { IfErr result (λ fault. (fault ≡ Wanted)
         ⊎ (steps_from setup.now (machine_of start) 1 (lines_of text.now) ≡ Err fault)) }
 {
     let mut state = start;
@@ -104,7 +102,7 @@ fn print_step(
     ensures few { OnOk result (number ≤ 10000) }
     ensures made { OnOk result (IsMade setup.now number line.now (machine_of state.old)
         (machine_of state.new) printed.old.items printed.new.items) }
-    ensures refused { IfErr result (λ fault. (fault ≡ OutOfMemory)
+    ensures refused { IfErr result (λ fault. (fault ≡ Wanted)
         ⊎ LineIsRefused setup.now number line.now (machine_of state.old) fault) }
 {
     let (seat, step) = turn_of_line(alloc, setup, number, line)?;

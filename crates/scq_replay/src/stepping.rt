@@ -11,9 +11,7 @@ ghost use Rattle.scq_replay.specs.declared.replaying.ScheduleFault.TheVariants.{
 ghost use Rattle.scq_replay.specs.declared.replaying.ScheduleFault.TheVariants.{
   NotEnabled as IsNotEnabled,
 };
-ghost use Rattle.scq_replay.specs.declared.replaying.ScheduleFault.TheVariants.{
-  NoMemory as OutOfMemory,
-};
+ghost use Rattle.scq_replay.specs.declared.replaying.ScheduleFault.TheVariants.{NoMemory as Wanted};
 
 use crate::ScheduleFault;
 use crate::schedule::{read_setup, read_turn};
@@ -64,7 +62,7 @@ pub(crate) fn turn_of_line(
     ensures seat { IfOk result (λ turn. turn.0 < setup.now.seats) }
     ensures ring { IfOk result (λ turn.
         IfSome (begins_on turn.1) (λ ring. ring < setup.now.rings)) }
-    ensures refused { IfErr result (λ fault. (fault ≡ OutOfMemory)
+    ensures refused { IfErr result (λ fault. (fault ≡ Wanted)
         ⊎ ((fault ≡ BadLine (number + 1)) × (turn_of_line setup.now number line.now ≡ None))) }
 {
     if number > MOST_STEPS {
@@ -89,7 +87,7 @@ pub(crate) fn make_step(
         ≡ Some (machine_of state.new)) }
     ensures setup { state.new.setup ≡ state.old.setup }
     ensures reachable { IsReachable state.new.setup (machine_of state.new) }
-    ensures refused { IfErr result (λ fault. (fault ≡ OutOfMemory)
+    ensures refused { IfErr result (λ fault. (fault ≡ Wanted)
         ⊎ ((fault ≡ IsNotEnabled (number + 1))
         × (step_of state.old.setup (machine_of state.old) seat step.now ≡ None))) }
 {
