@@ -46,37 +46,31 @@ module _ {B : Type 0} (Few : ℕ → ℕ → PassStanding B → Type 0) where
         its = queue ∙ got.held.queue ∙ ap (λ (x : PassStanding B). x.queue) got.pass;
       }
 
-  -- it had taken before
-  pub left-so-taken : {By : Puts} (first before after : ℕ) (p q r : PassStanding B) (k : Option (HeldStanding B)) → HasTakenFollowed By p q
+  -- it had made other calls before
+  left-so-before : {calls : _} {fulls : _} {numbers : _} {gates : _} {gate : _} {seen : _} (first before after : ℕ) (p q r : PassStanding B)
+      (k : Option (HeldStanding B)) → q ≡ record p { calls = calls; fulls = fulls; numbers = numbers; gates = gates; gate = gate; seen = seen }
       → (Few 0 first p → Few 0 before q) → HasLeftSo Few before after q r k → HasLeftSo Few first after p r k
-  left-so-taken first before after p q r k taken few_calls left =
+  left-so-before first before after p q r k is few_calls left =
       record {
         spent = left.spent;
         few_calls = λ was. left.few_calls (few_calls was);
-        held = left.held ∙ ap (λ (x : PassStanding B). x.held ++ index_of k) taken.pass;
+        held = left.held ∙ ap (λ (x : PassStanding B). x.held ++ index_of k) is;
         own = (
-          left.own.0 ∙ ap (λ (x : PassStanding B). x.queue) taken.pass,
-          left.own.1 ∙ ap (λ (x : PassStanding B). x.number) taken.pass,
-          left.own.2 ∙ ap (λ (x : PassStanding B). x.retired) taken.pass,
+          left.own.0 ∙ ap (λ (x : PassStanding B). x.queue) is,
+          left.own.1 ∙ ap (λ (x : PassStanding B). x.number) is,
+          left.own.2 ∙ ap (λ (x : PassStanding B). x.retired) is,
         );
-        its = subst (λ (x : _). IfSome k (λ h. h.queue ≡ x)) (ap (λ (x : PassStanding B). x.queue) taken.pass) left.its;
+        its = subst (λ (x : _). IfSome k (λ h. h.queue ≡ x)) (ap (λ (x : PassStanding B). x.queue) is) left.its;
       }
 
-  -- it had found no buffer free before
+  -- it had taken, or found no buffer free
+  pub left-so-taken : {By : Puts} (first before after : ℕ) (p q r : PassStanding B) (k : Option (HeldStanding B)) → HasTakenFollowed By p q
+      → (Few 0 first p → Few 0 before q) → HasLeftSo Few before after q r k → HasLeftSo Few first after p r k
+  left-so-taken first before after p q r k taken few_calls left = left-so-before first before after p q r k taken.pass few_calls left
+
   pub left-so-full : (first before after head : ℕ) (p q r : PassStanding B) (k : Option (HeldStanding B)) → HasFoundFull head p q
       → (Few 0 first p → Few 0 before q) → HasLeftSo Few before after q r k → HasLeftSo Few first after p r k
-  left-so-full first before after head p q r k full few_calls left =
-      record {
-        spent = left.spent;
-        few_calls = λ was. left.few_calls (few_calls was);
-        held = left.held ∙ ap (λ (x : PassStanding B). x.held ++ index_of k) full.pass;
-        own = (
-          left.own.0 ∙ ap (λ (x : PassStanding B). x.queue) full.pass,
-          left.own.1 ∙ ap (λ (x : PassStanding B). x.number) full.pass,
-          left.own.2 ∙ ap (λ (x : PassStanding B). x.retired) full.pass,
-        );
-        its = subst (λ (x : _). IfSome k (λ h. h.queue ≡ x)) (ap (λ (x : PassStanding B). x.queue) full.pass) left.its;
-      }
+  left-so-full first before after head p q r k full few_calls left = left-so-before first before after p q r k full.pass few_calls left
 
   -- more parts than these, where as much may be begun for more
   pub left-so-more : (before after more : ℕ) (p q : PassStanding B) (k : Option (HeldStanding B)) → (Few 1 after q → Few 1 more q)

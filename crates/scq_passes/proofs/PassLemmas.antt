@@ -295,8 +295,8 @@ module _ {B : Type 0} where
       }
 
   -- it asked whether all had retired
-  pub looked : {By : Puts} (p : PassStanding B) (found : ℕ) (seen : Seen) → HasTakenFollowed By p (having_seen seen (after_look found p))
-  looked p found seen =
+  looked-so : {By : Puts} (p : PassStanding B) (found : ℕ) (seen : Seen) → HasTakenFollowed By p (having_seen seen (after_look found p))
+  looked-so p found seen =
       record {
         block = [];
         are = none;
@@ -305,6 +305,9 @@ module _ {B : Type 0} where
         same = λ t still. refl;
         sends = λ knows. record { sends = knows.sends };
       }
+
+  pub looked : {By : Puts} (p q : PassStanding B) (found : ℕ) → q ≡ having_seen q.seen (after_look found p) → HasTakenFollowed By p q
+  looked {By} p q found is = subst (λ (x : PassStanding B). HasTakenFollowed By p x) (sym is) (looked-so p found q.seen)
 
   -- a pass that has taken still suits
   pub suits-taken : {By : Puts} (shared : Identity B) (declared : ℕ) (p q : PassStanding B) → Suits shared declared p → HasTakenFollowed By p q

@@ -1,5 +1,5 @@
 -- Sweeps, from the takes that they are made of.
-use Rattle.std.proofs.Common.{◌≡◌, sym, ◌∙◌, ap, arith, zero, suc, ℕ, ◌<◌, List, [], ◌∷◌, ◌++◌, length, false, append_assoc}
+use Rattle.std.proofs.Common.{◌≡◌, sym, ◌∙◌, ap, arith, zero, suc, ℕ, ◌<◌, List, [], ◌∷◌, ◌++◌, length, false, Some, append_assoc}
 use Rattle.std.specs.Prelude.{◌==◌}
 use Rattle.std.proofs.lemmas.List.{append-nil}
 use Rattle.scq_core.specs.declared.ended.Ended.{Ended}
@@ -44,13 +44,13 @@ module _ {B : Type 0} where
   -- the pass asked, and then took from each topic until it was empty
   pub sweep-of : {contents : B → List ℕ} {queue : Identity B} {By : Puts} (topics found : ℕ) (p looked q : PassStanding B)
       → looked ≡ having_seen looked.seen (after_look found p)
-      → IsReadingInRun queue.setup (opening_of contents queue.given) p.retired (caller_of p) (caller_of looked) found
+      → ((n : ℕ) → looked.gate ≡ Some n → IsReadingInRun queue.setup (opening_of contents queue.given) p.retired (caller_of p) (caller_of looked) n)
       → HasTakenFollowed By looked q → HasOnlyCalled contents queue looked q
       → HasEmptiedAll topics looked q → IsSweep contents queue By topics found p q
   sweep-of topics found p looked q is reading taken only emptied = record {
     asked = looked;
     answer = is;
-    reading = reading;
+    reading = reading found (ap (λ (x : PassStanding B). x.gate) is);
     taken = taken;
     only = only;
     empty = emptied.found;

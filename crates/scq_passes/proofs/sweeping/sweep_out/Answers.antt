@@ -1,7 +1,6 @@
 use Rattle.std.proofs.Common.{rules, ◌≡◌, ◌<◌, ◌∙◌, ap, sym, subst, arith, inl, inr, true, false, Ok}
 use Rattle.std.specs.Prelude.{IfErr, Result, Err}
 use Rattle.std.proofs.lemmas.Bool.{eqb-true}
-use Rattle.scq_queue.specs.Exports.{PassStanding}
 use Rattle.scq_passes.specs.Exports.{AreSweeps, IsSweep, no_sweep, and_some, and_idle, HasTakenFollowed}
 use Rattle.scq_passes.proofs.PassLemmas.{suits-taken, taken-nothing, taken-along, left-falls, looked}
 use Rattle.scq_passes.proofs.Sweeps.{sweep-of, some-left, took-nothing, took-some}
@@ -9,17 +8,11 @@ use Rattle.scq_passes.proofs.sweeping.sweep_out.Goals as goal
 use Rattle.scq_passes.proofs.sweeping.sweep_out.Goals.{After-closed-over, In_ok-some, then-some, else-some}
 
 -- it asked whether all had retired
-look : (g : _) (c : After-closed-over g) → HasTakenFollowed g.T.Taker.follows (g.T.Taker.pass c.sweeps.taker) (g.T.Taker.pass c.closed-over.new.self)
-look g c =
-    let said = c.closed-over.ensures.looked in
-    subst (λ (q : PassStanding _). HasTakenFollowed g.T.Taker.follows (g.T.Taker.pass c.sweeps.taker) q) (sym said.1)
-    (looked (g.T.Taker.pass c.sweeps.taker) said.0 (g.T.Taker.pass c.closed-over.new.self).seen)
-
 asked : (g : _) (c : After-closed-over g) → HasTakenFollowed g.T.Taker.follows (g.T.Taker.pass c.args.taker.now) (g.T.Taker.pass c.closed-over.new.self)
-asked g c = taken-along _ _ _ c.sweeps.invariant.taken (look g c)
+asked g c = taken-along _ _ _ c.sweeps.invariant.taken (looked _ _ _ c.closed-over.ensures.looked.1)
 
 made-asked : (g : _) (c : After-closed-over g) → g.T.Taker.made c.args.with.now c.args.taker.now c.closed-over.new.self
-made-asked g c = g.met.T.Taker.made_along _ _ _ _ c.sweeps.invariant.taken (look g c) c.sweeps.invariant.made c.closed-over.ensures.made
+made-asked g c = g.met.T.Taker.made_along _ _ _ _ c.sweeps.invariant.taken (looked _ _ _ c.closed-over.ensures.looked.1) c.sweeps.invariant.made c.closed-over.ensures.made
 
 -- and then swept
 swept-once : (g : _) (c : In_ok-some g) → IsSweep g.B.Buffer.contents (g.T.Taker.queue c.args.with.now) g.T.Taker.follows c.args.topics
@@ -27,10 +20,9 @@ swept-once : (g : _) (c : In_ok-some g) → IsSweep g.B.Buffer.contents (g.T.Tak
 swept-once g c =
     let pass = g.T.Taker.pass in
     let said = c.closed-over.ensures.looked in
-    let read = c.closed-over.ensures.in_run said.0 (ap (λ (x : PassStanding _). x.gate) said.1) in
     let its = c.in_ok-some.ensures in
-    sweep-of c.args.topics said.0 (pass c.sweeps.taker) (pass c.closed-over.new.self) (pass c.sweep.new.taker) said.1 read its.taken its.only
-    its.emptied
+    sweep-of c.args.topics said.0 (pass c.sweeps.taker) (pass c.closed-over.new.self) (pass c.sweep.new.taker) said.1
+    c.closed-over.ensures.in_run its.taken its.only its.emptied
 
 pub sweeps-init : goal.sweeps-init
 sweeps-init g c =
@@ -56,7 +48,7 @@ sweeps-smaller g c =
     let pass = g.T.Taker.pass in
     let limit = (g.T.Taker.queue c.args.with.now).setup.limit in
     let first = left-falls limit c.args.topics (pass c.sweeps.taker) (pass c.closed-over.new.self)
-    (look g (goal.at.sweeps-smaller g c).After-closed-over).knows in
+    (looked {By = g.T.Taker.follows} _ _ _ c.closed-over.ensures.looked.1).knows in
     let rest = left-falls limit c.args.topics (pass c.closed-over.new.self) (pass c.sweep.new.taker) c.in_ok-some.ensures.taken.knows in
     elim c.if-some.branch [
       | then-some w ↦
