@@ -2,13 +2,14 @@
 use Rattle.std.proofs.Common.{◌≡◌, ℕ, zero, suc, ◌≤◌, List, [], ◌∷◌, ◌++◌, length, refl, sym, ◌∙◌, ap, subst, arith}
 use Rattle.std.specs.Prelude.{sum_by, All}
 use Rattle.std.proofs.lemmas.List.{length-append}
-use Rattle.std.proofs.lemmas.List.Elements.{All-nil, All-push}
+use Rattle.std.proofs.lemmas.List.Elements.{All-push}
 use Rattle.std.proofs.lemmas.List.Sums.{sum_by_push}
 use Rattle.scq_law.specs.Exports.{times}
 use Rattle.scq_band.specs.Exports.{Identity}
 use Rattle.scq_queue.specs.Exports.{PassStanding, HeldStanding, first_pass, first_passes, AreTheHeld}
 use Rattle.scq_queue.specs.HoldsJust.{HoldsJust}
 use Rattle.scq_queue.proofs.HeldOnce.{held_alone}
+use Rattle.scq_queue.proofs.NewPasses.{as_many_passes, all_own}
 
 -- two lists that end in an element each
 snoc-parts : {A : Type 0} (xs ys : List A) (a b : A) → xs ++ a ∷ [] ≡ ys ++ b ∷ [] → (xs ≡ ys) × (a ≡ b)
@@ -39,13 +40,6 @@ module _ {B : Type 0} where
         last = both.1;
       }
 
-  pub how_many : (queue : Identity B) (n : ℕ) → length (first_passes queue n) ≡ n
-  how_many queue zero = refl
-  how_many queue (suc k) =
-      let both = length-append (first_passes queue k) (first_pass queue k ∷ []) in
-      let rest = how_many queue k in
-      omega (arith, both, rest)
-
   -- where it comes back there are as many again
   pub as_many : (queue : Identity B) (n : ℕ) (idle : List (PassStanding B)) (old new : PassStanding B) → idle ++ old ∷ [] ≡ first_passes queue n
       → length (idle ++ new ∷ []) ≡ n
@@ -53,7 +47,7 @@ module _ {B : Type 0} where
       let after = length-append idle (new ∷ []) in
       let before = length-append idle (old ∷ []) in
       let same = ap length e in
-      let all = how_many queue n in
+      let all = as_many_passes queue n in
       omega (arith, after, before, same, all)
 
   pub holds_none : (queue : Identity B) (idle : List (PassStanding B)) (p : PassStanding B) → IsLast queue idle p → HoldsJust queue p []
@@ -68,15 +62,11 @@ module _ {B : Type 0} where
       } in
       subst (λ (q : PassStanding B). HoldsJust queue q []) (sym is.last) new
 
-  own_before : (queue : Identity B) (k : ℕ) → All (λ (p : PassStanding B). p.queue ≡ queue) (first_passes queue k)
-  own_before queue zero = All-nil (λ (p : PassStanding B). p.queue ≡ queue)
-  own_before queue (suc k) = All-push (λ (p : PassStanding B). p.queue ≡ queue) (first_passes queue k) (first_pass queue k) (own_before queue k) refl
-
   pub own_all : (queue : Identity B) (idle : List (PassStanding B)) (old new : PassStanding B) (values : List (HeldStanding B)) → IsLast queue idle old
       → HoldsJust queue new values → All (λ (p : PassStanding B). p.queue ≡ queue) (idle ++ new ∷ [])
   own_all queue idle old new values is now =
       All-push (λ (p : PassStanding B). p.queue ≡ queue) idle new
-      (subst (λ (l : List (PassStanding B)). All (λ (p : PassStanding B). p.queue ≡ queue) l) (sym is.before) (own_before queue is.others)) now.own
+      (subst (λ (l : List (PassStanding B)). All (λ (p : PassStanding B). p.queue ≡ queue) l) (sym is.before) (all_own queue is.others)) now.own
 
   none_before : (queue : Identity B) (i k : ℕ) → sum_by (λ (p : PassStanding B). times i p.held) (first_passes queue k) ≡ 0
   none_before queue i zero = refl

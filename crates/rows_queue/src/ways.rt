@@ -32,35 +32,8 @@ pub fn way_of(text: &str) -> Result<Way> {
     })
 }
 
-/// By a note. One that is dropped tells nobody, and its maker may learn one.
-fn tell_by_a_note<B: BufferMut>(queue: &Queue<B>, one: &mut Pass<B>, other: &mut Pass<B>)
-    requires one { one.old.queue ≡ queue.now }
-    requires other { other.old.queue ≡ queue.now }
-    ensures one { PassStays one.old one.new }
-    ensures other { PassStays other.old other.new }
-{
-    let told = queue.note(one);
-    let own = queue.note(one);
-    let _dropped = queue.note(one);
-    queue.learn(one, own);
-    queue.learn(other, told);
-}
-
-/// By a mark. One that is dropped tells nobody, and its maker may heed one.
-fn tell_by_a_mark<B: BufferMut>(queue: &Queue<B>, one: &mut Pass<B>, other: &mut Pass<B>)
-    requires one { one.old.queue ≡ queue.now }
-    requires other { other.old.queue ≡ queue.now }
-    ensures one { PassStays one.old one.new }
-    ensures other { PassStays other.old other.new }
-{
-    let told = queue.mark(one);
-    let own = queue.mark(one);
-    let _dropped = queue.mark(one);
-    queue.heed(one, own);
-    queue.heed(other, told);
-}
-
-/// The first pass tells the other.
+/// The first pass tells the other. A note or mark that is dropped tells nobody, and its maker may
+/// learn or heed one.
 pub fn tell<B: BufferMut>(queue: &Queue<B>, one: &mut Pass<B>, other: &mut Pass<B>, way: Way)
     requires one { one.old.queue ≡ queue.now }
     requires other { other.old.queue ≡ queue.now }
@@ -68,8 +41,20 @@ pub fn tell<B: BufferMut>(queue: &Queue<B>, one: &mut Pass<B>, other: &mut Pass<
     ensures other { PassStays other.old other.new }
 {
     match way {
-        Way::Note => tell_by_a_note(queue, one, other),
-        Way::Mark => tell_by_a_mark(queue, one, other),
+        Way::Note => {
+            let told = queue.note(one);
+            let own = queue.note(one);
+            let _dropped = queue.note(one);
+            queue.learn(one, own);
+            queue.learn(other, told);
+        }
+        Way::Mark => {
+            let told = queue.mark(one);
+            let own = queue.mark(one);
+            let _dropped = queue.mark(one);
+            queue.heed(one, own);
+            queue.heed(other, told);
+        }
         Way::Meet => queue.meet(one, other),
         Way::Look => queue.look(other),
         Way::Nothing => {}

@@ -93,9 +93,9 @@ module _ {B : Type 0} where
       let rest = all_but_last queue number values h all.2 in
       ((all.0, all.1, rest.0), rest.1, rest.2)
 
-  pub holds_more : (contents : B → List ℕ) (queue : Identity B) (old new : PassStanding B) (values : List (HeldStanding B)) (h : HeldStanding B)
-      (ring place : ℕ) → HoldsJust queue old values → HasGot contents ring place old new h → HoldsJust queue new (values ++ h ∷ [])
-  holds_more contents queue old new values h ring place before got =
+  pub holds_more : {contents : B → List ℕ} {queue : Identity B} {old new : PassStanding B} {values : List (HeldStanding B)} {h : HeldStanding B}
+      {ring place : ℕ} → HoldsJust queue old values → HasGot contents ring place old new h → HoldsJust queue new (values ++ h ∷ [])
+  holds_more {queue = queue} {old = old} {new = new} {values = values} {h = h} before got =
       let is = got.pass in
       let held = got.held in
       let own : new.queue ≡ queue = ap (λ (p : PassStanding B). p.queue) is ∙ before.own in
@@ -113,9 +113,9 @@ module _ {B : Type 0} where
       }
 
   -- the last of the values is held by the pass
-  pub last_held : (queue : Identity B) (p : PassStanding B) (all values : List (HeldStanding B)) (h : HeldStanding B) → all ≡ values ++ h ∷ []
-      → HoldsJust queue p all → IsHeldBy p h
-  last_held queue p all values h is holds =
+  pub last_held : {queue : Identity B} {p : PassStanding B} {all : List (HeldStanding B)} (values : List (HeldStanding B)) {h : HeldStanding B}
+      → all ≡ values ++ h ∷ [] → HoldsJust queue p all → IsHeldBy p h
+  last_held {queue = queue} {p = p} values {h = h} is holds =
       let before = subst (λ (vs : List (HeldStanding B)). HoldsJust queue p vs) is holds in
       let last = all_but_last queue p.number values h before.all in
       record {
@@ -126,9 +126,9 @@ module _ {B : Type 0} where
             (contains_last (map (λ (v : HeldStanding B). v.index) values) h.index);
       }
 
-  pub holds_less : (queue : Identity B) (old new : PassStanding B) (all values : List (HeldStanding B)) (h : HeldStanding B) (ring place : ℕ) (w : List ℕ)
+  pub holds_less : {queue : Identity B} {old new : PassStanding B} {all values : List (HeldStanding B)} (h : HeldStanding B) (ring place : ℕ) (w : List ℕ)
       → all ≡ values ++ h ∷ [] → HoldsJust queue old all → new ≡ having_seen new.seen (after_put ring h.index place w old) → HoldsJust queue new values
-  holds_less queue old new all values h ring place w ends holds is =
+  holds_less {queue = queue} {old = old} {new = new} {values = values} h ring place w ends holds is =
       let before = subst (λ (vs : List (HeldStanding B)). HoldsJust queue old vs) ends holds in
       let list : List ℕ = map (λ (v : HeldStanding B). v.index) values in
       let was : old.held ≡ list ++ h.index ∷ [] = sym before.same ∙ map-append (λ (v : HeldStanding B). v.index) values (h ∷ []) in
@@ -205,9 +205,9 @@ module _ {B : Type 0} where
       }
 
   -- a put was refused, and its value is the last again
-  pub holds_again : (queue : Identity B) (old new : PassStanding B) (all values now : List (HeldStanding B)) (h v : HeldStanding B) → all ≡ values ++ h ∷ []
-      → HoldsJust queue old all → v ≡ h → now ≡ values ++ v ∷ [] → IsAlike old new → HoldsJust queue new now
-  holds_again queue old new all values now h v ends holds back put alike =
+  pub holds_again : {queue : Identity B} {old new : PassStanding B} {all now : List (HeldStanding B)} (values : List (HeldStanding B)) {h v : HeldStanding B}
+      → all ≡ values ++ h ∷ [] → HoldsJust queue old all → v ≡ h → now ≡ values ++ v ∷ [] → IsAlike old new → HoldsJust queue new now
+  holds_again {queue = queue} {old = old} {new = new} {all = all} values ends holds back put alike =
       subst (λ (vs : List (HeldStanding B)). HoldsJust queue new vs)
       (ends ∙ ap (λ (u : HeldStanding B). values ++ u ∷ []) (sym back) ∙ sym put) (holds_same queue old new all holds alike)
 

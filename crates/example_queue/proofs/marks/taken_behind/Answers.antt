@@ -23,7 +23,7 @@ module _ {B : Type 0} (queue : Identity B) (old new : PassStanding B) where
   -- what a take leaves
   holds_taken : (contents : B → List ℕ) (IsSame : B → B → Type 0) (r : Result (ℕ × HeldStanding B) TakeRefusal) → HoldsJust queue old []
       → IfOk r (λ v. CameOff contents IsSame queue 1 v.0 old new v.1) → IfOk r (λ v. HoldsJust queue new (v.1 ∷ []))
-  holds_taken contents IsSame (Ok v) before took = holds_more contents queue old new [] v.1 1 v.0 before took.got
+  holds_taken contents IsSame (Ok v) before took = holds_more before took.got
   holds_taken contents IsSame (Err e) before took = tt
 
   holds_none : (contents : B → List ℕ) (r : Result (ℕ × HeldStanding B) TakeRefusal) → HoldsJust queue old []

@@ -3,7 +3,8 @@ use Rattle.std.specs.Prelude.{All}
 use Rattle.scq_queue.specs.declared.heap_buffer.HeapBuffer.{HeapBuffer}
 use Rattle.scq_band.specs.Standing.{Standing}
 use Rattle.scq_band.specs.Exports.{lifted_of}
-use Rattle.rows_queue.proofs.NewSeats.{how_many, none_lifted}
+use Rattle.scq_queue.proofs.NewPasses.{as_many_seats}
+use Rattle.rows_queue.proofs.NewSeats.{none_lifted}
 use Rattle.rows_queue.proofs.bands.made.Goals as goal
 
 pub returns-in-Ok-clause-laid : goal.returns-in-Ok-clause-laid
@@ -12,4 +13,4 @@ returns-in-Ok-clause-laid c =
     (none_lifted c.in-Ok.made.0 c.args.setup.seats)
 
 pub returns-in-Ok-clause-count : goal.returns-in-Ok-clause-count
-returns-in-Ok-clause-count c = c.in-Ok.made.1.ok.0 ∙ ap length c.in-Ok.ensures.seats ∙ how_many c.in-Ok.made.0 c.args.setup.seats
+returns-in-Ok-clause-count c = c.in-Ok.made.1.ok.0 ∙ ap length c.in-Ok.ensures.seats ∙ as_many_seats c.in-Ok.made.0 c.args.setup.seats

@@ -2,22 +2,13 @@ use Rattle.scq_queue.proofs.HeldOnce.{last_held, holds_less, holds_again, put_re
 use Rattle.rows_queue.proofs.calls.gave.Goals as goal
 
 pub give_back-requires-clause-held : goal.give_back-requires-clause-held
-give_back-requires-clause-held g c κs within =
-    last_held c.args.queue.now c.args.pass.now c.args.values.now.items c.pop.new.self.items c.in-Some.held c.in-Some.ensures.items c.requires.stack
+give_back-requires-clause-held g c κs within = last_held _ c.in-Some.ensures.items c.requires.stack
 
 pub returns-in-Ok : goal.returns-in-Ok
-returns-in-Ok g c =
-    record {
-      stack =
-          holds_less c.args.queue.now c.args.pass.now c.give_back.new.pass c.args.values.now.items c.pop.new.self.items c.in-Some.held 0 c.in-Ok.ensures.given.place
-          (g.B.Buffer.contents c.in-Some.held.buffer) c.in-Some.ensures.items c.requires.stack c.in-Ok.ensures.given.pass;
-    }
+returns-in-Ok g c = record { stack = holds_less _ _ _ _ c.in-Some.ensures.items c.requires.stack c.in-Ok.ensures.given.pass }
 
 pub returns-in-Err : goal.returns-in-Err
 returns-in-Err g c =
-    record {
-      stack =
-          holds_again c.args.queue.now c.args.pass.now c.give_back.new.pass c.args.values.now.items c.pop.new.self.items _ c.in-Some.held c.in-Err.held
-          c.in-Some.ensures.items c.requires.stack c.in-Err.ensures.back c.push_reserved.ensures.items
-          (put_refused c.args.pass.now c.give_back.new.pass c.in-Err.ensures.kept 0 c.in-Err.spent.ticket c.in-Err.ensures.spent);
-    }
+    let e = c.in-Err.ensures in
+    let alike = put_refused c.args.pass.now c.give_back.new.pass e.kept 0 c.in-Err.spent.ticket e.spent in
+    record { stack = holds_again _ c.in-Some.ensures.items c.requires.stack e.back c.push_reserved.ensures.items alike }

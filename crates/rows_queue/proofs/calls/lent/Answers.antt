@@ -8,10 +8,8 @@ pub returns-in-Ok : goal.returns-in-Ok
 returns-in-Ok g c =
     record {
       stack =
-          let lent = c.in-Ok.ensures.lent.lent in
           subst (λ (vs : List (HeldStanding g.row.B.Denot)). HoldsJust c.args.queue.now c.lend.new.pass vs) (sym c.push_reserved.ensures.items)
-          (holds_more g.B.Buffer.contents c.args.queue.now c.args.pass.now c.lend.new.pass c.args.values.now.items c.in-Ok.held 0 lent.place c.requires.stack
-          lent.got);
+          (holds_more c.requires.stack c.in-Ok.ensures.lent.lent.got);
     }
 
 pub returns-in-Err : goal.returns-in-Err

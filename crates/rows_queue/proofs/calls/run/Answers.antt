@@ -2,14 +2,15 @@ use Rattle.std.proofs.Common.{◌≡◌, ◌<◌, List, length, false, true, sym
 use Rattle.std.specs.Prelude.{All, vec_len}
 use Rattle.scq_queue.specs.Exports.{PassStanding, HeldStanding, AreTheHeld}
 use Rattle.scq_queue.specs.HoldsJust.{HoldsJust}
-use Rattle.rows_queue.proofs.LastPass.{last_pass, how_many, as_many, holds_none, own_all, held_last}
+use Rattle.scq_queue.proofs.NewPasses.{as_many_passes}
+use Rattle.rows_queue.proofs.LastPass.{last_pass, as_many, holds_none, own_all, held_last}
 use Rattle.rows_queue.proofs.calls.run.Goals as goal
 
 -- a queue has a pass
 pub unreachable-requires : goal.unreachable-requires
 unreachable-requires g c =
     let queue = c.args.queue in
-    let all : vec_len c.args.passes ≡ queue.setup.seats = c.args.passes.ok.0 ∙ ap length c.requires.passes ∙ how_many queue queue.setup.seats in
+    let all : vec_len c.args.passes ≡ queue.setup.seats = c.args.passes.ok.0 ∙ ap length c.requires.passes ∙ as_many_passes queue queue.setup.seats in
     let some : 0 < vec_len c.args.passes = omega (arith, all, c.requires.setup.1) in
     let wrong : false ≡ true = c.in_default.ensures.variant.1 some in
     absurd (cc)

@@ -1,4 +1,4 @@
-use Rattle.std.proofs.Common.{suc, List, sym, subst}
+use Rattle.std.proofs.Common.{List, sym, subst}
 use Rattle.scq_queue.specs.Exports.{HeldStanding}
 use Rattle.scq_queue.specs.HoldsJust.{HoldsJust}
 use Rattle.scq_queue.proofs.HeldOnce.{holds_more, holds_same, take_refused}
@@ -9,8 +9,7 @@ returns-in-Ok g c =
     record {
       stack =
           subst (λ (vs : List (HeldStanding g.row.B.Denot)). HoldsJust c.args.queue.now c.take.new.pass vs) (sym c.push_reserved.ensures.items)
-          (holds_more g.B.Buffer.contents c.args.queue.now c.args.pass.now c.take.new.pass c.args.values.now.items c.in-Ok.held (suc c.args.topic) c.in-Ok.place
-          c.requires.stack c.in-Ok.ensures.took.got);
+          (holds_more c.requires.stack c.in-Ok.ensures.took.got);
     }
 
 pub returns-in-Err : goal.returns-in-Err
