@@ -13,7 +13,7 @@ ghost use Rattle.std.specs.Prelude.{◌≡◌, ◌<◌, ◌≤◌, [], ◌∷◌
 ghost use Rattle.std.specs.Option.{option_to_list};
 ghost use Rattle.scq_queue.specs.Exports.{first_passes};
 ghost use Rattle.scq_queue.specs.HoldsJust.{HoldsJust};
-ghost use Rattle.example_queue.specs.Values.{values_in};
+ghost use Rattle.example_queue.specs.Values.{values_in, IsNew};
 
 use anyhow::{Result, anyhow};
 use marks::tell_by_a_mark;
@@ -203,20 +203,18 @@ fn work<R: Threads>(
 }
 
 /// Runs both threads, takes what is left, and closes the queue.
-fn run<R: Threads>(rt: &R, made: Made) -> (u64, Closed<HeapBuffer>)
-    requires setup { (made.queue.setup.rings ≡ 2) × (made.queue.setup.seats ≡ 2) }
-    requires passes { made.passes.items ≡ first_passes made.queue 2 }
-    requires values { (made.values.items ≡ []) × (2 ≤ vec_capacity made.values) }
+fn run<R: Threads>(rt: &R, mut made: Made) -> (u64, Closed<HeapBuffer>)
+    requires new { IsNew made }
 {
+    let (sender, taker) = two_of(&mut made.passes);
+    let (sender, taker) = work(rt, &made.queue, sender, taker);
+    let taker = take_rest(&made.queue, taker);
+    let (sent, taken) = give_both(sender, taker, &mut made.passes, &mut made.values);
     let Made {
         queue,
-        mut passes,
-        mut values,
+        passes,
+        values,
     } = made;
-    let (sender, taker) = two_of(&mut passes);
-    let (sender, taker) = work(rt, &queue, sender, taker);
-    let taker = take_rest(&queue, taker);
-    let (sent, taken) = give_both(sender, taker, &mut passes, &mut values);
     (sent.wrapping_add(taken), queue.close(passes, values))
 }
 
@@ -269,28 +267,17 @@ fn give_both<T>(
     ensures values { values.new.items
         ≡ option_to_list first.held ++ option_to_list second.held }
 {
-    let Worked {
-        pass,
-        found: by_first,
-        held,
-    } = first;
+    let Worked { pass, found, held } = first;
     give_in(pass, held, passes, values);
-    let Worked {
-        pass,
-        found: by_second,
-        held,
-    } = second;
+    let by_first = found;
+    let Worked { pass, found, held } = second;
     give_in(pass, held, passes, values);
-    (by_first, by_second)
+    (by_first, found)
 }
 
 /// A queue with one topic and two passes, over two buffers of one byte.
 fn make(alloc: Global) -> Result<Made>
-    ensures setup { IfOk result (λ made.
-        (made.queue.setup.rings ≡ 2) × (made.queue.setup.seats ≡ 2)) }
-    ensures passes { IfOk result (λ made. made.passes.items ≡ first_passes made.queue 2) }
-    ensures values { IfOk result (λ made.
-        (made.values.items ≡ []) × (2 ≤ vec_capacity made.values)) }
+    ensures { IfOk result IsNew }
 {
     let setup = Setup::new(1, 2, 2, 1 << 60)?;
     let mut buffers = Vec::with_capacity(alloc, 2)?;

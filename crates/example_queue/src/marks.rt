@@ -5,6 +5,7 @@ ghost use Rattle.std.specs.Option.{option_to_list};
 ghost use Rattle.scq_band.specs.Exports.{opening_of, IsCallInRun, both_seen};
 ghost use Rattle.scq_queue.specs.HoldsJust.{HoldsJust};
 ghost use Rattle.scq_queue.specs.Exports.{first_passes, having_seen, caller_of};
+ghost use Rattle.example_queue.specs.Values.{IsNew};
 
 use crate::{Made, give_in, sent, two_of};
 use scq_queue::{HeapBuffer, Held, Mark, Pass, Queue, TakeRefusal};
@@ -65,23 +66,21 @@ fn number_behind(
 
 /// The first pass sends, the second takes behind its mark, and they meet: from now on, of any two
 /// runs that they had seen, one is a prefix of the other. The number that was taken.
-pub fn tell_by_a_mark(made: Made) -> Option<u8>
-    requires setup { (made.queue.setup.rings ≡ 2) × (made.queue.setup.seats ≡ 2) }
-    requires passes { made.passes.items ≡ first_passes made.queue 2 }
-    requires values { (made.values.items ≡ []) × (2 ≤ vec_capacity made.values) }
+pub fn tell_by_a_mark(mut made: Made) -> Option<u8>
+    requires new { IsNew made }
 {
+    let (mut first, mut second) = two_of(&mut made.passes);
+    let kept = number_sent(&made.queue, &mut first);
+    let mark = made.queue.mark(&mut first);
+    let (number, taken) = number_behind(&made.queue, &mut second, mark);
+    made.queue.meet(&mut first, &mut second);
+    give_in(first, kept, &mut made.passes, &mut made.values);
+    give_in(second, taken, &mut made.passes, &mut made.values);
     let Made {
         queue,
-        mut passes,
-        mut values,
+        passes,
+        values,
     } = made;
-    let (mut first, mut second) = two_of(&mut passes);
-    let kept = number_sent(&queue, &mut first);
-    let mark = queue.mark(&mut first);
-    let (number, taken) = number_behind(&queue, &mut second, mark);
-    queue.meet(&mut first, &mut second);
-    give_in(first, kept, &mut passes, &mut values);
-    give_in(second, taken, &mut passes, &mut values);
     let _closed = queue.close(passes, values);
     number
 }

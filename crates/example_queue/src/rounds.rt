@@ -7,6 +7,7 @@ ghost use Rattle.std.specs.Prelude.{◌≡◌, ◌≤◌, [], ◌∷◌, Some, v
 ghost use Rattle.std.specs.Option.{option_to_list};
 ghost use Rattle.scq_queue.specs.Exports.{first_passes};
 ghost use Rattle.scq_queue.specs.HoldsJust.{HoldsJust};
+ghost use Rattle.example_queue.specs.Values.{IsNew};
 
 use crate::{Made, Worked, give_both, sent, taken, two_of};
 use crossbeam_channel::{Receiver, Sender, bounded};
@@ -193,27 +194,30 @@ fn work<H: Home + Send, R: Threads + Wait + Sync>(
 pub fn make_rounds<H: Home + Send, R: Threads + Wait + Sync>(
     rt: &R,
     alloc: Global,
-    made: Made,
+    mut made: Made,
 ) -> Option<([u8; NUMBERS], [u8; NUMBERS])>
     requires home { H.table ≡ Some made.queue.table }
-    requires setup { (made.queue.setup.rings ≡ 2) × (made.queue.setup.seats ≡ 2) }
-    requires passes { made.passes.items ≡ first_passes made.queue 2 }
-    requires values { (made.values.items ≡ []) × (2 ≤ vec_capacity made.values) }
+    requires new { IsNew made }
 {
-    let Made {
-        queue,
-        mut passes,
-        mut values,
-    } = made;
-    let (sender, taker) = two_of(&mut passes);
+    let (sender, taker) = two_of(&mut made.passes);
     let (Ok((to, from)), Ok((back, reply))) = (bounded(alloc, 1), bounded(alloc, 1)) else {
-        passes.push_reserved(sender);
-        passes.push_reserved(taker);
+        made.passes.push_reserved(sender);
+        made.passes.push_reserved(taker);
+        let Made {
+            queue,
+            passes,
+            values,
+        } = made;
         let _closed = queue.close(passes, values);
         return None;
     };
-    let (sender, taker) = work::<H, R>(rt, &queue, (sender, to, reply), (taker, from, back));
-    let numbers = give_both(sender, taker, &mut passes, &mut values);
+    let (sender, taker) = work::<H, R>(rt, &made.queue, (sender, to, reply), (taker, from, back));
+    let numbers = give_both(sender, taker, &mut made.passes, &mut made.values);
+    let Made {
+        queue,
+        passes,
+        values,
+    } = made;
     let _closed = queue.close(passes, values);
     Some(numbers)
 }
