@@ -1,5 +1,5 @@
 -- Calls of a pass in the run, one behind the other.
-use Rattle.std.proofs.Common.{◌≡◌, ◌⊎◌, inl, inr, ◌∙◌, ap, subst, arith, suc, ℕ, List, [], ◌∷◌, ◌++◌, length}
+use Rattle.std.proofs.Common.{◌≡◌, ◌⊎◌, inl, inr, refl, ◌∙◌, ap, subst, arith, suc, ℕ, List, [], ◌∷◌, ◌++◌, length}
 use Rattle.std.proofs.lemmas.List.{length-append}
 use Rattle.scq_word.specs.declared.setup.Setup.{Setup}
 use Rattle.scq_core.specs.declared.ended.Ended.{Ended}
@@ -45,35 +45,33 @@ calls-along c opening old mid new same one more =
     }
 
 module _ {B : Type 0} {contents : B → List ℕ} {queue : Identity B} where
+  -- one call, after which the pass is x but for what it has seen
+  only-as : (x p q : PassStanding B) → q ≡ x → x.gates ≡ p.gates → x.gate ≡ p.gate
+      → IsCallInRun queue.setup (opening_of contents queue.given) (caller_of p) (caller_of q)
+      → HasOnlyCalled contents queue p q
+  only-as x p q is gates gate run = record {
+    in_run = run;
+    gates = ap (λ (y : PassStanding B). y.gates) is ∙ gates;
+    gate = ap (λ (y : PassStanding B). y.gate) is ∙ gate;
+  }
+
   -- one call that got, gave back or found nothing
   pub only-got : (ring place : ℕ) (p q : PassStanding B) (h : HeldStanding B)
       → HasGot contents ring place p q h
       → IsCallInRun queue.setup (opening_of contents queue.given) (caller_of p) (caller_of q)
       → HasOnlyCalled contents queue p q
-  only-got ring place p q h got run = record {
-    in_run = run;
-    gates = ap (λ (x : PassStanding B). x.gates) got.pass;
-    gate = ap (λ (x : PassStanding B). x.gate) got.pass;
-  }
+  only-got ring place p q h got run = only-as _ p q got.pass refl refl run
 
   pub only-back : (bytes : List ℕ) (index : ℕ) (p q : PassStanding B)
       → WasGivenBack bytes index p q
       → IsCallInRun queue.setup (opening_of contents queue.given) (caller_of p) (caller_of q)
       → HasOnlyCalled contents queue p q
-  only-back bytes index p q back run = record {
-    in_run = run;
-    gates = ap (λ (x : PassStanding B). x.gates) back.pass;
-    gate = ap (λ (x : PassStanding B). x.gate) back.pass;
-  }
+  only-back bytes index p q back run = only-as _ p q back.pass refl refl run
 
   pub only-nothing : (ring head : ℕ) (p q : PassStanding B) → FoundNothing ring head p q
       → IsCallInRun queue.setup (opening_of contents queue.given) (caller_of p) (caller_of q)
       → HasOnlyCalled contents queue p q
-  only-nothing ring head p q found run = record {
-    in_run = run;
-    gates = ap (λ (x : PassStanding B). x.gates) found.pass;
-    gate = ap (λ (x : PassStanding B). x.gate) found.pass;
-  }
+  only-nothing ring head p q found run = only-as _ p q found.pass refl refl run
 
   -- calls behind calls
   pub only-along : (p q r : PassStanding B) → q.number ≡ p.number
