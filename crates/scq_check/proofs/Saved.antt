@@ -77,3 +77,7 @@ pub judged_more : (Holds : ℕ → Type 0) (opening : List (List ℕ)) (events :
     → (AreKept opening events e old → AreKept opening events (e + 1) new) → AreJudged Holds opening events e old f → AreJudged Holds opening events (e + 1) new g
 judged_more Holds opening events e old new f g holds with test kept is =
     record { kept = kept is.kept; failures = rw with (failures_more Holds e f holds (test is.kept.at) is.failures) }
+
+pub same_tallies : (opening : List (List ℕ)) (events : List Event) (m : ℕ) (read kept : List Tally) → read ≡ kept → AreTallies opening events m kept
+    → AreTallies opening events m read
+same_tallies opening events m read kept same is = subst (λ ts. AreTallies opening events m ts) (sym same) is
