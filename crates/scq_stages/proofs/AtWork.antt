@@ -27,7 +27,7 @@ use Rattle.scq_stages.specs.Exports.{HelpsSecondThenFirst, HelpsJustSecondThenFi
 use Rattle.scq_stages.specs.Exports.{MovesSoFar, HasTakenOrMoved, HasMovedIts, HasFinishedOnlySeconds, HasFewStageCalls, HasListed, IsAtWork, IsDone}
 use Rattle.scq_stages.specs.Exports.{HasStopped}
 use Rattle.scq_stages.proofs.Moving.{moves-none_to_first, moves-none_next}
-use Rattle.scq_stages.proofs.FewCalls.{few_calls-sent, few_calls-full, few_calls-moved, few_calls-more, few_calls-at_send}
+use Rattle.scq_stages.proofs.FewCalls.{few_calls-sent, few_calls-full, few_calls-moved, few_calls-at_send}
 
 -- the takes from second and from first, and from nothing else; and at least these
 abbrev JustBoth : List Ended → Type 0

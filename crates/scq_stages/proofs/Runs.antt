@@ -16,7 +16,7 @@ use Rattle.scq_passes.specs.Exports.{Suits, HasLeftSo, index_of, after_retire}
 use Rattle.scq_passes.proofs.Kept.{swept}
 use Rattle.scq_stages.specs.declared.finished.Finished.{Finished}
 use Rattle.scq_stages.specs.Exports.{HasFewStageCalls, IsAtWork, IsDone, IsLeaving, HasStopped, HasRun}
-use Rattle.scq_stages.proofs.FewCalls.{few_calls-late, few_calls-retired}
+use Rattle.scq_stages.proofs.FewCalls.{few_calls-more, few_calls-retired}
 
 -- what follows of a clause of an answer that is Ok
 pub on-then : {X E : Type 0} {P Q : Type 0} (r : Result X E) → (P → Q) → OnOk r P → OnOk r Q
@@ -74,7 +74,7 @@ module _ {B : Type 0} where
         record {
           read = read;
           stops = stops;
-          few_calls = few_calls-late (length (all_given files)) q leaving.few_calls;
+          few_calls = few_calls-more 0 1 (length (all_given files)) (length (all_given files)) q (omega arith) (omega arith) leaving.few_calls;
           queue = ap (λ (x : PassStanding B). x.queue) taken.pass ∙ suits.queue;
           retired = (length p.calls, ap (λ (x : PassStanding B). x.retired) taken.pass);
           held = leaving.between.none ∙ ap index_of (sym nothing);

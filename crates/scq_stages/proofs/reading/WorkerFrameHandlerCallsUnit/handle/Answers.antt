@@ -74,7 +74,7 @@ returns-in-Err-Spent-clause-stopped c =
     let spent = ((c.in-Err-Spent.ensures.spent c.in-Err-Spent.field-0-0 (cc)).drawn c.requires.ready.0.spent).0 in
     let left : (n : ℕ) → HasLeftSo HasFewStageCalls n (n + 1) was.pass q None = λ n.
     left-so-at-get HasFewStageCalls n (n + 1) 0 c.in-Err-Spent.field-0-0 was.pass q spent
-    (λ few. few_calls-more 1 n (n + 1) q (omega arith) (few_calls-at_get n 0 c.in-Err-Spent.field-0-0 was.pass q spent few)) in
+    (λ few. few_calls-more 1 1 n (n + 1) q (omega arith) (omega arith) (few_calls-at_get n 0 c.in-Err-Spent.field-0-0 was.pass q spent few)) in
     record {
       left = λ before at. work-stopped c.args.with.now.queue.now before c.args.message.now was.pass q was.members.items was.starved None at
           c.requires.ready.0.queue c.requires.ready.1 (left (length before));
