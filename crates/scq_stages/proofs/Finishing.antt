@@ -19,7 +19,7 @@ use Rattle.scq_stages.specs.declared.finished.StageWay.{StageWay}
 use Rattle.scq_stages.specs.declared.finished.StageWay.TheVariants.{Second, First}
 use Rattle.scq_stages.specs.Exports.{redacted, squeezed, both, stages_left, after_stage, FinishesTake, IsNoPart, is_second, is_first, is_direct}
 use Rattle.scq_stages.specs.Exports.{finished, way_from, first, second, take_topic, SecondsSoFar, FirstsSoFar, MovesSoFar, GotNo, HasMovedIts}
-use Rattle.scq_stages.specs.Exports.{HasFinishedSeconds, HasFinishedFirsts, HasFinished, HasFinishedOne, HasFinishedOnlySeconds, HasTakenOne}
+use Rattle.scq_stages.specs.Exports.{HasFinished, HasFinishedOne, HasFinishedOnlySeconds, HasTakenOne}
 use Rattle.scq_stages.specs.Exports.{HasFewStageCalls}
 use Rattle.scq_stages.proofs.FewCalls.{few_calls-at_get, few_calls-at_put}
 
@@ -124,34 +124,28 @@ module _ {B : Type 0} where
   }
 
   -- one step behind the other
-  seconds-along : (p q r : PassStanding B) (xs ys zs : List Finished) → since p r ≡ since p q ++ since q r → HasFinishedSeconds p q xs ys
-      → HasFinishedSeconds q r ys zs
-      → HasFinishedSeconds p r xs zs
-  seconds-along p q r xs ys zs split one more takes before =
-      subst (λ l. SecondsSoFar l (filter is_second zs))
-      (sym (longer takes (taken_since second p q) (taken_since second q r) (taken_since second p r) (since-taken_on second p q r split)))
-      (more (takes ++ taken_since second p q) (one takes before))
-
-  firsts-along : (p q r : PassStanding B) (xs ys zs : List Finished) → since p r ≡ since p q ++ since q r → HasFinishedFirsts p q xs ys
-      → HasFinishedFirsts q r ys zs
-      → HasFinishedFirsts p r xs zs
-  firsts-along p q r xs ys zs split one more takes before =
-      subst (λ l. FirstsSoFar l (filter is_first zs))
-      (sym (longer takes (taken_since first p q) (taken_since first q r) (taken_since first p r) (since-taken_on first p q r split)))
-      (more (takes ++ taken_since first p q) (one takes before))
+  along : {M : Type 0} {Over : Placed → Type 0} {Becomes : Placed → M → Type 0} (topic : ℕ) (p q r : PassStanding B) (was mid is : List M)
+      → since p r ≡ since p q ++ since q r
+      → ((takes : List Placed) → BecomeSoFar Over Becomes takes was → BecomeSoFar Over Becomes (takes ++ taken_since topic p q) mid)
+      → ((takes : List Placed) → BecomeSoFar Over Becomes takes mid → BecomeSoFar Over Becomes (takes ++ taken_since topic q r) is)
+      → (takes : List Placed) → BecomeSoFar Over Becomes takes was → BecomeSoFar Over Becomes (takes ++ taken_since topic p r) is
+  along {M} {Over} {Becomes} topic p q r was mid is split one more takes before =
+      subst (λ l. BecomeSoFar Over Becomes l is)
+      (sym (longer takes (taken_since topic p q) (taken_since topic q r) (taken_since topic p r) (since-taken_on topic p q r split)))
+      (more (takes ++ taken_since topic p q) (one takes before))
 
   pub finished-along : (p q r : PassStanding B) (xs ys zs : List Finished) → since p r ≡ since p q ++ since q r → HasFinished p q xs ys → HasFinished q r ys zs
       → HasFinished p r xs zs
   finished-along p q r xs ys zs split one more = record {
-    seconds = seconds-along p q r xs ys zs split one.seconds more.seconds;
-    firsts = firsts-along p q r xs ys zs split one.firsts more.firsts;
+    seconds = along second p q r (filter is_second xs) (filter is_second ys) (filter is_second zs) split one.seconds more.seconds;
+    firsts = along first p q r (filter is_first xs) (filter is_first ys) (filter is_first zs) split one.firsts more.firsts;
     directs = more.directs ∙ one.directs;
   }
 
   pub helped-along : (p q r : PassStanding B) (xs ys zs : List Finished) → since p r ≡ since p q ++ since q r → HasFinishedOnlySeconds p q xs ys → HasFinishedOnlySeconds q r ys zs
       → HasFinishedOnlySeconds p r xs zs
   helped-along p q r xs ys zs split one more = record {
-    seconds = seconds-along p q r xs ys zs split one.seconds more.seconds;
+    seconds = along second p q r (filter is_second xs) (filter is_second ys) (filter is_second zs) split one.seconds more.seconds;
     firsts = more.firsts ∙ one.firsts;
     directs = more.directs ∙ one.directs;
   }
