@@ -1,14 +1,12 @@
 -- A worker's whole work: how it begins, and what its end is, by how it left.
 use Rattle.std.proofs.Common.{◌≡◌, refl, sym, ◌∙◌, ap, subst, arith, ℕ, ◌<◌, List, [], ◌∷◌, ◌++◌, length, Option, Some, None, Bool, Ok, Err, Result, rules}
 use Rattle.std.specs.Prelude.{IfSome, OnOk}
-use Rattle.std.specs.List.{All}
 use Rattle.scq_core.specs.declared.ended.Ended.{Ended}
 use Rattle.scq_core.specs.declared.ended.Ended.TheVariants.{Nothing}
 use Rattle.scq_band.specs.Exports.{Identity}
 use Rattle.scq_band.proofs.Opening.{numbers_length}
-use Rattle.scq_topics.specs.declared.kind.Kind.{Kind}
 use Rattle.scq_queue.specs.Exports.{PassStanding, HeldStanding, first_pass, known_on}
-use Rattle.scq_files.specs.Exports.{given_in, StopsAtAFault, all_given, IsRead, SourceOf}
+use Rattle.scq_files.specs.Exports.{StopsAtAFault, all_given, AreRead, SourceOf}
 use Rattle.scq_files.specs.declared.own_file.OwnFile.{OwnFile}
 use Rattle.scq_passes.specs.Becoming as becoming
 use Rattle.scq_passes.specs.PassedOn as passing
@@ -27,11 +25,6 @@ on-then (Err e) f p = tt
 no-call : (before after : List Ended) (call : Ended) → [] ≡ before ++ call ∷ after → ⊥
 no-call [] after call is = absurd (cc)
 no-call (x ∷ before) after call is = absurd (cc)
-
--- what of files is read
-abbrev pub AllRead : {S : Type 0} → List (List ℕ × Kind) → ℕ → SourceOf S → List (OwnFile S) → Type 0
-AllRead topics size src files =
-    All (λ f. IsRead topics size src f.number f.was.value f.source (given_in f.given.value) f.end) files
 
 module _ {B : Type 0} where
   pub work-first : (shared : Identity B) (number : ℕ) (p : PassStanding B) (members : List Finished) (starved : Bool) → p ≡ first_pass shared number
@@ -65,7 +58,7 @@ module _ {B : Type 0} where
   module _ {S : Type 0} (shared : Identity B) (size : ℕ) (src : SourceOf S) (files : List (OwnFile S)) where
     -- it has read its files, moved what was in first, retired, swept and left
     pub run-left : (p q : PassStanding B) (was is : List Finished) (before after : Bool) (kept : Option (HeldStanding B))
-        → AllRead [] size src files → StopsAtAFault files → Suits shared 1 p → IsDone (all_given files) p was before → IsLeaving (all_given files) p q is after
+        → AreRead [] size src files → StopsAtAFault files → Suits shared 1 p → IsDone (all_given files) p was before → IsLeaving (all_given files) p q is after
         → ((t : ℕ) → t < 2 → (known_on t q).finished < (known_on t q).head) → kept ≡ None
         → HasRun shared size src files q is after kept
     run-left p q was is before after kept read stops suits done leaving empty nothing =
@@ -93,7 +86,7 @@ module _ {B : Type 0} where
 
     -- it met Spent in a sweep
     pub run-late : (p q : PassStanding B) (was is : List Finished) (before after : Bool) (kept held : Option (HeldStanding B))
-        → AllRead [] size src files → StopsAtAFault files → Suits shared 1 p → IsDone (all_given files) p was before
+        → AreRead [] size src files → StopsAtAFault files → Suits shared 1 p → IsDone (all_given files) p was before
         → HasLeftSo HasFewStageCalls (length (all_given files)) (length (all_given files)) (after_retire p) q held → kept ≡ held
         → HasRun shared size src files q is after kept
     run-late p q was is before after kept held read stops suits done end same =
@@ -110,7 +103,7 @@ module _ {B : Type 0} where
 
     -- it met Spent before it retired, and then retired
     pub run-stopped : (p q : PassStanding B) (is : List Finished) (after : Bool) (kept held : Option (HeldStanding B))
-        → AllRead [] size src files → StopsAtAFault files → HasStopped shared (length (all_given files)) p held → q ≡ after_retire p → kept ≡ held
+        → AreRead [] size src files → StopsAtAFault files → HasStopped shared (length (all_given files)) p held → q ≡ after_retire p → kept ≡ held
         → HasRun shared size src files q is after kept
     run-stopped p q is after kept held read stops end retired same =
         subst (λ k. HasRun shared size src files q is after k) (sym same)

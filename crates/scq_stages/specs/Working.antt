@@ -1,14 +1,14 @@
 -- A worker's pass and its list, as its work goes on: while it reads its files, when it has moved
 -- all that was in first, and behind its retirement.
 use Rattle.std.specs.Prelude.{◌≡◌, ℕ, ◌+◌, ◌<◌, ◌≤◌, Bool, false, List, [], length, filter, Option}
-use Rattle.std.specs.Prelude.{Some, None, IfSome, All}
+use Rattle.std.specs.Prelude.{Some, None, IfSome}
 use Rattle.std.specs.List.{Contains}
 use Rattle.scq_law.specs.Exports.{tally, was_put}
 use Rattle.scq_frames.specs.declared.message.Message.{Message}
 use Rattle.scq_band.specs.Exports.{Identity}
 use Rattle.scq_queue.specs.Exports.{Placed, sends_of, takes_of, PassStanding, HeldStanding}
 use Rattle.scq_queue.specs.Exports.{known_on}
-use Rattle.scq_files.specs.Exports.{given_in, StopsAtAFault, all_given, IsRead, SourceOf}
+use Rattle.scq_files.specs.Exports.{StopsAtAFault, all_given, AreRead, SourceOf}
 use Rattle.scq_files.specs.declared.own_file.OwnFile.{OwnFile}
 use Rattle.scq_passes.specs.Exports.{IsBetweenParts, index_of, after_retire, calls_behind, on}
 use Rattle.scq_passes.specs.Exports.{ArePassedOn, EachHasItsCall, HasSwept}
@@ -113,8 +113,7 @@ module _ {B : Type 0} where
   pub record HasRun {S : Type 0} (shared : Identity B) (size : ℕ) (src : SourceOf S)
       (files : List (OwnFile S)) (pass : PassStanding B) (members : List Finished) (starved : Bool)
       (kept : Option (HeldStanding B)) : Type 0 where
-    pub read : All (λ f.
-        IsRead [] size src f.number f.was.value f.source (given_in f.given.value) f.end) files
+    pub read : AreRead [] size src files
     pub stops : StopsAtAFault files
     pub few_calls : HasFewStageCalls 1 (length (all_given files)) pass
     pub queue : pass.queue ≡ shared

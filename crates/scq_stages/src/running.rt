@@ -1,8 +1,7 @@
 //! A worker's whole work, at its desk.
 ghost use Rattle.std.specs.Prelude.{◌≡◌, ◌+◌, ◌≤◌, [], length, None, IfErr, OnOk, All};
 ghost use Rattle.scq_block.specs.Exports.{bytes_of};
-ghost use Rattle.scq_files.specs.Exports.{given_in, IsNew, StopsAtAFault, ids_of, all_given};
-ghost use Rattle.scq_files.specs.Exports.{IsRead};
+ghost use Rattle.scq_files.specs.Exports.{AreRead, IsNew, StopsAtAFault, ids_of, all_given};
 ghost use Rattle.scq_passes.specs.Exports.{Suits, HasLeftSwept, IsGivenBack};
 ghost use Rattle.scq_stages.specs.Exports.{IsToBegin, IsAtWork, IsDone, HasStopped, HasRunAt};
 
@@ -36,9 +35,7 @@ fn work<S: Source>(
     requires topics { topics.now ≡ [] }
     requires unread { All IsNew files.old }
     ensures same { ids_of files.new ≡ ids_of files.old }
-    ensures read { All (λ f.
-        IsRead topics.now job.now.size S.Source f.number f.was.value f.source
-        (given_in f.given.value) f.end) files.new }
+    ensures read { AreRead topics.now job.now.size S.Source files.new }
     ensures stops { StopsAtAFault files.new }
     ensures suits { OnOk result (Suits queue.now 1 worker.new.pass) }
     ensures stays { OnOk result (worker.new.pass.retired ≡ None) }

@@ -1,8 +1,8 @@
 use Rattle.std.proofs.Common.{rules, ◌≡◌, ◌<◌, ◌-◌, ◌∙◌, sym, ap, subst, arith, refl, inl, inr, ◌++◌, ℕ, List, length, set, true, false, get_or-set_same, get_or-set_other, Err, Result}
-use Rattle.std.specs.Prelude.{IfErr, All, slice_index_or}
+use Rattle.std.specs.Prelude.{IfErr, slice_index_or}
 use Rattle.std.proofs.lemmas.Bool.{cases_Bool, cases_lt, true≢false}
 use Rattle.std.proofs.lemmas.List.{length-set}
-use Rattle.scq_files.specs.Exports.{IsNew, StopsAtAFault, ids_of, all_given, given_in, TellsOfWant, WantsAtLast, IsRead}
+use Rattle.scq_files.specs.Exports.{IsNew, StopsAtAFault, ids_of, all_given, given_in, TellsOfWant, WantsAtLast, AreRead, IsRead}
 use Rattle.scq_frames.specs.declared.fault.FrameFault.TheVariants.{NoMemory}
 use Rattle.scq_files.specs.declared.own_file.FileEnd.TheVariants.{Stopped}
 use Rattle.scq_files.specs.declared.own_file.OwnFile.{OwnFile}
@@ -23,8 +23,7 @@ same-after g c =
 
 -- what is known of each file is what was read of it
 read-after : (g : _) (c : After-read_file g)
-    → All (λ f. IsRead c.args.topics.now c.args.longest g.S.Source f.number f.was.value f.source
-    (given_in f.given.value) f.end) (set c.files.files (c.files.at - 1) c.read_file.new.file)
+    → AreRead c.args.topics.now c.args.longest g.S.Source (set c.files.files (c.files.at - 1) c.read_file.new.file)
 read-after g c k d less =
     let at = c.files.at - 1 in
     let inv = c.files.invariant in

@@ -4,12 +4,12 @@ use Rattle.scq_band.specs.Exports.{Identity}
 use Rattle.scq_queue.specs.Exports.{PassStanding}
 use Rattle.scq_passes.specs.Exports.{after_retire, HasSweptLast, IsGivenBack}
 use Rattle.std.specs.Prelude.{All}
-use Rattle.scq_files.specs.Exports.{IsNew, ids_of, all_given}
+use Rattle.scq_files.specs.Exports.{AreRead, IsNew, ids_of, all_given}
 use Rattle.scq_files.specs.declared.own_file.OwnFile.{OwnFile}
 use Rattle.scq_files.proofs.Lists.{written-back}
 use Rattle.scq_stages.specs.declared.worker.Worker.{Worker}
 use Rattle.scq_stages.specs.Exports.{HasRun, IsAtWork, IsDone}
-use Rattle.scq_stages.proofs.Runs.{AllRead, work-first, run-left, run-late, run-stopped}
+use Rattle.scq_stages.proofs.Runs.{work-first, run-left, run-late, run-stopped}
 use Rattle.scq_stages.proofs.running.run.Goals as goal
 use Rattle.scq_stages.proofs.running.run.Goals.{After-work, In-Ok, In-Err}
 
@@ -28,12 +28,7 @@ begun g c =
 whole : (g : _) (c : After-work g)
     → take c.args.desk.now.files.len (c.work.new.files ++ drop (length c.work.new.files) c.args.desk.now.files.items) ≡ c.work.new.files
 whole g c =
-    let old = c.args.desk.now.files.items in
-    let new = c.work.new.files in
-    let is = c.as_mut_slice-files.ensures.value in
-    let long : length new ≡ length old = c.work.auto.files ∙ ap length is in
-    let len : c.args.desk.now.files.len ≡ length old = sym (c.as_mut_slice-files.ensures.len) ∙ ap length is in
-    written-back c.args.desk.now.files.len new old (omega (arith, long, len))
+    written-back c.args.desk.now.files.len c.work.new.files c.args.desk.now.files.items (c.work.auto.files ∙ c.as_mut_slice-files.ensures.len)
 
 -- as many, of the same numbers
 ids-kept : (g : _) (c : After-work g)
@@ -44,9 +39,9 @@ ids-kept g c =
     ap ids (whole g c) ∙ c.work.ensures.same ∙ ap ids c.as_mut_slice-files.ensures.value
 
 -- of each is known what was read of it
-read : (g : _) (c : After-work g) → AllRead [] c.args.job.now.size g.S.Source c.work.new.files
+read : (g : _) (c : After-work g) → AreRead [] c.args.job.now.size g.S.Source c.work.new.files
 read g c =
-    subst (λ topics. AllRead topics c.args.job.now.size g.S.Source c.work.new.files) c.none-topics.ensures
+    subst (λ topics. AreRead topics c.args.job.now.size g.S.Source c.work.new.files) c.none-topics.ensures
     c.work.ensures.read
 
 pub work-requires-clause-unread : goal.work-requires-clause-unread

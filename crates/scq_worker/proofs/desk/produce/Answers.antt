@@ -54,7 +54,7 @@ returns-in-Ok-clause-produced g c =
     let start = c.args.desk.now.worker.worker in
     let work = its.gathered.work [] (begun g at) in
     produced-awake q job.topics job.size job.most job.longest g.S.Source desk.files.items was.pass now.pass was.members now.members
-    was.starved now.starved desk.worker.kept all.read all.stops its.gathered.goes.suits
+    was.starved now.starved desk.worker.kept all.files.read all.files.stops its.gathered.goes.suits
     (record {
       batches = work.batches;
       gathered = gathered-none job.most _ work.batches was.opens.items work.gathered its.closed;
@@ -75,7 +75,7 @@ returns-in-Err-clause-produced g c =
     let was = desk.worker.worker in
     let now = c.keep.new.self in
     produced-stopped c.args.queue.now job.topics job.size job.most job.longest g.S.Source desk.files.items was.pass now.worker.pass
-    now.worker.members now.worker.starved now.kept c.in-Err.at_limit.held its.read its.stops (c.in-Err.ensures.stopped [] (begun g at))
+    now.worker.members now.worker.starved now.kept c.in-Err.at_limit.held its.files.read its.files.stops (c.in-Err.ensures.stopped [] (begun g at))
     (ap (λ (w : Worker _). w.pass) c.keep.ensures.same ∙ c.retire-in-Err.ensures.pass) c.keep.ensures.kept
 
 pub returns-in-Err-clause-number : goal.returns-in-Err-clause-number
