@@ -1,3 +1,4 @@
 pub mod Settled
 pub mod Faults
 pub mod Apart
+pub mod Passes

@@ -27,6 +27,7 @@ use Rattle.scq_stages.specs.Exports.{HelpsSecondThenFirst, HelpsJustSecondThenFi
 use Rattle.scq_stages.specs.Exports.{MovesSoFar, HasTakenOrMoved, HasMovedIts, HasFinishedOnlySeconds, HasFewStageCalls, HasListed, IsAtWork, IsDone}
 use Rattle.scq_stages.specs.Exports.{HasStopped}
 use Rattle.scq_stages.proofs.Moving.{moves-none_to_first, moves-none_next}
+use Rattle.scq_desk.proofs.Passes.{stopped-left}
 use Rattle.scq_stages.proofs.FewCalls.{few_calls-sent, few_calls-full, few_calls-moved, few_calls-at_send}
 
 -- the takes from second and from first, and from nothing else; and at least these
@@ -199,16 +200,6 @@ module _ {B : Type 0} where
         listed = λ fed. listed-on messages p q was is taken helped (work.listed (fed_before fed));
       }
 
-  -- the pass still suits
-  pub suits-full : (shared : Identity B) (topics head : ℕ) (p q : PassStanding B) → Suits shared topics p → HasFoundFull head p q → Suits shared topics q
-  suits-full shared topics head p q suits h =
-      record {
-        queue = ap (λ (x : PassStanding B). x.queue) h.pass ∙ suits.queue;
-        rings = suits.rings;
-        numbers = h.knows.rings ∙ suits.numbers;
-        spent = ap (λ (x : PassStanding B). x.spent) h.pass ∙ suits.spent;
-      }
-
   -- the send of a value that was lent met Spent: that value came back
   pub left-sent : (contents : B → List ℕ) (messages ticket : ℕ) (p q r : PassStanding B) (h : HeldStanding B) (kept : Option (HeldStanding B))
       → WasLent contents p q h
@@ -224,14 +215,7 @@ module _ {B : Type 0} where
       (kept : Option (HeldStanding B)) → IsAtWork messages p members starved → p.queue ≡ shared → p.retired ≡ None
       → HasLeftSo HasFewStageCalls (length messages) many p q kept → HasStopped shared many q kept
   work-left shared messages many p q members starved kept was queue stays left =
-      record {
-        spent = left.spent;
-        few_calls = left.few_calls was.few_calls;
-        queue = left.own.0 ∙ queue;
-        stays = left.own.2 ∙ stays;
-        held = left.held ∙ ap (λ l. l ++ index_of kept) was.between.none;
-        its = subst (λ (x : Identity B). IfSome kept (λ h. h.queue ≡ x)) queue left.its;
-      }
+      stopped-left HasFewStageCalls shared (length messages) many p q kept was.few_calls was.between.none queue stays left
 
   pub work-stopped : (shared : Identity B) (messages : List Message) (m : Message) (p q : PassStanding B) (members : List Finished) (starved : Bool)
       (kept : Option (HeldStanding B)) → IsAtWork messages p members starved → p.queue ≡ shared → p.retired ≡ None

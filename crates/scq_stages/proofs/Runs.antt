@@ -14,6 +14,7 @@ use Rattle.scq_passes.specs.Exports.{Suits, HasLeftSo, index_of, after_retire}
 use Rattle.scq_passes.proofs.Kept.{swept}
 use Rattle.scq_stages.specs.declared.finished.Finished.{Finished}
 use Rattle.scq_stages.specs.Exports.{HasFewStageCalls, IsAtWork, IsDone, IsLeaving, HasStopped, HasRun}
+use Rattle.scq_desk.proofs.Passes.{none-or}
 use Rattle.scq_stages.proofs.FewCalls.{few_calls-more, few_calls-retired}
 
 -- what follows of a clause of an answer that is Ok
@@ -80,10 +81,6 @@ module _ {B : Type 0} where
           };
         }
 
-    -- of a pass that keeps a ticket none of what is said of others need be shown
-    some-none : (p : PassStanding B) (ticket : ℕ) → p.spent ≡ Some ticket → p.spent ≡ None → ⊥
-    some-none p ticket is none_ = absurd (cc)
-
     -- it met Spent in a sweep
     pub run-late : (p q : PassStanding B) (was is : List Finished) (before after : Bool) (kept held : Option (HeldStanding B))
         → AreRead [] size src files → StopsAtAFault files → Suits shared 1 p → IsDone (all_given files) p was before
@@ -98,7 +95,7 @@ module _ {B : Type 0} where
           retired = (length p.calls, end.own.2);
           held = end.held ∙ ap (λ l. l ++ index_of held) done.moved.between.none;
           its = subst (λ (x : Identity B). IfSome held (λ h. h.queue ≡ x)) suits.queue end.its;
-          ended = λ awake. absurd (some-none q end.spent.0 end.spent.1 awake);
+          ended = λ awake. absurd (none-or q.spent end.spent.0 end.spent.1 awake);
         })
 
     -- it met Spent before it retired, and then retired
@@ -115,5 +112,5 @@ module _ {B : Type 0} where
           retired = (length p.calls, refl);
           held = end.held;
           its = end.its;
-          ended = λ awake. absurd (some-none p end.spent.0 end.spent.1 awake);
+          ended = λ awake. absurd (none-or p.spent end.spent.0 end.spent.1 awake);
         }))

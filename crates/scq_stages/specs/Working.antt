@@ -12,6 +12,7 @@ use Rattle.scq_files.specs.Exports.{StopsAtAFault, all_given, AreRead, SourceOf}
 use Rattle.scq_files.specs.declared.own_file.OwnFile.{OwnFile}
 use Rattle.scq_passes.specs.Exports.{IsBetweenParts, index_of, after_retire, calls_behind, on}
 use Rattle.scq_passes.specs.Exports.{ArePassedOn, EachHasItsCall, HasSwept}
+use Rattle.scq_desk.specs.GoingOn as going
 use Rattle.scq_stages.specs.declared.finished.Finished.{Finished}
 use Rattle.scq_stages.specs.Members.{is_second, is_first, is_direct, DirectsAre}
 use Rattle.scq_stages.specs.Records.{first, second, is_next, HelpsJustSecondThenFirst}
@@ -90,14 +91,8 @@ module _ {B : Type 0} where
 
   -- a worker that met Spent before it retired, after at most so many messages, the last one
   -- included: its pass, and the value that it keeps
-  pub record HasStopped (shared : Identity B) (messages : ℕ) (p : PassStanding B)
-      (kept : Option (HeldStanding B)) : Type 0 where
-    pub spent : (ticket : ℕ) × (p.spent ≡ Some ticket)
-    pub few_calls : HasFewStageCalls 1 messages p
-    pub queue : p.queue ≡ shared
-    pub stays : p.retired ≡ None
-    pub held : p.held ≡ index_of kept
-    pub its : IfSome kept (λ h. h.queue ≡ shared)
+  abbrev pub HasStopped : Identity B → ℕ → PassStanding B → Option (HeldStanding B) → Type 0
+  HasStopped shared messages p kept = going.HasStopped (HasFewStageCalls 1 messages) shared p kept
 
   -- a worker that met no Spent has moved all that was in first, retired, swept and left. `at` was
   -- its pass when it retired

@@ -14,19 +14,11 @@ use Rattle.scq_worker.specs.declared.worker.Worker.{Worker}
 use Rattle.scq_passes.proofs.LeftLemmas.{left-at-send}
 use Rattle.scq_passes.proofs.Kept.{few_calls-full, few_calls-taken}
 use Rattle.scq_worker.proofs.Gathered.{gathered-same}
-use Rattle.scq_worker.proofs.WorkerSteps.{producing-behind, producing-helped, few_calls-sent, listed-sent, listed-full, listed-taken}
+use Rattle.scq_desk.proofs.Passes.{stopped-left}
+use Rattle.scq_worker.proofs.WorkerSteps.{producing-behind, producing-helped, few_calls-more, few_calls-sent, listed-sent, listed-full, listed-taken}
 
 module _ {B : Type 0} where
   -- the pass still suits
-  pub suits-full : (shared : Identity B) (topics head : ℕ) (p q : PassStanding B) → Suits shared topics p → HasFoundFull head p q → Suits shared topics q
-  suits-full shared topics head p q suits h =
-      record {
-        queue = ap (λ (x : PassStanding B). x.queue) h.pass ∙ suits.queue;
-        rings = suits.rings;
-        numbers = h.knows.rings ∙ suits.numbers;
-        spent = ap (λ (x : PassStanding B). x.spent) h.pass ∙ suits.spent;
-      }
-
   pub suits-sent : (shared : Identity B) (topics topic : ℕ) (b : List Part) (p q : PassStanding B) → Suits shared topics p → HasSent topic b p q
       → Suits shared topics q
   suits-sent shared topics topic b p q suits h =
@@ -100,12 +92,7 @@ module _ {B : Type 0} where
       → HasStopped shared few p kept → HasStopped shared many p kept
   stopped-more shared few many p kept low was = record {
     spent = was.spent;
-    few_calls = record {
-      sends = let its = was.few_calls.sends in omega arith;
-      fulls = let its = was.few_calls.fulls in omega arith;
-      puts = λ topic. let its = was.few_calls.puts topic in omega arith;
-      returns = was.few_calls.returns;
-    };
+    few_calls = few_calls-more 1 1 few many p (omega arith) low was.few_calls;
     queue = was.queue;
     stays = was.stays;
     held = was.held;
@@ -118,14 +105,7 @@ module _ {B : Type 0} where
       (kept : Option (HeldStanding B)) → HasPassed topics batches p members starved → p.queue ≡ shared → p.retired ≡ None
       → HasLeft (length batches) (length batches + 1) p q kept → HasStopped shared (length batches + 1) q kept
   passed-stopped shared topics batches p q members starved kept was queue stays left =
-      record {
-        spent = left.spent;
-        few_calls = left.few_calls was.few_calls;
-        queue = left.own.0 ∙ queue;
-        stays = left.own.2 ∙ stays;
-        held = left.held ∙ ap (λ l. l ++ index_of kept) was.producing.between.none;
-        its = subst (λ (x : Identity B). IfSome kept (λ h. h.queue ≡ x)) queue left.its;
-      }
+      stopped-left HasFewCalls shared (length batches) (length batches + 1) p q kept was.few_calls was.producing.between.none queue stays left
 
   -- the same pass and the same list
   pub passed-as : (topics : List (List ℕ × Kind)) (batches : List (List Part)) (p q : PassStanding B) (was is : List Answered) (before after : Bool)

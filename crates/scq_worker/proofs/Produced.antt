@@ -11,11 +11,8 @@ use Rattle.scq_passes.specs.Exports.{HasLeftSwept, HasSweptLast, IsReturn, Helps
 use Rattle.scq_files.specs.declared.own_file.OwnFile.{OwnFile}
 use Rattle.scq_worker.specs.declared.job.Job.{Job}
 use Rattle.scq_worker.specs.declared.worker.Worker.{Worker}
+use Rattle.scq_desk.proofs.Passes.{none-or}
 use Rattle.scq_worker.proofs.RunLemmas.{run-left, run-late, run-stopped}
-
--- no ticket is kept, or this one
-pub none-or : (o : Option ℕ) (ticket : ℕ) → o ≡ Some ticket → o ≡ None → ⊥
-none-or o ticket is none = absurd (cc)
 
 module _ {B : Type 0} where
   -- a new pass took nothing in vain

@@ -18,7 +18,8 @@ use Rattle.scq_passes.proofs.Retired.{retired-taken}
 use Rattle.scq_files.specs.declared.own_file.OwnFile.{OwnFile}
 use Rattle.scq_passes.proofs.Kept.{swept, few_calls-taken}
 use Rattle.scq_worker.proofs.Gathered.{batches-of, few-batches, gathered-first}
-use Rattle.scq_worker.proofs.WorkerSteps.{sweeping-first, sweeping-taken, listed-taken}
+use Rattle.scq_desk.proofs.Passes.{none-or}
+use Rattle.scq_worker.proofs.WorkerSteps.{few_calls-more, sweeping-first, sweeping-taken, listed-taken}
 
 -- of no calls each is nowhere
 no-call : (before after : List Ended) (call : Ended) → [] ≡ before ++ call ∷ after → ⊥
@@ -76,24 +77,11 @@ module _ {B : Type 0} where
   few_calls-retired : (late messages : ℕ) (p : PassStanding B) → HasFewCalls late messages p → HasFewCalls late messages (after_retire p)
   few_calls-retired late messages p was = record { sends = was.sends; fulls = was.fulls; puts = was.puts; returns = was.returns }
 
-  -- there are no more calls than for more parts, and where it met Spent
-  few_calls-more : (late later few many : ℕ) (p : PassStanding B) → late ≤ later → few ≤ many → HasFewCalls late few p → HasFewCalls later many p
-  few_calls-more late later few many p more low was = record {
-    sends = let its = was.sends in omega arith;
-    fulls = let its = was.fulls in omega arith;
-    puts = λ topic. let its = was.puts topic in omega arith;
-    returns = let its = was.returns in omega arith;
-  }
-
   -- it has few calls for all parts that it has gathered
   pub few_calls-gathered : (topics : List (List ℕ × Kind)) (most : ℕ) (parts : List Part) (opens : List (List Part)) (p : PassStanding B)
       (members : List Answered) (starved : Bool) → IsAtWork topics most parts opens p members starved → HasFewCalls 0 (length parts) p
   few_calls-gathered topics most parts opens p members starved work =
       few_calls-more 0 0 (length work.batches) (length parts) p (omega arith) (few-batches most parts work.batches opens work.gathered) work.passed.few_calls
-
-  -- of a pass that keeps a ticket none of what is said of others need be shown
-  some-none : (p : PassStanding B) (ticket : ℕ) → p.spent ≡ Some ticket → p.spent ≡ None → ⊥
-  some-none p ticket is none_ = absurd (cc)
 
   module _ {S : Type 0} (shared : Identity B) (topics : List (List ℕ × Kind)) (size most longest : ℕ) (src : SourceOf S) (files : List (OwnFile S)) where
     -- it has read its files, swept and left
@@ -155,10 +143,10 @@ module _ {B : Type 0} where
           retired = (length p.calls, end.own.2);
           held = end.held ∙ ap (λ l. l ++ index_of held) work.passed.producing.between.none;
           its = subst (λ (x : Identity B). IfSome held (λ h. h.queue ≡ x)) suits.queue end.its;
-          sweeping = λ awake. absurd (some-none q end.spent.0 end.spent.1 awake);
-          ended = λ awake. absurd (some-none q end.spent.0 end.spent.1 awake);
-          swept = λ awake. absurd (some-none q end.spent.0 end.spent.1 awake);
-          listed = λ awake fed. absurd (some-none q end.spent.0 end.spent.1 awake);
+          sweeping = λ awake. absurd (none-or q.spent end.spent.0 end.spent.1 awake);
+          ended = λ awake. absurd (none-or q.spent end.spent.0 end.spent.1 awake);
+          swept = λ awake. absurd (none-or q.spent end.spent.0 end.spent.1 awake);
+          listed = λ awake fed. absurd (none-or q.spent end.spent.0 end.spent.1 awake);
         })
 
     -- it met Spent while it read its files, and then retired
@@ -176,8 +164,8 @@ module _ {B : Type 0} where
           retired = (length p.calls, refl);
           held = end.held;
           its = end.its;
-          sweeping = λ awake. absurd (some-none p end.spent.0 end.spent.1 awake);
-          ended = λ awake. absurd (some-none p end.spent.0 end.spent.1 awake);
-          swept = λ awake. absurd (some-none p end.spent.0 end.spent.1 awake);
-          listed = λ awake fed. absurd (some-none p end.spent.0 end.spent.1 awake);
+          sweeping = λ awake. absurd (none-or p.spent end.spent.0 end.spent.1 awake);
+          ended = λ awake. absurd (none-or p.spent end.spent.0 end.spent.1 awake);
+          swept = λ awake. absurd (none-or p.spent end.spent.0 end.spent.1 awake);
+          listed = λ awake fed. absurd (none-or p.spent end.spent.0 end.spent.1 awake);
         }))

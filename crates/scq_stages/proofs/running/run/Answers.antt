@@ -9,13 +9,10 @@ use Rattle.scq_files.specs.declared.own_file.OwnFile.{OwnFile}
 use Rattle.scq_files.proofs.Lists.{written-back}
 use Rattle.scq_stages.specs.declared.worker.Worker.{Worker}
 use Rattle.scq_stages.specs.Exports.{HasRun, IsAtWork, IsDone}
+use Rattle.scq_desk.proofs.Passes.{none-or}
 use Rattle.scq_stages.proofs.Runs.{work-first, run-left, run-late, run-stopped}
 use Rattle.scq_stages.proofs.running.run.Goals as goal
 use Rattle.scq_stages.proofs.running.run.Goals.{After-work, In-Ok, In-Err}
-
--- no ticket is kept, or this one
-none-or : (o : Option ℕ) (ticket : ℕ) → o ≡ Some ticket → o ≡ None → ⊥
-none-or o ticket is none = absurd (cc)
 
 -- nothing was passed on before
 begun : (g : _) (c : After-work g)

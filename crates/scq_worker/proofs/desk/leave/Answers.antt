@@ -2,7 +2,8 @@ use Rattle.std.proofs.Common.{◌≡◌, ◌∙◌, ap, subst, None}
 use Rattle.scq_block.specs.Exports.{bytes_of}
 use Rattle.scq_queue.specs.Exports.{PassStanding}
 use Rattle.scq_worker.specs.declared.worker.Worker.{Worker}
-use Rattle.scq_worker.proofs.Produced.{sweep-suits, swept-out, late-out, left-swept, none-or}
+use Rattle.scq_desk.proofs.Passes.{none-or}
+use Rattle.scq_worker.proofs.Produced.{sweep-suits, swept-out, late-out, left-swept}
 use Rattle.scq_worker.proofs.desk.leave.Goals as goal
 
 pub sweep_out-requires-clause-suits : goal.sweep_out-requires-clause-suits

@@ -3,7 +3,8 @@ use Rattle.scq_queue.specs.Exports.{PassStanding}
 use Rattle.scq_worker.specs.Exports.{IsWorking}
 use Rattle.scq_worker.specs.declared.worker.Worker.{Worker}
 use Rattle.scq_worker.proofs.Gathered.{gathered-none}
-use Rattle.scq_worker.proofs.Produced.{none-or, produced-awake, produced-stopped, vain-first}
+use Rattle.scq_desk.proofs.Passes.{none-or}
+use Rattle.scq_worker.proofs.Produced.{produced-awake, produced-stopped, vain-first}
 use Rattle.scq_worker.proofs.RunLemmas.{work-first}
 use Rattle.scq_worker.proofs.Rung.{rung-retired}
 use Rattle.scq_worker.proofs.desk.produce.Goals as goal

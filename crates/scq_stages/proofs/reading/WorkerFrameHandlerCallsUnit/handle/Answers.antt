@@ -11,7 +11,8 @@ use Rattle.scq_passes.proofs.ManyLists.{one-of-all}
 use Rattle.scq_stages.specs.declared.finished.Finished.{Finished}
 use Rattle.scq_stages.specs.Exports.{first, second, take_topic, SendsToFirst, HasTakenOrMoved, HasMovedIts, HasFinishedOnlySeconds, HasStoppedAt}
 use Rattle.scq_stages.specs.Exports.{HasFewStageCalls, IsAtWork}
-use Rattle.scq_stages.proofs.AtWork.{work-sent, work-helped, suits-full, left-sent, work-stopped}
+use Rattle.scq_desk.proofs.Passes.{suits-full}
+use Rattle.scq_stages.proofs.AtWork.{work-sent, work-helped, left-sent, work-stopped}
 use Rattle.scq_stages.proofs.FewCalls.{few_calls-full, few_calls-more, few_calls-at_get}
 use Rattle.scq_stages.proofs.reading.WorkerFrameHandlerCallsUnit.handle.Goals as goal
 use Rattle.scq_stages.proofs.reading.WorkerFrameHandlerCallsUnit.handle.Goals.{After-finish_directly}

@@ -10,7 +10,8 @@ use Rattle.scq_passes.proofs.PassLemmas.{found-full, lent-and-sent, suits-taken}
 use Rattle.scq_passes.proofs.Kept.{taken-sends}
 use Rattle.scq_passes.proofs.LeftLemmas.{left-at-get, left-full, left-more}
 use Rattle.scq_passes.proofs.ManyLists.{one-of-all}
-use Rattle.scq_worker.proofs.PassedOn.{left-sent, left-behind, suits-full, suits-sent, passed-sent, passed-helped, passed-stopped}
+use Rattle.scq_desk.proofs.Passes.{suits-full}
+use Rattle.scq_worker.proofs.PassedOn.{left-sent, left-behind, suits-sent, passed-sent, passed-helped, passed-stopped}
 use Rattle.scq_passes.proofs.Vain.{vain-helped, vain-behind}
 use Rattle.scq_worker.proofs.Rung.{rung-sent, rung-helped}
 use Rattle.scq_worker.proofs.worker.Worker.pass_load.Goals as goal
