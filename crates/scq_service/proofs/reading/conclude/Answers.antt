@@ -40,9 +40,9 @@ returns-then-all-clause-tells g c =
     let its = c.args.end.result in
     let come : c.behind.result.got.items ≡ c.args.got.value.items = after.got in
     let gave = at-ok its _ c.in-Ok.is did.end.worked in
-    let had : c.args.end.left ≡ None → ⊥ = λ none. let err : its ≡ Err NoMemory = did.end.none none in cc (c.in-Ok.is, err) in
+    let had : c.args.end.left ≡ None → ⊥ = λ none. let err : its ≡ Err NoMemory = did.end.reading.none none in cc (c.in-Ok.is, err) in
     record {
-      got = told-got c.args.job.now.longest did.end.count did.come c.args.all did.all after.got left did.end.moved;
+      got = told-got c.args.job.now.longest did.end.reading.count did.come c.args.all did.all after.got left did.end.reading.moved;
       status = rw (after.fault ∙ end.fault) (after.status ∙ end.status);
       worked = rw (after.fault ∙ end.fault, after.worked ∙ end.worked) refl;
       unstaged = after.staged ∙ end.staged;
@@ -50,7 +50,7 @@ returns-then-all-clause-tells g c =
       answers = rw (after.worked ∙ end.worked, come) (at-ok its _ c.in-Ok.is did.end.answers);
       told = rw (after.worked ∙ end.worked, come) (at-ok its _ c.in-Ok.is did.end.told);
       work = rw (after.worked ∙ end.worked, come, left)
-          (gave.0, record { count = did.end.count; whole = on-ok its _ c.in-Ok.is did.end.whole; gave = gave.1 }, gave.2);
+          (gave.0, record { count = did.end.reading.count; whole = on-ok its _ c.in-Ok.is did.end.reading.whole; gave = gave.1 }, gave.2);
       none_stranded = rw (after.left.0, after.left.1, after.left.2) did.end.none_stranded;
       there = rw (after.worked ∙ end.worked, after.left.0) (some-seen c.args.end.left had);
       seen = λ none. absurd (had (sym after.left.0 ∙ none-seen _ none));
@@ -63,8 +63,8 @@ returns-then-all-clause-ends g c =
     let after = c.behind.ensures in
     let did = c.requires in
     let left : c.behind.result.sources.items ≡ c.args.end.sources.items = ap (λ v. v.items) after.sources ∙ end.sources in
-    told-whole c.args.job.now.longest did.end.count did.come c.args.all did.all after.got left _ c.if-all.true (after.read ∙ end.read)
-    (after.fault ∙ end.fault) (on-ok c.args.end.result _ c.in-Ok.is did.end.whole)
+    told-whole c.args.job.now.longest did.end.reading.count did.come c.args.all did.all after.got left _ c.if-all.true (after.read ∙ end.read)
+    (after.fault ∙ end.fault) (on-ok c.args.end.result _ c.in-Ok.is did.end.reading.whole)
 
 pub returns-else-all-clause-tells : goal.returns-else-all-clause-tells
 returns-else-all-clause-tells g c =
@@ -73,10 +73,10 @@ returns-else-all-clause-tells g c =
     let did = c.requires in
     let left : c.behind-else-all.result.sources.items ≡ c.args.end.sources.items = ap (λ v. v.items) after.sources ∙ end.sources in
     unanswered _ _ _ _ _ (after.worked ∙ end.worked)
-    (told-got c.args.job.now.longest did.end.count did.come c.args.all did.all after.got left did.end.moved)
+    (told-got c.args.job.now.longest did.end.reading.count did.come c.args.all did.all after.got left did.end.reading.moved)
     (rw (after.fault ∙ end.fault) (after.status ∙ end.status)) (rw (after.fault ∙ end.fault, after.worked ∙ end.worked) refl) (after.staged ∙ end.staged)
     (rw (after.left.0, after.left.1, after.left.2) did.end.none_stranded)
-    (λ none. let err : c.args.end.result ≡ Err NoMemory = did.end.none (sym after.left.0 ∙ none-seen _ none) in absurd (cc (c.in-Ok.is, err)))
+    (λ none. let err : c.args.end.result ≡ Err NoMemory = did.end.reading.none (sym after.left.0 ∙ none-seen _ none) in absurd (cc (c.in-Ok.is, err)))
 
 pub returns-else-all-clause-ends : goal.returns-else-all-clause-ends
 returns-else-all-clause-ends g c =
@@ -84,8 +84,8 @@ returns-else-all-clause-ends g c =
     let after = c.behind-else-all.ensures in
     let did = c.requires in
     let left : c.behind-else-all.result.sources.items ≡ c.args.end.sources.items = ap (λ v. v.items) after.sources ∙ end.sources in
-    told-stopped c.args.job.now.longest did.end.count did.come c.args.all did.all after.got left _ c.if-all.false (after.read ∙ end.read)
-    (after.fault ∙ end.fault ∙ ap (λ n. Some (fault.OpenFault (n + 1))) did.number) (on-ok c.args.end.result _ c.in-Ok.is did.end.whole)
+    told-stopped c.args.job.now.longest did.end.reading.count did.come c.args.all did.all after.got left _ c.if-all.false (after.read ∙ end.read)
+    (after.fault ∙ end.fault ∙ ap (λ n. Some (fault.OpenFault (n + 1))) did.number) (on-ok c.args.end.result _ c.in-Ok.is did.end.reading.whole)
 
 pub returns-in-Err-clause-tells : goal.returns-in-Err-clause-tells
 returns-in-Err-clause-tells g c =
@@ -94,10 +94,10 @@ returns-in-Err-clause-tells g c =
     let did = c.requires in
     let left : c.behind-in-Err.result.sources.items ≡ c.args.end.sources.items = ap (λ v. v.items) after.sources ∙ end.sources in
     unanswered _ _ _ _ _ (after.worked ∙ end.none)
-    (told-got c.args.job.now.longest did.end.count did.come c.args.all did.all after.got left did.end.moved)
+    (told-got c.args.job.now.longest did.end.reading.count did.come c.args.all did.all after.got left did.end.reading.moved)
     (rw (after.fault ∙ end.fault) (after.status ∙ end.status)) (rw (after.fault, after.worked) end.worked) (after.staged ∙ end.unstaged)
     (rw (after.left.0, after.left.1, after.left.2) did.end.none_stranded)
-    (λ none. let err : c.args.end.result ≡ Err NoMemory = did.end.none (sym after.left.0 ∙ none-seen _ none) in
+    (λ none. let err : c.args.end.result ≡ Err NoMemory = did.end.reading.none (sym after.left.0 ∙ none-seen _ none) in
     let is : c.in-Err.fault ≡ NoMemory = cc (c.in-Err.is, err) in
     after.fault ∙ end.fault ∙ ap (λ f. Some (fault_of_work c.args.job.now.longest f)) is)
 
@@ -107,5 +107,5 @@ returns-in-Err-clause-ends g c =
     let after = c.behind-in-Err.ensures in
     let did = c.requires in
     let left : c.behind-in-Err.result.sources.items ≡ c.args.end.sources.items = ap (λ v. v.items) after.sources ∙ end.sources in
-    told-met c.args.job.now.longest did.end.count did.come c.args.all did.all after.got left c.in-Err.fault _ (after.read ∙ end.read)
-    (after.fault ∙ end.fault) (at-err c.args.end.result _ c.in-Err.is did.end.cause)
+    told-met c.args.job.now.longest did.end.reading.count did.come c.args.all did.all after.got left c.in-Err.fault _ (after.read ∙ end.read)
+    (after.fault ∙ end.fault) (at-err c.args.end.result _ c.in-Err.is did.end.reading.cause)

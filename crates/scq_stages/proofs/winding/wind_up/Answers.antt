@@ -1,5 +1,5 @@
 -- The end of the stages.
-use Rattle.std.proofs.Common.{◌≡◌, ◌∙◌, refl, sym, ap, subst, arith, ℕ, ◌^◌, List, [], map}
+use Rattle.std.proofs.Common.{◌≡◌, ◌∙◌, refl, sym, ap, subst, arith, ℕ, ◌^◌, List, [], Some, None, map}
 use Rattle.std.specs.Prelude.{IfOk, Vec}
 use Rattle.std.specs.Global.{Global}
 use Rattle.scq_block.specs.declared.frame.Frame.{Frame}
@@ -9,14 +9,13 @@ use Rattle.scq_files.specs.Exports.{AreGiven, StopsAtFaults, all_left}
 use Rattle.scq_files.proofs.GivenLemmas.{given-told}
 use Rattle.scq_passes.specs.Exports.{lengths_of}
 use Rattle.scq_passes.proofs.Counted.{counts-exact}
-use Rattle.scq_passes.proofs.Results.{err-then, ok-more, ok-on}
+use Rattle.scq_passes.proofs.Results.{ok-more}
 use Rattle.scq_desk.specs.Exports.{IsLaid}
 use Rattle.scq_stages.specs.declared.finished.Finished.{Finished}
-use Rattle.scq_desk.specs.declared.fault.EndFault.{EndFault}
 use Rattle.scq_stages.specs.declared.staged.Staged.{Staged}
 use Rattle.scq_stages.specs.Exports.{HasStaged, HaveFinished, finished_in}
 use Rattle.scq_stages.proofs.DeskWorks.{AllRan, all-ended, desks-gave, desks-shared, desks-staged, lists_at, messages_given, passes_at}
-use Rattle.scq_desk.proofs.Faults.{caused, memory-first}
+use Rattle.scq_desk.proofs.Ends.{reading-gathered}
 use Rattle.scq_stages.proofs.Told.{told-staged}
 use Rattle.scq_stages.proofs.Ordered.{members-told}
 use Rattle.scq_stages.proofs.winding.wind_up.Goals as goal
@@ -60,14 +59,13 @@ returns-clause-end g c =
     let wound = c.wind_up_desks-sources.result in
     let said = c.wind_up_desks-sources.ensures in
     let left_in = wound.left.items in
+    let there : Some wound.left ≡ None → ⊥ = λ e. absurd (cc) in
     let result = c.conclude.result in
     let ok = c.conclude.ensures.ok in
-    let err = c.conclude.ensures.err in
     let f = ran g (goal.at.returns-clause-end g c).After-conclude in
     let setup = c.requires.setup in
     let shared = desks-shared queue.setup queue size src sources desks f left_in said.closed in
     let ended = all-ended queue.setup queue size src sources desks f in
-    let gathered = said.gathered size ended in
     let Of : Staged → Type 0 = λ s. (given : List (List Message)) × AreGiven [] size src.left 1 sources given × HasStaged workers given s in
     let staged : IfOk result Of = ok-more result _ Of ok (λ s is.
     let whole = said.whole is.2 in
@@ -88,11 +86,9 @@ returns-clause-end g c =
       },
     )) in
     record {
-      count = gathered.count;
-      moved = gathered.moved;
-      stops = subst (λ n. StopsAtFaults n size src sources wound.sources.items) c.requires.count
-          (said.stops size ended (λ w d less. (c.requires.run w d less).stops));
-      whole = ok-on result _ _ ok (λ s why. gathered.sound why.2);
+      reading = reading-gathered workers size src sources _ _ wound.starved wound.fault (said.gathered size ended)
+          (subst (λ n. StopsAtFaults n size src sources wound.sources.items) c.requires.count
+          (said.stops size ended (λ w d less. (c.requires.run w d less).stops))) ok c.conclude.ensures.err there;
       handled = ok-more result Of _ staged
           (λ s has. members-told size src.left sources has.0 (finished_in s.done.items) has.1 has.2.staged.once);
       told = ok-more result Of _ staged
@@ -103,12 +99,7 @@ returns-clause-end g c =
         of_job = record { buffers = setup.0; rings = omega (arith, setup.1); seats = setup.2; limit = setup.3 };
         shared = rw said.passes.1 shared;
       };
-      none = λ e. absurd (cc);
       same = ok-more result _ _ ok (λ s is. said.passes.1 ∙ sym said.passes.0 ∙ ap (λ (x : Staged). x.passes.value.items) (sym is.0));
-      cause = err-then result _ _ (λ (fault : EndFault) why. caused size src sources wound.sources.items wound.starved wound.fault
-          fault why gathered.cause) err;
-      memory_first = err-then result _ _ (λ (fault : EndFault) why. memory-first size src sources wound.sources.items wound.starved
-          wound.fault fault why gathered.fed) err;
     }
 
 pub returns-clause-passes : goal.returns-clause-passes

@@ -51,18 +51,18 @@ returns-then-all-clause-tells g c =
     let come : c.behind.result.got.items ≡ c.args.got.value.items = after.got in
     let gave = at-ok its _ c.in-Ok.is did.end.staged in
     record {
-      got = told-got c.args.job.now.size did.end.count did.come c.args.all did.all after.got left did.end.moved;
+      got = told-got c.args.job.now.size did.end.reading.count did.come c.args.all did.all after.got left did.end.reading.moved;
       status = rw (after.fault ∙ end.fault) (after.status ∙ end.status);
       unworked = after.worked ∙ end.worked;
       staged = rw (after.fault ∙ end.fault, after.staged ∙ end.staged) refl;
       handled = rw (after.staged ∙ end.staged, come) (at-ok its _ c.in-Ok.is did.end.handled);
       told = rw (after.staged ∙ end.staged, come) (at-ok its _ c.in-Ok.is did.end.told);
       work = rw (after.staged ∙ end.staged, come, left)
-          (gave.0, record { count = did.end.count; whole = on-ok its _ c.in-Ok.is did.end.whole; gave = gave.1 }, gave.2);
+          (gave.0, record { count = did.end.reading.count; whole = on-ok its _ c.in-Ok.is did.end.reading.whole; gave = gave.1 }, gave.2);
       -- the queue was closed, over the passes that came with what was finished
       stranded = rw (after.staged ∙ end.staged)
           (nothing-stranded job.order job.workers c.args.end.left c.args.end.passes c.args.end.frames (λ l. l.items) (λ p. p.value.items) (λ f. f.value.items) _
-          (λ none. let err : its ≡ Err NoMemory = did.end.none none in absurd (cc (c.in-Ok.is, err)))
+          (λ none. let err : its ≡ Err NoMemory = did.end.reading.none none in absurd (cc (c.in-Ok.is, err)))
           (at-ok its _ c.in-Ok.is did.end.same) did.end.left);
       left = after.left.0;
       leaves = after.waited;
@@ -74,8 +74,8 @@ returns-then-all-clause-ends g c =
     let after = c.behind.ensures in
     let did = c.requires in
     let left : c.behind.result.sources.items ≡ c.args.end.sources.items = ap (λ v. v.items) after.sources ∙ end.sources in
-    told-whole c.args.job.now.size did.end.count did.come c.args.all did.all after.got left _ c.if-all.true (after.read ∙ end.read)
-    (after.fault ∙ end.fault) (on-ok c.args.end.result _ c.in-Ok.is did.end.whole)
+    told-whole c.args.job.now.size did.end.reading.count did.come c.args.all did.all after.got left _ c.if-all.true (after.read ∙ end.read)
+    (after.fault ∙ end.fault) (on-ok c.args.end.result _ c.in-Ok.is did.end.reading.whole)
 
 pub returns-in-Ok-clause-tells : goal.returns-in-Ok-clause-tells
 returns-in-Ok-clause-tells g c =
@@ -84,7 +84,7 @@ returns-in-Ok-clause-tells g c =
     let did = c.requires in
     let left : c.behind-else-all.result.sources.items ≡ c.args.end.sources.items = ap (λ v. v.items) after.sources ∙ end.sources in
     unfinished _ _ _ _ _ (after.staged ∙ end.staged)
-    (told-got c.args.job.now.size did.end.count did.come c.args.all did.all after.got left did.end.moved)
+    (told-got c.args.job.now.size did.end.reading.count did.come c.args.all did.all after.got left did.end.reading.moved)
     (rw (after.fault ∙ end.fault) (after.status ∙ end.status)) (after.worked ∙ end.worked) (rw (after.fault ∙ end.fault, after.staged ∙ end.staged) refl) after.left.0 after.waited
 
 pub returns-in-Ok-clause-ends : goal.returns-in-Ok-clause-ends
@@ -93,8 +93,8 @@ returns-in-Ok-clause-ends g c =
     let after = c.behind-else-all.ensures in
     let did = c.requires in
     let left : c.behind-else-all.result.sources.items ≡ c.args.end.sources.items = ap (λ v. v.items) after.sources ∙ end.sources in
-    told-stopped c.args.job.now.size did.end.count did.come c.args.all did.all after.got left _ c.if-all.false (after.read ∙ end.read)
-    (after.fault ∙ end.fault ∙ ap (λ n. Some (fault.OpenFault (n + 1))) did.number) (on-ok c.args.end.result _ c.in-Ok.is did.end.whole)
+    told-stopped c.args.job.now.size did.end.reading.count did.come c.args.all did.all after.got left _ c.if-all.false (after.read ∙ end.read)
+    (after.fault ∙ end.fault ∙ ap (λ n. Some (fault.OpenFault (n + 1))) did.number) (on-ok c.args.end.result _ c.in-Ok.is did.end.reading.whole)
 
 pub returns-clause-tells : goal.returns-clause-tells
 returns-clause-tells g c =
@@ -103,7 +103,7 @@ returns-clause-tells g c =
     let did = c.requires in
     let left : c.behind-in-Err.result.sources.items ≡ c.args.end.sources.items = ap (λ v. v.items) after.sources ∙ end.sources in
     unfinished _ _ _ _ _ (after.staged ∙ end.unstaged)
-    (told-got c.args.job.now.size did.end.count did.come c.args.all did.all after.got left did.end.moved)
+    (told-got c.args.job.now.size did.end.reading.count did.come c.args.all did.all after.got left did.end.reading.moved)
     (rw (after.fault ∙ end.fault) (after.status ∙ end.status)) (after.worked ∙ end.none) (rw (after.fault, after.staged) end.staged) after.left.0 after.waited
 
 pub returns-clause-ends : goal.returns-clause-ends
@@ -112,5 +112,5 @@ returns-clause-ends g c =
     let after = c.behind-in-Err.ensures in
     let did = c.requires in
     let left : c.behind-in-Err.result.sources.items ≡ c.args.end.sources.items = ap (λ v. v.items) after.sources ∙ end.sources in
-    told-met c.args.job.now.size did.end.count did.come c.args.all did.all after.got left c.in-Err.fault _ (after.read ∙ end.read)
-    (after.fault ∙ end.fault) (at-err c.args.end.result _ c.in-Err.is did.end.cause)
+    told-met c.args.job.now.size did.end.reading.count did.come c.args.all did.all after.got left c.in-Err.fault _ (after.read ∙ end.read)
+    (after.fault ∙ end.fault) (at-err c.args.end.result _ c.in-Err.is did.end.reading.cause)
