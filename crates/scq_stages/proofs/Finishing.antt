@@ -1,19 +1,20 @@
 -- What one take makes of a worker's list and of its moves, and what several make of them, one behind the other.
-use Rattle.std.proofs.Common.{◌≡◌, refl, sym, ◌∙◌, ap, subst, arith, zero, suc, ℕ, ◌<◌, ◌≤◌, length, List, [], ◌∷◌, ◌++◌, append_assoc, Option, Some, None, Bool, inl}
-use Rattle.std.specs.Prelude.{filter, IfSome, IsSomeAnd, ◌⊎◌}
+use Rattle.std.proofs.Common.{◌≡◌, refl, sym, ◌∙◌, ap, subst, arith, zero, suc, ℕ, ◌<◌, ◌≤◌, length, List, [], ◌∷◌, ◌++◌, append_assoc, Option, Some, None, Bool}
+use Rattle.std.specs.Prelude.{filter, IfSome, ◌⊎◌}
 use Rattle.std.specs.List.{filter_map}
 use Rattle.std.proofs.lemmas.List.{append-nil}
 use Rattle.std.proofs.lemmas.List.Elements.{filter-append, filter_map-append}
 use Rattle.scq_core.specs.declared.ended.Ended.TheVariants.{Done, Got, Nothing}
 use Rattle.scq_frames.specs.Exports.{Part, BeginsWith, part_at}
 use Rattle.scq_queue.specs.Exports.{Placed, sends_of, takes_of, PassStanding, HeldStanding, HasGot, FoundEmpty, WasGivenBack, known_on, having_seen}
-use Rattle.scq_queue.specs.Exports.{after_put, after_spent_put, after_spent_get}
+use Rattle.scq_queue.specs.Exports.{after_put, after_spent_get}
 use Rattle.scq_queue.proofs.Records.{sends-append}
 use Rattle.scq_passes.specs.Exports.{on, BecomeSoFar, and_became, and_passed_over, HasLeftSo, since, taken_since}
 use Rattle.scq_passes.proofs.OnTopics.{on-append}
 use Rattle.scq_passes.proofs.PassLemmas.{got-and-put, took-and-gave, found-none}
 use Rattle.scq_passes.proofs.Since.{since-of, since-taken_on, none_below-nothing, none_below-one}
 use Rattle.scq_passes.proofs.LeftLemmas.{left-so-at-get, left-so-at-put}
+use Rattle.scq_desk.specs.Exports.{CameBack}
 use Rattle.scq_stages.specs.declared.finished.Finished.{Finished}
 use Rattle.scq_stages.specs.declared.finished.StageWay.{StageWay}
 use Rattle.scq_stages.specs.declared.finished.StageWay.TheVariants.{Second, First}
@@ -239,21 +240,11 @@ module _ {B : Type 0} where
       left-so-at-get HasFewStageCalls messages messages (suc topic) ticket p q is (few_calls-at_get messages (suc topic) ticket p q is)
 
   -- the put of what was taken met Spent: it came back
-  pub left-back : (contents : B → List ℕ) (messages topic place : ℕ) (p q r : PassStanding B) (h : HeldStanding B) (kept : Option (HeldStanding B))
-      → HasGot contents (suc topic) place p q h
-      → IsSomeAnd kept (λ k. (k.index ≡ h.index) × (k.queue ≡ h.queue) × ((ring : ℕ) × (ticket : ℕ) × ((ring ≡ 0) ⊎ (ring ≡ suc second))
-      × (r ≡ having_seen r.seen (after_spent_put ring ticket q))))
+  pub left-back : (contents : B → List ℕ) (messages topic place ring : ℕ) (p q r : PassStanding B) (h : HeldStanding B) (kept : Option (HeldStanding B))
+      → HasGot contents (suc topic) place p q h → (ring ≡ 0) ⊎ (ring ≡ suc second) → CameBack ring h q r kept
       → HasLeftSo HasFewStageCalls messages messages p r kept
-  left-back contents messages topic place p q r h None got back = absurd back
-  left-back contents messages topic place p q r h (Some k) got back =
-      left-so-at-put HasFewStageCalls contents messages messages (suc topic) place back.2.0 back.2.1 p q r h k got back.2.3 back.0 back.1
-      (few_calls-at_put contents messages topic place back.2.0 back.2.1 p q r h got back.2.3 back.2.2)
-
-  pub left-given : (contents : B → List ℕ) (messages topic place : ℕ) (p q r : PassStanding B) (h : HeldStanding B) (kept : Option (HeldStanding B))
-      → HasGot contents (suc topic) place p q h
-      → IsSomeAnd kept (λ k. (k.index ≡ h.index) × (k.queue ≡ h.queue)
-      × ((ticket : ℕ) × (r ≡ having_seen r.seen (after_spent_put 0 ticket q))))
-      → HasLeftSo HasFewStageCalls messages messages p r kept
-  left-given contents messages topic place p q r h None got back = absurd back
-  left-given contents messages topic place p q r h (Some k) got back =
-      left-back contents messages topic place p q r h (Some k) got (back.0, back.1, (0, back.2.0, inl refl, back.2.1))
+  left-back contents messages topic place ring p q r h None got by back = absurd back
+  left-back contents messages topic place ring p q r h (Some k) got by back =
+      let spent = back.2 in
+      left-so-at-put HasFewStageCalls contents messages messages (suc topic) place ring spent.0 p q r h k got spent.1 back.0 back.1
+      (few_calls-at_put contents messages topic place ring spent.0 p q r h got spent.1 by)

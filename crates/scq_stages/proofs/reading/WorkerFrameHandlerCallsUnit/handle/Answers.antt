@@ -35,8 +35,7 @@ returns-in_err-send_in-in-Ok-clause-stopped c =
     let said = c.in_err-send_in-in-Ok.ensures in
     let kept = c.in_err-send_in-in-Ok.field-0.0.held in
     let left : (n : ℕ) → HasLeftSo HasFewStageCalls n (n + 1) was.pass now.pass kept = λ n.
-    left-sent bytes_of n said.spent.0 was.pass c.lend.new.pass now.pass c.in-Ok.held kept c.in-Ok.ensures.lent.lent said.spent.1 said.kept
-    said.back in
+    left-sent bytes_of n was.pass c.lend.new.pass now.pass c.in-Ok.held kept c.in-Ok.ensures.lent.lent said.back in
     let is : c.from_residual.result ≡ Err c.in_err-send_in-in-Ok.field-0.0 = search rules in
     subst (λ (r : Result _ _). IfErr r (λ l. HasStoppedAt queue (m ∷ []) was now l.held)) (sym is)
     (record {

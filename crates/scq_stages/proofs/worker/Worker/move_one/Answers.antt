@@ -29,8 +29,9 @@ returns-in_err-move_on-in-Ok-clause-left g c =
     let r = c.move_on.new.self.pass in
     let is : c.from_residual.result ≡ Err c.in_err-move_on-in-Ok.field-0.0 = search rules in
     subst (λ (x : Result _ _). IfErr x (λ l. (messages : ℕ) → HasLeftSo HasFewStageCalls messages messages p r l.held)) (sym is)
-    (λ messages. left-back g.B.Buffer.contents messages first c.in-Ok.field-0-0 p c.take.new.pass r c.in-Ok.held _ c.in-Ok.ensures.took.got
-    c.in_err-move_on-in-Ok.ensures.back)
+    (λ messages.
+    let back = c.in_err-move_on-in-Ok.ensures.back in
+    left-back g.B.Buffer.contents messages first c.in-Ok.field-0-0 back.0 p c.take.new.pass r c.in-Ok.held _ c.in-Ok.ensures.took.got back.1 back.2)
 
 pub returns-in_ok-move_on-in-Ok-clause-taken : goal.returns-in_ok-move_on-in-Ok-clause-taken
 returns-in_ok-move_on-in-Ok-clause-taken g c = (moved g c).taken

@@ -42,8 +42,8 @@ returns-in_err-send_in-in-Ok-clause-left g c =
     (λ batches was.
     let kept = c.in_err-send_in-in-Ok.field-0.0.held in
     let left : HasLeft (length batches) (length batches + 1) p c.send_in.new.self.pass kept =
-    left-sent g.B.Buffer.contents (length batches) c.args.topic said.spent.0 p c.lend.new.pass c.send_in.new.self.pass c.in-Ok.held kept
-    c.in-Ok.ensures.lent.lent said.spent.1 said.kept said.back in
+    left-sent g.B.Buffer.contents (length batches) c.args.topic p c.lend.new.pass c.send_in.new.self.pass c.in-Ok.held kept c.in-Ok.ensures.lent.lent
+    said.back in
     passed-stopped c.args.queue.now c.args.job.now.topics batches p c.send_in.new.self.pass c.args.self.now.members c.args.self.now.starved kept was
     c.requires.suits.queue c.requires.stays left)
 
@@ -96,7 +96,8 @@ returns-in_err-send_in-in-Ok-clause-still g c =
     record {
       starved = λ fed. sym same.1 ∙ fed;
       number = same.2;
-      pass = ap (λ (x : PassStanding _). x.number) c.in_err-send_in-in-Ok.ensures.spent.1 ∙ c.lend.ensures.own.1;
+      pass = (left-sent g.B.Buffer.contents 0 c.args.topic c.args.self.now.pass c.lend.new.pass c.send_in.new.self.pass c.in-Ok.held _
+          c.in-Ok.ensures.lent.lent c.in_err-send_in-in-Ok.ensures.back).own.1;
       bell = refl;
     }
 
