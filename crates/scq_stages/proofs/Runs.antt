@@ -1,7 +1,6 @@
 -- A worker's whole work: how it begins, and what its end is, by how it left.
 use Rattle.std.proofs.Common.{◌≡◌, refl, sym, ◌∙◌, ap, subst, arith, ℕ, ◌<◌, List, [], ◌∷◌, ◌++◌, length, Option, Some, None, Bool, Ok, Err, Result, rules}
 use Rattle.std.specs.Prelude.{IfSome, OnOk}
-use Rattle.scq_core.specs.declared.ended.Ended.{Ended}
 use Rattle.scq_core.specs.declared.ended.Ended.TheVariants.{Nothing}
 use Rattle.scq_band.specs.Exports.{Identity}
 use Rattle.scq_band.proofs.Opening.{numbers_length}
@@ -14,18 +13,13 @@ use Rattle.scq_passes.specs.Exports.{Suits, HasLeftSo, index_of, after_retire}
 use Rattle.scq_passes.proofs.Kept.{swept}
 use Rattle.scq_stages.specs.declared.finished.Finished.{Finished}
 use Rattle.scq_stages.specs.Exports.{HasFewStageCalls, IsAtWork, IsDone, IsLeaving, HasStopped, HasRun}
-use Rattle.scq_desk.proofs.Passes.{none-or}
+use Rattle.scq_desk.proofs.Passes.{between-first, no-call, none-or}
 use Rattle.scq_stages.proofs.FewCalls.{few_calls-more, few_calls-retired}
 
 -- what follows of a clause of an answer that is Ok
 pub on-then : {X E : Type 0} {P Q : Type 0} (r : Result X E) → (P → Q) → OnOk r P → OnOk r Q
 on-then (Ok x) f p = f p
 on-then (Err e) f p = tt
-
--- of no calls each is nowhere
-no-call : (before after : List Ended) (call : Ended) → [] ≡ before ++ call ∷ after → ⊥
-no-call [] after call is = absurd (cc)
-no-call (x ∷ before) after call is = absurd (cc)
 
 module _ {B : Type 0} where
   pub work-first : (shared : Identity B) (number : ℕ) (p : PassStanding B) (members : List Finished) (starved : Bool) → p ≡ first_pass shared number
@@ -36,13 +30,7 @@ module _ {B : Type 0} where
       (record {
         helps = λ before after at. absurd (no-call before after (Nothing 0) at);
         unasked = refl;
-        between = record {
-          alone = λ before after at. absurd (no-call before after (Nothing 0) at);
-          even = refl;
-          none = refl;
-          unspent = λ ring ticket put has. absurd (search rules);
-          knows = record { sends = λ m has. absurd (search rules) };
-        };
+        between = between-first shared number;
         few_calls = record {
           fulls = omega arith;
           to_first = omega arith;

@@ -1,7 +1,6 @@
 -- A worker's whole work: how it begins, and what its end is, by how it left.
 use Rattle.std.proofs.Common.{◌≡◌, refl, sym, ◌∙◌, ap, subst, arith, ℕ, ◌+◌, ◌<◌, ◌≤◌, List, [], ◌∷◌, ◌++◌, length, Option, Some, None, Bool, false, rules}
 use Rattle.std.specs.Prelude.{IfSome}
-use Rattle.scq_core.specs.declared.ended.Ended.{Ended}
 use Rattle.scq_core.specs.declared.ended.Ended.TheVariants.{Nothing}
 use Rattle.scq_topics.specs.declared.kind.Kind.{Kind}
 use Rattle.scq_frames.specs.Exports.{Part}
@@ -18,13 +17,8 @@ use Rattle.scq_passes.proofs.Retired.{retired-taken}
 use Rattle.scq_files.specs.declared.own_file.OwnFile.{OwnFile}
 use Rattle.scq_passes.proofs.Kept.{swept, few_calls-taken}
 use Rattle.scq_worker.proofs.Gathered.{batches-of, few-batches, gathered-first}
-use Rattle.scq_desk.proofs.Passes.{none-or}
+use Rattle.scq_desk.proofs.Passes.{between-first, no-call, none-or}
 use Rattle.scq_worker.proofs.WorkerSteps.{few_calls-more, sweeping-first, sweeping-taken, listed-taken}
-
--- of no calls each is nowhere
-no-call : (before after : List Ended) (call : Ended) → [] ≡ before ++ call ∷ after → ⊥
-no-call [] after call is = absurd (cc)
-no-call (x ∷ before) after call is = absurd (cc)
 
 module _ {B : Type 0} where
   -- a new pass suits, and nothing is passed on yet
@@ -47,13 +41,7 @@ module _ {B : Type 0} where
             (record {
               producing = record {
                 helps = λ before after at topic low. absurd (no-call before after (Nothing 0) at);
-                between = record {
-                  alone = λ before after at. absurd (no-call before after (Nothing 0) at);
-                  even = refl;
-                  none = refl;
-                  unspent = λ ring ticket put has. absurd (search rules);
-                  knows = record { sends = λ m has. absurd (search rules) };
-                };
+                between = between-first shared number;
                 unasked = refl;
               };
               few_calls = record { sends = omega arith; fulls = omega arith; puts = λ topic. omega arith; returns = omega arith };
