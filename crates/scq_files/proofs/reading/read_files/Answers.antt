@@ -1,5 +1,5 @@
-use Rattle.std.proofs.Common.{rules, ◌≡◌, ◌<◌, ◌-◌, ◌∙◌, sym, ap, subst, arith, refl, inl, inr, ◌++◌, ℕ, List, length, set, true, false, get_or-set_same, get_or-set_other, Err, Result}
-use Rattle.std.specs.Prelude.{IfErr, slice_index_or}
+use Rattle.std.proofs.Common.{rules, ◌≡◌, ◌<◌, ◌-◌, ◌∙◌, sym, ap, subst, arith, refl, inl, inr, ◌++◌, ℕ, List, length, set, true, false, get_or-set_same, get_or-set_other}
+use Rattle.std.specs.Prelude.{slice_index_or}
 use Rattle.std.proofs.lemmas.Bool.{cases_Bool, cases_lt, true≢false}
 use Rattle.std.proofs.lemmas.List.{length-set}
 use Rattle.scq_files.specs.Exports.{IsNew, StopsAtAFault, ids_of, all_given, given_in, TellsOfWant, WantsAtLast, AreRead, IsRead}
@@ -10,6 +10,7 @@ use Rattle.scq_files.proofs.FileLists.{given-set, ids-set, given-none}
 use Rattle.scq_files.proofs.Lists.{set-each}
 use Rattle.scq_files.proofs.ReadLemmas.{reading-unread}
 use Rattle.scq_files.proofs.Wants.{wants-none, wants-behind}
+use Rattle.scq_files.proofs.Results.{err-of}
 use Rattle.scq_files.proofs.reading.read_files.Goals as goal
 use Rattle.scq_files.proofs.reading.read_files.Goals.{After-read_file}
 
@@ -126,15 +127,11 @@ returns-in_err-read_file-clause-stops g c = stops-after g (goal.at.returns-in_er
 
 pub returns-in_err-read_file-clause-stopped : goal.returns-in_err-read_file-clause-stopped
 returns-in_err-read_file-clause-stopped g c =
-    let files = set c.files.files (c.files.at - 1) c.read_file.new.file in
     let stop = c.in_err-read_file.field-0.0 in
-    let is : c.from_residual.result ≡ Err stop = search rules in
     let all = given-after g (goal.at.returns-in_err-read_file-clause-stopped g c).After-read_file in
     let Stopped-after : List _ → Type 0 =
     λ ms. g.H.Handler.stopped c.args.with.now ms c.args.beside.now c.args.handler.now c.read_file.new.beside c.read_file.new.handler stop in
-    subst (λ (r : Result _ _). IfErr r (g.H.Handler.stopped c.args.with.now (all_given files) c.args.beside.now c.args.handler.now
-    c.read_file.new.beside c.read_file.new.handler)) (sym is)
-    (subst Stopped-after (sym all)
+    err-of _ c.from_residual.result stop (search rules) (subst Stopped-after (sym all)
     (g.met.H.Handler.then_stopped _ _ _ _ _ _ _ _ _ stop c.files.invariant.handled c.in_err-read_file.ensures.stopped))
 
 pub returns-in-Stopped-clause-same : goal.returns-in-Stopped-clause-same

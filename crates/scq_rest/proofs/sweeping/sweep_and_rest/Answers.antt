@@ -1,5 +1,4 @@
 use Rattle.std.proofs.Common.{rules, ◌≡◌, ◌≤◌, ◌+◌, ◌∙◌, ap, sym, subst, arith, refl, true, ℕ, length, Ok, Some}
-use Rattle.std.specs.Prelude.{IfErr, Result, Err}
 use Rattle.std.proofs.lemmas.Bool.{eqb-true}
 use Rattle.scq_park.specs.Exports.{Post}
 use Rattle.scq_queue.specs.Exports.{takes_of, PassStanding}
@@ -8,6 +7,7 @@ use Rattle.scq_passes.proofs.PassLemmas.{suits-taken, taken-nothing, taken-along
 use Rattle.scq_passes.proofs.Sweeps.{sweep-of, some-left, took-nothing, took-some}
 use Rattle.scq_passes.proofs.Vain.{vain-swept, sends-rise, takes-rise}
 use Rattle.scq_rest.specs.Exports.{idle_sweeps}
+use Rattle.scq_files.proofs.Results.{err-of}
 use Rattle.scq_rest.proofs.sweeping.sweep_and_rest.Goals as goal
 use Rattle.scq_rest.proofs.sweeping.sweep_and_rest.Goals.{After-closed-over, In_ok-some}
 
@@ -77,8 +77,7 @@ sweep-requires-clause-suits g c κs within =
 pub returns-in_err-some-clause-left : goal.returns-in_err-some-clause-left
 returns-in_err-some-clause-left g c =
     let at = (goal.at.returns-in_err-some-clause-left g c).After-closed-over in
-    let is : c.from_residual.result ≡ Err c.in_err-some.field-0.0 = search rules in
-    subst (λ (r : Result _ _). IfErr r (λ l. g.T.Taker.left c.args.with.now c.args.taker.now c.sweep.new.taker l.held)) (sym is)
+    err-of _ c.from_residual.result c.in_err-some.field-0.0 (search rules)
     (g.met.T.Taker.left_along _ _ _ _ _ (asked g at) (made-asked g at) c.in_err-some.ensures.left)
 
 pub returns-then-over-clause-taken : goal.returns-then-over-clause-taken

@@ -1,5 +1,5 @@
-use Rattle.std.proofs.Common.{rules, ◌≡◌, ◌+◌, ◌∙◌, ap, sym, subst, arith, [], ◌++◌, List, length, take, drop, Err, Result}
-use Rattle.std.specs.Prelude.{IfErr, All}
+use Rattle.std.proofs.Common.{rules, ◌≡◌, ◌+◌, ◌∙◌, ap, sym, subst, arith, [], ◌++◌, List, length, take, drop}
+use Rattle.std.specs.Prelude.{All}
 use Rattle.std.proofs.lemmas.List.{append-nil}
 use Rattle.scq_frames.specs.Exports.{Part}
 use Rattle.scq_queue.specs.Exports.{PassStanding}
@@ -7,6 +7,7 @@ use Rattle.scq_files.specs.Exports.{IsNew, ids_of, all_given, WereRead}
 use Rattle.scq_worker.specs.Exports.{parts_in, HasGathered, gathered-along, HasStoppedIn, still-along, stopped-along}
 use Rattle.scq_files.specs.declared.own_file.OwnFile.{OwnFile}
 use Rattle.scq_files.proofs.Lists.{written-back}
+use Rattle.scq_files.proofs.Results.{err-of}
 use Rattle.scq_worker.proofs.Gathered.{open-none}
 use Rattle.scq_worker.proofs.RunLemmas.{suits-first}
 use Rattle.scq_worker.proofs.desk.pass_all_on.Goals as goal
@@ -56,10 +57,7 @@ returns-in_err-read_files-clause-stopped g c =
     let start = c.args.desk.now.worker.worker in
     let now = c.read_files.new.handler in
     let held = c.in_err-read_files.field-0.0.held in
-    let is : c.from_residual.result ≡ Err c.in_err-read_files.field-0.0 = search rules in
-    subst (λ (r : Result _ _). IfErr r (λ l. HasStoppedIn q job (parts_in job.size
-    (all_given (take c.args.desk.now.files.len (c.read_files.new.files ++ drop (length c.read_files.new.files) c.args.desk.now.files.items))))
-    start now l.held)) (sym is)
+    err-of _ c.from_residual.result c.in_err-read_files.field-0.0 (search rules)
     (subst (λ (fs : List (OwnFile _)). HasStoppedIn q job (parts_in job.size (all_given fs)) start now held) (sym (whole g at))
     c.in_err-read_files.ensures.stopped.0)
 
@@ -92,10 +90,7 @@ returns-in_err-pass_all_open-clause-stopped g c =
     let now = c.pass_all_open.new.self in
     let held = c.in_err-pass_all_open.field-0.0.held in
     let parts = parts_in job.size (all_given c.read_files.new.files) in
-    let is : c.from_residual-in_err-pass_all_open.result ≡ Err c.in_err-pass_all_open.field-0.0 = search rules in
-    subst (λ (r : Result _ _). IfErr r (λ l. HasStoppedIn q job (parts_in job.size
-    (all_given (take c.args.desk.now.files.len (c.read_files.new.files ++ drop (length c.read_files.new.files) c.args.desk.now.files.items))))
-    start now l.held)) (sym is)
+    err-of _ c.from_residual-in_err-pass_all_open.result c.in_err-pass_all_open.field-0.0 (search rules)
     (subst (λ (fs : List (OwnFile _)). HasStoppedIn q job (parts_in job.size (all_given fs)) start now held) (sym (whole g at))
     (subst (λ (l : List Part). HasStoppedIn q job l start now held) (append-nil parts)
     (stopped-along q job parts [] start c.read_files.new.handler now (g.W.Bell.wakes c.args.stand.now) (g.W.Bell.wakes c.read_files.new.beside) held

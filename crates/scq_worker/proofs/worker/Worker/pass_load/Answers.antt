@@ -1,5 +1,5 @@
-use Rattle.std.proofs.Common.{rules, ◌≡◌, ◌≤◌, ◌<◌, ◌+◌, ◌∙◌, refl, ap, sym, subst, arith, suc, List, length, None, Err, Result}
-use Rattle.std.specs.Prelude.{IfErr, count_by}
+use Rattle.std.proofs.Common.{rules, ◌≡◌, ◌≤◌, ◌<◌, ◌+◌, ◌∙◌, refl, ap, sym, subst, arith, suc, List, length, None}
+use Rattle.std.specs.Prelude.{count_by}
 use Rattle.scq_collect.specs.declared.answered.Answered.{Answered}
 use Rattle.scq_passes.specs.Exports.{is_take, TookInVain, Suits, HasTaken, HasFoundFull, HasLeft}
 use Rattle.scq_queue.specs.Exports.{PassStanding}
@@ -11,6 +11,7 @@ use Rattle.scq_passes.proofs.Kept.{taken-sends}
 use Rattle.scq_passes.proofs.LeftLemmas.{left-at-get, left-full, left-more}
 use Rattle.scq_passes.proofs.ManyLists.{one-of-all}
 use Rattle.scq_desk.proofs.Passes.{suits-full}
+use Rattle.scq_files.proofs.Results.{err-of}
 use Rattle.scq_worker.proofs.PassedOn.{left-sent, left-behind, suits-sent, passed-sent, passed-helped, passed-stopped}
 use Rattle.scq_passes.proofs.Vain.{vain-helped, vain-behind}
 use Rattle.scq_worker.proofs.Rung.{rung-sent, rung-helped}
@@ -37,8 +38,7 @@ pub returns-in_err-send_in-in-Ok-clause-left : goal.returns-in_err-send_in-in-Ok
 returns-in_err-send_in-in-Ok-clause-left g c =
     let p = c.args.self.now.pass in
     let said = c.in_err-send_in-in-Ok.ensures in
-    let is : c.from_residual.result ≡ Err c.in_err-send_in-in-Ok.field-0.0 = search rules in
-    subst (λ (r : Result _ _). IfErr r (λ l. HasStoppedBehind c.args.queue.now c.args.job.now c.args.self.now c.send_in.new.self l.held)) (sym is)
+    err-of _ c.from_residual.result c.in_err-send_in-in-Ok.field-0.0 (search rules)
     (λ batches was.
     let kept = c.in_err-send_in-in-Ok.field-0.0.held in
     let left : HasLeft (length batches) (length batches + 1) p c.send_in.new.self.pass kept =
@@ -65,8 +65,7 @@ returns-in_err-take_behind-in-Ok-clause-left g c =
     let b = parts_of_load c.args.job.now.size c.args.load in
     let kept = c.in_err-take_behind-in-Ok.field-0.0.held in
     let sent = sent-at g (goal.at.returns-in_err-take_behind-in-Ok-clause-left g c).After-take_behind in
-    let is : c.from_residual-in_err-take_behind-in-Ok.result ≡ Err c.in_err-take_behind-in-Ok.field-0.0 = search rules in
-    subst (λ (x : Result _ _). IfErr x (λ l. HasStoppedBehind c.args.queue.now c.args.job.now c.args.self.now c.take_behind.new.self l.held)) (sym is)
+    err-of _ c.from_residual-in_err-take_behind-in-Ok.result c.in_err-take_behind-in-Ok.field-0.0 (search rules)
     (λ batches was.
     passed-stopped c.args.queue.now c.args.job.now.topics batches p r c.args.self.now.members c.args.self.now.starved kept was
     c.requires.suits.queue c.requires.stays
@@ -176,8 +175,7 @@ returns-in_err-help-in-Err-Full-clause-left g c =
     let r = c.help.new.self.pass in
     let full = full-at g (goal.at.returns-in_err-help-in-Err-Full-clause-left g c).After-answer_directly in
     let kept = c.in_err-help-in-Err-Full.field-0.0.held in
-    let is : c.from_residual-in_err-help-in-Err-Full.result ≡ Err c.in_err-help-in-Err-Full.field-0.0 = search rules in
-    subst (λ (x : Result _ _). IfErr x (λ l. HasStoppedBehind c.args.queue.now c.args.job.now c.args.self.now c.help.new.self l.held)) (sym is)
+    err-of _ c.from_residual-in_err-help-in-Err-Full.result c.in_err-help-in-Err-Full.field-0.0 (search rules)
     (λ batches was.
     let left : HasLeft (length batches + 1) (length batches + 1) c.lend.new.pass r kept =
     subst (λ (q : PassStanding _). HasLeft (length batches + 1) (length batches + 1) q r kept) c.answer_directly.ensures.same.0
