@@ -116,36 +116,35 @@ files-init g c = record {
   fed = λ fed. fed;
 }
 
-pub returns-in_err-read_file-clause-same : goal.returns-in_err-read_file-clause-same
-returns-in_err-read_file-clause-same g c = same-after g (goal.at.returns-in_err-read_file-clause-same g c).After-read_file
-
-pub returns-in_err-read_file-clause-read : goal.returns-in_err-read_file-clause-read
-returns-in_err-read_file-clause-read g c = read-after g (goal.at.returns-in_err-read_file-clause-read g c).After-read_file
-
-pub returns-in_err-read_file-clause-stops : goal.returns-in_err-read_file-clause-stops
-returns-in_err-read_file-clause-stops g c = stops-after g (goal.at.returns-in_err-read_file-clause-stops g c).After-read_file
-
-pub returns-in_err-read_file-clause-stopped : goal.returns-in_err-read_file-clause-stopped
-returns-in_err-read_file-clause-stopped g c =
+pub returns-in_err-read_file : goal.returns-in_err-read_file
+returns-in_err-read_file g c =
+    let at = (goal.at.returns-in_err-read_file g c).After-read_file in
     let stop = c.in_err-read_file.field-0.0 in
-    let all = given-after g (goal.at.returns-in_err-read_file-clause-stopped g c).After-read_file in
     let Stopped-after : List _ → Type 0 =
     λ ms. g.H.Handler.stopped c.args.with.now ms c.args.beside.now c.args.handler.now c.read_file.new.beside c.read_file.new.handler stop in
-    err-of _ c.from_residual.result stop (search rules) (subst Stopped-after (sym all)
-    (g.met.H.Handler.then_stopped _ _ _ _ _ _ _ _ _ stop c.files.invariant.handled c.in_err-read_file.ensures.stopped))
+    record {
+      same = same-after g at;
+      read = read-after g at;
+      stops = stops-after g at;
+      handled = search rules;
+      stopped = err-of _ c.from_residual.result stop (search rules) (subst Stopped-after (sym (given-after g at))
+          (g.met.H.Handler.then_stopped _ _ _ _ _ _ _ _ _ stop c.files.invariant.handled c.in_err-read_file.ensures.stopped));
+      wanted = wants-after g at;
+      told = told-after g at;
+    }
 
-pub returns-in-Stopped-clause-same : goal.returns-in-Stopped-clause-same
-returns-in-Stopped-clause-same g c = same-after g (goal.at.returns-in-Stopped-clause-same g c).After-read_file
-
-pub returns-in-Stopped-clause-read : goal.returns-in-Stopped-clause-read
-returns-in-Stopped-clause-read g c = read-after g (goal.at.returns-in-Stopped-clause-read g c).After-read_file
-
-pub returns-in-Stopped-clause-stops : goal.returns-in-Stopped-clause-stops
-returns-in-Stopped-clause-stops g c = stops-after g (goal.at.returns-in-Stopped-clause-stops g c).After-read_file
-
-pub returns-in-Stopped-clause-handled : goal.returns-in-Stopped-clause-handled
-returns-in-Stopped-clause-handled g c =
-    handled-after g (goal.at.returns-in-Stopped-clause-handled g c).After-read_file c.in_ok-read_file.ensures.handled
+pub returns-in-Stopped : goal.returns-in-Stopped
+returns-in-Stopped g c =
+    let at = (goal.at.returns-in-Stopped g c).After-read_file in
+    record {
+      same = same-after g at;
+      read = read-after g at;
+      stops = stops-after g at;
+      handled = handled-after g at c.in_ok-read_file.ensures.handled;
+      stopped = search rules;
+      wanted = wants-after g at;
+      told = told-after g at;
+    }
 
 pub returns-clause-stops : goal.returns-clause-stops
 returns-clause-stops g c at before d fault less is low =
@@ -184,18 +183,6 @@ files-preserved g c =
       fed = λ fed. fed-after g (goal.at.files-preserved g c).After-read_file (inv.fed fed) (λ stopped. c.in_default.not-Stopped NoMemory
           (ap (λ (f : OwnFile _). f.end) (get_or-set_same c.files.files at c.read_file.new.file _ within) ∙ stopped));
     }
-
-pub returns-in_err-read_file-clause-wanted : goal.returns-in_err-read_file-clause-wanted
-returns-in_err-read_file-clause-wanted g c = wants-after g (goal.at.returns-in_err-read_file-clause-wanted g c).After-read_file
-
-pub returns-in_err-read_file-clause-told : goal.returns-in_err-read_file-clause-told
-returns-in_err-read_file-clause-told g c = told-after g (goal.at.returns-in_err-read_file-clause-told g c).After-read_file
-
-pub returns-in-Stopped-clause-wanted : goal.returns-in-Stopped-clause-wanted
-returns-in-Stopped-clause-wanted g c = wants-after g (goal.at.returns-in-Stopped-clause-wanted g c).After-read_file
-
-pub returns-in-Stopped-clause-told : goal.returns-in-Stopped-clause-told
-returns-in-Stopped-clause-told g c = told-after g (goal.at.returns-in-Stopped-clause-told g c).After-read_file
 
 pub returns-clause-wanted : goal.returns-clause-wanted
 returns-clause-wanted g c fed = wants-none _ _ _ _ _ c.files.invariant.handled (c.files.invariant.fed fed)
