@@ -2,4 +2,5 @@
 pub use Rattle.scq_desk.specs.Seats.{IsToBegin}
 pub use Rattle.scq_desk.specs.Rooms.{IsRoomFor, IsLaid}
 pub use Rattle.scq_desk.specs.Faults.{fault_of_workers, MemoryIsFirst, HasCause}
-pub use Rattle.scq_desk.specs.GoingOn.{gone-none}
+pub use Rattle.scq_desk.specs.GoingOn.{CameBack, gone-none}
+pub use Rattle.scq_desk.specs.Ends.{EndsReading}

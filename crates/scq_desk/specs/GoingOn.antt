@@ -2,12 +2,31 @@
 -- where it stands that has passed on these, and `IsOver` where it stands that met a ticket past the
 -- limit with at most these passed on.
 use Rattle.std.proofs.Common.{◌≡◌, refl, sym, ◌∙◌, subst, ℕ, Bool, false, List, [], ◌++◌}
-use Rattle.std.proofs.Common.{append_assoc, Option, None}
+use Rattle.std.proofs.Common.{append_assoc, Option, Some, None}
+use Rattle.std.specs.Prelude.{IfSome, IsSomeAnd}
 use Rattle.std.proofs.lemmas.List.{append-nil}
 use Rattle.scq_frames.specs.declared.message.Message.{Message}
 use Rattle.scq_band.specs.Exports.{Identity}
-use Rattle.scq_queue.specs.Exports.{PassStanding, HeldStanding}
-use Rattle.scq_passes.specs.Exports.{Suits}
+use Rattle.scq_queue.specs.Exports.{PassStanding, HeldStanding, after_spent_put, having_seen}
+use Rattle.scq_passes.specs.Exports.{Suits, index_of}
+
+-- the pass of a worker that met a ticket past the limit before it retired, and the value that it
+-- keeps. `HasFew` says that it has few calls
+pub record HasStopped {B : Type 0} (HasFew : PassStanding B → Type 0) (shared : Identity B)
+    (p : PassStanding B) (kept : Option (HeldStanding B)) : Type 0 where
+  pub spent : (ticket : ℕ) × (p.spent ≡ Some ticket)
+  pub few_calls : HasFew p
+  pub queue : p.queue ≡ shared
+  pub stays : p.retired ≡ None
+  pub held : p.held ≡ index_of kept
+  pub its : IfSome kept (λ h. h.queue ≡ shared)
+
+-- a put to this ring of the value that it held met a ticket past the limit: that value came back
+abbrev pub CameBack : {B : Type 0} → ℕ → HeldStanding B → PassStanding B → PassStanding B
+    → Option (HeldStanding B) → Type 0
+CameBack ring held old new kept = IsSomeAnd kept (λ k. (k.index ≡ held.index)
+    × (k.queue ≡ held.queue)
+    × ((ticket : ℕ) × (new ≡ having_seen new.seen (after_spent_put ring ticket old))))
 
 module _ {W B : Type 0} where
   -- it has its number still, and where it wants no memory it wanted none before

@@ -2,4 +2,5 @@ pub mod Seats
 pub mod Rooms
 pub mod Faults
 pub mod GoingOn
+pub mod Ends
 pub mod Exports

@@ -12,7 +12,7 @@ use Rattle.std.proofs.lemmas.Option.{slice_get-get_or, slice_get_within, slice_g
 use Rattle.scq_topics.specs.declared.kind.Kind.{Kind}
 use Rattle.scq_frames.specs.declared.message.Message.{Message}
 use Rattle.scq_files.specs.Exports.{AllWhole, AreDealt, all_given, ids_of, AreGiven, FileGave, files_of, own_of, OfEachFile, given_in, IsRead}
-use Rattle.scq_files.specs.Exports.{GaveAll, most_parts, SourceOf}
+use Rattle.scq_files.specs.Exports.{AreRead, GaveAll, most_parts, SourceOf}
 use Rattle.scq_files.specs.declared.desk.Desk.{Desk}
 use Rattle.scq_files.specs.declared.own_file.OwnFile.{OwnFile}
 use Rattle.scq_files.proofs.Cleared.{IsWholeFile}
@@ -31,7 +31,7 @@ given_of f = given_in f.given.value
 
 -- files that were read, with what they gave
 files-gave : {S : Type 0} (topics : List (List ℕ × Kind)) (size : ℕ) (src : SourceOf S) (W : Type 0) (files : List (OwnFile S))
-    → All (λ f. IsRead topics size src f.number f.was.value f.source (given_of f) f.end) files → (W → All IsWholeFile files)
+    → AreRead topics size src files → (W → All IsWholeFile files)
     → AllZip (Gave topics size src.left W) (ids_of files) (map given_of files)
 files-gave topics size src W [] read whole = tt
 files-gave {S} topics size src W (f ∷ files) read whole =
@@ -100,7 +100,7 @@ module _ {W S : Type 0} where
     pub some : 0 < length desks
     pub few : length sources ≤ 64
     pub dealt : AreDealt 1 sources desks
-    pub read : All (λ d. All (λ f. IsRead topics size src f.number f.was.value f.source (given_of f) f.end) d.files.items) desks
+    pub read : All (λ d. AreRead topics size src d.files.items) desks
 
   module _ (topics : List (List ℕ × Kind)) (size : ℕ) (src : SourceOf S) (sources : List S)
       (desks : List (Desk W S)) (ran : AllRead topics size src sources desks) where
@@ -118,8 +118,7 @@ module _ {W S : Type 0} where
     desk-gave : (w : ℕ) → w < length desks → AllZip (Gave topics size src.left (AllWhole desks)) (files_of (length desks) w 1 sources) (given_at w)
     desk-gave w less = elim (slice_get_cases desks w).1 [
       | inl (d, within, is, here) ↦
-          let its = subst (λ (e : Desk W S). All (λ f. IsRead topics size src f.number f.was.value f.source (given_of f) f.end) e.files.items)
-          here (ran.read w d less) in
+          let its = subst (λ (e : Desk W S). AreRead topics size src e.files.items) here (ran.read w d less) in
           let whole : (all : AllWhole desks) → All IsWholeFile d.files.items = λ all.
           subst (λ (e : Desk W S). All IsWholeFile e.files.items) here (all w d less) in
           let dealt = ap (λ (e : Desk W S). ids_of e.files.items) (sym here) ∙ ran.dealt w d less in

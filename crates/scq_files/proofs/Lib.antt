@@ -9,3 +9,4 @@ pub mod DeskLemmas
 pub mod Cleared
 pub mod AllGave
 pub mod Wants
+pub mod Results

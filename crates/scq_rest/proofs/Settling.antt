@@ -66,10 +66,13 @@ module _ {S : Type 0} where
       }
 
   -- the files and the pass's number of the desk at a place are those that it had
-  pub desks-same : (t : Task S) (xs ys : List (Work S)) (x y : Work S) (old new : List (Desk (Seated Frame) S)) → AllZip (HasDone t) xs ys → old ≡ map desk_of xs
-      → new ≡ map desk_of ys → (w : ℕ) (d : Desk (Seated Frame) S) → w < length old
+  abbrev pub AreStill : List (Desk (Seated Frame) S) → List (Desk (Seated Frame) S) → Type 0
+  AreStill old new = (w : ℕ) (d : Desk (Seated Frame) S) → w < length old
       → (ids_of (slice_index_or new w d).files.items ≡ ids_of (slice_index_or old w d).files.items)
       × ((slice_index_or new w d).worker.worker.pass.number ≡ (slice_index_or old w d).worker.worker.pass.number)
+
+  pub desks-same : (t : Task S) (xs ys : List (Work S)) (x y : Work S) (old new : List (Desk (Seated Frame) S)) → AllZip (HasDone t) xs ys → old ≡ map desk_of xs
+      → new ≡ map desk_of ys → AreStill old new
   desks-same t xs ys x y old new z old_is new_is w d less =
       let within : w < length xs = omega (arith, less, ap length old_is, length-map xs desk_of) in
       let long = zip-length (HasDone t) xs ys z in

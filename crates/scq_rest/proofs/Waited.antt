@@ -9,7 +9,8 @@ use Rattle.scq_files.specs.Exports.{SourceOf}
 use Rattle.scq_worker.specs.Exports.{IsToSweep, takes_behind}
 use Rattle.scq_worker.specs.declared.job.Job.{Job}
 use Rattle.scq_worker.specs.declared.worker.Worker.{Worker}
-use Rattle.scq_worker.proofs.Produced.{none-or, queue-swept}
+use Rattle.scq_desk.proofs.Passes.{none-or}
+use Rattle.scq_worker.proofs.Produced.{queue-swept}
 use Rattle.scq_rest.specs.Exports.{HasLeftTold, HasSweptTold, HasWaited}
 
 module _ {B : Type 0} where

@@ -1,7 +1,7 @@
 //! What a worker that may rest does once it has retired.
 ghost use Rattle.std.specs.Prelude.{◌≡◌, ◌+◌, length};
 ghost use Rattle.scq_block.specs.Exports.{bytes_of};
-ghost use Rattle.scq_worker.specs.Exports.{HasProducedAt, HasRunAt, IsToSweepAt, takes_behind};
+ghost use Rattle.scq_worker.specs.Exports.{HasProducedAt, HasRunAt, takes_behind};
 ghost use Rattle.scq_rest.specs.Exports.{HasWaited};
 
 use crate::sweeping::sweep_and_rest;
@@ -37,40 +37,18 @@ pub fn finish<S: Source, G: Gate, R: Wait>(
 {
     match desk.worker.worker.pass.spent() {
         Some(_) => {}
-        None => rest_out(desk, rt, alloc, job, queue, gate, crew, stand),
-    }
-}
-
-/// It sweeps and rests until all have retired.
-fn rest_out<S: Source, G: Gate, R: Wait>(
-    desk: &mut WorkDesk<S>,
-    rt: &R,
-    alloc: Global,
-    job: &Job,
-    queue: &Queue<Frame>,
-    gate: &G,
-    crew: &Crew,
-    stand: &mut Stand,
-)
-    requires sweep { IsToSweepAt queue.now job.now S.Source desk.old }
-    requires stand { (stand.old.crew ≡ crew.now) × (stand.old.rests ≡ 0) }
-    ensures same { desk.new.files.items ≡ desk.old.files.items }
-    ensures run { HasRunAt queue.now job.now S.Source desk.new }
-    ensures waited { HasWaited bytes_of (length job.now.topics
-        + 1) (takes_behind job.now.most) stand.new.rests desk.new.worker.worker.pass }
-    ensures number { desk.new.worker.worker.pass.number ≡ desk.old.worker.worker.pass.number }
-    ensures stand { (stand.new.crew ≡ stand.old.crew) × (stand.new.worker ≡ stand.old.worker) }
-    ensures wakes { stand.new.wakes ≡ stand.old.wakes }
-{
-    let with = Takes {
-        alloc,
-        job,
-        queue,
-        gate,
-    };
-    let worker = &mut desk.worker.worker;
-    match sweep_and_rest(worker, &with, job.topics.len() + 1, rt, crew, stand) {
-        Ok(()) => gate.at(desk.worker.worker.number, Point::BeforeLeave),
-        Err(at_limit) => desk.worker.keep(at_limit),
+        None => {
+            let with = Takes {
+                alloc,
+                job,
+                queue,
+                gate,
+            };
+            let worker = &mut desk.worker.worker;
+            match sweep_and_rest(worker, &with, job.topics.len() + 1, rt, crew, stand) {
+                Ok(()) => gate.at(desk.worker.worker.number, Point::BeforeLeave),
+                Err(at_limit) => desk.worker.keep(at_limit),
+            }
+        }
     }
 }

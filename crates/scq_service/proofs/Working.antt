@@ -10,12 +10,13 @@ use Rattle.scq_frames.specs.declared.fault.FrameFault.{FrameFault}
 use Rattle.scq_frames.specs.declared.fault.FrameFault.TheVariants as frame
 use Rattle.scq_outside.specs.Table.{Table}
 use Rattle.scq_files.specs.Exports.{HasMoved, ReadingStopsAt, all_left}
-use Rattle.scq_desk.specs.Exports.{HasCause}
+use Rattle.scq_desk.specs.Exports.{EndsReading, HasCause}
+use Rattle.scq_desk.specs.declared.end.End.{End}
 use Rattle.scq_files.specs.Reading as reading
 use Rattle.scq_desk.specs.declared.fault.EndFault.{EndFault}
 use Rattle.scq_desk.specs.declared.fault.EndFault.TheVariants as work
 use Rattle.scq_service.specs.Exports.{SourceOf, HaveAllCome, HaveCome, given_bytes, first_file_fault, HaveRest, IfVisible, IsMissing, without_names}
-use Rattle.scq_service.specs.Exports.{Change, HasGotSources, HasMissed, IfTold, FileIsRefused, IsUnchanged, ReadsOver, bytes_of_large, fault_of_work}
+use Rattle.scq_service.specs.Exports.{Change, Inputs, HasGotSources, HasMissed, IfTold, FileIsRefused, IsUnchanged, ReadsOver, bytes_of_large, fault_of_work}
 use Rattle.scq_service.specs.declared.fault.Fault.{Fault}
 use Rattle.scq_service.specs.declared.fault.Fault.TheVariants.{OpenFault}
 use Rattle.scq_service.proofs.Files.{no-contents, parts}
@@ -147,15 +148,6 @@ module _ {S : Type 0} (size : ℕ) (src : SourceOf S) where
           rest = if-got _ (λ contents all. have-rest olds news contents long all moved);
         }
 
-    -- so it is of the sources that are told, which are these
-    got-so : (all : Bool) → HaveAllCome names (record { table = table; opens = opens; sources = olds; read = 0 }) all
-        → ((k : ℕ) (d : S) → k < length olds → HasMoved src (slice_index_or olds k d) (slice_index_or news k d)) → (got sources : List S) (read : ℕ)
-        → got ≡ olds → sources ≡ news → HasGotSources src names got (record { table = table; opens = opens; sources = sources; read = read })
-    got-so all came moved got sources read same_got same_sources =
-        let G : List S → Type 0 = λ xs. HasGotSources src names xs (record { table = table; opens = opens; sources = sources; read = read }) in
-        let N : List S → Type 0 = λ xs. HasGotSources src names olds (record { table = table; opens = opens; sources = xs; read = read }) in
-        subst G (sym same_got) (subst N (sym same_sources) (has-got read moved (kept-of all came)))
-
     ends-all : ((k : ℕ) (d : S) → k < length olds → reading.IsWhole size src (slice_index_or olds k d) (slice_index_or news k d))
         → length olds ≡ length names
         → ReadsOver size src names olds (record { table = table; opens = opens; sources = news; read = 0 }) None
@@ -274,39 +266,46 @@ at-err r P is p = let Q : Result _ _ → Type 0 = λ r. IfErr r P in subst Q is 
 instead : {X : Type 0} (P : List X → List X → Type 0) {us vs xs ys : List X} → xs ≡ us → ys ≡ vs → P us vs → P xs ys
 instead P {us = us} {ys = ys} first second p = subst (λ xs. P xs ys) (sym first) (subst (λ ys. P us ys) (sym second) p)
 
+abbrev inputs_with : {S : Type 0} → Change (Option Table) → Change ℕ → ℕ → List S → Inputs S
+inputs_with table opens read sources = record { table = table; opens = opens; sources = sources; read = read }
+
+-- what was got of sources, and how their reading ended
+abbrev Told : {S : Type 0} → ℕ → SourceOf S → List (List ℕ) → (List S → Inputs S) → Option Fault → List S → List S → Type 0
+Told size src names with_ fault got sources = HasGotSources src names got (with_ sources) × ReadsOver size src names got (with_ sources) fault
+
 -- where the workers of a run have left these sources of those that had come, of all names or not of all
-module _ {S : Type 0} (size : ℕ) {src : SourceOf S} {names : List (List ℕ)} {table : Change (Option Table)} {opens : Change ℕ} {olds news : List S}
-    (long : length news ≡ length olds) (come : HaveCome src names (record { table = table; opens = opens; sources = olds; read = 0 })) (all : Bool)
-    (came : HaveAllCome names (record { table = table; opens = opens; sources = olds; read = 0 }) all) {got sources : List S} {read : ℕ}
-    (same_got : got ≡ olds) (same_sources : sources ≡ news) where
-  -- sources were got
-  pub told-got : ((k : ℕ) (d : S) → k < length olds → HasMoved src (slice_index_or olds k d) (slice_index_or news k d))
-      → HasGotSources src names got (record { table = table; opens = opens; sources = sources; read = read })
-  told-got moved = got-so size src names table opens olds news long come all came moved got sources read same_got same_sources
+module _ {T S : Type 0} {workers : ℕ} (size : ℕ) {src : SourceOf S} {names : List (List ℕ)} {table : Change (Option Table)} {opens : Change ℕ}
+    {olds : List S} (end : End T S) (did : EndsReading workers size src olds end) (come : HaveCome src names (inputs_with table opens 0 olds)) (all : Bool)
+    (came : HaveAllCome names (inputs_with table opens 0 olds) all) {got sources : List S} {read : ℕ}
+    (same_got : got ≡ olds) (same_sources : sources ≡ end.sources.items) where
+  told : (fault : Option Fault) → ReadsOver size src names olds (inputs_with table opens read end.sources.items) fault
+      → Told size src names (inputs_with table opens read) fault got sources
+  told fault ends =
+      instead (Told size src names (inputs_with table opens read) fault) same_got same_sources (
+        has-got size src names table opens olds end.sources.items did.count come read did.moved
+            (kept-of size src names table opens olds end.sources.items did.count come all came),
+        ends,
+      )
 
   -- each was read to its end, with those of all names or until the next was missed
-  pub told-whole : (fault : Option Fault) → all ≡ true → read ≡ 0 → fault ≡ None
-      → ((k : ℕ) (d : S) → k < length olds → reading.IsWhole size src (slice_index_or olds k d) (slice_index_or news k d))
-      → ReadsOver size src names got (record { table = table; opens = opens; sources = sources; read = read }) fault
-  told-whole fault true_ none_read none whole =
-      let A : Bool → Type 0 = λ all. HaveAllCome names (record { table = table; opens = opens; sources = olds; read = 0 }) all in
-      let every = subst A true_ came in
-      instead (λ xs ys. ReadsOver size src names xs (record { table = table; opens = opens; sources = ys; read = read }) fault) same_got same_sources
-      (rw (none_read, none) (ends-all size src names table opens olds news long come whole every.0))
+  pub told-whole : (fault : Option Fault) (made : T) → end.result ≡ Ok made → all ≡ true → read ≡ 0 → fault ≡ None
+      → Told size src names (inputs_with table opens read) fault got sources
+  told-whole fault made is true_ none_read none =
+      let A : Bool → Type 0 = λ all. HaveAllCome names (inputs_with table opens 0 olds) all in
+      told fault (rw (none_read, none) (ends-all size src names table opens olds end.sources.items did.count come (on-ok end.result _ is did.whole)
+      (subst A true_ came).0))
 
-  pub told-stopped : (fault : Option Fault) → all ≡ false → read ≡ 0 → fault ≡ Some (OpenFault (length olds + 1))
-      → ((k : ℕ) (d : S) → k < length olds → reading.IsWhole size src (slice_index_or olds k d) (slice_index_or news k d))
-      → ReadsOver size src names got (record { table = table; opens = opens; sources = sources; read = read }) fault
-  told-stopped fault false_ none_read some whole =
-      let A : Bool → Type 0 = λ all. HaveAllCome names (record { table = table; opens = opens; sources = olds; read = 0 }) all in
+  pub told-stopped : (fault : Option Fault) (made : T) → end.result ≡ Ok made → all ≡ false → read ≡ 0 → fault ≡ Some (OpenFault (length olds + 1))
+      → Told size src names (inputs_with table opens read) fault got sources
+  told-stopped fault made is false_ none_read some =
+      let A : Bool → Type 0 = λ all. HaveAllCome names (inputs_with table opens 0 olds) all in
       let next = subst A false_ came in
-      instead (λ xs ys. ReadsOver size src names xs (record { table = table; opens = opens; sources = ys; read = read }) fault) same_got same_sources
-      (rw (none_read, some) (ends-stopped size src names table opens olds news long come whole next.0 next.1))
+      told fault (rw (none_read, some) (ends-stopped size src names table opens olds end.sources.items did.count come (on-ok end.result _ is did.whole)
+      next.0 next.1))
 
   -- the workers met a fault
-  pub told-met : (met : EndFault) (fault : Option Fault) → read ≡ bytes_of_large met → fault ≡ Some (fault_of_work size met) → HasCause size src olds news met
-      → ReadsOver size src names got (record { table = table; opens = opens; sources = sources; read = read }) fault
-  told-met met fault some_read some cause =
-      instead (λ xs ys. ReadsOver size src names xs (record { table = table; opens = opens; sources = ys; read = read }) fault) same_got same_sources
-      (rw (some_read, some) (ends-met size src names table opens olds news long come met cause
-      (missed-of size src names table opens olds news long come all came)))
+  pub told-met : (fault : Option Fault) (met : EndFault) → end.result ≡ Err met → read ≡ bytes_of_large met → fault ≡ Some (fault_of_work size met)
+      → Told size src names (inputs_with table opens read) fault got sources
+  told-met fault met is some_read some =
+      told fault (rw (some_read, some) (ends-met size src names table opens olds end.sources.items did.count come met (at-err end.result _ is did.cause)
+      (missed-of size src names table opens olds end.sources.items did.count come all came)))

@@ -55,6 +55,7 @@ impl<S: Drop> Outcome<S> {
         ensures staged { result.staged ≡ None }
         ensures left { (result.left ≡ None) × (result.passes ≡ None) × (result.frames ≡ None) }
         ensures waited { result.waited ≡ None }
+        ensures got { result.got.items ≡ sources.items }
     {
         let got = Snapshot::of(&sources);
         Outcome {
@@ -205,19 +206,10 @@ impl<S: Drop> Outcome<S> {
         ensures waited { result.waited ≡ None }
         ensures got { result.got.items ≡ sources.items }
     {
-        let got = Snapshot::of(&sources);
         Outcome {
             status: fault.status(),
             fault: Some(fault),
-            sources: LetGo::these(sources),
-            read: 0,
-            worked: None,
-            staged: None,
-            left: None,
-            passes: None,
-            frames: None,
-            waited: None,
-            got: Sources::these(got),
+            ..Outcome::whole(sources)
         }
     }
 

@@ -27,7 +27,9 @@ use Rattle.scq_stages.specs.Exports.{HelpsSecondThenFirst, HelpsJustSecondThenFi
 use Rattle.scq_stages.specs.Exports.{MovesSoFar, HasTakenOrMoved, HasMovedIts, HasFinishedOnlySeconds, HasFewStageCalls, HasListed, IsAtWork, IsDone}
 use Rattle.scq_stages.specs.Exports.{HasStopped}
 use Rattle.scq_stages.proofs.Moving.{moves-none_to_first, moves-none_next}
-use Rattle.scq_stages.proofs.FewCalls.{few_calls-sent, few_calls-full, few_calls-moved, few_calls-more, few_calls-at_send}
+use Rattle.scq_desk.specs.Exports.{CameBack}
+use Rattle.scq_desk.proofs.Passes.{stopped-left}
+use Rattle.scq_stages.proofs.FewCalls.{few_calls-sent, few_calls-full, few_calls-moved, few_calls-at_send}
 
 -- the takes from second and from first, and from nothing else; and at least these
 abbrev JustBoth : List Ended → Type 0
@@ -199,39 +201,21 @@ module _ {B : Type 0} where
         listed = λ fed. listed-on messages p q was is taken helped (work.listed (fed_before fed));
       }
 
-  -- the pass still suits
-  pub suits-full : (shared : Identity B) (topics head : ℕ) (p q : PassStanding B) → Suits shared topics p → HasFoundFull head p q → Suits shared topics q
-  suits-full shared topics head p q suits h =
-      record {
-        queue = ap (λ (x : PassStanding B). x.queue) h.pass ∙ suits.queue;
-        rings = suits.rings;
-        numbers = h.knows.rings ∙ suits.numbers;
-        spent = ap (λ (x : PassStanding B). x.spent) h.pass ∙ suits.spent;
-      }
-
   -- the send of a value that was lent met Spent: that value came back
-  pub left-sent : (contents : B → List ℕ) (messages ticket : ℕ) (p q r : PassStanding B) (h : HeldStanding B) (kept : Option (HeldStanding B))
-      → WasLent contents p q h
-      → r ≡ having_seen r.seen (after_spent_put 1 ticket q) → IsSome kept → IfSome kept (λ k. (k.index ≡ h.index) × (k.queue ≡ h.queue))
-      → HasLeftSo HasFewStageCalls messages (messages + 1) p r kept
-  left-sent contents messages ticket p q r h None lent is some_ back = absurd (search rules)
-  left-sent contents messages ticket p q r h (Some k) lent is some_ back =
-      left-so-at-put HasFewStageCalls contents messages (messages + 1) 0 lent.place 1 ticket p q r h k lent.got is back.0 back.1
-      (few_calls-at_send contents messages ticket p q r h lent is)
+  pub left-sent : (contents : B → List ℕ) (messages : ℕ) (p q r : PassStanding B) (h : HeldStanding B) (kept : Option (HeldStanding B))
+      → WasLent contents p q h → CameBack 1 h q r kept → HasLeftSo HasFewStageCalls messages (messages + 1) p r kept
+  left-sent contents messages p q r h None lent back = absurd back
+  left-sent contents messages p q r h (Some k) lent back =
+      let spent = back.2 in
+      left-so-at-put HasFewStageCalls contents messages (messages + 1) 0 lent.place 1 spent.0 p q r h k lent.got spent.1 back.0 back.1
+      (few_calls-at_send contents messages spent.0 p q r h lent spent.1)
 
   -- it met Spent before it was done with so many messages
   pub work-left : (shared : Identity B) (messages : List Message) (many : ℕ) (p q : PassStanding B) (members : List Finished) (starved : Bool)
       (kept : Option (HeldStanding B)) → IsAtWork messages p members starved → p.queue ≡ shared → p.retired ≡ None
       → HasLeftSo HasFewStageCalls (length messages) many p q kept → HasStopped shared many q kept
   work-left shared messages many p q members starved kept was queue stays left =
-      record {
-        spent = left.spent;
-        few_calls = left.few_calls was.few_calls;
-        queue = left.own.0 ∙ queue;
-        stays = left.own.2 ∙ stays;
-        held = left.held ∙ ap (λ l. l ++ index_of kept) was.between.none;
-        its = subst (λ (x : Identity B). IfSome kept (λ h. h.queue ≡ x)) queue left.its;
-      }
+      stopped-left HasFewStageCalls shared (length messages) many p q kept was.few_calls was.between.none queue stays left
 
   pub work-stopped : (shared : Identity B) (messages : List Message) (m : Message) (p q : PassStanding B) (members : List Finished) (starved : Bool)
       (kept : Option (HeldStanding B)) → IsAtWork messages p members starved → p.queue ≡ shared → p.retired ≡ None

@@ -21,7 +21,7 @@ use Rattle.scq_files.proofs.Lists.{map-map}
 use Rattle.scq_desk.proofs.Settled.{held_at}
 use Rattle.scq_passes.specs.Exports.{HaveShared, HasClosed}
 use Rattle.scq_stages.specs.declared.finished.Finished.{Finished}
-use Rattle.scq_stages.specs.Exports.{Seated, HaveFinished, KeepsStages, HasRun}
+use Rattle.scq_stages.specs.Exports.{Seated, HaveFinished, KeepsStages, HasRunAt}
 use Rattle.scq_stages.proofs.AllStaged.{AllDone, HasDoneItsWork, all-shared, have-staged, held_in}
 use Rattle.scq_stages.proofs.Conclusion.{Work, lists_in, worked_messages, passes_in}
 
@@ -41,12 +41,12 @@ module _ {B S : Type 0} where
   abbrev pub lists_at : List (Desk (Seated B) S) → List (Vec Finished Global)
   lists_at desks = map (λ (d : Desk (Seated B) S). d.worker.worker.members) desks
 
-  -- the workers of a queue have left: each had its own of the files, and did what `HasRun` says, however the reading of these ended
+  -- the workers of a queue have left: each had its own of the files, and did what `HasRunAt` says, however the reading of these ended
   pub record AllRan (c : Setup) (shared : Identity B) (size : ℕ) (src : SourceOf S) (sources : List S) (desks : List (Desk (Seated B) S)) : Type 0 where
     pub some : 0 < length desks
     pub few : length sources ≤ 64
     pub dealt : AreDealt 1 sources desks
-    pub run : All (λ d. HasRun shared size src d.files.items d.worker.worker.pass d.worker.worker.members.items d.worker.worker.starved d.worker.kept) desks
+    pub run : All (HasRunAt shared size src) desks
     pub setup : shared.setup ≡ c
     pub numbers : (w : ℕ) (d : Desk (Seated B) S) → w < length desks → (slice_index_or desks w d).worker.worker.pass.number ≡ w
     pub rings : c.rings ≡ 3

@@ -45,36 +45,16 @@ module _ {B : Type 0} where
         returns = omega (arith, was.returns, puts 0, returns, all);
       }
 
-  -- for as many messages
-  few_calls-as_many : (late messages : ℕ) (q : PassStanding B) → HasFewStageCalls late (messages + 0) q → HasFewStageCalls late messages q
-  few_calls-as_many late messages q was = record {
-    fulls = omega (arith, was.fulls);
-    to_first = omega (arith, was.to_first);
-    sent_first = omega (arith, was.sent_first);
-    to_second = was.to_second;
-    sent = omega (arith, was.sent);
-    returns = was.returns;
-  }
-
   -- for more messages, and where it met Spent
-  pub few_calls-more : (late few many : ℕ) (p : PassStanding B) → few ≤ many → HasFewStageCalls late few p → HasFewStageCalls late many p
-  few_calls-more late few many p low was = record {
+  pub few_calls-more : (late later few many : ℕ) (p : PassStanding B) → late ≤ later → few ≤ many → HasFewStageCalls late few p
+      → HasFewStageCalls later many p
+  few_calls-more late later few many p more low was = record {
     fulls = omega (arith, was.fulls, low);
-    to_first = omega (arith, was.to_first, low);
+    to_first = omega (arith, was.to_first, more, low);
     sent_first = omega (arith, was.sent_first, low);
-    to_second = was.to_second;
+    to_second = omega (arith, was.to_second, more);
     sent = omega (arith, was.sent, low);
-    returns = was.returns;
-  }
-
-  pub few_calls-late : (messages : ℕ) (p : PassStanding B) → HasFewStageCalls 0 messages p → HasFewStageCalls 1 messages p
-  few_calls-late messages p was = record {
-    fulls = was.fulls;
-    to_first = omega (arith, was.to_first);
-    sent_first = was.sent_first;
-    to_second = omega (arith, was.to_second);
-    sent = was.sent;
-    returns = omega (arith, was.returns);
+    returns = omega (arith, was.returns, more);
   }
 
   pub few_calls-retired : (late messages : ℕ) (p : PassStanding B) → HasFewStageCalls late messages p → HasFewStageCalls late messages (after_retire p)
@@ -92,7 +72,7 @@ module _ {B : Type 0} where
   few_calls-moved messages p q h was =
       let same : q.fulls ≡ p.fulls = ap (λ (x : PassStanding B). x.fulls) h.pass in
       let none_ = moves-none_to_first h.block h.are in
-      few_calls-as_many 0 messages q
+      few_calls-more 0 0 (messages + 0) messages q (omega arith) (omega arith)
       (few_calls-grown 0 0 messages p q h.block (taken-calls p q h) (omega (arith, ap length same)) (omega (arith, moves-to_first h.block h.are))
       (omega (arith, ap length none_)) (omega (arith, moves-to_second h.block h.are)) (omega (arith, moves-sent h.block h.are))
       (omega (arith, moves-returns h.block h.are)) was)
@@ -119,7 +99,7 @@ module _ {B : Type 0} where
       → HasFewStageCalls 0 messages p → HasFewStageCalls 1 messages q
   few_calls-at_get messages ring ticket p q is was =
       let fulls : q.fulls ≡ p.fulls = ap (λ (x : PassStanding B). x.fulls) is in
-      few_calls-as_many 1 messages q
+      few_calls-more 1 1 (messages + 0) messages q (omega arith) (omega arith)
       (few_calls-grown 1 0 messages p q (Spent ring ticket false ∷ []) (ap (λ (x : PassStanding B). x.calls) is) (omega (arith, ap length fulls))
       (omega arith) (omega arith) (omega arith) (omega arith) (omega arith) was)
 
@@ -135,7 +115,7 @@ module _ {B : Type 0} where
       ap (λ (x : PassStanding B). x.calls) is ∙ ap (λ l. l ++ last to) before ∙ append_assoc p.calls first_ (last to) in
       let fulls : r.fulls ≡ p.fulls = ap (λ (x : PassStanding B). x.fulls) is ∙ ap (λ (x : PassStanding B). x.fulls) got.pass in
       let G : ℕ → Type 0 = λ ring. r.calls ≡ p.calls ++ (first_ ++ last ring) in
-      few_calls-as_many 1 messages r
+      few_calls-more 1 1 (messages + 0) messages r (omega arith) (omega arith)
       (⊎_elim (λ (free : to ≡ 0).
       few_calls-grown 1 0 messages p r (first_ ++ last 0) (subst G free calls) (omega (arith, ap length fulls))
       (omega arith) (omega arith) (omega arith) (omega arith) (omega arith) was)

@@ -1,25 +1,26 @@
 -- What one take makes of a worker's list and of its moves, and what several make of them, one behind the other.
-use Rattle.std.proofs.Common.{◌≡◌, refl, sym, ◌∙◌, ap, subst, arith, zero, suc, ℕ, ◌<◌, ◌≤◌, length, List, [], ◌∷◌, ◌++◌, append_assoc, Option, Some, None, Bool, inl}
-use Rattle.std.specs.Prelude.{filter, IfSome, IsSomeAnd, ◌⊎◌}
+use Rattle.std.proofs.Common.{◌≡◌, refl, sym, ◌∙◌, ap, subst, arith, zero, suc, ℕ, ◌<◌, ◌≤◌, length, List, [], ◌∷◌, ◌++◌, append_assoc, Option, Some, None, Bool}
+use Rattle.std.specs.Prelude.{filter, IfSome, ◌⊎◌}
 use Rattle.std.specs.List.{filter_map}
 use Rattle.std.proofs.lemmas.List.{append-nil}
 use Rattle.std.proofs.lemmas.List.Elements.{filter-append, filter_map-append}
 use Rattle.scq_core.specs.declared.ended.Ended.TheVariants.{Done, Got, Nothing}
 use Rattle.scq_frames.specs.Exports.{Part, BeginsWith, part_at}
 use Rattle.scq_queue.specs.Exports.{Placed, sends_of, takes_of, PassStanding, HeldStanding, HasGot, FoundEmpty, WasGivenBack, known_on, having_seen}
-use Rattle.scq_queue.specs.Exports.{after_put, after_spent_put, after_spent_get}
+use Rattle.scq_queue.specs.Exports.{after_put, after_spent_get}
 use Rattle.scq_queue.proofs.Records.{sends-append}
 use Rattle.scq_passes.specs.Exports.{on, BecomeSoFar, and_became, and_passed_over, HasLeftSo, since, taken_since}
 use Rattle.scq_passes.proofs.OnTopics.{on-append}
 use Rattle.scq_passes.proofs.PassLemmas.{got-and-put, took-and-gave, found-none}
 use Rattle.scq_passes.proofs.Since.{since-of, since-taken_on, none_below-nothing, none_below-one}
 use Rattle.scq_passes.proofs.LeftLemmas.{left-so-at-get, left-so-at-put}
+use Rattle.scq_desk.specs.Exports.{CameBack}
 use Rattle.scq_stages.specs.declared.finished.Finished.{Finished}
 use Rattle.scq_stages.specs.declared.finished.StageWay.{StageWay}
 use Rattle.scq_stages.specs.declared.finished.StageWay.TheVariants.{Second, First}
 use Rattle.scq_stages.specs.Exports.{redacted, squeezed, both, stages_left, after_stage, FinishesTake, IsNoPart, is_second, is_first, is_direct}
 use Rattle.scq_stages.specs.Exports.{finished, way_from, first, second, take_topic, SecondsSoFar, FirstsSoFar, MovesSoFar, GotNo, HasMovedIts}
-use Rattle.scq_stages.specs.Exports.{HasFinishedSeconds, HasFinishedFirsts, HasFinished, HasFinishedOne, HasFinishedOnlySeconds, HasTakenOne}
+use Rattle.scq_stages.specs.Exports.{HasFinished, HasFinishedOne, HasFinishedOnlySeconds, HasTakenOne}
 use Rattle.scq_stages.specs.Exports.{HasFewStageCalls}
 use Rattle.scq_stages.proofs.FewCalls.{few_calls-at_get, few_calls-at_put}
 
@@ -124,34 +125,28 @@ module _ {B : Type 0} where
   }
 
   -- one step behind the other
-  seconds-along : (p q r : PassStanding B) (xs ys zs : List Finished) → since p r ≡ since p q ++ since q r → HasFinishedSeconds p q xs ys
-      → HasFinishedSeconds q r ys zs
-      → HasFinishedSeconds p r xs zs
-  seconds-along p q r xs ys zs split one more takes before =
-      subst (λ l. SecondsSoFar l (filter is_second zs))
-      (sym (longer takes (taken_since second p q) (taken_since second q r) (taken_since second p r) (since-taken_on second p q r split)))
-      (more (takes ++ taken_since second p q) (one takes before))
-
-  firsts-along : (p q r : PassStanding B) (xs ys zs : List Finished) → since p r ≡ since p q ++ since q r → HasFinishedFirsts p q xs ys
-      → HasFinishedFirsts q r ys zs
-      → HasFinishedFirsts p r xs zs
-  firsts-along p q r xs ys zs split one more takes before =
-      subst (λ l. FirstsSoFar l (filter is_first zs))
-      (sym (longer takes (taken_since first p q) (taken_since first q r) (taken_since first p r) (since-taken_on first p q r split)))
-      (more (takes ++ taken_since first p q) (one takes before))
+  along : {M : Type 0} {Over : Placed → Type 0} {Becomes : Placed → M → Type 0} (topic : ℕ) (p q r : PassStanding B) (was mid is : List M)
+      → since p r ≡ since p q ++ since q r
+      → ((takes : List Placed) → BecomeSoFar Over Becomes takes was → BecomeSoFar Over Becomes (takes ++ taken_since topic p q) mid)
+      → ((takes : List Placed) → BecomeSoFar Over Becomes takes mid → BecomeSoFar Over Becomes (takes ++ taken_since topic q r) is)
+      → (takes : List Placed) → BecomeSoFar Over Becomes takes was → BecomeSoFar Over Becomes (takes ++ taken_since topic p r) is
+  along {M} {Over} {Becomes} topic p q r was mid is split one more takes before =
+      subst (λ l. BecomeSoFar Over Becomes l is)
+      (sym (longer takes (taken_since topic p q) (taken_since topic q r) (taken_since topic p r) (since-taken_on topic p q r split)))
+      (more (takes ++ taken_since topic p q) (one takes before))
 
   pub finished-along : (p q r : PassStanding B) (xs ys zs : List Finished) → since p r ≡ since p q ++ since q r → HasFinished p q xs ys → HasFinished q r ys zs
       → HasFinished p r xs zs
   finished-along p q r xs ys zs split one more = record {
-    seconds = seconds-along p q r xs ys zs split one.seconds more.seconds;
-    firsts = firsts-along p q r xs ys zs split one.firsts more.firsts;
+    seconds = along second p q r (filter is_second xs) (filter is_second ys) (filter is_second zs) split one.seconds more.seconds;
+    firsts = along first p q r (filter is_first xs) (filter is_first ys) (filter is_first zs) split one.firsts more.firsts;
     directs = more.directs ∙ one.directs;
   }
 
   pub helped-along : (p q r : PassStanding B) (xs ys zs : List Finished) → since p r ≡ since p q ++ since q r → HasFinishedOnlySeconds p q xs ys → HasFinishedOnlySeconds q r ys zs
       → HasFinishedOnlySeconds p r xs zs
   helped-along p q r xs ys zs split one more = record {
-    seconds = seconds-along p q r xs ys zs split one.seconds more.seconds;
+    seconds = along second p q r (filter is_second xs) (filter is_second ys) (filter is_second zs) split one.seconds more.seconds;
     firsts = more.firsts ∙ one.firsts;
     directs = more.directs ∙ one.directs;
   }
@@ -245,21 +240,11 @@ module _ {B : Type 0} where
       left-so-at-get HasFewStageCalls messages messages (suc topic) ticket p q is (few_calls-at_get messages (suc topic) ticket p q is)
 
   -- the put of what was taken met Spent: it came back
-  pub left-back : (contents : B → List ℕ) (messages topic place : ℕ) (p q r : PassStanding B) (h : HeldStanding B) (kept : Option (HeldStanding B))
-      → HasGot contents (suc topic) place p q h
-      → IsSomeAnd kept (λ k. (k.index ≡ h.index) × (k.queue ≡ h.queue) × ((ring : ℕ) × (ticket : ℕ) × ((ring ≡ 0) ⊎ (ring ≡ suc second))
-      × (r ≡ having_seen r.seen (after_spent_put ring ticket q))))
+  pub left-back : (contents : B → List ℕ) (messages topic place ring : ℕ) (p q r : PassStanding B) (h : HeldStanding B) (kept : Option (HeldStanding B))
+      → HasGot contents (suc topic) place p q h → (ring ≡ 0) ⊎ (ring ≡ suc second) → CameBack ring h q r kept
       → HasLeftSo HasFewStageCalls messages messages p r kept
-  left-back contents messages topic place p q r h None got back = absurd back
-  left-back contents messages topic place p q r h (Some k) got back =
-      left-so-at-put HasFewStageCalls contents messages messages (suc topic) place back.2.0 back.2.1 p q r h k got back.2.3 back.0 back.1
-      (few_calls-at_put contents messages topic place back.2.0 back.2.1 p q r h got back.2.3 back.2.2)
-
-  pub left-given : (contents : B → List ℕ) (messages topic place : ℕ) (p q r : PassStanding B) (h : HeldStanding B) (kept : Option (HeldStanding B))
-      → HasGot contents (suc topic) place p q h
-      → IsSomeAnd kept (λ k. (k.index ≡ h.index) × (k.queue ≡ h.queue)
-      × ((ticket : ℕ) × (r ≡ having_seen r.seen (after_spent_put 0 ticket q))))
-      → HasLeftSo HasFewStageCalls messages messages p r kept
-  left-given contents messages topic place p q r h None got back = absurd back
-  left-given contents messages topic place p q r h (Some k) got back =
-      left-back contents messages topic place p q r h (Some k) got (back.0, back.1, (0, back.2.0, inl refl, back.2.1))
+  left-back contents messages topic place ring p q r h None got by back = absurd back
+  left-back contents messages topic place ring p q r h (Some k) got by back =
+      let spent = back.2 in
+      left-so-at-put HasFewStageCalls contents messages messages (suc topic) place ring spent.0 p q r h k got spent.1 back.0 back.1
+      (few_calls-at_put contents messages topic place ring spent.0 p q r h got spent.1 by)

@@ -19,7 +19,7 @@ pub use Rattle.scq_stages.specs.Steps.{HasTakenOne, HasFinishedOne, HasFinishedO
 pub use Rattle.scq_stages.specs.Working.{HasFewStageCalls, HasListed, IsAtWork, IsDone}
 pub use Rattle.scq_stages.specs.Working.{HasListedAll, IsLeaving, HasStopped, HasMovedAllAndSwept}
 pub use Rattle.scq_stages.specs.Working.{HasRun}
-pub use Rattle.scq_stages.specs.Seats.{Seated, IsToBegin}
+pub use Rattle.scq_stages.specs.Seats.{Seated, IsToBegin, HasRunAt}
 pub use Rattle.scq_stages.specs.AllStages.{handled_of, HaveFinished, KeepsStages, NothingIsStranded}
 pub use Rattle.scq_stages.specs.AllStages.{HasStaged}
 pub use Rattle.scq_stages.specs.Ends.{EndsStages}

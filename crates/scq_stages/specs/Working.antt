@@ -1,17 +1,18 @@
 -- A worker's pass and its list, as its work goes on: while it reads its files, when it has moved
 -- all that was in first, and behind its retirement.
 use Rattle.std.specs.Prelude.{◌≡◌, ℕ, ◌+◌, ◌<◌, ◌≤◌, Bool, false, List, [], length, filter, Option}
-use Rattle.std.specs.Prelude.{Some, None, IfSome, All}
+use Rattle.std.specs.Prelude.{Some, None, IfSome}
 use Rattle.std.specs.List.{Contains}
 use Rattle.scq_law.specs.Exports.{tally, was_put}
 use Rattle.scq_frames.specs.declared.message.Message.{Message}
 use Rattle.scq_band.specs.Exports.{Identity}
 use Rattle.scq_queue.specs.Exports.{Placed, sends_of, takes_of, PassStanding, HeldStanding}
 use Rattle.scq_queue.specs.Exports.{known_on}
-use Rattle.scq_files.specs.Exports.{given_in, StopsAtAFault, all_given, IsRead, SourceOf}
+use Rattle.scq_files.specs.Exports.{StopsAtAFault, all_given, AreRead, SourceOf}
 use Rattle.scq_files.specs.declared.own_file.OwnFile.{OwnFile}
 use Rattle.scq_passes.specs.Exports.{IsBetweenParts, index_of, after_retire, calls_behind, on}
 use Rattle.scq_passes.specs.Exports.{ArePassedOn, EachHasItsCall, HasSwept}
+use Rattle.scq_desk.specs.GoingOn as going
 use Rattle.scq_stages.specs.declared.finished.Finished.{Finished}
 use Rattle.scq_stages.specs.Members.{is_second, is_first, is_direct, DirectsAre}
 use Rattle.scq_stages.specs.Records.{first, second, is_next, HelpsJustSecondThenFirst}
@@ -90,14 +91,8 @@ module _ {B : Type 0} where
 
   -- a worker that met Spent before it retired, after at most so many messages, the last one
   -- included: its pass, and the value that it keeps
-  pub record HasStopped (shared : Identity B) (messages : ℕ) (p : PassStanding B)
-      (kept : Option (HeldStanding B)) : Type 0 where
-    pub spent : (ticket : ℕ) × (p.spent ≡ Some ticket)
-    pub few_calls : HasFewStageCalls 1 messages p
-    pub queue : p.queue ≡ shared
-    pub stays : p.retired ≡ None
-    pub held : p.held ≡ index_of kept
-    pub its : IfSome kept (λ h. h.queue ≡ shared)
+  abbrev pub HasStopped : Identity B → ℕ → PassStanding B → Option (HeldStanding B) → Type 0
+  HasStopped shared messages p kept = going.HasStopped (HasFewStageCalls 1 messages) shared p kept
 
   -- a worker that met no Spent has moved all that was in first, retired, swept and left. `at` was
   -- its pass when it retired
@@ -113,8 +108,7 @@ module _ {B : Type 0} where
   pub record HasRun {S : Type 0} (shared : Identity B) (size : ℕ) (src : SourceOf S)
       (files : List (OwnFile S)) (pass : PassStanding B) (members : List Finished) (starved : Bool)
       (kept : Option (HeldStanding B)) : Type 0 where
-    pub read : All (λ f.
-        IsRead [] size src f.number f.was.value f.source (given_in f.given.value) f.end) files
+    pub read : AreRead [] size src files
     pub stops : StopsAtAFault files
     pub few_calls : HasFewStageCalls 1 (length (all_given files)) pass
     pub queue : pass.queue ≡ shared

@@ -4,7 +4,7 @@ ghost use Rattle.std.specs.List.{All};
 ghost use Rattle.scq_block.specs.Exports.{bytes_of};
 ghost use Rattle.scq_passes.specs.Exports.{HasLeftSwept, IsGivenBack};
 ghost use Rattle.scq_files.specs.Exports.{IsNew, ids_of};
-ghost use Rattle.scq_stages.specs.Exports.{IsToBegin, HasRun};
+ghost use Rattle.scq_stages.specs.Exports.{IsToBegin, HasRunAt};
 
 use crate::StageJob;
 use crate::running::run;
@@ -37,9 +37,7 @@ pub(crate) fn run_all<R: Threads + Sync, S: Source>(
     ensures numbers { (w : ℕ) (d : _) → w < length desks.items
         → (slice_index_or result.items w d).worker.worker.pass.number
         ≡ (slice_index_or desks.items w d).worker.worker.pass.number }
-    ensures run { All (λ d.
-        HasRun queue.now job.now.size S.Source d.files.items d.worker.worker.pass
-        d.worker.worker.members.items d.worker.worker.starved d.worker.kept) result.items }
+    ensures run { All (HasRunAt queue.now job.now.size S.Source) result.items }
     ensures behind { All (λ d. d.worker.worker.pass.spent ≡ None
         → HasLeftSwept bytes_of IsGivenBack 2 64 d.worker.worker.pass) result.items }
 {
@@ -49,9 +47,7 @@ pub(crate) fn run_all<R: Threads + Sync, S: Source>(
             × IsToBegin queue.now desk.now.worker × All IsNew desk.now.files.items }
         ensures { (ids_of desk.exit.now.files.items ≡ ids_of desk.entry.now.files.items)
             × (desk.exit.now.worker.worker.pass.number ≡ desk.entry.now.worker.worker.pass.number)
-            × HasRun queue.entry.now job.entry.now.size S.Source desk.exit.now.files.items
-            desk.exit.now.worker.worker.pass desk.exit.now.worker.worker.members.items
-            desk.exit.now.worker.worker.starved desk.exit.now.worker.kept
+            × HasRunAt queue.entry.now job.entry.now.size S.Source desk.exit.now
             × (desk.exit.now.worker.worker.pass.spent ≡ None
             → HasLeftSwept bytes_of IsGivenBack 2 64 desk.exit.now.worker.worker.pass) }
     { run(desk, alloc, job, queue) };

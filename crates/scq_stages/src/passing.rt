@@ -1,10 +1,10 @@
 //! How a worker sends a message to first, and what it does with what is in first when it has read
 //! its files.
-ghost use Rattle.std.specs.Prelude.{◌≡◌, ℕ, ◌+◌, ◌≤◌, List, length, None, IfErr, IfSome, IsSome};
-ghost use Rattle.std.specs.Prelude.{OnOk};
+ghost use Rattle.std.specs.Prelude.{◌≡◌, ℕ, ◌+◌, ◌≤◌, List, length, None, IfErr, OnOk};
 ghost use Rattle.scq_frames.specs.declared.message.Message.{Message as TheMessage};
-ghost use Rattle.scq_queue.specs.Exports.{IsHeldBy, after_put, after_spent_put, having_seen};
+ghost use Rattle.scq_queue.specs.Exports.{IsHeldBy, after_put, having_seen};
 ghost use Rattle.scq_passes.specs.Exports.{Suits};
+ghost use Rattle.scq_desk.specs.Exports.{CameBack};
 ghost use Rattle.scq_stages.specs.Passing.{SendsToFirst};
 ghost use Rattle.scq_stages.specs.Working.{IsAtWork, IsDone, HasStopped};
 
@@ -35,12 +35,8 @@ impl<B: BufferMut> Worker<B> {
             × (self.new.pass
             ≡ having_seen self.new.pass.seen (after_put 1 held.index place bytes self.old.pass))
             × SendsToFirst message.now (record { topic = 0; place = place; bytes = bytes })) }
-        ensures spent { IfErr result (λ l. (ticket : ℕ)
-            × (self.new.pass
-            ≡ having_seen self.new.pass.seen (after_spent_put 1 ticket self.old.pass))) }
         ensures back { IfErr result (λ l.
-            IfSome l.held (λ h. (h.index ≡ held.index) × (h.queue ≡ held.queue))) }
-        ensures kept { IfErr result (λ l. IsSome l.held) }
+            CameBack 1 held self.old.pass self.new.pass l.held) }
         ensures same { (self.new.members.items ≡ self.old.members.items)
             × (self.new.starved ≡ self.old.starved) }
     {

@@ -1,10 +1,9 @@
 //! A worker's whole work, at its desk.
 ghost use Rattle.std.specs.Prelude.{◌≡◌, ◌+◌, ◌≤◌, [], length, None, IfErr, OnOk, All};
 ghost use Rattle.scq_block.specs.Exports.{bytes_of};
-ghost use Rattle.scq_files.specs.Exports.{given_in, IsNew, StopsAtAFault, ids_of, all_given};
-ghost use Rattle.scq_files.specs.Exports.{IsRead};
+ghost use Rattle.scq_files.specs.Exports.{AreRead, IsNew, StopsAtAFault, ids_of, all_given};
 ghost use Rattle.scq_passes.specs.Exports.{Suits, HasLeftSwept, IsGivenBack};
-ghost use Rattle.scq_stages.specs.Exports.{IsToBegin, IsAtWork, IsDone, HasStopped, HasRun};
+ghost use Rattle.scq_stages.specs.Exports.{IsToBegin, IsAtWork, IsDone, HasStopped, HasRunAt};
 
 use crate::StageJob;
 use crate::leaving::leave;
@@ -36,9 +35,7 @@ fn work<S: Source>(
     requires topics { topics.now ≡ [] }
     requires unread { All IsNew files.old }
     ensures same { ids_of files.new ≡ ids_of files.old }
-    ensures read { All (λ f.
-        IsRead topics.now job.now.size S.Source f.number f.was.value f.source
-        (given_in f.given.value) f.end) files.new }
+    ensures read { AreRead topics.now job.now.size S.Source files.new }
     ensures stops { StopsAtAFault files.new }
     ensures suits { OnOk result (Suits queue.now 1 worker.new.pass) }
     ensures stays { OnOk result (worker.new.pass.retired ≡ None) }
@@ -70,9 +67,7 @@ pub(crate) fn run<S: Source>(
     requires fresh { IsToBegin queue.now desk.old.worker }
     requires unread { All IsNew desk.old.files.items }
     ensures same { ids_of desk.new.files.items ≡ ids_of desk.old.files.items }
-    ensures run { HasRun queue.now job.now.size S.Source desk.new.files.items
-        desk.new.worker.worker.pass
-        desk.new.worker.worker.members.items desk.new.worker.worker.starved desk.new.worker.kept }
+    ensures run { HasRunAt queue.now job.now.size S.Source desk.new }
     ensures behind { desk.new.worker.worker.pass.spent ≡ None
         → HasLeftSwept bytes_of IsGivenBack 2 64 desk.new.worker.worker.pass }
     ensures number { desk.new.worker.worker.pass.number ≡ desk.old.worker.worker.pass.number }

@@ -1,14 +1,15 @@
 //! What a worker makes of what it takes.
 ghost use Rattle.std.specs.Prelude.{◌≡◌, ◌⊎◌, ℕ, suc, ◌<◌, ◌≤◌, ◌++◌, ◌∷◌, List, [], true, false};
-ghost use Rattle.std.specs.Prelude.{Some, None, Ok, IfErr, IfSome, IsSomeAnd, OnOk};
+ghost use Rattle.std.specs.Prelude.{None, Ok, IfErr, IfSome, OnOk};
 ghost use Rattle.std.specs.List.{filter_map};
 ghost use Rattle.scq_core.specs.declared.ended.Ended.{Ended as TheEnded};
 ghost use Rattle.scq_frames.specs.Exports.{BeginsWith, part_at};
 ghost use Rattle.scq_band.specs.Exports.{opening_of, IsCallInRun};
 ghost use Rattle.scq_queue.specs.Exports.{caller_of, known_on, IsHeldBy, WasGivenBack, after_put};
-ghost use Rattle.scq_queue.specs.Exports.{after_spent_put, having_seen};
+ghost use Rattle.scq_queue.specs.Exports.{having_seen};
 ghost use Rattle.scq_passes.specs.Exports.{Suits, HasLeftSo, since, HasOnlyCalled, TookNothing};
 ghost use Rattle.scq_passes.specs.Exports.{HasEmptied, HasTakenFrom, TookInVain};
+ghost use Rattle.scq_desk.specs.Exports.{CameBack};
 ghost use Rattle.scq_stages.specs.Stages.{redacted, stages_left};
 ghost use Rattle.scq_stages.specs.Handling.{after_stage};
 ghost use Rattle.scq_stages.specs.Members.{finished, way_from};
@@ -61,9 +62,7 @@ impl<B: BufferMut> Worker<B> {
         ensures passed_over { part_at (B.contents held.buffer) ≡ None
             → self.new.members.items ≡ self.old.members.items }
         ensures back { IfErr result (λ l.
-            IsSomeAnd l.held (λ h. (h.index ≡ held.index) × (h.queue ≡ held.queue)
-            × ((ticket : ℕ) × (self.new.pass
-            ≡ having_seen self.new.pass.seen (after_spent_put 0 ticket self.old.pass))))) }
+            CameBack 0 held self.old.pass self.new.pass l.held) }
         ensures starved { self.new.starved ≡ false → self.old.starved ≡ false }
     {
         let mut held = held;
@@ -88,11 +87,8 @@ impl<B: BufferMut> Worker<B> {
         ensures passed_over { OnOk result (part_at (B.contents held.buffer) ≡ None
             → (later : List ℕ) × WasGivenBack later held.index self.old.pass self.new.pass) }
         ensures gates { OnOk result (self.new.pass.gates ≡ self.old.pass.gates) }
-        ensures back { IfErr result (λ l.
-            IsSomeAnd l.held (λ h. (h.index ≡ held.index) × (h.queue ≡ held.queue)
-            × ((ring : ℕ) × (ticket : ℕ) × ((ring ≡ 0) ⊎ (ring ≡ suc second))
-            × (self.new.pass
-            ≡ having_seen self.new.pass.seen (after_spent_put ring ticket self.old.pass))))) }
+        ensures back { IfErr result (λ l. (ring : ℕ) × ((ring ≡ 0) ⊎ (ring ≡ suc second))
+            × CameBack ring held self.old.pass self.new.pass l.held) }
         ensures same { (self.new.members.items ≡ self.old.members.items)
             × (self.new.starved ≡ self.old.starved) }
     {

@@ -1,11 +1,12 @@
 //! A worker of the stages: what it makes of a message itself, and of what it takes.
 ghost use Rattle.std.specs.Prelude.{◌≡◌, ℕ, suc, ◌+◌, ◌≤◌, ◌++◌, ◌∷◌, [], true, false, length};
-ghost use Rattle.std.specs.Prelude.{take, drop, Some, None, IfOk, IfErr, IfSome, IsSome, OnOk};
+ghost use Rattle.std.specs.Prelude.{take, drop, None, IfOk, IfErr, OnOk};
 ghost use Rattle.scq_frames.specs.Exports.{BeginsWith, part_at};
 ghost use Rattle.scq_band.specs.Exports.{opening_of, IsCallInRun};
 ghost use Rattle.scq_queue.specs.Exports.{caller_of, IsHeldBy, WasGivenBack, after_put};
-ghost use Rattle.scq_queue.specs.Exports.{after_spent_put, having_seen};
+ghost use Rattle.scq_queue.specs.Exports.{having_seen};
 ghost use Rattle.scq_passes.specs.Exports.{Suits};
+ghost use Rattle.scq_desk.specs.Exports.{CameBack};
 ghost use Rattle.scq_stages.specs.Stages.{redacted, squeezed, both as the_both};
 ghost use Rattle.scq_stages.specs.Members.{finished};
 ghost use Rattle.scq_stages.specs.Passing.{whole_of};
@@ -159,12 +160,8 @@ impl<B: BufferMut> Worker<B> {
             (WasGivenBack (B.contents held.buffer) held.index self.old.pass self.new.pass) }
         ensures run { IsCallInRun queue.now.setup (opening_of B.contents queue.now.given)
             (caller_of self.old.pass) (caller_of self.new.pass) }
-        ensures spent { IfErr result (λ l. (ticket : ℕ)
-            × (self.new.pass
-            ≡ having_seen self.new.pass.seen (after_spent_put 0 ticket self.old.pass))) }
         ensures back { IfErr result (λ l.
-            IfSome l.held (λ h. (h.index ≡ held.index) × (h.queue ≡ held.queue))) }
-        ensures kept { IfErr result (λ l. IsSome l.held) }
+            CameBack 0 held self.old.pass self.new.pass l.held) }
         ensures same { (self.new.members.items ≡ self.old.members.items)
             × (self.new.starved ≡ self.old.starved) }
     {
@@ -184,12 +181,8 @@ impl<B: BufferMut> Worker<B> {
             × (self.new.pass
             ≡ having_seen self.new.pass.seen
             (after_put 2 held.index place (B.contents held.buffer) self.old.pass))) }
-        ensures spent { IfErr result (λ l. (ticket : ℕ)
-            × (self.new.pass
-            ≡ having_seen self.new.pass.seen (after_spent_put 2 ticket self.old.pass))) }
         ensures back { IfErr result (λ l.
-            IfSome l.held (λ h. (h.index ≡ held.index) × (h.queue ≡ held.queue))) }
-        ensures kept { IfErr result (λ l. IsSome l.held) }
+            CameBack 2 held self.old.pass self.new.pass l.held) }
         ensures same { (self.new.members.items ≡ self.old.members.items)
             × (self.new.starved ≡ self.old.starved) }
     {

@@ -1,32 +1,25 @@
 -- A worker that goes on after one batch more, or stops at a ticket past the limit.
 use Rattle.std.proofs.Common.{◌≡◌, sym, ◌∙◌, ap, subst, arith, suc, ℕ, ◌+◌, ◌<◌, ◌≤◌, List, [], ◌∷◌, ◌++◌, length, map, Option, Some, None, Bool, false, rules}
-use Rattle.std.specs.Prelude.{count_by, IfSome, IsSome}
+use Rattle.std.specs.Prelude.{count_by, IfSome}
 use Rattle.std.proofs.lemmas.List.{length-append}
 use Rattle.scq_topics.specs.declared.kind.Kind.{Kind}
 use Rattle.scq_frames.specs.Exports.{Part}
 use Rattle.scq_collect.specs.declared.answered.Answered.{Answered}
 use Rattle.scq_collect.specs.declared.answered.Way.TheVariants.{Direct}
 use Rattle.scq_band.specs.Exports.{Identity}
-use Rattle.scq_queue.specs.Exports.{PassStanding, HeldStanding, WasLent, after_spent_put, having_seen}
+use Rattle.scq_queue.specs.Exports.{PassStanding, HeldStanding, WasLent}
 use Rattle.scq_passes.specs.Exports.{is_take, Suits, HasTaken, HasFoundFull, HasLeft, HasFewCalls, index_of}
 use Rattle.scq_worker.specs.Exports.{answered, open_on, IsWorking, HasSent, HasAnswered, HasListed, HasPassed, HasStopped}
 use Rattle.scq_worker.specs.declared.worker.Worker.{Worker}
 use Rattle.scq_passes.proofs.LeftLemmas.{left-at-send}
 use Rattle.scq_passes.proofs.Kept.{few_calls-full, few_calls-taken}
 use Rattle.scq_worker.proofs.Gathered.{gathered-same}
-use Rattle.scq_worker.proofs.WorkerSteps.{producing-behind, producing-helped, few_calls-sent, listed-sent, listed-full, listed-taken}
+use Rattle.scq_desk.specs.Exports.{CameBack}
+use Rattle.scq_desk.proofs.Passes.{stopped-left}
+use Rattle.scq_worker.proofs.WorkerSteps.{producing-behind, producing-helped, few_calls-more, few_calls-sent, listed-sent, listed-full, listed-taken}
 
 module _ {B : Type 0} where
   -- the pass still suits
-  pub suits-full : (shared : Identity B) (topics head : ℕ) (p q : PassStanding B) → Suits shared topics p → HasFoundFull head p q → Suits shared topics q
-  suits-full shared topics head p q suits h =
-      record {
-        queue = ap (λ (x : PassStanding B). x.queue) h.pass ∙ suits.queue;
-        rings = suits.rings;
-        numbers = h.knows.rings ∙ suits.numbers;
-        spent = ap (λ (x : PassStanding B). x.spent) h.pass ∙ suits.spent;
-      }
-
   pub suits-sent : (shared : Identity B) (topics topic : ℕ) (b : List Part) (p q : PassStanding B) → Suits shared topics p → HasSent topic b p q
       → Suits shared topics q
   suits-sent shared topics topic b p q suits h =
@@ -72,12 +65,10 @@ module _ {B : Type 0} where
       }
 
   -- the send of a value that was lent met Spent: that value came back
-  pub left-sent : (contents : B → List ℕ) (batches topic ticket : ℕ) (p q r : PassStanding B) (h : HeldStanding B) (kept : Option (HeldStanding B))
-      → WasLent contents p q h
-      → r ≡ having_seen r.seen (after_spent_put (suc topic) ticket q) → IsSome kept → IfSome kept (λ k. (k.index ≡ h.index) × (k.queue ≡ h.queue))
-      → HasLeft batches (batches + 1) p r kept
-  left-sent contents batches topic ticket p q r h None lent is some_ back = absurd (search rules)
-  left-sent contents batches topic ticket p q r h (Some k) lent is some_ back = left-at-send contents batches topic ticket p q r h k lent is back.0 back.1
+  pub left-sent : (contents : B → List ℕ) (batches topic : ℕ) (p q r : PassStanding B) (h : HeldStanding B) (kept : Option (HeldStanding B))
+      → WasLent contents p q h → CameBack (suc topic) h q r kept → HasLeft batches (batches + 1) p r kept
+  left-sent contents batches topic p q r h None lent back = absurd back
+  left-sent contents batches topic p q r h (Some k) lent back = left-at-send contents batches topic back.2.0 p q r h k lent back.2.1 back.0 back.1
 
   -- a take behind a send met Spent
   pub left-behind : (batches topic : ℕ) (b : List Part) (p q r : PassStanding B) (kept : Option (HeldStanding B)) → HasSent topic b p q
@@ -100,12 +91,7 @@ module _ {B : Type 0} where
       → HasStopped shared few p kept → HasStopped shared many p kept
   stopped-more shared few many p kept low was = record {
     spent = was.spent;
-    few_calls = record {
-      sends = let its = was.few_calls.sends in omega arith;
-      fulls = let its = was.few_calls.fulls in omega arith;
-      puts = λ topic. let its = was.few_calls.puts topic in omega arith;
-      returns = was.few_calls.returns;
-    };
+    few_calls = few_calls-more 1 1 few many p (omega arith) low was.few_calls;
     queue = was.queue;
     stays = was.stays;
     held = was.held;
@@ -118,14 +104,7 @@ module _ {B : Type 0} where
       (kept : Option (HeldStanding B)) → HasPassed topics batches p members starved → p.queue ≡ shared → p.retired ≡ None
       → HasLeft (length batches) (length batches + 1) p q kept → HasStopped shared (length batches + 1) q kept
   passed-stopped shared topics batches p q members starved kept was queue stays left =
-      record {
-        spent = left.spent;
-        few_calls = left.few_calls was.few_calls;
-        queue = left.own.0 ∙ queue;
-        stays = left.own.2 ∙ stays;
-        held = left.held ∙ ap (λ l. l ++ index_of kept) was.producing.between.none;
-        its = subst (λ (x : Identity B). IfSome kept (λ h. h.queue ≡ x)) queue left.its;
-      }
+      stopped-left HasFewCalls shared (length batches) (length batches + 1) p q kept was.few_calls was.producing.between.none queue stays left
 
   -- the same pass and the same list
   pub passed-as : (topics : List (List ℕ × Kind)) (batches : List (List Part)) (p q : PassStanding B) (was is : List Answered) (before after : Bool)

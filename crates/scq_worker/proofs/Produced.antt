@@ -4,18 +4,15 @@ use Rattle.scq_topics.specs.declared.kind.Kind.{Kind}
 use Rattle.scq_collect.specs.declared.answered.Answered.{Answered}
 use Rattle.scq_band.specs.Exports.{Identity}
 use Rattle.scq_queue.specs.Exports.{PassStanding, HeldStanding, first_pass, known_on}
-use Rattle.scq_files.specs.Exports.{StopsAtAFault, all_given, SourceOf}
+use Rattle.scq_files.specs.Exports.{StopsAtAFault, all_given, AreRead, SourceOf}
 use Rattle.scq_worker.specs.Exports.{IsToSweep, HasProduced, HasRun, takes_behind, parts_in, HasAnswered, IsAtWork, HasStopped, Seated}
 use Rattle.scq_worker.specs.Exports.{HasAnsweredAll}
 use Rattle.scq_passes.specs.Exports.{HasLeftSwept, HasSweptLast, IsReturn, HelpsInVain, Suits, HasTaken, HasLeft, after_retire}
 use Rattle.scq_files.specs.declared.own_file.OwnFile.{OwnFile}
 use Rattle.scq_worker.specs.declared.job.Job.{Job}
 use Rattle.scq_worker.specs.declared.worker.Worker.{Worker}
-use Rattle.scq_worker.proofs.RunLemmas.{AllRead, run-left, run-late, run-stopped}
-
--- no ticket is kept, or this one
-pub none-or : (o : Option ℕ) (ticket : ℕ) → o ≡ Some ticket → o ≡ None → ⊥
-none-or o ticket is none = absurd (cc)
+use Rattle.scq_desk.proofs.Passes.{none-or}
+use Rattle.scq_worker.proofs.RunLemmas.{run-left, run-late, run-stopped}
 
 module _ {B : Type 0} where
   -- a new pass took nothing in vain
@@ -33,7 +30,7 @@ module _ {B : Type 0} where
 module _ {B S : Type 0} (shared : Identity B) (topics : List (List ℕ × Kind)) (size most longest : ℕ) (src : SourceOf S) (files : List (OwnFile S)) where
   -- it has passed all on, and retired
   pub produced-awake : (p q : PassStanding B) (was is : List Answered) (before after : Bool) (kept : Option (HeldStanding B))
-      → AllRead topics longest src files → StopsAtAFault files → Suits shared (length topics) p
+      → AreRead topics longest src files → StopsAtAFault files → Suits shared (length topics) p
       → IsAtWork topics most (parts_in size (all_given files)) [] p was before
       → HelpsInVain (length topics + 1) (takes_behind most) p → q ≡ after_retire p → is ≡ was → after ≡ before → kept ≡ None
       → HasProduced shared topics size most longest src files q is after kept
@@ -55,7 +52,7 @@ module _ {B S : Type 0} (shared : Identity B) (topics : List (List ℕ × Kind))
 
   -- it met a ticket past the limit, and retired
   pub produced-stopped : (p q : PassStanding B) (is : List Answered) (after : Bool) (kept held : Option (HeldStanding B))
-      → AllRead topics longest src files → StopsAtAFault files → HasStopped shared (length (parts_in size (all_given files))) p held
+      → AreRead topics longest src files → StopsAtAFault files → HasStopped shared (length (parts_in size (all_given files))) p held
       → q ≡ after_retire p → kept ≡ held
       → HasProduced shared topics size most longest src files q is after kept
   produced-stopped p q is after kept held read stops end retired same =

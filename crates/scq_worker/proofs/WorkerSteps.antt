@@ -84,6 +84,15 @@ module _ {B : Type 0} where
         between = between-taken p q was.between h;
       }
 
+  -- there are no more calls than for more parts, and where it met Spent
+  pub few_calls-more : (late later few many : ℕ) (p : PassStanding B) → late ≤ later → few ≤ many → HasFewCalls late few p → HasFewCalls later many p
+  few_calls-more late later few many p more low was = record {
+    sends = let its = was.sends in omega arith;
+    fulls = let its = was.fulls in omega arith;
+    puts = λ topic. let its = was.puts topic in omega arith;
+    returns = let its = was.returns in omega arith;
+  }
+
   -- how much was begun
   pub few_calls-sent : (batches topic : ℕ) (b : List Part) (p q : PassStanding B) → HasFewCalls 0 batches p → HasSent topic b p q
       → HasFewCalls 0 (batches + 1) q

@@ -1,13 +1,13 @@
 -- What a worker's calls make of its pass and of its list.
 use Rattle.std.specs.Prelude.{◌≡◌, ℕ, ◌+◌, Bool, false, List, length, filter, flat_map, Option}
-use Rattle.std.specs.Prelude.{Some, None, IfSome}
 use Rattle.scq_topics.specs.declared.kind.Kind.{Kind}
 use Rattle.scq_frames.specs.Exports.{Part}
 use Rattle.scq_collect.specs.declared.answered.Answered.{Answered}
 use Rattle.scq_queue.specs.Exports.{sends_of, takes_of, PassStanding, HeldStanding}
 use Rattle.scq_band.specs.Exports.{Identity}
 use Rattle.scq_passes.specs.Exports.{HelpsOnceAfterEachFull, HelpsAfterEachFull, HasSentSo}
-use Rattle.scq_passes.specs.Exports.{IsBetweenParts, HasFewCalls, index_of}
+use Rattle.scq_passes.specs.Exports.{IsBetweenParts, HasFewCalls}
+use Rattle.scq_desk.specs.GoingOn as going
 use Rattle.scq_worker.specs.Members.{AnswersSoFar, AnswersItsFulls, is_taken, is_direct}
 use Rattle.scq_worker.specs.Opening.{PartsAreGathered}
 use Rattle.scq_worker.specs.Passing.{AreBatchesOf, BatchesArePassedOn, FollowsCalls, Sends}
@@ -73,11 +73,5 @@ module _ {B : Type 0} where
 
   -- a worker that met Spent while it read its files, after at most so many parts, the last one
   -- included: its pass, and the value that it keeps
-  pub record HasStopped (shared : Identity B) (parts : ℕ) (p : PassStanding B)
-      (kept : Option (HeldStanding B)) : Type 0 where
-    pub spent : (ticket : ℕ) × (p.spent ≡ Some ticket)
-    pub few_calls : HasFewCalls 1 parts p
-    pub queue : p.queue ≡ shared
-    pub stays : p.retired ≡ None
-    pub held : p.held ≡ index_of kept
-    pub its : IfSome kept (λ h. h.queue ≡ shared)
+  abbrev pub HasStopped : Identity B → ℕ → PassStanding B → Option (HeldStanding B) → Type 0
+  HasStopped shared parts p kept = going.HasStopped (HasFewCalls 1 parts) shared p kept

@@ -1,8 +1,7 @@
 //! What a worker does at its desk: all that one thread does.
 ghost use Rattle.std.specs.Prelude.{◌≡◌, ◌≤◌, ◌+◌, [], length, None, IfErr, OnOk, All};
 ghost use Rattle.scq_block.specs.Exports.{bytes_of};
-ghost use Rattle.scq_files.specs.Exports.{given_in, IsNew, StopsAtAFault, ids_of, all_given};
-ghost use Rattle.scq_files.specs.Exports.{IsRead};
+ghost use Rattle.scq_files.specs.Exports.{IsNew, ids_of, all_given, WereRead};
 ghost use Rattle.scq_worker.specs.Bells.{HasRung};
 ghost use Rattle.scq_worker.specs.Opening.{NoneIsOpen};
 ghost use Rattle.scq_worker.specs.Passing.{parts_in};
@@ -73,10 +72,8 @@ fn pass_all_on<S: Source, G: Gate, T, W: Bell<T>>(
     requires fresh { IsToBegin queue.now desk.old.worker }
     requires unread { All IsNew desk.old.files.items }
     requires bell { W.fits bell.now (W.kept stand.old) job.now.workers }
-    ensures same { ids_of desk.new.files.items ≡ ids_of desk.old.files.items }
-    ensures read { All (λ f. IsRead job.now.topics job.now.longest S.Source f.number f.was.value
-        f.source (given_in f.given.value) f.end) desk.new.files.items }
-    ensures stops { StopsAtAFault desk.new.files.items }
+    ensures files { WereRead job.now.topics job.now.longest S.Source desk.old.files.items
+        desk.new.files.items }
     ensures gathered { OnOk result (HasGathered queue.now job.now
         (parts_in job.now.size (all_given desk.new.files.items)) desk.old.worker.worker
         desk.new.worker.worker (W.wakes stand.old) (W.wakes stand.new)) }

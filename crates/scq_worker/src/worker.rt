@@ -1,12 +1,13 @@
 ghost use Rattle.std.specs.Prelude.{◌≡◌, ◌≤◌, ◌<◌, ◌+◌, ◌++◌, ◌∷◌, ◌==◌, ℕ, suc, List, true, false};
 ghost use Rattle.std.specs.Prelude.{[], length, filter, count_by, Some, None, Ok, if◌then◌else◌};
-ghost use Rattle.std.specs.Prelude.{IfOk, IfErr, IfSome, IsSome, OnOk, map, All};
+ghost use Rattle.std.specs.Prelude.{IfOk, IfErr, OnOk, map, All};
 ghost use Rattle.scq_collect.specs.Exports.{text_of_part};
 ghost use Rattle.scq_frames.specs.Exports.{parts_at, part_of_view};
-ghost use Rattle.scq_queue.specs.Exports.{Placed, IsHeldBy, after_put, after_spent_put};
+ghost use Rattle.scq_queue.specs.Exports.{Placed, IsHeldBy, after_put};
 ghost use Rattle.scq_queue.specs.Exports.{having_seen};
 ghost use Rattle.scq_passes.specs.Exports.{is_take, HasOnlyCalled, TookNothing, HasEmptied};
 ghost use Rattle.scq_passes.specs.Exports.{HasTakenFrom, TookInVain, Suits, HasTaken, HasLeft};
+ghost use Rattle.scq_desk.specs.Exports.{CameBack};
 ghost use Rattle.scq_worker.specs.Members.{answered, answers_by, numbered_way};
 ghost use Rattle.scq_worker.specs.Members.{is_taken, is_direct, AnswersSoFar, CarriesParts};
 ghost use Rattle.scq_worker.specs.Loads.{parts_of_load, IsLoad};
@@ -283,12 +284,8 @@ impl<B: BufferMut> Worker<B> {
             (suc topic) held.index place bytes self.old.pass))
             × Sends (parts_of_load job.now.size load.entry)
             (record { topic = topic; place = place; bytes = bytes })) }
-        ensures spent { IfErr result (λ l.
-            (ticket : ℕ) × (self.new.pass ≡ having_seen self.new.pass.seen (after_spent_put
-            (suc topic) ticket self.old.pass))) }
         ensures back { IfErr result (λ l.
-            IfSome l.held (λ h. (h.index ≡ held.index) × (h.queue ≡ held.queue))) }
-        ensures kept { IfErr result (λ l. IsSome l.held) }
+            CameBack (suc topic) held self.old.pass self.new.pass l.held) }
         ensures same { (self.new.members ≡ self.old.members)
             × (self.new.starved ≡ self.old.starved) × (self.new.number ≡ self.old.number)
             × (self.new.opens ≡ self.old.opens) }

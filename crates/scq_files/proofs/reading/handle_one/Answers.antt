@@ -1,14 +1,12 @@
-use Rattle.std.proofs.Common.{rules, ◌≡◌, sym, subst, [], ◌∷◌, Err, Result}
-use Rattle.std.specs.Prelude.{IfErr}
+use Rattle.std.proofs.Common.{rules, ◌≡◌, [], ◌∷◌}
+use Rattle.scq_files.proofs.Results.{err-of}
 use Rattle.scq_files.proofs.reading.handle_one.Goals as goal
 use Rattle.scq_files.proofs.reading.handle_one.Goals.{then-may_wait+in_ok-pause, else-may_wait}
 
 pub returns-in_err-pause-clause-stopped : goal.returns-in_err-pause-clause-stopped
 returns-in_err-pause-clause-stopped g c =
     let stop = c.in_err-pause.field-0.0 in
-    let is : c.from_residual-in_err-pause.result ≡ Err stop = search rules in
-    subst (λ (r : Result _ _). IfErr r (g.H.Handler.stopped c.args.with.now (c.args.message.now ∷ []) c.args.beside.now c.args.handler.now
-    c.pause.new.beside c.pause.new.self)) (sym is)
+    err-of _ c.from_residual-in_err-pause.result stop (search rules)
     (g.met.H.Handler.then_stopped c.args.with.now (c.args.message.now ∷ []) [] _ _ _ _ _ _ stop c.in_ok-handle.ensures.handled
     c.in_err-pause.ensures.stopped)
 

@@ -1,8 +1,8 @@
-use Rattle.std.proofs.Common.{rules, ◌≡◌, ◌<◌, ◌-◌, ◌∙◌, sym, ap, subst, arith, refl, inl, inr, ◌++◌, ℕ, List, length, set, true, false, get_or-set_same, get_or-set_other, Err, Result}
-use Rattle.std.specs.Prelude.{IfErr, All, slice_index_or}
+use Rattle.std.proofs.Common.{rules, ◌≡◌, ◌<◌, ◌-◌, ◌∙◌, sym, ap, subst, arith, refl, inl, inr, ◌++◌, ℕ, List, length, set, true, false, get_or-set_same, get_or-set_other}
+use Rattle.std.specs.Prelude.{slice_index_or}
 use Rattle.std.proofs.lemmas.Bool.{cases_Bool, cases_lt, true≢false}
 use Rattle.std.proofs.lemmas.List.{length-set}
-use Rattle.scq_files.specs.Exports.{IsNew, StopsAtAFault, ids_of, all_given, given_in, TellsOfWant, WantsAtLast, IsRead}
+use Rattle.scq_files.specs.Exports.{IsNew, StopsAtAFault, ids_of, all_given, given_in, TellsOfWant, WantsAtLast, AreRead, IsRead}
 use Rattle.scq_frames.specs.declared.fault.FrameFault.TheVariants.{NoMemory}
 use Rattle.scq_files.specs.declared.own_file.FileEnd.TheVariants.{Stopped}
 use Rattle.scq_files.specs.declared.own_file.OwnFile.{OwnFile}
@@ -10,6 +10,7 @@ use Rattle.scq_files.proofs.FileLists.{given-set, ids-set, given-none}
 use Rattle.scq_files.proofs.Lists.{set-each}
 use Rattle.scq_files.proofs.ReadLemmas.{reading-unread}
 use Rattle.scq_files.proofs.Wants.{wants-none, wants-behind}
+use Rattle.scq_files.proofs.Results.{err-of}
 use Rattle.scq_files.proofs.reading.read_files.Goals as goal
 use Rattle.scq_files.proofs.reading.read_files.Goals.{After-read_file}
 
@@ -23,8 +24,7 @@ same-after g c =
 
 -- what is known of each file is what was read of it
 read-after : (g : _) (c : After-read_file g)
-    → All (λ f. IsRead c.args.topics.now c.args.longest g.S.Source f.number f.was.value f.source
-    (given_in f.given.value) f.end) (set c.files.files (c.files.at - 1) c.read_file.new.file)
+    → AreRead c.args.topics.now c.args.longest g.S.Source (set c.files.files (c.files.at - 1) c.read_file.new.file)
 read-after g c k d less =
     let at = c.files.at - 1 in
     let inv = c.files.invariant in
@@ -116,40 +116,35 @@ files-init g c = record {
   fed = λ fed. fed;
 }
 
-pub returns-in_err-read_file-clause-same : goal.returns-in_err-read_file-clause-same
-returns-in_err-read_file-clause-same g c = same-after g (goal.at.returns-in_err-read_file-clause-same g c).After-read_file
-
-pub returns-in_err-read_file-clause-read : goal.returns-in_err-read_file-clause-read
-returns-in_err-read_file-clause-read g c = read-after g (goal.at.returns-in_err-read_file-clause-read g c).After-read_file
-
-pub returns-in_err-read_file-clause-stops : goal.returns-in_err-read_file-clause-stops
-returns-in_err-read_file-clause-stops g c = stops-after g (goal.at.returns-in_err-read_file-clause-stops g c).After-read_file
-
-pub returns-in_err-read_file-clause-stopped : goal.returns-in_err-read_file-clause-stopped
-returns-in_err-read_file-clause-stopped g c =
-    let files = set c.files.files (c.files.at - 1) c.read_file.new.file in
+pub returns-in_err-read_file : goal.returns-in_err-read_file
+returns-in_err-read_file g c =
+    let at = (goal.at.returns-in_err-read_file g c).After-read_file in
     let stop = c.in_err-read_file.field-0.0 in
-    let is : c.from_residual.result ≡ Err stop = search rules in
-    let all = given-after g (goal.at.returns-in_err-read_file-clause-stopped g c).After-read_file in
     let Stopped-after : List _ → Type 0 =
     λ ms. g.H.Handler.stopped c.args.with.now ms c.args.beside.now c.args.handler.now c.read_file.new.beside c.read_file.new.handler stop in
-    subst (λ (r : Result _ _). IfErr r (g.H.Handler.stopped c.args.with.now (all_given files) c.args.beside.now c.args.handler.now
-    c.read_file.new.beside c.read_file.new.handler)) (sym is)
-    (subst Stopped-after (sym all)
-    (g.met.H.Handler.then_stopped _ _ _ _ _ _ _ _ _ stop c.files.invariant.handled c.in_err-read_file.ensures.stopped))
+    record {
+      same = same-after g at;
+      read = read-after g at;
+      stops = stops-after g at;
+      handled = search rules;
+      stopped = err-of _ c.from_residual.result stop (search rules) (subst Stopped-after (sym (given-after g at))
+          (g.met.H.Handler.then_stopped _ _ _ _ _ _ _ _ _ stop c.files.invariant.handled c.in_err-read_file.ensures.stopped));
+      wanted = wants-after g at;
+      told = told-after g at;
+    }
 
-pub returns-in-Stopped-clause-same : goal.returns-in-Stopped-clause-same
-returns-in-Stopped-clause-same g c = same-after g (goal.at.returns-in-Stopped-clause-same g c).After-read_file
-
-pub returns-in-Stopped-clause-read : goal.returns-in-Stopped-clause-read
-returns-in-Stopped-clause-read g c = read-after g (goal.at.returns-in-Stopped-clause-read g c).After-read_file
-
-pub returns-in-Stopped-clause-stops : goal.returns-in-Stopped-clause-stops
-returns-in-Stopped-clause-stops g c = stops-after g (goal.at.returns-in-Stopped-clause-stops g c).After-read_file
-
-pub returns-in-Stopped-clause-handled : goal.returns-in-Stopped-clause-handled
-returns-in-Stopped-clause-handled g c =
-    handled-after g (goal.at.returns-in-Stopped-clause-handled g c).After-read_file c.in_ok-read_file.ensures.handled
+pub returns-in-Stopped : goal.returns-in-Stopped
+returns-in-Stopped g c =
+    let at = (goal.at.returns-in-Stopped g c).After-read_file in
+    record {
+      same = same-after g at;
+      read = read-after g at;
+      stops = stops-after g at;
+      handled = handled-after g at c.in_ok-read_file.ensures.handled;
+      stopped = search rules;
+      wanted = wants-after g at;
+      told = told-after g at;
+    }
 
 pub returns-clause-stops : goal.returns-clause-stops
 returns-clause-stops g c at before d fault less is low =
@@ -188,18 +183,6 @@ files-preserved g c =
       fed = λ fed. fed-after g (goal.at.files-preserved g c).After-read_file (inv.fed fed) (λ stopped. c.in_default.not-Stopped NoMemory
           (ap (λ (f : OwnFile _). f.end) (get_or-set_same c.files.files at c.read_file.new.file _ within) ∙ stopped));
     }
-
-pub returns-in_err-read_file-clause-wanted : goal.returns-in_err-read_file-clause-wanted
-returns-in_err-read_file-clause-wanted g c = wants-after g (goal.at.returns-in_err-read_file-clause-wanted g c).After-read_file
-
-pub returns-in_err-read_file-clause-told : goal.returns-in_err-read_file-clause-told
-returns-in_err-read_file-clause-told g c = told-after g (goal.at.returns-in_err-read_file-clause-told g c).After-read_file
-
-pub returns-in-Stopped-clause-wanted : goal.returns-in-Stopped-clause-wanted
-returns-in-Stopped-clause-wanted g c = wants-after g (goal.at.returns-in-Stopped-clause-wanted g c).After-read_file
-
-pub returns-in-Stopped-clause-told : goal.returns-in-Stopped-clause-told
-returns-in-Stopped-clause-told g c = told-after g (goal.at.returns-in-Stopped-clause-told g c).After-read_file
 
 pub returns-clause-wanted : goal.returns-clause-wanted
 returns-clause-wanted g c fed = wants-none _ _ _ _ _ c.files.invariant.handled (c.files.invariant.fed fed)

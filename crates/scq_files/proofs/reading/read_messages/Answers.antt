@@ -1,5 +1,5 @@
-use Rattle.std.proofs.Common.{rules, ◌≡◌, ◌^◌, ◌∙◌, ap, sym, subst, ◌++◌, ◌∷◌, [], List, length, Some, None, Ok, Err, Result, Option}
-use Rattle.std.specs.Prelude.{IfErr, IfNone, IfSome, IsTrue}
+use Rattle.std.proofs.Common.{rules, ◌≡◌, ◌^◌, ◌∙◌, ap, sym, subst, ◌++◌, ◌∷◌, [], List, length, Some, None, Ok, Err, Option}
+use Rattle.std.specs.Prelude.{IfNone, IfSome, IsTrue}
 use Rattle.std.specs.Option.{option_map, option_to_list}
 use Rattle.scq_topics.specs.Exports.{topic_of}
 use Rattle.scq_frames.specs.Exports.{Found, IsNext, fresh, visible_ahead}
@@ -12,6 +12,7 @@ use Rattle.scq_files.proofs.ReadLemmas.{FileIsBeingRead, Answers, reading-first,
 use Rattle.scq_files.proofs.Wants.{wants-none, wants-more}
 use Rattle.scq_files.proofs.reading.read_messages.Goals as goal
 use Rattle.scq_files.proofs.reading.read_messages.Goals.{After-next, After-handle_one}
+use Rattle.scq_files.proofs.Results.{err-of}
 
 -- what the framer's answer says, whichever it is
 said : (g : _) (c : After-next g) → Answers g.S.Source c.messages.source c.next.new.source c.messages.framer c.next.new.self
@@ -65,18 +66,14 @@ pub returns-in_err-handle_one-in-Ok-Some-clause-unended : goal.returns-in_err-ha
 returns-in_err-handle_one-in-Ok-Some-clause-unended g c =
     let now = reading g (goal.at.returns-in_err-handle_one-in-Ok-Some-clause-unended g c).After-handle_one
     (said g (goal.at.returns-in_err-handle_one-in-Ok-Some-clause-unended g c).After-next) in
-    let is : c.from_residual.result ≡ Err c.in_err-handle_one-in-Ok-Some.field-0.0 = search rules in
-    subst (λ (r : Result _ _). IfErr r (λ l. IsRead c.args.topics.now c.args.longest g.S.Source c.args.file
-    c.args.source.now c.next.new.source (given_in c.give.new.given.value) (Stopped NoMemory))) (sym is)
+    err-of _ c.from_residual.result c.in_err-handle_one-in-Ok-Some.field-0.0 (search rules)
     (reading-left c.args.topics.now c.args.longest g.S.Source c.args.file c.args.source.now
     c.next.new.source c.next.new.self (given_in c.give.new.given.value) now)
 
 pub returns-in_err-handle_one-in-Ok-Some-clause-stopped : goal.returns-in_err-handle_one-in-Ok-Some-clause-stopped
 returns-in_err-handle_one-in-Ok-Some-clause-stopped g c =
     let stop = c.in_err-handle_one-in-Ok-Some.field-0.0 in
-    let is : c.from_residual.result ≡ Err stop = search rules in
-    subst (λ (r : Result _ _). IfErr r (g.H.Handler.stopped c.args.with.now (given_in c.give.new.given.value) c.args.beside.now c.args.handler.now
-    c.handle_one.new.beside c.handle_one.new.handler)) (sym is)
+    err-of _ c.from_residual.result stop (search rules)
     (subst (λ (ms : List _). g.H.Handler.stopped c.args.with.now ms c.args.beside.now c.args.handler.now c.handle_one.new.beside c.handle_one.new.handler stop)
     (sym c.give.ensures)
     (g.met.H.Handler.then_stopped _ _ _ _ _ _ _ _ _ stop c.messages.invariant.handled c.in_err-handle_one-in-Ok-Some.ensures.stopped))

@@ -7,12 +7,13 @@ use Rattle.atomic_table.specs.Seated.{TableId}
 use Rattle.scq_block.specs.declared.frame.Frame.{Frame}
 use Rattle.scq_park.specs.Exports.{Post, AreAll, first_posts}
 use Rattle.scq_park.proofs.Firsts.{firsts_all}
-use Rattle.scq_worker.specs.Exports.{takes_behind, Seated, HasRun}
+use Rattle.scq_worker.specs.Exports.{takes_behind, Seated, HasRunAt}
 use Rattle.scq_rest.specs.Exports.{AreSettled, task, IsGiven, HasDone}
 use Rattle.scq_files.specs.declared.desk.Desk.{Desk}
 use Rattle.scq_rest.specs.declared.threads.Work.{Work}
-use Rattle.scq_rest.proofs.Settling.{zip-length, desk_of, stand_of, IsFirst, firsts-new, all-given, desks-same, each-done, settled}
+use Rattle.scq_rest.proofs.Settling.{zip-length, desk_of, stand_of, IsFirst, firsts-new, all-given, AreStill, desks-same, each-done, settled}
 use Rattle.scq_rest.proofs.resting.run_resting.Goals as goal
+use Rattle.scq_rest.proofs.resting.run_resting.Goals.{After-take_apart}
 
 -- the stands of a new crew are all of it
 all-of : (crew : List TableId) (workers : ℕ) (stands : List Post) → stands ≡ first_posts crew workers → length crew ≡ workers → AreAll crew stands
@@ -84,21 +85,20 @@ returns-clause-count g c =
     ap length c.take_apart.ensures.desks ∙ length-map ys desk_of ∙ zip-length (HasDone t) xs ys z ∙ sym (length-map xs desk_of)
     ∙ sym (ap length c.pair-first.ensures.desks)
 
-pub returns-clause-same : goal.returns-clause-same
-returns-clause-same g c w d less =
+-- each desk has its files and its worker's number still
+still-at : (g : _) (c : After-take_apart g) → AreStill c.args.desks.items c.take_apart.new.desks.items
+still-at g c =
     let t = task c.args.queue.now c.args.job.now c.args.crew.now g.S.Source in
     let x = c.pair-first.result in
     let y = c.run_all-first.result.0 in
-    (desks-same t (x ∷ c.pair-first.new.given.items) (y ∷ c.run_all-first.result.1.items) x y c.args.desks.items c.take_apart.new.desks.items
-    c.run_all-first.ensures c.pair-first.ensures.desks c.take_apart.ensures.desks w d less).0
+    desks-same t (x ∷ c.pair-first.new.given.items) (y ∷ c.run_all-first.result.1.items) x y c.args.desks.items c.take_apart.new.desks.items
+    c.run_all-first.ensures c.pair-first.ensures.desks c.take_apart.ensures.desks
+
+pub returns-clause-same : goal.returns-clause-same
+returns-clause-same g c w d less = (still-at g (goal.at.returns-clause-same g c).After-take_apart w d less).0
 
 pub returns-clause-numbers : goal.returns-clause-numbers
-returns-clause-numbers g c w d less =
-    let t = task c.args.queue.now c.args.job.now c.args.crew.now g.S.Source in
-    let x = c.pair-first.result in
-    let y = c.run_all-first.result.0 in
-    (desks-same t (x ∷ c.pair-first.new.given.items) (y ∷ c.run_all-first.result.1.items) x y c.args.desks.items c.take_apart.new.desks.items
-    c.run_all-first.ensures c.pair-first.ensures.desks c.take_apart.ensures.desks w d less).1
+returns-clause-numbers g c w d less = (still-at g (goal.at.returns-clause-numbers g c).After-take_apart w d less).1
 
 pub returns-clause-run : goal.returns-clause-run
 returns-clause-run g c =
@@ -107,8 +107,7 @@ returns-clause-run g c =
     let t = task c.args.queue.now job c.args.crew.now g.S.Source in
     let xs = c.pair-first.result ∷ c.pair-first.new.given.items in
     let ys = c.run_all-first.result.0 ∷ c.run_all-first.result.1.items in
-    let P : Desk (Seated Frame) S → Type 0 = λ d. HasRun c.args.queue.now job.topics job.size job.most job.longest g.S.Source
-    d.files.items d.worker.worker.pass d.worker.worker.members d.worker.worker.starved d.worker.kept in
+    let P : Desk (Seated Frame) S → Type 0 = HasRunAt c.args.queue.now job g.S.Source in
     subst (All P) (sym c.take_apart.ensures.desks)
     (All-map P desk_of ys (each-done t (λ (w : Work S). P w.desk) xs ys c.run_all-first.ensures (λ x y done. done.run)))
 

@@ -1,13 +1,13 @@
-use Rattle.std.proofs.Common.{rules, ◌≡◌, ◌+◌, ◌∙◌, ap, sym, subst, arith, refl, true, length, Ok, Some}
-use Rattle.std.specs.Prelude.{IfErr, Result, Err}
+use Rattle.std.proofs.Common.{rules, ◌≡◌, ◌≤◌, ◌+◌, ◌∙◌, ap, sym, subst, arith, refl, true, ℕ, length, Ok, Some}
 use Rattle.std.proofs.lemmas.Bool.{eqb-true}
 use Rattle.scq_park.specs.Exports.{Post}
 use Rattle.scq_queue.specs.Exports.{takes_of, PassStanding}
-use Rattle.scq_passes.specs.Exports.{IsSweep, no_sweep, and_some, and_idle, HasTakenFollowed}
+use Rattle.scq_passes.specs.Exports.{SweepsInVain, IsSweep, no_sweep, and_some, and_idle, HasTakenFollowed}
 use Rattle.scq_passes.proofs.PassLemmas.{suits-taken, taken-nothing, taken-along, looked}
 use Rattle.scq_passes.proofs.Sweeps.{sweep-of, some-left, took-nothing, took-some}
 use Rattle.scq_passes.proofs.Vain.{vain-swept, sends-rise, takes-rise}
 use Rattle.scq_rest.specs.Exports.{idle_sweeps}
+use Rattle.scq_files.proofs.Results.{err-of}
 use Rattle.scq_rest.proofs.sweeping.sweep_and_rest.Goals as goal
 use Rattle.scq_rest.proofs.sweeping.sweep_and_rest.Goals.{After-closed-over, In_ok-some}
 
@@ -27,6 +27,23 @@ swept-once g c =
     let its = c.in_ok-some.ensures in
     sweep-of c.args.topics said.0 (pass c.sweeps.taker) (pass c.closed-over.new.self) (pass c.sweep.new.taker) said.1
     c.closed-over.ensures.in_run its.taken its.only its.emptied
+
+-- what it took and how often it rested pay for what it took in vain
+paid-at : (g : _) (c : In_ok-some g) (behind last rests : ℕ)
+    → c.sweeps.stand.rests + length (takes_of (g.T.Taker.pass c.closed-over.new.self).calls) + 1
+    ≤ last + rests + length (takes_of (g.T.Taker.pass c.sweep.new.taker).calls)
+    → SweepsInVain c.args.topics behind 0 c.sweeps.stand.rests (g.T.Taker.pass c.sweeps.taker)
+    → SweepsInVain c.args.topics behind last rests (g.T.Taker.pass c.sweep.new.taker)
+paid-at g c behind last rests paid was =
+    let pass = g.T.Taker.pass in
+    let asks = pass c.closed-over.new.self in
+    let is = c.closed-over.ensures.looked.1 in
+    let calls = ap (λ (x : PassStanding _). x.calls) is in
+    let same = ap (λ l. length (takes_of l)) calls in
+    let its = c.in_ok-some.ensures in
+    vain-swept c.args.topics behind 0 c.sweeps.stand.rests last rests (pass c.sweeps.taker) asks (pass c.sweep.new.taker) calls
+    (ap (λ (x : PassStanding _). x.fulls) is) (ap (λ (x : PassStanding _). x.fulls) its.taken.pass) its.emptied.vain (sends-rise asks _ its.taken)
+    (omega (arith, paid, same)) was
 
 pub sweeps-init : goal.sweeps-init
 sweeps-init g c =
@@ -53,8 +70,7 @@ sweep-requires-clause-suits g c κs within =
 pub returns-in_err-some-clause-left : goal.returns-in_err-some-clause-left
 returns-in_err-some-clause-left g c =
     let at = (goal.at.returns-in_err-some-clause-left g c).After-closed-over in
-    let is : c.from_residual.result ≡ Err c.in_err-some.field-0.0 = search rules in
-    subst (λ (r : Result _ _). IfErr r (λ l. g.T.Taker.left c.args.with.now c.args.taker.now c.sweep.new.taker l.held)) (sym is)
+    err-of _ c.from_residual.result c.in_err-some.field-0.0 (search rules)
     (g.met.T.Taker.left_along _ _ _ _ _ (asked g at) (made-asked g at) c.in_err-some.ensures.left)
 
 pub returns-then-over-clause-taken : goal.returns-then-over-clause-taken
@@ -95,17 +111,8 @@ returns-then-over-clause-told g c =
 
 pub returns-then-over-clause-vain : goal.returns-then-over-clause-vain
 returns-then-over-clause-vain g c behind was =
-    let pass = g.T.Taker.pass in
-    let at = pass c.sweeps.taker in
-    let asks = pass c.closed-over.new.self in
-    let now = pass c.sweep.new.taker in
-    let said = c.closed-over.ensures.looked in
-    let calls = ap (λ (x : PassStanding _). x.calls) said.1 in
-    let its = c.in_ok-some.ensures in
-    let rise = takes-rise asks now its.taken in
-    let same = ap (λ l. length (takes_of l)) calls in
-    vain-swept c.args.topics behind 0 c.sweeps.stand.rests 1 c.sweeps.stand.rests at asks now calls (ap (λ (x : PassStanding _). x.fulls) said.1)
-    (ap (λ (x : PassStanding _). x.fulls) its.taken.pass) its.emptied.vain (sends-rise asks now its.taken) (omega (arith, rise, same)) (c.sweeps.invariant.vain behind was)
+    let rise = takes-rise (g.T.Taker.pass c.closed-over.new.self) (g.T.Taker.pass c.sweep.new.taker) c.in_ok-some.ensures.taken in
+    paid-at g (goal.at.returns-then-over-clause-vain g c).In_ok-some behind 1 c.sweeps.stand.rests (omega (arith, rise)) (c.sweeps.invariant.vain behind was)
 
 -- it took nothing, and rested
 pub sweeps-preserved-then-not-some : goal.sweeps-preserved-then-not-some
@@ -116,23 +123,20 @@ sweeps-preserved-then-not-some g c =
     let now = pass c.sweep.new.taker in
     let inv = c.sweeps.invariant in
     let said = c.closed-over.ensures.looked in
-    let calls = ap (λ (x : PassStanding _). x.calls) said.1 in
     let its = c.in_ok-some.ensures in
     let rise = takes-rise asks now its.taken in
-    let same = ap (λ l. length (takes_of l)) calls in
     let rested = ap (λ (s : Post). s.rests) c.rest.ensures in
     let at_look = (goal.at.sweeps-preserved-then-not-some g c).After-closed-over in
+    let at_some = (goal.at.sweeps-preserved-then-not-some g c).In_ok-some in
     record {
       next = tt;
       finite = tt;
       taken = taken-along _ _ _ (asked g at_look) its.taken;
       made = g.met.T.Taker.made_along _ _ _ _ (asked g at_look) its.taken (made-asked g at_look) its.made;
-      vain = λ behind was. vain-swept c.args.topics behind 0 c.sweeps.stand.rests 0 c.rest.new.stand.rests at asks now calls (ap (λ (x : PassStanding _). x.fulls) said.1)
-          (ap (λ (x : PassStanding _). x.fulls) its.taken.pass) its.emptied.vain (sends-rise asks now its.taken) (omega (arith, rise, same, rested)) (inv.vain behind was);
+      vain = λ behind was. paid-at g at_some behind 0 c.rest.new.stand.rests (omega (arith, rise, rested)) (inv.vain behind was);
       sweeps = (
         inv.sweeps.0 + 1,
-        and_idle said.0 inv.sweeps.1 (swept-once g (goal.at.sweeps-preserved-then-not-some g c).In_ok-some)
-            (some-left said.0 (sym said.2 ∙ c.if-over.false))
+        and_idle said.0 inv.sweeps.1 (swept-once g at_some) (some-left said.0 (sym said.2 ∙ c.if-over.false))
             (took-nothing said.0 at asks now said.1 (its.nothing (ap Ok c.if-not-some.true))) tt,
         omega (arith, rested, inv.sweeps.2),
       );
@@ -150,23 +154,20 @@ sweeps-preserved g c =
     let now = pass c.sweep.new.taker in
     let inv = c.sweeps.invariant in
     let said = c.closed-over.ensures.looked in
-    let calls = ap (λ (x : PassStanding _). x.calls) said.1 in
     let its = c.in_ok-some.ensures in
     let full : c.in_ok-some.some ≡ true = c.if-not-some.false in
     let more = its.more (ap Ok full) in
-    let same = ap (λ l. length (takes_of l)) calls in
     let at_look = (goal.at.sweeps-preserved g c).After-closed-over in
+    let at_some = (goal.at.sweeps-preserved g c).In_ok-some in
     record {
       next = tt;
       finite = tt;
       taken = taken-along _ _ _ (asked g at_look) its.taken;
       made = g.met.T.Taker.made_along _ _ _ _ (asked g at_look) its.taken (made-asked g at_look) its.made;
-      vain = λ behind was. vain-swept c.args.topics behind 0 c.sweeps.stand.rests 0 c.sweeps.stand.rests at asks now calls (ap (λ (x : PassStanding _). x.fulls) said.1)
-          (ap (λ (x : PassStanding _). x.fulls) its.taken.pass) its.emptied.vain (sends-rise asks now its.taken) (omega (arith, more, same)) (inv.vain behind was);
+      vain = λ behind was. paid-at g at_some behind 0 c.sweeps.stand.rests (omega (arith, more)) (inv.vain behind was);
       sweeps = (
         0,
-        and_some said.0 inv.sweeps.1 (swept-once g (goal.at.sweeps-preserved g c).In_ok-some)
-            (some-left said.0 (sym said.2 ∙ c.if-over.false)) (took-some said.0 at asks now said.1 more),
+        and_some said.0 inv.sweeps.1 (swept-once g at_some) (some-left said.0 (sym said.2 ∙ c.if-over.false)) (took-some said.0 at asks now said.1 more),
         inv.sweeps.2,
       );
       crew = inv.crew;

@@ -5,6 +5,7 @@ use Rattle.scq_service.specs.declared.fault.Fault.{Fault}
 use Rattle.scq_outside.specs.Exports.{Rose}
 use Rattle.scq_service.specs.Exports.{workers_report, reported, written_with, WrotePart}
 use Rattle.scq_service.proofs.worker_report.report_run.Goals as goal
+use Rattle.scq_service.proofs.worker_report.report_run.Goals.{After-report_workers}
 
 either : {X E : Type 0} (r : Result X E) (P Q : Type 0) → OnOk r P → OnErr r Q → Q ⊎ P
 either (Ok x) P Q whole rose = inr whole
@@ -16,22 +17,21 @@ lines : (asks : Bool) (fault : Option Fault) (worked : Option Worked) (w : Worke
 lines asks fault worked w none some yes_ =
     ap (λ f. reported asks f worked) none ∙ ap (λ o. reported asks None o) some ∙ ap (λ b. reported b None (Some w)) yes_
 
+-- what was asked to be reported is what the workers' lines say
+text-at : (g : _) (c : After-report_workers g)
+    → workers_report c.as_slice.result.now c.as_slice-lists.result.now ≡ reported c.args.asks c.args.fault.now c.args.worked.now
+text-at g c =
+    (λ i. workers_report (c.as_slice.ensures.value i) (c.as_slice-lists.ensures.value i))
+    ∙ sym (lines c.args.asks c.args.fault.now c.args.worked.now c.in-Some-worked.worked c.in_default.is c.in-Some-worked.is c.if-asks.true)
+
 pub returns-then-asks-clause-reported : goal.returns-then-asks-clause-reported
 returns-then-asks-clause-reported g c =
-    let is = lines c.args.asks c.args.fault.now c.args.worked.now c.in-Some-worked.worked c.in_default.is c.in-Some-worked.is c.if-asks.true in
-    let same : workers_report c.as_slice.result.now c.as_slice-lists.result.now
-    ≡ workers_report c.in-Some-worked.worked.counts.items c.in-Some-worked.worked.answered.items =
-    λ i. workers_report (c.as_slice.ensures.value i) (c.as_slice-lists.ensures.value i) in
-    let text = same ∙ sym is in
     subst (λ (t : List ℕ). Rose (g.K.Sink.faults c.args.sink.now) (g.K.Sink.faults c.report_workers.new.sink)
-    ⊎ (g.K.Sink.written c.report_workers.new.sink ≡ written_with (g.K.Sink.written c.args.sink.now) t)) text
+    ⊎ (g.K.Sink.written c.report_workers.new.sink ≡ written_with (g.K.Sink.written c.args.sink.now) t))
+    (text-at g (goal.at.returns-then-asks-clause-reported g c).After-report_workers)
     (either c.report_workers.result _ _ c.report_workers.ensures.whole c.report_workers.ensures.rose)
 
 pub returns-then-asks-clause-front : goal.returns-then-asks-clause-front
 returns-then-asks-clause-front g c =
-    let is = lines c.args.asks c.args.fault.now c.args.worked.now c.in-Some-worked.worked c.in_default.is c.in-Some-worked.is c.if-asks.true in
-    let same : workers_report c.as_slice.result.now c.as_slice-lists.result.now
-    ≡ workers_report c.in-Some-worked.worked.counts.items c.in-Some-worked.worked.answered.items =
-    λ i. workers_report (c.as_slice.ensures.value i) (c.as_slice-lists.ensures.value i) in
-    let text = same ∙ sym is in
-    subst (λ (t : List ℕ). WrotePart (g.K.Sink.written c.args.sink.now) (g.K.Sink.written c.report_workers.new.sink) t) text c.report_workers.ensures.part
+    subst (λ (t : List ℕ). WrotePart (g.K.Sink.written c.args.sink.now) (g.K.Sink.written c.report_workers.new.sink) t)
+    (text-at g (goal.at.returns-then-asks-clause-front g c).After-report_workers) c.report_workers.ensures.part

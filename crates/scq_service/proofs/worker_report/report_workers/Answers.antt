@@ -1,27 +1,28 @@
-use Rattle.std.proofs.Common.{◌≡◌, ◌∙◌, ℕ, ◌+◌, ◌<◌, List, ◌++◌, append_assoc, arith, ap, sym, subst, codes, length, get_or, Option, Result, Ok, Err}
-use Rattle.std.specs.Prelude.{OnOk, sum_by}
+use Rattle.std.proofs.Common.{◌≡◌, ◌∙◌, ℕ, ◌+◌, ◌<◌, List, ◌++◌, append_assoc, arith, ap, sym, subst, codes, length, get_or, Option}
+use Rattle.std.specs.Prelude.{sum_by}
 use Rattle.std.specs.List.{zip}
 use Rattle.std.proofs.lemmas.Slice.Zip.{get_or-zip, length-zip}
 use Rattle.scq_collect.specs.declared.answered.Answered.{Answered}
 use Rattle.scq_queue.specs.declared.counts.Counts.{Counts}
+use Rattle.scq_stages.proofs.Runs.{on-then}
 use Rattle.scq_service.specs.Exports.{all_line, counts_line, directs_in, worker_line, worker_lines, written_with, WrotePart}
 use Rattle.scq_service.proofs.ReportLines.{part-worker, whole-worker, whole-workers}
 use Rattle.scq_service.proofs.Writings.{part-first, part-second, written-then}
 use Rattle.scq_service.proofs.worker_report.report_workers.Goals as goal
+use Rattle.scq_service.proofs.worker_report.report_workers.Goals.{After-write_worker}
 
 -- each worker's counts and list
 abbrev no_counts : Counts
 no_counts = record { sent = 0; taken = 0; full = 0 }
 
-pair-at : (counts : List Counts) (lists : List (List Answered)) (at : ℕ) (list : List Answered) → at < length counts → at < length lists
-    → list ≡ get_or lists at list → (get_or counts at no_counts, list) ≡ get_or (zip counts lists) at (no_counts, list)
-pair-at counts lists at list here there is =
-    ap (λ (l : List Answered). (get_or counts at no_counts, l)) is ∙ sym (get_or-zip counts lists at (no_counts, list) here there)
-
--- what is so of a call that went well
-on-ok : {X E : Type 0} (r : Result X E) (P Q : Type 0) → (P → Q) → OnOk r P → OnOk r Q
-on-ok (Ok x) P Q more p = more p
-on-ok (Err e) P Q more p = tt
+pair-here : (g : _) (c : After-write_worker g) → (get_or c.args.counts.now c.workers.at no_counts, c.index-lists-at.result)
+    ≡ get_or (zip c.args.counts.now c.args.lists.now) c.workers.at (no_counts, c.index-lists-at.result)
+pair-here g c =
+    let counts = c.args.counts.now in
+    let list = c.index-lists-at.result in
+    ap (λ (l : List Answered). (get_or counts c.workers.at no_counts, l)) c.index-lists-at.is
+    ∙ sym (get_or-zip counts c.args.lists.now c.workers.at (no_counts, list) (omega (arith, c.workers-test.true, c.min-at-end.ensures))
+    (omega (arith, c.workers-test.true, c.min-at-end.ensures)))
 
 pub returns-in_err-write_worker-clause-part : goal.returns-in_err-write_worker-clause-part
 returns-in_err-write_worker-clause-part g c =
@@ -29,8 +30,7 @@ returns-in_err-write_worker-clause-part g c =
     let lists = c.args.lists.now in
     let at = c.workers.at in
     let list = c.index-lists-at.result in
-    let is = pair-at counts lists at list (omega (arith, c.workers-test.true, c.min-at-end.ensures)) (omega (arith, c.workers-test.true, c.min-at-end.ensures))
-    c.index-lists-at.is in
+    let is = pair-here g (goal.at.returns-in_err-write_worker-clause-part g c).After-write_worker in
     part-worker _ _ _ (all_line counts lists) (zip counts lists) at (at + 1) (no_counts, list)
     (omega (arith, c.workers-test.true, c.min-at-end.ensures, length-zip counts lists)) (omega arith) c.workers.invariant.lines
     (subst (λ w. WrotePart (g.K.Sink.written c.workers.sink) (g.K.Sink.written c.write_worker.new.sink) (worker_line (at + 1) w)) is
@@ -42,8 +42,7 @@ workers-preserved g c =
     let lists = c.args.lists.now in
     let at = c.workers.at in
     let list = c.index-lists-at.result in
-    let is = pair-at counts lists at list (omega (arith, c.workers-test.true, c.min-at-end.ensures)) (omega (arith, c.workers-test.true, c.min-at-end.ensures))
-    c.index-lists-at.is in
+    let is = pair-here g (goal.at.workers-preserved g c).After-write_worker in
     record {
       lines = whole-worker _ _ _ (zip counts lists) at (at + 1) (no_counts, list)
           (omega (arith, c.workers-test.true, c.min-at-end.ensures, length-zip counts lists)) (omega arith) c.workers.invariant.lines
@@ -73,7 +72,7 @@ returns-clause-whole g c =
     λ i. counts_line (said.sent i) (said.taken i) (c.directs_of.ensures i) in
     let written = whole-workers _ _ (zip counts lists) c.workers.at
     (omega (arith, c.workers-test.false, c.min-at-end.ensures, length-zip counts lists)) c.workers.invariant.lines in
-    on-ok c.write_counts.result _ _ (λ is.
+    on-then c.write_counts.result (λ is.
     is ∙ ap (written_with (g.K.Sink.written c.write_all.new.sink)) same
     ∙ ap (λ (w : Option (List ℕ)). written_with w line)
     (c.in_ok-write_all.ensures.whole ∙ ap (λ (w : Option (List ℕ)). written_with w (codes "all")) written

@@ -4,18 +4,15 @@ use Rattle.scq_band.specs.Exports.{Identity}
 use Rattle.scq_queue.specs.Exports.{PassStanding}
 use Rattle.scq_passes.specs.Exports.{after_retire, HasSweptLast, IsGivenBack}
 use Rattle.std.specs.Prelude.{All}
-use Rattle.scq_files.specs.Exports.{IsNew, ids_of, all_given}
+use Rattle.scq_files.specs.Exports.{AreRead, IsNew, ids_of, all_given}
 use Rattle.scq_files.specs.declared.own_file.OwnFile.{OwnFile}
 use Rattle.scq_files.proofs.Lists.{written-back}
 use Rattle.scq_stages.specs.declared.worker.Worker.{Worker}
 use Rattle.scq_stages.specs.Exports.{HasRun, IsAtWork, IsDone}
-use Rattle.scq_stages.proofs.Runs.{AllRead, work-first, run-left, run-late, run-stopped}
+use Rattle.scq_desk.proofs.Passes.{none-or}
+use Rattle.scq_stages.proofs.Runs.{work-first, run-left, run-late, run-stopped}
 use Rattle.scq_stages.proofs.running.run.Goals as goal
 use Rattle.scq_stages.proofs.running.run.Goals.{After-work, In-Ok, In-Err}
-
--- no ticket is kept, or this one
-none-or : (o : Option ℕ) (ticket : ℕ) → o ≡ Some ticket → o ≡ None → ⊥
-none-or o ticket is none = absurd (cc)
 
 -- nothing was passed on before
 begun : (g : _) (c : After-work g)
@@ -28,12 +25,7 @@ begun g c =
 whole : (g : _) (c : After-work g)
     → take c.args.desk.now.files.len (c.work.new.files ++ drop (length c.work.new.files) c.args.desk.now.files.items) ≡ c.work.new.files
 whole g c =
-    let old = c.args.desk.now.files.items in
-    let new = c.work.new.files in
-    let is = c.as_mut_slice-files.ensures.value in
-    let long : length new ≡ length old = c.work.auto.files ∙ ap length is in
-    let len : c.args.desk.now.files.len ≡ length old = sym (c.as_mut_slice-files.ensures.len) ∙ ap length is in
-    written-back c.args.desk.now.files.len new old (omega (arith, long, len))
+    written-back c.args.desk.now.files.len c.work.new.files c.args.desk.now.files.items (c.work.auto.files ∙ c.as_mut_slice-files.ensures.len)
 
 -- as many, of the same numbers
 ids-kept : (g : _) (c : After-work g)
@@ -44,9 +36,9 @@ ids-kept g c =
     ap ids (whole g c) ∙ c.work.ensures.same ∙ ap ids c.as_mut_slice-files.ensures.value
 
 -- of each is known what was read of it
-read : (g : _) (c : After-work g) → AllRead [] c.args.job.now.size g.S.Source c.work.new.files
+read : (g : _) (c : After-work g) → AreRead [] c.args.job.now.size g.S.Source c.work.new.files
 read g c =
-    subst (λ topics. AllRead topics c.args.job.now.size g.S.Source c.work.new.files) c.none-topics.ensures
+    subst (λ topics. AreRead topics c.args.job.now.size g.S.Source c.work.new.files) c.none-topics.ensures
     c.work.ensures.read
 
 pub work-requires-clause-unread : goal.work-requires-clause-unread
@@ -59,101 +51,72 @@ retire-requires-clause-pass g c κs = (c.in-Err.ensures.left (begun g (goal.at.r
 pub retire-requires-clause-stays : goal.retire-requires-clause-stays
 retire-requires-clause-stays g c κs = (c.in-Err.ensures.left (begun g (goal.at.retire-requires-clause-stays g c).After-work)).stays
 
-pub returns-in-Err-leave-clause-same : goal.returns-in-Err-leave-clause-same
-returns-in-Err-leave-clause-same g c = ids-kept g (goal.at.returns-in-Err-leave-clause-same g c).After-work
-
-pub returns-in_default-clause-same : goal.returns-in_default-clause-same
-returns-in_default-clause-same g c = ids-kept g (goal.at.returns-in_default-clause-same g c).After-work
-
-pub returns-in-Err-clause-same : goal.returns-in-Err-clause-same
-returns-in-Err-clause-same g c = ids-kept g (goal.at.returns-in-Err-clause-same g c).After-work
-
 -- it met Spent in a sweep
-pub returns-in-Err-leave-clause-run : goal.returns-in-Err-leave-clause-run
-returns-in-Err-leave-clause-run g c =
+pub returns-in-Err-leave : goal.returns-in-Err-leave
+returns-in-Err-leave g c =
     let job = c.args.job.now in
     let src = g.S.Source in
     let files = c.work.new.files in
     let mid = c.work.new.worker in
     let now = c.leave.new.worker in
     let later = c.keep.new.self in
-    let at = (goal.at.returns-in-Err-leave-clause-run g c).After-work in
-    subst (λ (fs : List (OwnFile _)). HasRun c.args.queue.now job.size src fs later.worker.pass later.worker.members.items
-    later.worker.starved later.kept) (sym (whole g at))
-    (subst (λ (w : Worker _). HasRun c.args.queue.now job.size src files w.pass w.members.items w.starved later.kept) (sym c.keep.ensures.same)
-    (run-late c.args.queue.now job.size src files mid.pass now.pass mid.members.items now.members.items mid.starved now.starved
-    later.kept c.in-Err-leave.at_limit.held (read g at) c.work.ensures.stops c.in-Ok.ensures.suits (c.in-Ok.ensures.done (begun g at))
-    (c.in-Err-leave.ensures.left (length (all_given files))) c.keep.ensures.kept))
-
-pub returns-in-Err-leave-clause-number : goal.returns-in-Err-leave-clause-number
-returns-in-Err-leave-clause-number g c =
+    let at = (goal.at.returns-in-Err-leave g c).After-work in
     let left = c.in-Err-leave.ensures.left 0 in
-    ap (λ (w : Worker _). w.pass.number) c.keep.ensures.same ∙ left.own.1 ∙ c.work.ensures.number
+    record {
+      same = ids-kept g at;
+      run = subst (λ (fs : List (OwnFile _)). HasRun c.args.queue.now job.size src fs later.worker.pass later.worker.members.items
+          later.worker.starved later.kept) (sym (whole g at))
+          (subst (λ (w : Worker _). HasRun c.args.queue.now job.size src files w.pass w.members.items w.starved later.kept) (sym c.keep.ensures.same)
+          (run-late c.args.queue.now job.size src files mid.pass now.pass mid.members.items now.members.items mid.starved now.starved
+          later.kept c.in-Err-leave.at_limit.held (read g at) c.work.ensures.stops c.in-Ok.ensures.suits (c.in-Ok.ensures.done (begun g at))
+          (c.in-Err-leave.ensures.left (length (all_given files))) c.keep.ensures.kept));
+      behind = λ awake. absurd (none-or now.pass.spent left.spent.0 left.spent.1
+          (ap (λ (w : Worker _). w.pass.spent) (sym c.keep.ensures.same) ∙ awake));
+      number = ap (λ (w : Worker _). w.pass.number) c.keep.ensures.same ∙ left.own.1 ∙ c.work.ensures.number;
+    }
 
-pub returns-in_default-clause-number : goal.returns-in_default-clause-number
-returns-in_default-clause-number g c = ap (λ (p : PassStanding _). p.number) c.in_default.ensures.taken.pass ∙ c.work.ensures.number
-
-pub returns-in-Err-clause-number : goal.returns-in-Err-clause-number
-returns-in-Err-clause-number g c =
-    ap (λ (w : Worker _). w.pass.number) c.keep-in-Err.ensures.same ∙ ap (λ (p : PassStanding _). p.number) c.retire.ensures ∙ c.work.ensures.number
-
--- it left
-pub returns-in_default-clause-run : goal.returns-in_default-clause-run
-returns-in_default-clause-run g c =
+-- it left, and asked before each of its sweeps
+pub returns-in_default : goal.returns-in_default
+returns-in_default g c =
     let job = c.args.job.now in
     let src = g.S.Source in
     let files = c.work.new.files in
     let mid = c.work.new.worker in
     let now = c.leave.new.worker in
     let kept = c.args.desk.now.worker.kept in
-    let at = (goal.at.returns-in_default-clause-run g c).After-work in
+    let at = (goal.at.returns-in_default g c).After-work in
     let done : IsDone (all_given files) mid.pass mid.members.items mid.starved = c.in-Ok.ensures.done (begun g at) in
     let its = c.in_default.ensures in
-    subst (λ (fs : List (OwnFile _)). HasRun c.args.queue.now job.size src fs now.pass now.members.items now.starved kept) (sym (whole g at))
-    (run-left c.args.queue.now job.size src files mid.pass now.pass mid.members.items now.members.items mid.starved now.starved kept
-    (read g at) c.work.ensures.stops c.in-Ok.ensures.suits done (its.leaving (all_given files) done) its.empty c.requires.fresh.kept)
-
--- it met Spent before it retired
-pub returns-in-Err-clause-run : goal.returns-in-Err-clause-run
-returns-in-Err-clause-run g c =
-    let job = c.args.job.now in
-    let src = g.S.Source in
-    let files = c.work.new.files in
-    let mid = c.work.new.worker in
-    let later = c.keep-in-Err.new.self in
-    let at = (goal.at.returns-in-Err-clause-run g c).After-work in
-    subst (λ (fs : List (OwnFile _)). HasRun c.args.queue.now job.size src fs later.worker.pass later.worker.members.items
-    later.worker.starved later.kept) (sym (whole g at))
-    (run-stopped c.args.queue.now job.size src files mid.pass later.worker.pass later.worker.members.items later.worker.starved
-    later.kept c.in-Err.at_limit.held (read g at) c.work.ensures.stops (c.in-Err.ensures.left (begun g at))
-    (ap (λ (w : Worker _). w.pass) c.keep-in-Err.ensures.same ∙ c.retire.ensures) c.keep-in-Err.ensures.kept)
-
--- it asked before each of its sweeps
-pub returns-in_default-clause-behind : goal.returns-in_default-clause-behind
-returns-in_default-clause-behind g c awake =
-    let queue = c.args.queue.now in
-    let contents = bytes_of in
-    let mid = c.work.new.worker in
-    let now = c.leave.new.worker.pass in
-    let done : IsDone (all_given c.work.new.files) mid.pass mid.members.items mid.starved =
-    c.in-Ok.ensures.done (begun g (goal.at.returns-in_default-clause-behind g c).After-work) in
-    let its = c.in_default.ensures in
-    let same : now.queue ≡ queue = ap (λ (x : PassStanding _). x.queue) its.taken.pass ∙ c.in-Ok.ensures.suits.queue in
+    let same : now.pass.queue ≡ c.args.queue.now = ap (λ (x : PassStanding _). x.queue) its.taken.pass ∙ c.in-Ok.ensures.suits.queue in
     record {
-      before = mid.pass;
-      unasked = done.moved.unasked;
-      swept = subst (λ (k : Identity _). HasSweptLast contents k IsGivenBack 2 64 (after_retire mid.pass) now) (sym same) its.swept;
+      same = ids-kept g at;
+      run = subst (λ (fs : List (OwnFile _)). HasRun c.args.queue.now job.size src fs now.pass now.members.items now.starved kept) (sym (whole g at))
+          (run-left c.args.queue.now job.size src files mid.pass now.pass mid.members.items now.members.items mid.starved now.starved kept
+          (read g at) c.work.ensures.stops c.in-Ok.ensures.suits done (its.leaving (all_given files) done) its.empty c.requires.fresh.kept);
+      behind = λ awake. record {
+        before = mid.pass;
+        unasked = done.moved.unasked;
+        swept = subst (λ (k : Identity _). HasSweptLast bytes_of k IsGivenBack 2 64 (after_retire mid.pass) now.pass) (sym same) its.swept;
+      };
+      number = ap (λ (p : PassStanding _). p.number) its.taken.pass ∙ c.work.ensures.number;
     }
 
-pub returns-in-Err-leave-clause-behind : goal.returns-in-Err-leave-clause-behind
-returns-in-Err-leave-clause-behind g c awake =
-    let left = c.in-Err-leave.ensures.left 0 in
-    let none = ap (λ (w : Worker _). w.pass.spent) (sym c.keep.ensures.same) ∙ awake in
-    absurd (none-or c.leave.new.worker.pass.spent left.spent.0 left.spent.1 none)
-
-pub returns-in-Err-clause-behind : goal.returns-in-Err-clause-behind
-returns-in-Err-clause-behind g c awake =
-    let end = c.in-Err.ensures.left (begun g (goal.at.returns-in-Err-clause-behind g c).After-work) in
+-- it met Spent before it retired
+pub returns-in-Err : goal.returns-in-Err
+returns-in-Err g c =
+    let job = c.args.job.now in
+    let src = g.S.Source in
+    let mid = c.work.new.worker in
+    let later = c.keep-in-Err.new.self in
+    let at = (goal.at.returns-in-Err g c).After-work in
+    let end = c.in-Err.ensures.left (begun g at) in
     let retired = ap (λ (w : Worker _). w.pass) c.keep-in-Err.ensures.same ∙ c.retire.ensures in
-    let none = sym (ap (λ (x : PassStanding _). x.spent) retired) ∙ awake in
-    absurd (none-or c.work.new.worker.pass.spent end.spent.0 end.spent.1 none)
+    record {
+      same = ids-kept g at;
+      run = subst (λ (fs : List (OwnFile _)). HasRun c.args.queue.now job.size src fs later.worker.pass later.worker.members.items
+          later.worker.starved later.kept) (sym (whole g at))
+          (run-stopped c.args.queue.now job.size src c.work.new.files mid.pass later.worker.pass later.worker.members.items later.worker.starved
+          later.kept c.in-Err.at_limit.held (read g at) c.work.ensures.stops end retired c.keep-in-Err.ensures.kept);
+      behind = λ awake. absurd (none-or mid.pass.spent end.spent.0 end.spent.1 (sym (ap (λ (x : PassStanding _). x.spent) retired) ∙ awake));
+      number = ap (λ (p : PassStanding _). p.number) retired ∙ c.work.ensures.number;
+    }

@@ -31,25 +31,11 @@ returns-in-Err-clause-end g c =
     let said = c.starved-in-Err.ensures in
     stages-starved c.args.job.now g.S.Source c.args.sources.items c.starved-in-Err.result (ap (λ v. v.items) said.sources) said.fault said.left.0
 
+-- the sources are those that were laid out
 pub returns-in-Ok-make_queue-clause-end : goal.returns-in-Ok-make_queue-clause-end
 returns-in-Ok-make_queue-clause-end g c =
     let S = g.row.S.Denot in
-    let its = c.wind_up.ensures in
-    let ends : EndsStages c.args.job.now g.S.Source c.lay_out-laid.result.0.was.value.items c.wind_up.result = record {
-      count = its.count;
-      moved = its.moved;
-      stops = its.stops;
-      whole = its.whole;
-      handled = its.handled;
-      told = its.told;
-      staged = its.staged;
-      left = its.left;
-      none = its.none;
-      same = its.same;
-      cause = its.cause;
-      memory_first = its.memory_first;
-    } in
-    subst (λ (v : Vec S Global). EndsStages c.args.job.now g.S.Source v.items c.wind_up.result) c.lay_out-laid.ensures.was ends
+    subst (λ (v : Vec S Global). EndsStages c.args.job.now g.S.Source v.items c.wind_up.result) c.lay_out-laid.ensures.was c.wind_up.ensures.end
 
 -- the passes were there when the queue was closed
 pub returns-in-Ok-make_queue-clause-behind : goal.returns-in-Ok-make_queue-clause-behind
@@ -62,7 +48,7 @@ returns-in-Ok-make_queue-clause-behind g c =
     let its = some-of end.passes (λ ps. ps.value.items ≡ passes_at ran) said.there said.passes in
     let Closed : List (PassStanding Frame) → List ℕ → Type 0 =
     λ ps l. IsSomeAnd end.frames (λ fs. NothingIsStranded job.order job.workers ps fs.value.items l) in
-    let left = some-of end.left (λ l. IsSomeAnd end.passes (λ ps. Closed ps.value.items l.items)) said.closed said.left in
+    let left = some-of end.left (λ l. IsSomeAnd end.passes (λ ps. Closed ps.value.items l.items)) said.closed said.end.left in
     let closed = some-and end.frames _ (subst (λ o. IsSomeAnd o (λ ps. Closed ps.value.items left.it.items)) its.same left.holds) in
     let none : NoneSpent (passes_at ran) = subst (λ (ps : List (PassStanding Frame)). NoneSpent ps) its.holds closed.holds.shared.unspent in
     subst (λ o. IfSome o (λ ps. All P ps.value.items)) (sym its.same)

@@ -1,5 +1,5 @@
 -- The end of the work of all workers.
-use Rattle.std.proofs.Common.{◌≡◌, ◌∙◌, refl, sym, ap, subst, arith, ℕ, ◌^◌, List, map}
+use Rattle.std.proofs.Common.{◌≡◌, ◌∙◌, refl, sym, ap, subst, arith, ℕ, ◌^◌, List, Some, None, map}
 use Rattle.std.specs.Prelude.{Vec, IfOk}
 use Rattle.std.specs.Global.{Global}
 use Rattle.scq_block.specs.declared.frame.Frame.{Frame}
@@ -9,16 +9,15 @@ use Rattle.scq_collect.specs.Exports.{members_of}
 use Rattle.scq_queue.specs.Exports.{counts_of, PassStanding, lists_of}
 use Rattle.scq_passes.specs.Exports.{lengths_of}
 use Rattle.scq_passes.proofs.Counted.{counts-exact}
-use Rattle.scq_passes.proofs.Results.{err-then, ok-more, ok-on}
+use Rattle.scq_passes.proofs.Results.{ok-more}
 use Rattle.scq_files.specs.Exports.{AllEnded, AreGiven, StopsAtFaults, all_left}
 use Rattle.scq_files.proofs.GivenLemmas.{given-told}
 use Rattle.scq_desk.specs.Exports.{IsLaid}
 use Rattle.scq_work.specs.Exports.{HaveAnswered, HasWorked}
-use Rattle.scq_desk.specs.declared.fault.EndFault.{EndFault}
 use Rattle.scq_work.specs.declared.worked.Worked.{Worked}
 use Rattle.scq_work.proofs.AllGave.{AllRan, given, is-given}
 use Rattle.scq_work.proofs.AllRun.{have-answered, all-shared, passes_at, lists_at}
-use Rattle.scq_desk.proofs.Faults.{caused, memory-first}
+use Rattle.scq_desk.proofs.Ends.{reading-gathered}
 use Rattle.scq_work.proofs.Told.{told-worked}
 use Rattle.scq_work.proofs.Orders.{members-told}
 use Rattle.scq_work.proofs.winding.wind_up.Goals as goal
@@ -68,13 +67,13 @@ returns-clause-end g c =
     let wound = c.wind_up_desks-sources.result in
     let said = c.wind_up_desks-sources.ensures in
     let left_in = wound.left.items in
+    let there : Some wound.left ≡ None → ⊥ = λ e. absurd (cc) in
     let result = c.conclude.result in
     let ok = c.conclude.ensures.ok in
     let f = ran g (goal.at.returns-clause-end g c).After-conclude in
     let setup = c.requires.setup in
     let shared = all-shared queue.setup queue topics size most longest src sources desks f left_in said.closed in
     let ended : AllEnded longest src desks = λ w d less e o inside. ((c.requires.run w d less).read e o inside).ends in
-    let gathered = said.gathered longest ended in
     let Of : Worked → Type 0 = λ w. (given : List (List Message)) × AreGiven topics longest src.left 1 sources given
     × HasWorked topics size most c.args.job.now.workers given w in
     let worked : IfOk result Of = ok-more result _ Of ok (λ w is.
@@ -95,11 +94,9 @@ returns-clause-end g c =
       },
     )) in
     record {
-      count = gathered.count;
-      moved = gathered.moved;
-      stops = subst (λ n. StopsAtFaults n longest src sources wound.sources.items) c.requires.count
-          (said.stops longest ended (λ w d less. (c.requires.run w d less).stops));
-      whole = ok-on result _ _ ok (λ w why. gathered.sound why.2);
+      reading = reading-gathered c.args.job.now.workers longest src sources _ _ wound.starved wound.fault (said.gathered longest ended)
+          (subst (λ n. StopsAtFaults n longest src sources wound.sources.items) c.requires.count
+          (said.stops longest ended (λ w d less. (c.requires.run w d less).stops))) ok c.conclude.ensures.err there;
       answers = ok-more result Of _ worked
           (λ w has. members-told topics size longest src.left sources has.0 (members_of w.answered.items) has.1 has.2.answered.once);
       told = ok-more result Of _ worked (λ w has. told-worked topics size most c.args.job.now.workers has.0 w (all_left src.left sources)
@@ -110,12 +107,7 @@ returns-clause-end g c =
         of_job = record { buffers = setup.0; rings = omega (arith, setup.1); seats = setup.2; limit = setup.3 };
         shared = rw said.passes.1 shared;
       };
-      none = λ e. absurd (cc);
       same = ok-more result _ _ ok (λ w is. said.passes.1 ∙ sym said.passes.0 ∙ ap (λ (x : Worked). x.passes.value.items) (sym is.0));
-      cause = err-then result _ _ (λ (fault : EndFault) why. caused longest src sources wound.sources.items wound.starved wound.fault
-          fault why gathered.cause) c.conclude.ensures.err;
-      memory_first = err-then result _ _ (λ (fault : EndFault) why. memory-first longest src sources wound.sources.items wound.starved
-          wound.fault fault why gathered.fed) c.conclude.ensures.err;
     }
 
 -- each pass says whether it was told that all had retired

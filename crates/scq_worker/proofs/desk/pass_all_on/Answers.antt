@@ -1,12 +1,13 @@
-use Rattle.std.proofs.Common.{rules, ◌≡◌, ◌+◌, ◌∙◌, ap, sym, subst, arith, [], ◌++◌, List, length, take, drop, Err, Result}
-use Rattle.std.specs.Prelude.{IfErr, All}
+use Rattle.std.proofs.Common.{rules, ◌≡◌, ◌+◌, ◌∙◌, ap, sym, subst, arith, [], ◌++◌, List, length, take, drop}
+use Rattle.std.specs.Prelude.{All}
 use Rattle.std.proofs.lemmas.List.{append-nil}
 use Rattle.scq_frames.specs.Exports.{Part}
 use Rattle.scq_queue.specs.Exports.{PassStanding}
-use Rattle.scq_files.specs.Exports.{given_in, IsNew, StopsAtAFault, ids_of, all_given, IsRead}
+use Rattle.scq_files.specs.Exports.{IsNew, ids_of, all_given, WereRead}
 use Rattle.scq_worker.specs.Exports.{parts_in, HasGathered, gathered-along, HasStoppedIn, still-along, stopped-along}
 use Rattle.scq_files.specs.declared.own_file.OwnFile.{OwnFile}
 use Rattle.scq_files.proofs.Lists.{written-back}
+use Rattle.scq_files.proofs.Results.{err-of}
 use Rattle.scq_worker.proofs.Gathered.{open-none}
 use Rattle.scq_worker.proofs.RunLemmas.{suits-first}
 use Rattle.scq_worker.proofs.desk.pass_all_on.Goals as goal
@@ -34,33 +35,18 @@ read_files-requires-clause-unread g c κs within = subst (λ (fs : List (OwnFile
 whole : (g : _) (c : After-read_files g)
     → take c.args.desk.now.files.len (c.read_files.new.files ++ drop (length c.read_files.new.files) c.args.desk.now.files.items) ≡ c.read_files.new.files
 whole g c =
+    written-back c.args.desk.now.files.len c.read_files.new.files c.args.desk.now.files.items (c.read_files.auto.files ∙ c.as_mut_slice-files.ensures.len)
+
+read-so : (g : _) (c : After-read_files g) → WereRead c.args.job.now.topics c.args.job.now.longest g.S.Source c.args.desk.now.files.items
+    (take c.args.desk.now.files.len (c.read_files.new.files ++ drop (length c.read_files.new.files) c.args.desk.now.files.items))
+read-so g c =
     let old = c.args.desk.now.files.items in
-    let new = c.read_files.new.files in
-    let is = c.as_mut_slice-files.ensures.value in
-    let long : length new ≡ length old = c.read_files.auto.files ∙ ap length is in
-    let len : c.args.desk.now.files.len ≡ length old = sym (c.as_mut_slice-files.ensures.len) ∙ ap length is in
-    written-back c.args.desk.now.files.len new old (omega (arith, long, len))
+    let its = c.read_files.ensures in
+    subst (λ (fs : List (OwnFile _)). WereRead c.args.job.now.topics c.args.job.now.longest g.S.Source old fs) (sym (whole g c))
+    (record { same = its.same ∙ ap (λ (fs : List (OwnFile _)). ids_of fs) c.as_mut_slice-files.ensures.value; read = its.read; stops = its.stops })
 
--- as many, of the same numbers
-ids-kept : (g : _) (c : After-read_files g)
-    → ids_of (take c.args.desk.now.files.len (c.read_files.new.files ++ drop (length c.read_files.new.files) c.args.desk.now.files.items))
-    ≡ ids_of c.args.desk.now.files.items
-ids-kept g c =
-    let ids = λ (fs : List (OwnFile _)). ids_of fs in
-    ap ids (whole g c) ∙ c.read_files.ensures.same ∙ ap ids c.as_mut_slice-files.ensures.value
-
-pub returns-in_err-read_files-clause-same : goal.returns-in_err-read_files-clause-same
-returns-in_err-read_files-clause-same g c = ids-kept g (goal.at.returns-in_err-read_files-clause-same g c).After-read_files
-
-pub returns-in_err-read_files-clause-read : goal.returns-in_err-read_files-clause-read
-returns-in_err-read_files-clause-read g c =
-    subst (λ (fs : List (OwnFile _)). All (λ f. IsRead c.args.job.now.topics c.args.job.now.longest g.S.Source f.number f.was.value f.source
-    (given_in f.given.value) f.end) fs) (sym (whole g (goal.at.returns-in_err-read_files-clause-read g c).After-read_files)) c.read_files.ensures.read
-
-pub returns-in_err-read_files-clause-stops : goal.returns-in_err-read_files-clause-stops
-returns-in_err-read_files-clause-stops g c =
-    subst (λ (fs : List (OwnFile _)). StopsAtAFault fs) (sym (whole g (goal.at.returns-in_err-read_files-clause-stops g c).After-read_files))
-    c.read_files.ensures.stops
+pub returns-in_err-read_files-clause-files : goal.returns-in_err-read_files-clause-files
+returns-in_err-read_files-clause-files g c = read-so g (goal.at.returns-in_err-read_files-clause-files g c).After-read_files
 
 -- it met Spent while it read
 pub returns-in_err-read_files-clause-stopped : goal.returns-in_err-read_files-clause-stopped
@@ -71,10 +57,7 @@ returns-in_err-read_files-clause-stopped g c =
     let start = c.args.desk.now.worker.worker in
     let now = c.read_files.new.handler in
     let held = c.in_err-read_files.field-0.0.held in
-    let is : c.from_residual.result ≡ Err c.in_err-read_files.field-0.0 = search rules in
-    subst (λ (r : Result _ _). IfErr r (λ l. HasStoppedIn q job (parts_in job.size
-    (all_given (take c.args.desk.now.files.len (c.read_files.new.files ++ drop (length c.read_files.new.files) c.args.desk.now.files.items))))
-    start now l.held)) (sym is)
+    err-of _ c.from_residual.result c.in_err-read_files.field-0.0 (search rules)
     (subst (λ (fs : List (OwnFile _)). HasStoppedIn q job (parts_in job.size (all_given fs)) start now held) (sym (whole g at))
     c.in_err-read_files.ensures.stopped.0)
 
@@ -94,18 +77,8 @@ pass_all_open-requires-clause-bell g c κs within =
 pub pass_all_open-requires-clause-opens : goal.pass_all_open-requires-clause-opens
 pass_all_open-requires-clause-opens g c κs within = c.in_ok-read_files.ensures.handled.0.opens
 
-pub returns-in_err-pass_all_open-clause-same : goal.returns-in_err-pass_all_open-clause-same
-returns-in_err-pass_all_open-clause-same g c = ids-kept g (goal.at.returns-in_err-pass_all_open-clause-same g c).After-read_files
-
-pub returns-in_err-pass_all_open-clause-read : goal.returns-in_err-pass_all_open-clause-read
-returns-in_err-pass_all_open-clause-read g c =
-    subst (λ (fs : List (OwnFile _)). All (λ f. IsRead c.args.job.now.topics c.args.job.now.longest g.S.Source f.number f.was.value f.source
-    (given_in f.given.value) f.end) fs) (sym (whole g (goal.at.returns-in_err-pass_all_open-clause-read g c).After-read_files)) c.read_files.ensures.read
-
-pub returns-in_err-pass_all_open-clause-stops : goal.returns-in_err-pass_all_open-clause-stops
-returns-in_err-pass_all_open-clause-stops g c =
-    subst (λ (fs : List (OwnFile _)). StopsAtAFault fs) (sym (whole g (goal.at.returns-in_err-pass_all_open-clause-stops g c).After-read_files))
-    c.read_files.ensures.stops
+pub returns-in_err-pass_all_open-clause-files : goal.returns-in_err-pass_all_open-clause-files
+returns-in_err-pass_all_open-clause-files g c = read-so g (goal.at.returns-in_err-pass_all_open-clause-files g c).After-read_files
 
 -- it met Spent behind that
 pub returns-in_err-pass_all_open-clause-stopped : goal.returns-in_err-pass_all_open-clause-stopped
@@ -117,10 +90,7 @@ returns-in_err-pass_all_open-clause-stopped g c =
     let now = c.pass_all_open.new.self in
     let held = c.in_err-pass_all_open.field-0.0.held in
     let parts = parts_in job.size (all_given c.read_files.new.files) in
-    let is : c.from_residual-in_err-pass_all_open.result ≡ Err c.in_err-pass_all_open.field-0.0 = search rules in
-    subst (λ (r : Result _ _). IfErr r (λ l. HasStoppedIn q job (parts_in job.size
-    (all_given (take c.args.desk.now.files.len (c.read_files.new.files ++ drop (length c.read_files.new.files) c.args.desk.now.files.items))))
-    start now l.held)) (sym is)
+    err-of _ c.from_residual-in_err-pass_all_open.result c.in_err-pass_all_open.field-0.0 (search rules)
     (subst (λ (fs : List (OwnFile _)). HasStoppedIn q job (parts_in job.size (all_given fs)) start now held) (sym (whole g at))
     (subst (λ (l : List Part). HasStoppedIn q job l start now held) (append-nil parts)
     (stopped-along q job parts [] start c.read_files.new.handler now (g.W.Bell.wakes c.args.stand.now) (g.W.Bell.wakes c.read_files.new.beside) held
@@ -132,17 +102,8 @@ returns-in_err-pass_all_open-clause-still g c =
     still-along c.args.desk.now.worker.worker c.read_files.new.handler c.pass_all_open.new.self (kept c.args.stand.now) (kept c.read_files.new.beside)
     (kept c.pass_all_open.new.stand) c.in_ok-read_files.ensures.handled.1 c.pass_all_open.ensures.still
 
-pub returns-clause-same : goal.returns-clause-same
-returns-clause-same g c = ids-kept g (goal.at.returns-clause-same g c).After-read_files
-
-pub returns-clause-read : goal.returns-clause-read
-returns-clause-read g c =
-    subst (λ (fs : List (OwnFile _)). All (λ f. IsRead c.args.job.now.topics c.args.job.now.longest g.S.Source f.number f.was.value f.source
-    (given_in f.given.value) f.end) fs) (sym (whole g (goal.at.returns-clause-read g c).After-read_files)) c.read_files.ensures.read
-
-pub returns-clause-stops : goal.returns-clause-stops
-returns-clause-stops g c =
-    subst (λ (fs : List (OwnFile _)). StopsAtAFault fs) (sym (whole g (goal.at.returns-clause-stops g c).After-read_files)) c.read_files.ensures.stops
+pub returns-clause-files : goal.returns-clause-files
+returns-clause-files g c = read-so g (goal.at.returns-clause-files g c).After-read_files
 
 -- all is passed on
 pub returns-clause-gathered : goal.returns-clause-gathered

@@ -3,7 +3,8 @@ use Rattle.scq_queue.specs.Exports.{PassStanding}
 use Rattle.scq_worker.specs.Exports.{IsWorking}
 use Rattle.scq_worker.specs.declared.worker.Worker.{Worker}
 use Rattle.scq_worker.proofs.Gathered.{gathered-none}
-use Rattle.scq_worker.proofs.Produced.{none-or, produced-awake, produced-stopped, vain-first}
+use Rattle.scq_desk.proofs.Passes.{none-or}
+use Rattle.scq_worker.proofs.Produced.{produced-awake, produced-stopped, vain-first}
 use Rattle.scq_worker.proofs.RunLemmas.{work-first}
 use Rattle.scq_worker.proofs.Rung.{rung-retired}
 use Rattle.scq_worker.proofs.desk.produce.Goals as goal
@@ -41,9 +42,9 @@ retire-requires-in-Err-clause-stays g c κs within =
 pub retire-requires-in-Err-clause-bell : goal.retire-requires-in-Err-clause-bell
 retire-requires-in-Err-clause-bell g c κs within = fits-at g (goal.at.retire-requires-in-Err-clause-bell g c).After-pass_all_on
 
-pub returns-in-Ok-clause-produced : goal.returns-in-Ok-clause-produced
-returns-in-Ok-clause-produced g c =
-    let at = (goal.at.returns-in-Ok-clause-produced g c).After-pass_all_on in
+pub returns-in-Ok : goal.returns-in-Ok
+returns-in-Ok g c =
+    let at = (goal.at.returns-in-Ok g c).After-pass_all_on in
     let q = c.args.queue.now in
     let job = c.args.job.now in
     let all = c.pass_all_on.ensures in
@@ -53,54 +54,41 @@ returns-in-Ok-clause-produced g c =
     let now = c.retire.new.self in
     let start = c.args.desk.now.worker.worker in
     let work = its.gathered.work [] (begun g at) in
-    produced-awake q job.topics job.size job.most job.longest g.S.Source desk.files.items was.pass now.pass was.members now.members
-    was.starved now.starved desk.worker.kept all.read all.stops its.gathered.goes.suits
-    (record {
-      batches = work.batches;
-      gathered = gathered-none job.most _ work.batches was.opens.items work.gathered its.closed;
-      passed = work.passed;
-    })
-    (its.gathered.goes.vain (vain-first q _ _ start.pass.number start.pass c.requires.fresh.pass)) c.retire.ensures.pass c.retire.ensures.same.0
-    c.retire.ensures.same.1 (all.kept ∙ c.requires.fresh.kept)
+    record {
+      same = all.files.same;
+      produced = produced-awake q job.topics job.size job.most job.longest g.S.Source desk.files.items was.pass now.pass was.members now.members
+          was.starved now.starved desk.worker.kept all.files.read all.files.stops its.gathered.goes.suits
+          (record {
+            batches = work.batches;
+            gathered = gathered-none job.most _ work.batches was.opens.items work.gathered its.closed;
+            passed = work.passed;
+          })
+          (its.gathered.goes.vain (vain-first q _ _ start.pass.number start.pass c.requires.fresh.pass)) c.retire.ensures.pass c.retire.ensures.same.0
+          c.retire.ensures.same.1 (all.kept ∙ c.requires.fresh.kept);
+      number = ap (λ (p : PassStanding _). p.number) c.retire.ensures.pass ∙ all.still.pass;
+      bell = c.retire.ensures.bell ∙ all.still.bell;
+      rung = λ awake. rung-retired start.number job.workers q start.pass.number was.number start.pass was.pass now.pass
+          (g.W.Bell.wakes c.args.stand.now) (g.W.Bell.wakes c.pass_all_on.new.stand) (g.W.Bell.wakes c.retire.new.stand)
+          c.requires.fresh.pass its.gathered.goes.rung c.retire.ensures.pass all.still.number c.retire.ensures.rung;
+    }
 
-pub returns-in-Ok-clause-number : goal.returns-in-Ok-clause-number
-returns-in-Ok-clause-number g c = ap (λ (p : PassStanding _). p.number) c.retire.ensures.pass ∙ c.pass_all_on.ensures.still.pass
-
-pub returns-in-Err-clause-produced : goal.returns-in-Err-clause-produced
-returns-in-Err-clause-produced g c =
-    let at = (goal.at.returns-in-Err-clause-produced g c).After-pass_all_on in
+-- at a ticket past the limit nothing is said of whom it woke
+pub returns-in-Err : goal.returns-in-Err
+returns-in-Err g c =
+    let at = (goal.at.returns-in-Err g c).After-pass_all_on in
     let job = c.args.job.now in
     let its = c.pass_all_on.ensures in
     let desk = c.pass_all_on.new.desk in
-    let was = desk.worker.worker in
     let now = c.keep.new.self in
-    produced-stopped c.args.queue.now job.topics job.size job.most job.longest g.S.Source desk.files.items was.pass now.worker.pass
-    now.worker.members now.worker.starved now.kept c.in-Err.at_limit.held its.read its.stops (c.in-Err.ensures.stopped [] (begun g at))
-    (ap (λ (w : Worker _). w.pass) c.keep.ensures.same ∙ c.retire-in-Err.ensures.pass) c.keep.ensures.kept
-
-pub returns-in-Err-clause-number : goal.returns-in-Err-clause-number
-returns-in-Err-clause-number g c =
-    ap (λ (w : Worker _). w.pass.number) c.keep.ensures.same ∙ ap (λ (p : PassStanding _). p.number) c.retire-in-Err.ensures.pass
-    ∙ c.pass_all_on.ensures.still.pass
-
-pub returns-in-Ok-clause-bell : goal.returns-in-Ok-clause-bell
-returns-in-Ok-clause-bell g c = c.retire.ensures.bell ∙ c.pass_all_on.ensures.still.bell
-
-pub returns-in-Err-clause-bell : goal.returns-in-Err-clause-bell
-returns-in-Err-clause-bell g c = c.retire-in-Err.ensures.bell ∙ c.pass_all_on.ensures.still.bell
-
-pub returns-in-Ok-clause-rung : goal.returns-in-Ok-clause-rung
-returns-in-Ok-clause-rung g c awake =
-    let first = c.args.desk.now.worker.worker in
-    let was = c.pass_all_on.new.desk.worker.worker in
-    rung-retired first.number c.args.job.now.workers c.args.queue.now first.pass.number was.number first.pass was.pass c.retire.new.self.pass
-    (g.W.Bell.wakes c.args.stand.now) (g.W.Bell.wakes c.pass_all_on.new.stand) (g.W.Bell.wakes c.retire.new.stand)
-    c.requires.fresh.pass c.in-Ok.ensures.gathered.goes.rung c.retire.ensures.pass c.pass_all_on.ensures.still.number c.retire.ensures.rung
-
--- at a ticket past the limit nothing is said of it
-pub returns-in-Err-clause-rung : goal.returns-in-Err-clause-rung
-returns-in-Err-clause-rung g c awake =
-    let end = c.in-Err.ensures.stopped [] (begun g (goal.at.returns-in-Err-clause-rung g c).After-pass_all_on) in
-    let now = c.keep.new.self.worker in
+    let end = c.in-Err.ensures.stopped [] (begun g at) in
     let retired = ap (λ (w : Worker _). w.pass) c.keep.ensures.same ∙ c.retire-in-Err.ensures.pass in
-    absurd (none-or now.pass.spent end.spent.0 (ap (λ (p : PassStanding _). p.spent) retired ∙ end.spent.1) awake)
+    record {
+      same = its.files.same;
+      produced = produced-stopped c.args.queue.now job.topics job.size job.most job.longest g.S.Source desk.files.items desk.worker.worker.pass
+          now.worker.pass now.worker.members now.worker.starved now.kept c.in-Err.at_limit.held its.files.read its.files.stops end retired
+          c.keep.ensures.kept;
+      number = ap (λ (p : PassStanding _). p.number) retired ∙ its.still.pass;
+      bell = c.retire-in-Err.ensures.bell ∙ its.still.bell;
+      rung = λ awake.
+          absurd (none-or now.worker.pass.spent end.spent.0 (ap (λ (p : PassStanding _). p.spent) retired ∙ end.spent.1) awake);
+    }

@@ -1,5 +1,5 @@
 use Rattle.std.proofs.Common.{sym}
-use Rattle.scq_worker.proofs.Produced.{none-or}
+use Rattle.scq_desk.proofs.Passes.{none-or}
 use Rattle.scq_worker.proofs.desk.run.Goals as goal
 
 pub returns-in-Some-clause-run : goal.returns-in-Some-clause-run

@@ -8,7 +8,7 @@ use Rattle.scq_stages.specs.declared.job.StageJob.{StageJob}
 use Rattle.scq_service.specs.Exports.{SourceOf, status_of, TellsStages, WorkedAt, HasGotSources, Inputs}
 use Rattle.scq_service.specs.declared.fault.Fault.TheVariants as fault
 use Rattle.scq_service.specs.declared.outcome.Outcome.{Outcome}
-use Rattle.scq_service.proofs.Working.{at-err, at-ok, on-ok, told-got, told-met, told-stopped, told-whole}
+use Rattle.scq_service.proofs.Working.{at-ok, on-ok, told-met, told-stopped, told-whole}
 use Rattle.scq_service.proofs.commands.stages.conclude.Goals as goal
 
 -- where there was a queue, nothing is stranded in it, by passes that are these
@@ -40,8 +40,8 @@ unfinished j src names r o none got status unworked staged left leaves = record 
   leaves = leaves;
 }
 
-pub returns-then-all-clause-tells : goal.returns-then-all-clause-tells
-returns-then-all-clause-tells g c =
+pub returns-then-all : goal.returns-then-all
+returns-then-all g c =
     let end = c.finished.ensures in
     let after = c.behind.ensures in
     let did = c.requires in
@@ -50,67 +50,53 @@ returns-then-all-clause-tells g c =
     let its = c.args.end.result in
     let come : c.behind.result.got.items ≡ c.args.got.value.items = after.got in
     let gave = at-ok its _ c.in-Ok.is did.end.staged in
+    let told = told-whole job.size c.args.end did.end.reading did.come c.args.all did.all after.got left _ _ c.in-Ok.is c.if-all.true
+    (after.read ∙ end.read) (after.fault ∙ end.fault) in
     record {
-      got = told-got c.args.job.now.size did.end.count did.come c.args.all did.all after.got left did.end.moved;
-      status = rw (after.fault ∙ end.fault) (after.status ∙ end.status);
-      unworked = after.worked ∙ end.worked;
-      staged = rw (after.fault ∙ end.fault, after.staged ∙ end.staged) refl;
-      handled = rw (after.staged ∙ end.staged, come) (at-ok its _ c.in-Ok.is did.end.handled);
-      told = rw (after.staged ∙ end.staged, come) (at-ok its _ c.in-Ok.is did.end.told);
-      work = rw (after.staged ∙ end.staged, come, left)
-          (gave.0, record { count = did.end.count; whole = on-ok its _ c.in-Ok.is did.end.whole; gave = gave.1 }, gave.2);
-      -- the queue was closed, over the passes that came with what was finished
-      stranded = rw (after.staged ∙ end.staged)
-          (nothing-stranded job.order job.workers c.args.end.left c.args.end.passes c.args.end.frames (λ l. l.items) (λ p. p.value.items) (λ f. f.value.items) _
-          (λ none. let err : its ≡ Err NoMemory = did.end.none none in absurd (cc (c.in-Ok.is, err)))
-          (at-ok its _ c.in-Ok.is did.end.same) did.end.left);
-      left = after.left.0;
-      leaves = after.waited;
+      tells = record {
+        got = told.0;
+        status = rw (after.fault ∙ end.fault) (after.status ∙ end.status);
+        unworked = after.worked ∙ end.worked;
+        staged = rw (after.fault ∙ end.fault, after.staged ∙ end.staged) refl;
+        handled = rw (after.staged ∙ end.staged, come) (at-ok its _ c.in-Ok.is did.end.handled);
+        told = rw (after.staged ∙ end.staged, come) (at-ok its _ c.in-Ok.is did.end.told);
+        work = rw (after.staged ∙ end.staged, come, left)
+            (gave.0, record { count = did.end.reading.count; whole = on-ok its _ c.in-Ok.is did.end.reading.whole; gave = gave.1 }, gave.2);
+        -- the queue was closed, over the passes that came with what was finished
+        stranded = rw (after.staged ∙ end.staged)
+            (nothing-stranded job.order job.workers c.args.end.left c.args.end.passes c.args.end.frames (λ l. l.items) (λ p. p.value.items) (λ f. f.value.items) _
+            (λ none. let err : its ≡ Err NoMemory = did.end.reading.none none in absurd (cc (c.in-Ok.is, err)))
+            (at-ok its _ c.in-Ok.is did.end.same) did.end.left);
+        left = after.left.0;
+        leaves = after.waited;
+      };
+      ends = told.1;
     }
 
-pub returns-then-all-clause-ends : goal.returns-then-all-clause-ends
-returns-then-all-clause-ends g c =
-    let end = c.finished.ensures in
-    let after = c.behind.ensures in
-    let did = c.requires in
-    let left : c.behind.result.sources.items ≡ c.args.end.sources.items = ap (λ v. v.items) after.sources ∙ end.sources in
-    told-whole c.args.job.now.size did.end.count did.come c.args.all did.all after.got left _ c.if-all.true (after.read ∙ end.read)
-    (after.fault ∙ end.fault) (on-ok c.args.end.result _ c.in-Ok.is did.end.whole)
-
-pub returns-in-Ok-clause-tells : goal.returns-in-Ok-clause-tells
-returns-in-Ok-clause-tells g c =
+pub returns-in-Ok : goal.returns-in-Ok
+returns-in-Ok g c =
     let end = c.at.ensures in
     let after = c.behind-else-all.ensures in
     let did = c.requires in
     let left : c.behind-else-all.result.sources.items ≡ c.args.end.sources.items = ap (λ v. v.items) after.sources ∙ end.sources in
-    unfinished _ _ _ _ _ (after.staged ∙ end.staged)
-    (told-got c.args.job.now.size did.end.count did.come c.args.all did.all after.got left did.end.moved)
-    (rw (after.fault ∙ end.fault) (after.status ∙ end.status)) (after.worked ∙ end.worked) (rw (after.fault ∙ end.fault, after.staged ∙ end.staged) refl) after.left.0 after.waited
+    let told = told-stopped c.args.job.now.size c.args.end did.end.reading did.come c.args.all did.all after.got left _ _ c.in-Ok.is c.if-all.false
+    (after.read ∙ end.read) (after.fault ∙ end.fault ∙ ap (λ n. Some (fault.OpenFault (n + 1))) did.number) in
+    record {
+      tells = unfinished _ _ _ _ _ (after.staged ∙ end.staged) told.0 (rw (after.fault ∙ end.fault) (after.status ∙ end.status))
+          (after.worked ∙ end.worked) (rw (after.fault ∙ end.fault, after.staged ∙ end.staged) refl) after.left.0 after.waited;
+      ends = told.1;
+    }
 
-pub returns-in-Ok-clause-ends : goal.returns-in-Ok-clause-ends
-returns-in-Ok-clause-ends g c =
-    let end = c.at.ensures in
-    let after = c.behind-else-all.ensures in
-    let did = c.requires in
-    let left : c.behind-else-all.result.sources.items ≡ c.args.end.sources.items = ap (λ v. v.items) after.sources ∙ end.sources in
-    told-stopped c.args.job.now.size did.end.count did.come c.args.all did.all after.got left _ c.if-all.false (after.read ∙ end.read)
-    (after.fault ∙ end.fault ∙ ap (λ n. Some (fault.OpenFault (n + 1))) did.number) (on-ok c.args.end.result _ c.in-Ok.is did.end.whole)
-
-pub returns-clause-tells : goal.returns-clause-tells
-returns-clause-tells g c =
+pub returns : goal.returns
+returns g c =
     let end = c.of_work.ensures in
     let after = c.behind-in-Err.ensures in
     let did = c.requires in
     let left : c.behind-in-Err.result.sources.items ≡ c.args.end.sources.items = ap (λ v. v.items) after.sources ∙ end.sources in
-    unfinished _ _ _ _ _ (after.staged ∙ end.unstaged)
-    (told-got c.args.job.now.size did.end.count did.come c.args.all did.all after.got left did.end.moved)
-    (rw (after.fault ∙ end.fault) (after.status ∙ end.status)) (after.worked ∙ end.none) (rw (after.fault, after.staged) end.staged) after.left.0 after.waited
-
-pub returns-clause-ends : goal.returns-clause-ends
-returns-clause-ends g c =
-    let end = c.of_work.ensures in
-    let after = c.behind-in-Err.ensures in
-    let did = c.requires in
-    let left : c.behind-in-Err.result.sources.items ≡ c.args.end.sources.items = ap (λ v. v.items) after.sources ∙ end.sources in
-    told-met c.args.job.now.size did.end.count did.come c.args.all did.all after.got left c.in-Err.fault _ (after.read ∙ end.read)
-    (after.fault ∙ end.fault) (at-err c.args.end.result _ c.in-Err.is did.end.cause)
+    let told = told-met c.args.job.now.size c.args.end did.end.reading did.come c.args.all did.all after.got left _ _ c.in-Err.is
+    (after.read ∙ end.read) (after.fault ∙ end.fault) in
+    record {
+      tells = unfinished _ _ _ _ _ (after.staged ∙ end.unstaged) told.0 (rw (after.fault ∙ end.fault) (after.status ∙ end.status))
+          (after.worked ∙ end.none) (rw (after.fault, after.staged) end.staged) after.left.0 after.waited;
+      ends = told.1;
+    }

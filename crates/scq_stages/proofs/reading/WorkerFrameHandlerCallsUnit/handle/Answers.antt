@@ -1,5 +1,5 @@
-use Rattle.std.proofs.Common.{rules, ◌≡◌, ◌≤◌, ◌<◌, ◌+◌, ◌++◌, ◌∷◌, ◌∙◌, ap, sym, subst, arith, ℕ, suc, List, [], length, None, Err, Result}
-use Rattle.std.specs.Prelude.{IfErr, Bool}
+use Rattle.std.proofs.Common.{rules, ◌≡◌, ◌≤◌, ◌<◌, ◌+◌, ◌++◌, ◌∷◌, ◌∙◌, ap, sym, subst, arith, ℕ, suc, List, [], length, None}
+use Rattle.std.specs.Prelude.{Bool}
 use Rattle.std.specs.List.{filter_map}
 use Rattle.scq_block.specs.Exports.{bytes_of}
 use Rattle.scq_block.specs.declared.frame.Frame.{Frame}
@@ -11,7 +11,9 @@ use Rattle.scq_passes.proofs.ManyLists.{one-of-all}
 use Rattle.scq_stages.specs.declared.finished.Finished.{Finished}
 use Rattle.scq_stages.specs.Exports.{first, second, take_topic, SendsToFirst, HasTakenOrMoved, HasMovedIts, HasFinishedOnlySeconds, HasStoppedAt}
 use Rattle.scq_stages.specs.Exports.{HasFewStageCalls, IsAtWork}
-use Rattle.scq_stages.proofs.AtWork.{work-sent, work-helped, suits-full, left-sent, work-stopped}
+use Rattle.scq_desk.proofs.Passes.{suits-full}
+use Rattle.scq_files.proofs.Results.{err-of}
+use Rattle.scq_stages.proofs.AtWork.{work-sent, work-helped, left-sent, work-stopped}
 use Rattle.scq_stages.proofs.FewCalls.{few_calls-full, few_calls-more, few_calls-at_get}
 use Rattle.scq_stages.proofs.reading.WorkerFrameHandlerCallsUnit.handle.Goals as goal
 use Rattle.scq_stages.proofs.reading.WorkerFrameHandlerCallsUnit.handle.Goals.{After-finish_directly}
@@ -34,10 +36,8 @@ returns-in_err-send_in-in-Ok-clause-stopped c =
     let said = c.in_err-send_in-in-Ok.ensures in
     let kept = c.in_err-send_in-in-Ok.field-0.0.held in
     let left : (n : ℕ) → HasLeftSo HasFewStageCalls n (n + 1) was.pass now.pass kept = λ n.
-    left-sent bytes_of n said.spent.0 was.pass c.lend.new.pass now.pass c.in-Ok.held kept c.in-Ok.ensures.lent.lent said.spent.1 said.kept
-    said.back in
-    let is : c.from_residual.result ≡ Err c.in_err-send_in-in-Ok.field-0.0 = search rules in
-    subst (λ (r : Result _ _). IfErr r (λ l. HasStoppedAt queue (m ∷ []) was now l.held)) (sym is)
+    left-sent bytes_of n was.pass c.lend.new.pass now.pass c.in-Ok.held kept c.in-Ok.ensures.lent.lent said.back in
+    err-of _ c.from_residual.result c.in_err-send_in-in-Ok.field-0.0 (search rules)
     (record {
       left = λ before at. work-stopped queue before m was.pass now.pass was.members.items was.starved kept at c.requires.ready.0.queue
           c.requires.ready.1 (left (length before));
@@ -74,7 +74,7 @@ returns-in-Err-Spent-clause-stopped c =
     let spent = ((c.in-Err-Spent.ensures.spent c.in-Err-Spent.field-0-0 (cc)).drawn c.requires.ready.0.spent).0 in
     let left : (n : ℕ) → HasLeftSo HasFewStageCalls n (n + 1) was.pass q None = λ n.
     left-so-at-get HasFewStageCalls n (n + 1) 0 c.in-Err-Spent.field-0-0 was.pass q spent
-    (λ few. few_calls-more 1 n (n + 1) q (omega arith) (few_calls-at_get n 0 c.in-Err-Spent.field-0-0 was.pass q spent few)) in
+    (λ few. few_calls-more 1 1 n (n + 1) q (omega arith) (omega arith) (few_calls-at_get n 0 c.in-Err-Spent.field-0-0 was.pass q spent few)) in
     record {
       left = λ before at. work-stopped c.args.with.now.queue.now before c.args.message.now was.pass q was.members.items was.starved None at
           c.requires.ready.0.queue c.requires.ready.1 (left (length before));
@@ -113,8 +113,7 @@ returns-in_err-help-in-Err-Full-clause-stopped c =
     (few_calls-full n c.in-Err-Full.head was.pass q full)
     (subst (λ (x : PassStanding _). HasLeftSo HasFewStageCalls (n + 1) (n + 1) x now.pass kept) c.finish_directly.ensures.same
     (c.in_err-help-in-Err-Full.ensures.left (n + 1))) in
-    let is : c.from_residual-in_err-help-in-Err-Full.result ≡ Err c.in_err-help-in-Err-Full.field-0.0 = search rules in
-    subst (λ (x : Result _ _). IfErr x (λ l. HasStoppedAt queue (m ∷ []) was now l.held)) (sym is)
+    err-of _ c.from_residual-in_err-help-in-Err-Full.result c.in_err-help-in-Err-Full.field-0.0 (search rules)
     (record {
       left = λ before at. work-stopped queue before m was.pass now.pass was.members.items was.starved kept at c.requires.ready.0.queue
           c.requires.ready.1 (left (length before));

@@ -1,5 +1,4 @@
-use Rattle.std.proofs.Common.{rules, ◌≡◌, ◌∙◌, ap, sym, subst, refl, List, [], length, Err, Result}
-use Rattle.std.specs.Prelude.{IfErr}
+use Rattle.std.proofs.Common.{rules, ◌≡◌, ◌∙◌, ap, sym, refl, List, [], length}
 use Rattle.std.proofs.lemmas.List.{append-nil}
 use Rattle.scq_frames.specs.declared.message.Message.{Message}
 use Rattle.scq_queue.specs.Exports.{sends_of, takes_of, PassStanding}
@@ -8,6 +7,7 @@ use Rattle.scq_passes.proofs.PassLemmas.{taken-nothing, taken-along}
 use Rattle.scq_passes.proofs.Since.{since-of, since-takes}
 use Rattle.scq_passes.proofs.LeftLemmas.{left-so-taken}
 use Rattle.scq_stages.specs.Exports.{first, second, HasFewStageCalls, IsAtWork, HasStopped}
+use Rattle.scq_files.proofs.Results.{err-of}
 use Rattle.scq_stages.proofs.AtWork.{work-done, work-left}
 use Rattle.scq_stages.proofs.FewCalls.{few_calls-moved}
 use Rattle.scq_stages.proofs.Finishing.{helped-nothing, helped-along, moved-nothing, moved-along}
@@ -64,9 +64,7 @@ returns-in_err-move_one-clause-left g c =
     let mid = c.moves.self in
     let now = c.move_one.new.self in
     let taken = c.moves.invariant.taken in
-    let is : c.from_residual.result ≡ Err c.in_err-move_one.field-0.0 = search rules in
-    subst (λ (r : Result _ _). IfErr r (λ l. (messages : List Message) → IsAtWork messages was.pass was.members.items was.starved
-    → HasStopped c.args.queue.now (length messages) now.pass l.held)) (sym is)
+    err-of _ c.from_residual.result c.in_err-move_one.field-0.0 (search rules)
     (λ messages work.
     let n = length messages in
     let kept = c.in_err-move_one.field-0.0.held in

@@ -1,22 +1,21 @@
-use Rattle.std.proofs.Common.{rules, ◌≡◌, ap, sym, subst, arith, refl, suc, ℕ, length, ◌<◌, Err, Result}
-use Rattle.std.specs.Prelude.{IfErr}
+use Rattle.std.proofs.Common.{rules, ◌≡◌, ap, arith, refl, inl, suc, ℕ, length, ◌<◌}
 use Rattle.scq_queue.specs.Exports.{takes_of, PassStanding}
 use Rattle.scq_passes.specs.Exports.{HasLeftSo}
 use Rattle.scq_passes.proofs.InRun.{only-along, only-back, only-got, only-nothing}
 use Rattle.scq_passes.proofs.Taking.{found-nothing}
 use Rattle.scq_passes.proofs.Vain.{vain-got}
 use Rattle.scq_stages.specs.Exports.{HasFewStageCalls}
-use Rattle.scq_stages.proofs.Finishing.{since-took, since-found, finished-one, finished-nothing, took-one, found-one, left-take, left-given}
+use Rattle.scq_files.proofs.Results.{err-of}
+use Rattle.scq_stages.proofs.Finishing.{since-took, since-found, finished-one, finished-nothing, took-one, found-one, left-take, left-back}
 use Rattle.scq_stages.proofs.worker.Worker.finish_one.Goals as goal
 
 pub returns-in_err-end_taken-in-Ok-clause-left : goal.returns-in_err-end_taken-in-Ok-clause-left
 returns-in_err-end_taken-in-Ok-clause-left g c =
     let p = c.args.self.now.pass in
     let r = c.end_taken.new.self.pass in
-    let is : c.from_residual.result ≡ Err c.in_err-end_taken-in-Ok.field-0.0 = search rules in
-    subst (λ (x : Result _ _). IfErr x (λ l. (messages : ℕ) → HasLeftSo HasFewStageCalls messages messages p r l.held)) (sym is)
-    (λ messages. left-given g.B.Buffer.contents messages c.args.topic c.in-Ok.place p c.take.new.pass r c.in-Ok.held _ c.in-Ok.ensures.took.got
-    c.in_err-end_taken-in-Ok.ensures.back)
+    err-of _ c.from_residual.result c.in_err-end_taken-in-Ok.field-0.0 (search rules)
+    (λ messages. left-back g.B.Buffer.contents messages c.args.topic c.in-Ok.place 0 p c.take.new.pass r c.in-Ok.held _ c.in-Ok.ensures.took.got
+    (inl refl) c.in_err-end_taken-in-Ok.ensures.back)
 
 pub returns-in_ok-end_taken-in-Ok-clause-taken : goal.returns-in_ok-end_taken-in-Ok-clause-taken
 returns-in_ok-end_taken-in-Ok-clause-taken g c =

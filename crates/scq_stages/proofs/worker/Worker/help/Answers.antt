@@ -1,10 +1,10 @@
-use Rattle.std.proofs.Common.{rules, ◌≡◌, ◌∙◌, refl, sym, subst, ◌++◌, ◌∷◌, [], ℕ, Err, Result}
-use Rattle.std.specs.Prelude.{IfErr}
+use Rattle.std.proofs.Common.{rules, ◌≡◌, ◌∙◌, refl, sym, ◌++◌, ◌∷◌, [], ℕ}
 use Rattle.scq_passes.specs.Exports.{HasLeftSo, since}
 use Rattle.scq_passes.proofs.PassLemmas.{taken-along}
 use Rattle.scq_passes.proofs.Since.{since-takes}
 use Rattle.scq_passes.proofs.LeftLemmas.{left-so-taken}
 use Rattle.scq_stages.specs.Exports.{first, second, HasFewStageCalls}
+use Rattle.scq_files.proofs.Results.{err-of}
 use Rattle.scq_stages.proofs.Moving.{moved-of}
 use Rattle.scq_stages.proofs.FewCalls.{few_calls-moved}
 use Rattle.scq_stages.proofs.Finishing.{helped-along, moved-along, topics-along}
@@ -23,8 +23,7 @@ returns-in_err-move_one-clause-left g c =
     let q = c.finish_one.new.self.pass in
     let r = c.move_one.new.self.pass in
     let taken = moved-of p q c.in_ok-finish_one.ensures.taken.taken in
-    let is : c.from_residual-in_err-move_one.result ≡ Err c.in_err-move_one.field-0.0 = search rules in
-    subst (λ (x : Result _ _). IfErr x (λ l. (messages : ℕ) → HasLeftSo HasFewStageCalls messages messages p r l.held)) (sym is)
+    err-of _ c.from_residual-in_err-move_one.result c.in_err-move_one.field-0.0 (search rules)
     (λ messages. left-so-taken HasFewStageCalls messages messages messages p q r _ taken (few_calls-moved messages p q taken)
     (c.in_err-move_one.ensures.left messages))
 

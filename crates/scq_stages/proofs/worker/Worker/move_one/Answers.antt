@@ -1,11 +1,11 @@
-use Rattle.std.proofs.Common.{rules, ◌≡◌, ◌∙◌, ap, sym, subst, arith, refl, suc, ℕ, length, ◌<◌, ◌∷◌, [], Err, Result}
-use Rattle.std.specs.Prelude.{IfErr}
+use Rattle.std.proofs.Common.{rules, ◌≡◌, ◌∙◌, ap, arith, refl, suc, ℕ, length, ◌<◌, ◌∷◌, []}
 use Rattle.std.specs.List.{filter_map}
 use Rattle.scq_core.specs.declared.ended.Ended.TheVariants.{Nothing}
 use Rattle.scq_queue.specs.Exports.{sends_of, takes_of, PassStanding}
 use Rattle.scq_passes.specs.Exports.{HasLeftSo, since, on}
 use Rattle.scq_passes.proofs.PassLemmas.{found-none, found-past}
 use Rattle.scq_stages.specs.Exports.{first, second, take_topic, HasFewStageCalls}
+use Rattle.scq_files.proofs.Results.{err-of}
 use Rattle.scq_stages.proofs.Finishing.{since-found, moved-nothing, helped-nothing, left-take, left-back}
 use Rattle.scq_stages.proofs.Moved.{HasMovedOne, moved-took}
 use Rattle.scq_stages.proofs.worker.Worker.move_one.Goals as goal
@@ -27,10 +27,10 @@ pub returns-in_err-move_on-in-Ok-clause-left : goal.returns-in_err-move_on-in-Ok
 returns-in_err-move_on-in-Ok-clause-left g c =
     let p = c.args.self.now.pass in
     let r = c.move_on.new.self.pass in
-    let is : c.from_residual.result ≡ Err c.in_err-move_on-in-Ok.field-0.0 = search rules in
-    subst (λ (x : Result _ _). IfErr x (λ l. (messages : ℕ) → HasLeftSo HasFewStageCalls messages messages p r l.held)) (sym is)
-    (λ messages. left-back g.B.Buffer.contents messages first c.in-Ok.field-0-0 p c.take.new.pass r c.in-Ok.held _ c.in-Ok.ensures.took.got
-    c.in_err-move_on-in-Ok.ensures.back)
+    err-of _ c.from_residual.result c.in_err-move_on-in-Ok.field-0.0 (search rules)
+    (λ messages.
+    let back = c.in_err-move_on-in-Ok.ensures.back in
+    left-back g.B.Buffer.contents messages first c.in-Ok.field-0-0 back.0 p c.take.new.pass r c.in-Ok.held _ c.in-Ok.ensures.took.got back.1 back.2)
 
 pub returns-in_ok-move_on-in-Ok-clause-taken : goal.returns-in_ok-move_on-in-Ok-clause-taken
 returns-in_ok-move_on-in-Ok-clause-taken g c = (moved g c).taken

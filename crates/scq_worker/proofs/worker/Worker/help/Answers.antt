@@ -1,9 +1,10 @@
-use Rattle.std.proofs.Common.{rules, ◌≡◌, sym, subst, arith, refl}
-use Rattle.std.specs.Prelude.{count_by, IfErr, Result, Err}
+use Rattle.std.proofs.Common.{rules, ◌≡◌, arith, refl}
+use Rattle.std.specs.Prelude.{count_by}
 use Rattle.scq_passes.specs.Exports.{is_take}
 use Rattle.scq_worker.specs.Exports.{HasLeftAt, HasTakenAll, KeepsItsOwn}
 use Rattle.scq_passes.proofs.PassLemmas.{counted-below, counted-above}
 use Rattle.scq_passes.proofs.LeftLemmas.{left-taken}
+use Rattle.scq_files.proofs.Results.{err-of}
 use Rattle.scq_worker.proofs.Going.{own-along, own-same, took-along, took-nothing}
 use Rattle.scq_worker.proofs.worker.Worker.help.Goals as goal
 
@@ -37,8 +38,7 @@ topics-preserved g c =
 
 pub returns-in_err-take_one-clause-left : goal.returns-in_err-take_one-clause-left
 returns-in_err-take_one-clause-left g c =
-    let is : c.from_residual.result ≡ Err c.in_err-take_one.field-0.0 = search rules in
-    subst (λ (r : Result _ _). IfErr r (λ l. HasLeftAt c.args.self.now c.take_one.new.self l.held)) (sym is)
+    err-of _ c.from_residual.result c.in_err-take_one.field-0.0 (search rules)
     (λ n. left-taken n n c.args.self.now.pass c.topics.self.pass c.take_one.new.self.pass _ c.topics.invariant.took.taken
     (c.in_err-take_one.ensures.left n))
 

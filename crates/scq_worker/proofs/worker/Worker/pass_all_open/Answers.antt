@@ -1,7 +1,7 @@
-use Rattle.std.proofs.Common.{rules, ◌≡◌, ◌+◌, ◌<◌, sym, subst, arith, ℕ, [], ⊎_elim, Err, Result}
-use Rattle.std.specs.Prelude.{IfErr}
+use Rattle.std.proofs.Common.{rules, ◌≡◌, ◌+◌, ◌<◌, sym, subst, arith, ℕ, [], ⊎_elim}
 use Rattle.std.proofs.lemmas.Bool.{cases_eq}
 use Rattle.scq_worker.specs.Exports.{open_on, HasStoppedIn, gathered-along, gathered-nothing, still-along, still-same, stopped-along}
+use Rattle.scq_files.proofs.Results.{err-of}
 use Rattle.scq_worker.proofs.Gathered.{closed-at, closed-still}
 use Rattle.scq_worker.proofs.worker.Worker.pass_all_open.Goals as goal
 
@@ -47,8 +47,7 @@ pub returns-in_err-pass_open-clause-left : goal.returns-in_err-pass_open-clause-
 returns-in_err-pass_open-clause-left g c =
     let start = c.args.self.now in
     let now = c.pass_open.new.self in
-    let is : c.from_residual.result ≡ Err c.in_err-pass_open.field-0.0 = search rules in
-    subst (λ (r : Result _ _). IfErr r (λ l. HasStoppedIn c.args.queue.now c.args.job.now [] start now l.held)) (sym is)
+    err-of _ c.from_residual.result c.in_err-pass_open.field-0.0 (search rules)
     (stopped-along c.args.queue.now c.args.job.now [] [] start c.topics.self now (g.W.Bell.wakes c.args.stand.now) (g.W.Bell.wakes c.topics.stand)
     c.in_err-pass_open.field-0.0.held c.topics.invariant.gathered c.in_err-pass_open.ensures.left)
 

@@ -1,20 +1,22 @@
-use Rattle.std.proofs.Common.{rules, ◌≡◌, ◌≤◌, ◌<◌, ◌+◌, ◌∙◌, refl, ap, sym, subst, arith, suc, List, length, None, Err, Result}
-use Rattle.std.specs.Prelude.{IfErr, count_by}
+use Rattle.std.proofs.Common.{rules, ◌≡◌, ◌≤◌, ◌<◌, ◌+◌, ◌∙◌, refl, ap, sym, subst, arith, suc, List, length, None}
+use Rattle.std.specs.Prelude.{count_by}
 use Rattle.scq_collect.specs.declared.answered.Answered.{Answered}
 use Rattle.scq_passes.specs.Exports.{is_take, TookInVain, Suits, HasTaken, HasFoundFull, HasLeft}
 use Rattle.scq_queue.specs.Exports.{PassStanding}
-use Rattle.scq_worker.specs.Exports.{parts_of_load, IsLoad, takes_behind, Sends, RingsOn, HasStoppedBehind, HasSent, HasAnswered}
+use Rattle.scq_worker.specs.Exports.{parts_of_load, IsLoad, takes_behind, Sends, RingsOn, IsSameWorker, HasStoppedBehind, HasSent, HasAnswered}
 use Rattle.scq_worker.specs.declared.worker.load.Load.{Load}
 use Rattle.scq_worker.specs.declared.worker.load.Load.TheVariants.{Alone, Together}
 use Rattle.scq_passes.proofs.PassLemmas.{found-full, lent-and-sent, suits-taken}
 use Rattle.scq_passes.proofs.Kept.{taken-sends}
 use Rattle.scq_passes.proofs.LeftLemmas.{left-at-get, left-full, left-more}
 use Rattle.scq_passes.proofs.ManyLists.{one-of-all}
-use Rattle.scq_worker.proofs.PassedOn.{left-sent, left-behind, suits-full, suits-sent, passed-sent, passed-helped, passed-stopped}
+use Rattle.scq_desk.proofs.Passes.{suits-full}
+use Rattle.scq_files.proofs.Results.{err-of}
+use Rattle.scq_worker.proofs.PassedOn.{left-sent, left-behind, suits-sent, passed-sent, passed-helped, passed-stopped}
 use Rattle.scq_passes.proofs.Vain.{vain-helped, vain-behind}
 use Rattle.scq_worker.proofs.Rung.{rung-sent, rung-helped}
 use Rattle.scq_worker.proofs.worker.Worker.pass_load.Goals as goal
-use Rattle.scq_worker.proofs.worker.Worker.pass_load.Goals.{After-answer_directly, After-take_behind}
+use Rattle.scq_worker.proofs.worker.Worker.pass_load.Goals.{After-answer_directly, After-help, After-take_behind}
 
 -- a load has parts
 some-in : (size longest most topic : _) (load : Load) → IsLoad size longest most topic load → 0 < length (parts_of_load size load)
@@ -36,13 +38,12 @@ pub returns-in_err-send_in-in-Ok-clause-left : goal.returns-in_err-send_in-in-Ok
 returns-in_err-send_in-in-Ok-clause-left g c =
     let p = c.args.self.now.pass in
     let said = c.in_err-send_in-in-Ok.ensures in
-    let is : c.from_residual.result ≡ Err c.in_err-send_in-in-Ok.field-0.0 = search rules in
-    subst (λ (r : Result _ _). IfErr r (λ l. HasStoppedBehind c.args.queue.now c.args.job.now c.args.self.now c.send_in.new.self l.held)) (sym is)
+    err-of _ c.from_residual.result c.in_err-send_in-in-Ok.field-0.0 (search rules)
     (λ batches was.
     let kept = c.in_err-send_in-in-Ok.field-0.0.held in
     let left : HasLeft (length batches) (length batches + 1) p c.send_in.new.self.pass kept =
-    left-sent g.B.Buffer.contents (length batches) c.args.topic said.spent.0 p c.lend.new.pass c.send_in.new.self.pass c.in-Ok.held kept
-    c.in-Ok.ensures.lent.lent said.spent.1 said.kept said.back in
+    left-sent g.B.Buffer.contents (length batches) c.args.topic p c.lend.new.pass c.send_in.new.self.pass c.in-Ok.held kept c.in-Ok.ensures.lent.lent
+    said.back in
     passed-stopped c.args.queue.now c.args.job.now.topics batches p c.send_in.new.self.pass c.args.self.now.members c.args.self.now.starved kept was
     c.requires.suits.queue c.requires.stays left)
 
@@ -64,24 +65,28 @@ returns-in_err-take_behind-in-Ok-clause-left g c =
     let b = parts_of_load c.args.job.now.size c.args.load in
     let kept = c.in_err-take_behind-in-Ok.field-0.0.held in
     let sent = sent-at g (goal.at.returns-in_err-take_behind-in-Ok-clause-left g c).After-take_behind in
-    let is : c.from_residual-in_err-take_behind-in-Ok.result ≡ Err c.in_err-take_behind-in-Ok.field-0.0 = search rules in
-    subst (λ (x : Result _ _). IfErr x (λ l. HasStoppedBehind c.args.queue.now c.args.job.now c.args.self.now c.take_behind.new.self l.held)) (sym is)
+    err-of _ c.from_residual-in_err-take_behind-in-Ok.result c.in_err-take_behind-in-Ok.field-0.0 (search rules)
     (λ batches was.
     passed-stopped c.args.queue.now c.args.job.now.topics batches p r c.args.self.now.members c.args.self.now.starved kept was
     c.requires.suits.queue c.requires.stays
     (left-behind (length batches) c.args.topic b p c.send_in.new.self.pass r kept sent (c.in_err-take_behind-in-Ok.ensures.left (length batches + 1))))
 
-pub returns-in_err-take_behind-in-Ok-clause-still : goal.returns-in_err-take_behind-in-Ok-clause-still
-returns-in_err-take_behind-in-Ok-clause-still g c =
-    let sent = sent-at g (goal.at.returns-in_err-take_behind-in-Ok-clause-still g c).After-take_behind in
+-- it is the same worker still
+still-behind : (g : _) (c : After-take_behind g) → c.take_behind.new.self.pass.number ≡ c.send_in.new.self.pass.number
+    → IsSameWorker c.args.self.now c.take_behind.new.self (g.W.Bell.kept c.args.stand.now) (g.W.Bell.kept c.after_send.new.stand)
+still-behind g c number =
     let same = c.in_ok-send_in-in-Ok.ensures.same in
     let own = c.take_behind.ensures.kept in
     record {
       starved = λ fed. sym same.1 ∙ own.starved fed;
       number = own.number ∙ same.2;
-      pass = (c.in_err-take_behind-in-Ok.ensures.left 0).own.1 ∙ ap (λ (x : PassStanding _). x.number) sent.pass;
+      pass = number ∙ ap (λ (x : PassStanding _). x.number) (sent-at g c).pass;
       bell = c.after_send.ensures.kept;
     }
+
+pub returns-in_err-take_behind-in-Ok-clause-still : goal.returns-in_err-take_behind-in-Ok-clause-still
+returns-in_err-take_behind-in-Ok-clause-still g c =
+    still-behind g (goal.at.returns-in_err-take_behind-in-Ok-clause-still g c).After-take_behind (c.in_err-take_behind-in-Ok.ensures.left 0).own.1
 
 -- the send met Spent
 pub returns-in_err-send_in-in-Ok-clause-still : goal.returns-in_err-send_in-in-Ok-clause-still
@@ -90,7 +95,8 @@ returns-in_err-send_in-in-Ok-clause-still g c =
     record {
       starved = λ fed. sym same.1 ∙ fed;
       number = same.2;
-      pass = ap (λ (x : PassStanding _). x.number) c.in_err-send_in-in-Ok.ensures.spent.1 ∙ c.lend.ensures.own.1;
+      pass = (left-sent g.B.Buffer.contents 0 c.args.topic c.args.self.now.pass c.lend.new.pass c.send_in.new.self.pass c.in-Ok.held _
+          c.in-Ok.ensures.lent.lent c.in_err-send_in-in-Ok.ensures.back).own.1;
       bell = refl;
     }
 
@@ -134,16 +140,8 @@ returns-in_ok-take_behind-in-Ok-clause-goes g c =
 
 pub returns-in_ok-take_behind-in-Ok-clause-still : goal.returns-in_ok-take_behind-in-Ok-clause-still
 returns-in_ok-take_behind-in-Ok-clause-still g c =
-    let sent = sent-at g (goal.at.returns-in_ok-take_behind-in-Ok-clause-still g c).After-take_behind in
-    let same = c.in_ok-send_in-in-Ok.ensures.same in
-    let own = c.take_behind.ensures.kept in
-    record {
-      starved = λ fed. sym same.1 ∙ own.starved fed;
-      number = own.number ∙ same.2;
-      pass = ap (λ (x : PassStanding _). x.number) c.in_ok-take_behind-in-Ok.ensures.took.taken.pass
-          ∙ ap (λ (x : PassStanding _). x.number) sent.pass;
-      bell = c.after_send.ensures.kept;
-    }
+    still-behind g (goal.at.returns-in_ok-take_behind-in-Ok-clause-still g c).After-take_behind
+    (ap (λ (x : PassStanding _). x.number) c.in_ok-take_behind-in-Ok.ensures.took.taken.pass)
 
 -- the lend met Spent
 pub returns-in-Err-Spent-clause-left : goal.returns-in-Err-Spent-clause-left
@@ -177,8 +175,7 @@ returns-in_err-help-in-Err-Full-clause-left g c =
     let r = c.help.new.self.pass in
     let full = full-at g (goal.at.returns-in_err-help-in-Err-Full-clause-left g c).After-answer_directly in
     let kept = c.in_err-help-in-Err-Full.field-0.0.held in
-    let is : c.from_residual-in_err-help-in-Err-Full.result ≡ Err c.in_err-help-in-Err-Full.field-0.0 = search rules in
-    subst (λ (x : Result _ _). IfErr x (λ l. HasStoppedBehind c.args.queue.now c.args.job.now c.args.self.now c.help.new.self l.held)) (sym is)
+    err-of _ c.from_residual-in_err-help-in-Err-Full.result c.in_err-help-in-Err-Full.field-0.0 (search rules)
     (λ batches was.
     let left : HasLeft (length batches + 1) (length batches + 1) c.lend.new.pass r kept =
     subst (λ (q : PassStanding _). HasLeft (length batches + 1) (length batches + 1) q r kept) c.answer_directly.ensures.same.0
@@ -191,16 +188,17 @@ returns-in_err-help-in-Err-Full-clause-left g c =
 helped : (g : _) (c : goal.In_ok-help-in-Err-Full g) → HasTaken c.lend.new.pass c.help.new.self.pass
 helped g c = subst (λ (q : PassStanding _). HasTaken q c.help.new.self.pass) c.answer_directly.ensures.same.0 c.in_ok-help-in-Err-Full.ensures.took.taken
 
-pub returns-in_err-help-in-Err-Full-clause-still : goal.returns-in_err-help-in-Err-Full-clause-still
-returns-in_err-help-in-Err-Full-clause-still g c =
+still-helped : (g : _) (c : After-help g) → c.help.new.self.pass.number ≡ c.lend.new.pass.number
+    → IsSameWorker c.args.self.now c.help.new.self (g.W.Bell.kept c.args.stand.now) (g.W.Bell.kept c.args.stand.now)
+still-helped g c number =
     let its = c.answer_directly.ensures in
     let own = c.help.ensures.kept in
-    record {
-      starved = λ fed. its.starved (own.starved fed);
-      number = own.number ∙ its.same.1;
-      pass = (c.in_err-help-in-Err-Full.ensures.left 0).own.1 ∙ ap (λ (x : PassStanding _). x.number) its.same.0 ∙ c.lend.ensures.own.1;
-      bell = refl;
-    }
+    record { starved = λ fed. its.starved (own.starved fed); number = own.number ∙ its.same.1; pass = number ∙ c.lend.ensures.own.1; bell = refl }
+
+pub returns-in_err-help-in-Err-Full-clause-still : goal.returns-in_err-help-in-Err-Full-clause-still
+returns-in_err-help-in-Err-Full-clause-still g c =
+    still-helped g (goal.at.returns-in_err-help-in-Err-Full-clause-still g c).After-help
+    ((c.in_err-help-in-Err-Full.ensures.left 0).own.1 ∙ ap (λ (x : PassStanding _). x.number) c.answer_directly.ensures.same.0)
 
 pub returns-in_err-help-in-Err-Full-clause-opens : goal.returns-in_err-help-in-Err-Full-clause-opens
 returns-in_err-help-in-Err-Full-clause-opens g c = c.help.ensures.kept.opens ∙ c.answer_directly.ensures.same.2
@@ -248,14 +246,7 @@ returns-in_ok-help-in-Err-Full-clause-goes g c =
 
 pub returns-in_ok-help-in-Err-Full-clause-still : goal.returns-in_ok-help-in-Err-Full-clause-still
 returns-in_ok-help-in-Err-Full-clause-still g c =
-    let its = c.answer_directly.ensures in
-    let own = c.help.ensures.kept in
-    record {
-      starved = λ fed. its.starved (own.starved fed);
-      number = own.number ∙ its.same.1;
-      pass = ap (λ (x : PassStanding _). x.number) (helped g c).pass ∙ c.lend.ensures.own.1;
-      bell = refl;
-    }
+    still-helped g (goal.at.returns-in_ok-help-in-Err-Full-clause-still g c).After-help (ap (λ (x : PassStanding _). x.number) (helped g c).pass)
 
 pub returns-in_ok-help-in-Err-Full-clause-opens : goal.returns-in_ok-help-in-Err-Full-clause-opens
 returns-in_ok-help-in-Err-Full-clause-opens g c = c.help.ensures.kept.opens ∙ c.answer_directly.ensures.same.2

@@ -1,12 +1,12 @@
 -- Each part goes behind those that were passed on before it.
-use Rattle.std.proofs.Common.{rules, ◌≡◌, ◌≤◌, ◌+◌, sym, subst, arith, ℕ, ◌++◌, ◌∷◌, [], List, map, length, Err, Result}
-use Rattle.std.specs.Prelude.{IfErr}
+use Rattle.std.proofs.Common.{rules, ◌≡◌, ◌≤◌, ◌+◌, sym, subst, arith, ℕ, ◌++◌, ◌∷◌, [], List, map, length}
 use Rattle.std.specs.List.{range_with_len}
 use Rattle.std.proofs.lemmas.List.{length-append}
 use Rattle.std.proofs.lemmas.List.FromFn.{length-map-range_with_len, map-range_with_len_more}
 use Rattle.scq_frames.specs.declared.message.Message.{Message}
 use Rattle.scq_frames.specs.Exports.{Part, part_of, parts_of, all_parts}
 use Rattle.scq_worker.specs.Exports.{HasGathered, HasStoppedIn, gathered-along, gathered-nothing, still-along, still-same, stopped-along}
+use Rattle.scq_files.proofs.Results.{err-of}
 use Rattle.scq_worker.proofs.Going.{stopped-within}
 use Rattle.scq_worker.proofs.worker.Worker.pass_on.Goals as goal
 
@@ -69,8 +69,7 @@ returns-in_err-pass_part-clause-left g c =
     let front = first job.size m c.parts.before in
     let one : List Part = part_of job.size m (c.parts.before + 1) ∷ [] in
     let few : c.parts.before + 1 ≤ parts_of job.size m.payload = omega arith in
-    let is : c.from_residual.result ≡ Err c.in_err-pass_part.field-0.0 = search rules in
-    subst (λ (r : Result _ _). IfErr r (λ l. HasStoppedIn q job (all_parts job.size m) start now l.held)) (sym is)
+    err-of _ c.from_residual.result c.in_err-pass_part.field-0.0 (search rules)
     (stopped-within q job (front ++ one) (all_parts job.size m) start now held (within job.size c.parts.before m few)
     (stopped-along q job front one start c.parts.self now (g.W.Bell.wakes c.args.stand.now) (g.W.Bell.wakes c.parts.stand) held
     c.parts.invariant.gathered c.in_err-pass_part.ensures.left))

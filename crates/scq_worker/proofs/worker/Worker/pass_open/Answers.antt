@@ -1,8 +1,9 @@
-use Rattle.std.proofs.Common.{rules, ◌≡◌, ◌+◌, ◌<◌, ◌∙◌, ap, sym, subst, arith, List, [], ◌++◌, ◌∷◌, length, Err, Result}
-use Rattle.std.specs.Prelude.{IfErr, slice_set}
+use Rattle.std.proofs.Common.{rules, ◌≡◌, ◌+◌, ◌<◌, ◌∙◌, ap, sym, subst, arith, List, [], ◌++◌, ◌∷◌, length}
+use Rattle.std.specs.Prelude.{slice_set}
 use Rattle.std.proofs.lemmas.List.{append-nil, get_or_read, length-append}
 use Rattle.scq_frames.specs.Exports.{Part}
 use Rattle.scq_worker.specs.Exports.{AreOpen, PartsAreGathered, open_on, gathered-nothing, HasStoppedIn, still-same, HasPassed}
+use Rattle.scq_files.proofs.Results.{err-of}
 use Rattle.scq_worker.proofs.Gathered.{gathered-passed, open-closed, few-with, set-closed, set-few}
 use Rattle.scq_worker.proofs.PassedOn.{stopped-more}
 use Rattle.scq_worker.proofs.worker.Worker.pass_open.Goals as goal
@@ -34,8 +35,7 @@ returns-in_err-pass_load-clause-left g c =
     let some_ = some-at g at in
     let opens = c.args.self.now.opens.items in
     let kept = c.in_err-pass_load.field-0.0.held in
-    let is : c.from_residual.result ≡ Err c.in_err-pass_load.field-0.0 = search rules in
-    subst (λ (r : Result _ _). IfErr r (λ l. HasStoppedIn c.args.queue.now c.args.job.now [] c.args.self.now c.pass_load.new.self l.held)) (sym is)
+    err-of _ c.from_residual.result c.in_err-pass_load.field-0.0 (search rules)
     (λ parts was.
     let few = few-with c.args.job.now.most c.args.topic parts was.batches opens was.gathered (c.requires.opens.each c.args.topic) some_.1 in
     stopped-more c.args.queue.now (length was.batches + 1) (length (parts ++ [])) c.pass_load.new.self.pass kept

@@ -1,7 +1,7 @@
-use Rattle.std.proofs.Common.{rules, ◌≡◌, ◌∙◌, false, refl, sym, subst, arith, List, [], ◌∷◌, Err, Result}
-use Rattle.std.specs.Prelude.{IfErr}
+use Rattle.std.proofs.Common.{rules, ◌≡◌, ◌∙◌, false, refl, arith, List, [], ◌∷◌}
 use Rattle.scq_frames.specs.Exports.{Part, part_of}
 use Rattle.scq_worker.specs.Exports.{open_on, HasGathered, HasStoppedIn, IsSameWorker, gathered-along, still-along, stopped-along}
+use Rattle.scq_files.proofs.Results.{err-of}
 use Rattle.scq_worker.proofs.Gathered.{closed-at}
 use Rattle.scq_worker.proofs.Going.{gathered-one, gathered-still, gone-alone, still-as, stopped-alone, stopped-within}
 use Rattle.scq_worker.proofs.worker.Worker.pass_part.Goals as goal
@@ -74,8 +74,7 @@ returns-in_err-pass_open-clause-left g c =
     let now = c.pass_open.new.self in
     let held = c.in_err-pass_open.field-0.0.held in
     let was = g.W.Bell.wakes c.args.stand.now in
-    let is : c.from_residual.result ≡ Err c.in_err-pass_open.field-0.0 = search rules in
-    subst (λ (r : Result _ _). IfErr r (λ l. HasStoppedIn q job one start now l.held)) (sym is)
+    err-of _ c.from_residual.result c.in_err-pass_open.field-0.0 (search rules)
     (stopped-within q job [] one start now held (omega arith)
     (stopped-along q job [] [] start c.gather.new.self now was was held (gathered-first g at) c.in_err-pass_open.ensures.left))
 
@@ -126,8 +125,7 @@ returns-in_err-pass_load-clause-left g c =
     let start = c.args.self.now in
     let now = c.pass_load.new.self in
     let held = c.in_err-pass_load.field-0.0.held in
-    let is : c.from_residual-in_err-pass_load.result ≡ Err c.in_err-pass_load.field-0.0 = search rules in
-    subst (λ (r : Result _ _). IfErr r (λ l. HasStoppedIn q job (p ∷ []) start now l.held)) (sym is)
+    err-of _ c.from_residual-in_err-pass_load.result c.in_err-pass_load.field-0.0 (search rules)
     (stopped-alone q job p start c.gather-2.new.self now (g.W.Bell.wakes c.args.stand.now) (g.W.Bell.wakes c.pass_open.new.stand) held
     (gathered-later g at c.if-gather-2.false) c.in_err-pass_load.ensures.left)
 

@@ -1,5 +1,5 @@
 use Rattle.std.proofs.Common.{◌≡◌, ◌∙◌, ap, suc, length}
-use Rattle.scq_queue.specs.Exports.{having_seen, after_put}
+use Rattle.scq_queue.specs.Exports.{HeldStanding, having_seen, after_put}
 use Rattle.scq_worker.proofs.worker.Worker.send_in.Goals as goal
 
 pub write_load-requires-clause-room : goal.write_load-requires-clause-room
@@ -20,5 +20,11 @@ returns-in-Ok-clause-sent g c =
       record { topic = c.write_load.ensures.topic; carries = c.write_load.ensures.carries },
     )
 
-pub returns-in-Err-clause-spent : goal.returns-in-Err-clause-spent
-returns-in-Err-clause-spent g c = (c.in-Err.field-0-1.ticket, (c.in-Err.ensures.spent.drawn c.requires.pass.1).0)
+-- what it held came back
+pub returns-in-Err-clause-back : goal.returns-in-Err-clause-back
+returns-in-Err-clause-back g c =
+    let back = c.in-Err.ensures.back in (
+      ap (λ (h : HeldStanding _). h.index) back,
+      ap (λ (h : HeldStanding _). h.queue) back,
+      (c.in-Err.field-0-1.ticket, (c.in-Err.ensures.spent.drawn c.requires.pass.1).0),
+    )
