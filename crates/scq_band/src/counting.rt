@@ -2,10 +2,8 @@
 ghost use Rattle.std.specs.Prelude.{◌≡◌, ◌<◌, ◌≤◌};
 ghost use Rattle.scq_word.specs.Exports.{n_of};
 ghost use Rattle.scq_core.specs.Exports.{Location};
-ghost use Rattle.scq_band.specs.Buffers.{opening_of};
-ghost use Rattle.scq_band.specs.Layout.{at, IsLocation, word_count};
-ghost use Rattle.scq_band.specs.RunSeen.{WasFoundInRun, WasCountedInRun};
-ghost use Rattle.scq_band.specs.Standing.{having_seen, caller_of};
+ghost use Rattle.scq_band.specs.Exports.{opening_of, at, IsLocation, word_count, WasFoundInRun};
+ghost use Rattle.scq_band.specs.Exports.{WasCountedInRun, having_seen, caller_of};
 
 use crate::band::Band;
 use crate::marks::find;

@@ -5,8 +5,7 @@ ghost use Rattle.scq_frames.specs.declared.message.Message.{Message as TheMessag
 ghost use Rattle.scq_queue.specs.Exports.{IsHeldBy, after_put, having_seen};
 ghost use Rattle.scq_passes.specs.Exports.{Suits};
 ghost use Rattle.scq_desk.specs.Exports.{CameBack};
-ghost use Rattle.scq_stages.specs.Passing.{SendsToFirst};
-ghost use Rattle.scq_stages.specs.Working.{IsAtWork, IsDone, HasStopped};
+ghost use Rattle.scq_stages.specs.Exports.{SendsToFirst, IsAtWork, IsDone, HasStopped};
 
 use crate::StageJob;
 use crate::worker::{FIRST, Worker};

@@ -10,13 +10,10 @@ ghost use Rattle.scq_queue.specs.Exports.{having_seen};
 ghost use Rattle.scq_passes.specs.Exports.{Suits, HasLeftSo, since, HasOnlyCalled, TookNothing};
 ghost use Rattle.scq_passes.specs.Exports.{HasEmptied, HasTakenFrom, TookInVain};
 ghost use Rattle.scq_desk.specs.Exports.{CameBack};
-ghost use Rattle.scq_stages.specs.Stages.{redacted, stages_left};
-ghost use Rattle.scq_stages.specs.Handling.{after_stage};
-ghost use Rattle.scq_stages.specs.Members.{finished, way_from};
-ghost use Rattle.scq_stages.specs.Records.{first, second, take_topic};
-ghost use Rattle.scq_stages.specs.Steps.{HasTakenOrMoved, HasMovedIts, HasTakenOne};
-ghost use Rattle.scq_stages.specs.Steps.{HasFinishedOne, HasFinishedOnlySeconds};
-ghost use Rattle.scq_stages.specs.Working.{HasFewStageCalls};
+ghost use Rattle.scq_stages.specs.Exports.{redacted, stages_left, after_stage, finished, way_from};
+ghost use Rattle.scq_stages.specs.Exports.{first, second, take_topic, HasTakenOrMoved, HasMovedIts};
+ghost use Rattle.scq_stages.specs.Exports.{HasTakenOne, HasFinishedOne, HasFinishedOnlySeconds};
+ghost use Rattle.scq_stages.specs.Exports.{HasFewStageCalls};
 
 use crate::finished::StageWay;
 use crate::taken::{finish_in, redact_in};

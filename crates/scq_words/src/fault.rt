@@ -1,5 +1,4 @@
 use scq_topics::TopicFault;
-use scq_word::NoMemory;
 use std::alloc::AllocError;
 use thiserror::Error;
 
@@ -64,17 +63,6 @@ impl From<AllocError> for WordsError {
     ghost from_gives = { λ _ error. error ≡ NoMemory };
 
     fn from(_: AllocError) -> WordsError {
-        WordsError::NoMemory
-    }
-}
-
-impl From<NoMemory> for WordsError {
-    ghost use Rattle.std.specs.Prelude.{◌≡◌};
-    ghost use Rattle.scq_words.specs.declared.fault.WordsError.TheVariants.{NoMemory};
-
-    ghost from_gives = { λ _ error. error ≡ NoMemory };
-
-    fn from(_: NoMemory) -> WordsError {
         WordsError::NoMemory
     }
 }

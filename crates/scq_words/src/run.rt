@@ -4,8 +4,7 @@ ghost use Rattle.std.specs.Result.{result_err};
 ghost use Rattle.scq_words.specs.declared.fault.WordsFault.{WordsFault as TheFault};
 ghost use Rattle.scq_words.specs.Exports.{asked_of_run, first_of_tests, is_given, refused_topics};
 ghost use Rattle.scq_words.specs.Exports.{run, run_asked, asked_run, run_tests, texts_of_run};
-ghost use Rattle.scq_words.specs.Exports.{topics_or_none, run_app, text_in, Answered};
-ghost use Rattle.scq_words.specs.Exports.{IsRunInRange};
+ghost use Rattle.scq_words.specs.Exports.{topics_or_none, run_app, text_in, Answered, IsRunInRange};
 ghost use Rattle.clap.specs.Words.{takes};
 
 use crate::files::{MOST_FILES, files_of};

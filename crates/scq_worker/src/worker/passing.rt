@@ -5,12 +5,10 @@ ghost use Rattle.std.specs.Prelude.{count_by, length, max, None, IfErr, OnOk, Al
 ghost use Rattle.scq_frames.specs.Exports.{IsNumbered, all_parts, parts_of as the_parts_of};
 ghost use Rattle.scq_frames.specs.Exports.{part_of};
 ghost use Rattle.scq_passes.specs.Exports.{is_take, Suits};
-ghost use Rattle.scq_worker.specs.Loads.{parts_of_load, IsLoad};
-ghost use Rattle.scq_worker.specs.Opening.{AreOpen, IsOpen, NoneIsOpen, open_on, takes_behind};
-ghost use Rattle.scq_worker.specs.Reading.{KeepsCalling, HasGathered, HasPassedOn};
-ghost use Rattle.scq_worker.specs.Reading.{HasStoppedBehind};
-ghost use Rattle.scq_worker.specs.Reading.{HasStoppedIn, IsSameWorker};
-ghost use Rattle.scq_worker.specs.Sweeping.{HasLeftAt, HasTakenAll, KeepsItsOwn};
+ghost use Rattle.scq_worker.specs.Exports.{parts_of_load, IsLoad, AreOpen, IsOpen, NoneIsOpen};
+ghost use Rattle.scq_worker.specs.Exports.{open_on, takes_behind, KeepsCalling, HasGathered};
+ghost use Rattle.scq_worker.specs.Exports.{HasPassedOn, HasStoppedBehind, HasStoppedIn};
+ghost use Rattle.scq_worker.specs.Exports.{IsSameWorker, HasLeftAt, HasTakenAll, KeepsItsOwn};
 
 use crate::bell::Bell;
 use crate::worker::{Load, Worker};
