@@ -1,8 +1,7 @@
-use Rattle.std.proofs.Common.{◌≡◌, refl, sym, ap, subst}
+use Rattle.std.proofs.Common.{refl, ap}
 use Rattle.scq_block.specs.declared.frame.Frame.{Frame}
 use Rattle.scq_queue.specs.Exports.{PassStanding}
 use Rattle.scq_passes.proofs.PassLemmas.{looked}
-use Rattle.scq_stages.specs.Exports.{HasGivenBack}
 use Rattle.scq_stages.specs.declared.worker.Worker.{Worker}
 use Rattle.scq_stages.proofs.Swept.{finishes-on, finished-asked}
 use Rattle.scq_stages.proofs.leaving.WorkerFrameTakerTakesFrame.closed.Goals as goal
@@ -13,5 +12,5 @@ returns-clause-made c =
     let was = c.args.self.now in
     let asks : Worker Frame = record was { pass = c.closed.new.pass } in
     let said = c.closed.ensures.looked in
-    finishes-on was asks (subst (λ (q : PassStanding _). HasGivenBack was.pass q) (sym said.1) (looked was.pass said.0 c.closed.new.pass.seen))
+    finishes-on was asks (looked _ _ _ said.1)
     (finished-asked was asks (ap (λ (x : PassStanding _). x.calls) said.1) refl refl)
