@@ -10,7 +10,7 @@ use Rattle.scq_band.specs.Exports.{Identity, Caller, IsCallInRun, opening_of}
 use Rattle.scq_band.specs.Standing.{Standing}
 use Rattle.scq_queue.specs.declared.counts.Counts.{Counts}
 use Rattle.scq_queue.specs.Exports.{was_full, fulls_in, with_send, with_take, counted, counts_of, PassStanding, HeldStanding, WasGivenBack, lists_of}
-use Rattle.scq_queue.specs.Exports.{was_told, CameOff, WasLentOne, WasPutOn, FoundRingEmpty, WasSpent, StaysLifted, IsPass, pass_over, caller_of}
+use Rattle.scq_queue.specs.Exports.{was_told, CameOff, WasLentOfQueue, WasPutOn, FoundRingEmpty, WasSpent, StaysLifted, IsPass, pass_over, caller_of}
 use Rattle.scq_queue.proofs.HeldValues.{cases_spent}
 
 -- one Full more in a record, or none
@@ -100,7 +100,7 @@ module _ {B : Type 0} where
 
   pub lent_seen : {contents : B → List ℕ} {IsSame : B → B → Type 0} {place : ℕ} {new : PassStanding B} {h : HeldStanding B} {band queue : Identity B}
       {p old : PassStanding B} → band ≡ queue → p ≡ old → old.queue ≡ queue → CameOff contents IsSame band 0 place p new h
-      → WasLentOne contents IsSame queue old new h
+      → WasLentOfQueue contents IsSame queue old new h
   lent_seen {contents = contents} {IsSame = IsSame} {place = place} {new = new} {h = h} {queue = queue} {old = old} same view own off =
       let came : CameOff contents IsSame queue 0 place old new h = transport (λ i. CameOff contents IsSame (same i) 0 place (view i) new h) off in
       record {

@@ -16,7 +16,8 @@ use std::alloc::Global;
 /// What the words after `judge` ask for.
 pub(crate) fn read_judge(alloc: Global, words: &[String]) -> Result<JudgeRequest, WordsError>
     ensures { let words = map string_bytes words.now in
-        Answered (λ request. judged (judge_of request)) (asked_of_judge words) (takes judge_app words) result }
+        Answered (λ request. judged (judge_of request)) (asked_of_judge words)
+        (takes judge_app words) result }
 {
     let matches = parse(judge_command(alloc), words)?;
     let room = matches.get_str("room");

@@ -17,7 +17,8 @@ use std::alloc::Global;
 /// What the words after `run` ask for.
 pub fn read_run(alloc: Global, words: &[String]) -> Result<RunRequest, WordsError>
     ensures { let words = map string_bytes words.now in
-        Answered (λ request. run (asked_run request)) (asked_of_run words) (takes run_app words) result }
+        Answered (λ request. run (asked_run request)) (asked_of_run words)
+        (takes run_app words) result }
 {
     let matches = parse(run_command(alloc), words)?;
     let workers = matches.get_str("workers");

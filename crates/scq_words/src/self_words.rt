@@ -20,7 +20,8 @@ const ORDER: u32 = 6;
 /// What the words after `self` ask for.
 pub fn read_self(alloc: Global, words: &[String]) -> Result<SelfRequest, WordsError>
     ensures { let words = map string_bytes words.now in
-        Answered (λ request. generated (self_of request)) (asked_of_self words) (takes self_app words) result }
+        Answered (λ request. generated (self_of request)) (asked_of_self words)
+        (takes self_app words) result }
 {
     let matches = parse(self_command(alloc), words)?;
     let seed = matches.get_str("seed");

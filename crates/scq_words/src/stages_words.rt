@@ -15,7 +15,8 @@ use std::alloc::Global;
 /// What the words after `stages` ask for.
 pub fn read_stages(alloc: Global, words: &[String]) -> Result<StagesRequest, WordsError>
     ensures { let words = map string_bytes words.now in
-        Answered (λ request. staged (stages_of request)) (asked_of_stages words) (takes stages_app words) result }
+        Answered (λ request. staged (stages_of request)) (asked_of_stages words)
+        (takes stages_app words) result }
 {
     let matches = parse(stages_command(alloc), words)?;
     let workers = matches.get_str("workers");
