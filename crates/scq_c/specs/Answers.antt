@@ -131,7 +131,7 @@ pub record OfOpen (order topics hold limit : ℕ) (memory : Memory) (code : ℕ)
 
 -- the last port of a queue closed, with this pass: there are passes, which are all of the queue,
 -- what the queue's close says holds of them, and their counts were written out
-pub record AllHaveEnded (x : PortStanding) (its : PassStanding PortBuffer)
+pub record ClosedWithAllPasses (x : PortStanding) (its : PassStanding PortBuffer)
     (before after : List Tally) : Type 0 where
   pub passes : List (PassStanding PortBuffer)
   pub left : List ℕ
@@ -145,6 +145,6 @@ pub record AllHaveEnded (x : PortStanding) (its : PassStanding PortBuffer)
 pub record OfEnd (x : PortStanding) (e : End) (before after : List Tally) : Type 0 where
   pub its : PassStanding PortBuffer
   pub ended : HasPassEnded (retired_port x) its
-  pub last : e.last ≡ 1 → AllHaveEnded x its before after
+  pub last : e.last ≡ 1 → ClosedWithAllPasses x its before after
   pub other : (e.last ≡ 1 → ⊥) → after ≡ before
   pub known : (e.last ≡ 0) ⊎ (e.last ≡ 1)

@@ -16,7 +16,7 @@ use Rattle.scq_hist.specs.declared.events.PutName.TheVariants.{Of}
 use Rattle.scq_hist.specs.declared.events.Reply.TheVariants.{Got, Spent}
 use Rattle.scq_hist.proofs.Counting.{count_none, count_more, count_same, count_unique}
 use Rattle.scq_hist.proofs.UnderWay.{same_call}
-use Rattle.scq_check.specs.Exports.{place_in, IsTaking, IsFreeing, HoldsBefore, held_at_start, IsFullAt, IsFullWithin, IsFullRightAt, IsRefusalAt}
+use Rattle.scq_check.specs.Exports.{place_in, IsTaking, IsFreeing, HoldsBefore, held_at_start, MayBeFullAt, IsFullWithin, IsFullRightAt, IsRefusalAt}
 use Rattle.scq_check.specs.Exports.{IsUsedUp, one_more_if, NoPutAt, untouched, places_in, IsFullBy, ArePlacesOf, ArePlacesAt, put_number, IsRefused}
 use Rattle.scq_check.specs.Exports.{IsRefusals, IsQueueOf}
 use Rattle.scq_check.specs.declared.by_name.ByName.{ByName}
@@ -48,13 +48,13 @@ few_more n m false few = omega arith
 -- what the numbers of a queue tell
 from_numbers : (room : ℕ) (opening : List (List ℕ)) (events : List Event) (queue m : ℕ) (places : Places)
     → IsCount (HoldsBefore (IsTaking events queue) m) places.taken → IsCount (HoldsBefore (IsFreeing events queue) m) places.freed
-    → IsUsedUp room opening queue places → IsFullAt room opening events queue m
+    → IsUsedUp room opening queue places → MayBeFullAt room opening events queue m
 from_numbers room opening events queue m places takes frees full =
     record { taken = places.taken; freed = places.freed; takes = takes; frees = frees; full = full }
 
 to_numbers : (room : ℕ) (opening : List (List ℕ)) (events : List Event) (queue m : ℕ) (places : Places)
     → IsCount (HoldsBefore (IsTaking events queue) m) places.taken → IsCount (HoldsBefore (IsFreeing events queue) m) places.freed
-    → IsFullAt room opening events queue m → IsUsedUp room opening queue places
+    → MayBeFullAt room opening events queue m → IsUsedUp room opening queue places
 to_numbers room opening events queue m places takes frees is =
     let taken = count_unique (HoldsBefore (IsTaking events queue) m) is.taken places.taken is.takes takes in
     let freed = count_unique (HoldsBefore (IsFreeing events queue) m) is.freed places.freed is.frees frees in
@@ -67,10 +67,10 @@ full_later room opening events queue m k is = record { by = (let le = is.by in o
 -- the last full moment, after one event more
 last_more : (room : ℕ) (opening : List (List ℕ)) (events : List Event) (queue e : ℕ) (new : Places)
     → IsCount (HoldsBefore (IsTaking events queue) (e + 1)) new.taken → IsCount (HoldsBefore (IsFreeing events queue) (e + 1)) new.freed
-    → ((k : ℕ) → k ≤ e → IsFullAt room opening events queue k → (k ≤ new.full_till) ⊎ IsUsedUp room opening queue new)
-    → (k : ℕ) → k ≤ e + 1 → IsFullAt room opening events queue k → (k ≤ new.full_till) ⊎ IsUsedUp room opening queue new
+    → ((k : ℕ) → k ≤ e → MayBeFullAt room opening events queue k → (k ≤ new.full_till) ⊎ IsUsedUp room opening queue new)
+    → (k : ℕ) → k ≤ e + 1 → MayBeFullAt room opening events queue k → (k ≤ new.full_till) ⊎ IsUsedUp room opening queue new
 last_more room opening events queue e new takes frees before k le full = elim (cases_eq k (e + 1)) [
-  | inl is ↦ inr (to_numbers room opening events queue (e + 1) new takes frees (subst (λ m. IsFullAt room opening events queue m) is full))
+  | inl is ↦ inr (to_numbers room opening events queue (e + 1) new takes frees (subst (λ m. MayBeFullAt room opening events queue m) is full))
   | inr ne ↦ before k (omega arith) full
 ]
 

@@ -19,7 +19,7 @@ pub use Rattle.scq_check.specs.Waiting.{IsLeftOut, IsTokenLeftOut, IsPutLeftOut,
 pub use Rattle.scq_check.specs.Waiting.{IsToldWithin}
 pub use Rattle.scq_check.specs.Counterparts.{IsOrigin, IsOfOrigin, NamesNone, IsOriginWithin}
 pub use Rattle.scq_check.specs.Counterparts.{IsRepeatOf, IsOfRefused, AtFirst}
-pub use Rattle.scq_check.specs.Full.{IsTaking, IsFreeing, HoldsBefore, held_at_start, IsFullAt}
+pub use Rattle.scq_check.specs.Full.{IsTaking, IsFreeing, HoldsBefore, held_at_start, MayBeFullAt}
 pub use Rattle.scq_check.specs.Full.{IsFullWithin, IsFullRightAt, NoPutAt, IsRefusalAt, NoRefusalAt}
 pub use Rattle.scq_check.specs.Full.{IsUsedUp, one_more_if, untouched, places_in, IsFullBy}
 pub use Rattle.scq_check.specs.Full.{ArePlacesOf, ArePlacesAt}

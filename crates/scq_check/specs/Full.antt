@@ -46,7 +46,7 @@ held_at_start opening queue = if queue == 0 then length opening else 0
 -- at moment m no place of the queue is free for certain: its room, and the places that were given
 -- back by then, are at most the places that were held at the start, and that may have been taken by
 -- then
-pub record IsFullAt (room : ℕ) (opening : List (List ℕ)) (events : List Event)
+pub record MayBeFullAt (room : ℕ) (opening : List (List ℕ)) (events : List Event)
     (queue m : ℕ) : Type 0 where
   pub taken : ℕ
   pub freed : ℕ
@@ -57,7 +57,7 @@ pub record IsFullAt (room : ℕ) (opening : List (List ℕ)) (events : List Even
 -- so at a moment inside a call that starts at position s and ends at position e
 abbrev pub IsFullWithin : ℕ → List (List ℕ) → List Event → ℕ → ℕ → ℕ → Type 0
 IsFullWithin room opening events queue s e =
-    (m : ℕ) × (s < m) × (m ≤ e) × IsFullAt room opening events queue m
+    (m : ℕ) × (s < m) × (m ≤ e) × MayBeFullAt room opening events queue m
 
 -- refused rightly, for the put that ends with Spent at position e
 abbrev pub IsFullRightAt : ℕ → List (List ℕ) → List Event → ℕ → Type 0
@@ -105,7 +105,7 @@ places_in all queue = unwrap_or (get nat_cmp all.known queue) untouched
 pub record IsFullBy (room : ℕ) (opening : List (List ℕ)) (events : List Event)
     (queue m k : ℕ) : Type 0 where
   pub by : k ≤ m
-  pub full : IsFullAt room opening events queue k
+  pub full : MayBeFullAt room opening events queue k
 
 -- what is known of the places of the queue at moment m
 pub record ArePlacesOf (room : ℕ) (opening : List (List ℕ)) (events : List Event) (queue m : ℕ)
@@ -115,7 +115,7 @@ pub record ArePlacesOf (room : ℕ) (opening : List (List ℕ)) (events : List E
   pub few_taken : places.taken ≤ m
   pub few_freed : places.freed ≤ m
   pub full : 0 < places.full_till → IsFullBy room opening events queue m places.full_till
-  pub last : (k : ℕ) → k ≤ m → IsFullAt room opening events queue k
+  pub last : (k : ℕ) → k ≤ m → MayBeFullAt room opening events queue k
       → (k ≤ places.full_till) ⊎ IsUsedUp room opening queue places
 
 -- so of each queue

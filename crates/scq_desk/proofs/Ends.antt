@@ -29,7 +29,7 @@ module _ {T S : Type 0} (workers size : ℕ) (src : SourceOf S) (sources : List 
     whole = rw fault tt;
     none = λ is. rw fault refl;
     cause = rw fault tt;
-    memory_first = rw fault tt;
+    none_starved = rw fault tt;
   }
 
   pub reading-gathered : (made : T) (starved : Bool) (first : Option (ℕ × FrameFault)) → AreGathered size src sources end.sources.items first starved
@@ -43,6 +43,6 @@ module _ {T S : Type 0} (workers size : ℕ) (src : SourceOf S) (sources : List 
     none = λ is. absurd (there is);
     cause = err-then end.result _ _
         (λ (fault : EndFault) why. caused size src sources end.sources.items starved first fault why gathered.cause) err;
-    memory_first = err-then end.result _ _
+    none_starved = err-then end.result _ _
         (λ (fault : EndFault) why. memory-first size src sources end.sources.items starved first fault why gathered.fed) err;
   }

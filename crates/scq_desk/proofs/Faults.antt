@@ -3,7 +3,7 @@ use Rattle.std.proofs.Common.{◌≡◌, ◌≢◌, refl, subst, true, false, �
 use Rattle.scq_frames.specs.declared.fault.FrameFault.{FrameFault}
 use Rattle.scq_frames.specs.declared.fault.FrameFault.TheVariants as frame
 use Rattle.scq_files.specs.Exports.{AllEndFed, ReadingStopsAt, SourceOf}
-use Rattle.scq_desk.specs.Exports.{fault_of_workers, HasCause, MemoryIsFirst}
+use Rattle.scq_desk.specs.Exports.{fault_of_workers, HasCause, NoneStarved}
 use Rattle.scq_desk.specs.declared.fault.EndFault.{EndFault}
 use Rattle.scq_desk.specs.declared.fault.EndFault.TheVariants.{Read, TooLong, TooLarge, NoMemory}
 
@@ -30,12 +30,12 @@ caused size src olds news false (Some (file, frame.NoMemory)) fault e cause =
 
 -- want of memory comes first
 pub memory-first : {S : Type 0} (size : ℕ) (src : SourceOf S) (olds news : List S) (starved : Bool) (first : Option (ℕ × FrameFault)) (fault : EndFault)
-    → fault_of_workers starved first ≡ Some fault → (starved ≡ false → AllEndFed size src olds news) → MemoryIsFirst size src olds news fault
+    → fault_of_workers starved first ≡ Some fault → (starved ≡ false → AllEndFed size src olds news) → NoneStarved size src olds news fault
 memory-first {S} size src olds news true first fault e fed =
     let is : NoMemory ≡ fault = cc in
-    subst (λ f. MemoryIsFirst size src olds news f) is tt
+    subst (λ f. NoneStarved size src olds news f) is tt
 memory-first {S} size src olds news false first fault e fed = by fault where
-  by : (f : EndFault) → MemoryIsFirst size src olds news f
+  by : (f : EndFault) → NoneStarved size src olds news f
   by (Read file) = fed refl
   by (TooLong file line len) = fed refl
   by (TooLarge file bytes) = fed refl

@@ -1,7 +1,7 @@
 -- How the reading of all files ended, whatever the workers made of them.
 use Rattle.std.specs.Prelude.{◌≡◌, ℕ, ◌<◌, List, length, slice_index_or, None, IfErr, IsErrOf, OnOk}
 use Rattle.scq_files.specs.Exports.{HasMoved, StopsAtFaults, IsWhole, SourceOf}
-use Rattle.scq_desk.specs.Faults.{HasCause, MemoryIsFirst}
+use Rattle.scq_desk.specs.Faults.{HasCause, NoneStarved}
 use Rattle.scq_desk.specs.declared.end.End.{End}
 use Rattle.scq_desk.specs.declared.fault.EndFault.TheVariants.{NoMemory}
 
@@ -22,4 +22,4 @@ pub record EndsReading {T S : Type 0} (workers size : ℕ) (src : SourceOf S) (s
   -- a fault is that of its file, and those in front of it were read to their ends. Where there is
   -- one of a file, each source is as one whose reading didn't stop for want of memory
   pub cause : IfErr end.result (HasCause size src sources end.sources.items)
-  pub memory_first : IfErr end.result (MemoryIsFirst size src sources end.sources.items)
+  pub none_starved : IfErr end.result (NoneStarved size src sources end.sources.items)

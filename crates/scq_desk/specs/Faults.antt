@@ -19,11 +19,11 @@ fault_of_workers false (Some (file, frame.NoMemory)) = Some NoMemory
 -- want of memory comes before any other fault: where there is another, each source is as one whose
 -- reading didn't stop for want of memory. Of a source whose bytes aren't visible this says no more
 -- than `HasMoved`.
-abbrev pub MemoryIsFirst : {S : Type 0} → ℕ → SourceOf S → List S → List S → EndFault → Type 0
-MemoryIsFirst size src olds news (Read file) = AllEndFed size src olds news
-MemoryIsFirst size src olds news (TooLong file line len) = AllEndFed size src olds news
-MemoryIsFirst size src olds news (TooLarge file bytes) = AllEndFed size src olds news
-MemoryIsFirst size src olds news NoMemory = Unit {0}
+abbrev pub NoneStarved : {S : Type 0} → ℕ → SourceOf S → List S → List S → EndFault → Type 0
+NoneStarved size src olds news (Read file) = AllEndFed size src olds news
+NoneStarved size src olds news (TooLong file line len) = AllEndFed size src olds news
+NoneStarved size src olds news (TooLarge file bytes) = AllEndFed size src olds news
+NoneStarved size src olds news NoMemory = Unit {0}
 
 -- the cause of each fault but want of memory, of which nothing is said
 abbrev pub HasCause : {S : Type 0} → ℕ → SourceOf S → List S → List S → EndFault → Type 0

@@ -5,7 +5,7 @@ use Rattle.std.proofs.lemmas.List.{length-map}
 use Rattle.std.proofs.lemmas.Option.{slice_get_within, slice_get-get_or}
 use Rattle.std.proofs.lemmas.List.Sorted.{All-permutation}
 use Rattle.scq_hist.specs.declared.events.Event.{Event}
-use Rattle.scq_judge.specs.Exports.{NoneIsLarge, IsFile, IsHistoryOf, IsOutOfPlace, IsCause, IsCauseIn, IsSharing, AreSoundBefore, IsUnlawfulAt}
+use Rattle.scq_judge.specs.Exports.{NoneIsLarge, IsFile, IsHistoryOf, IsFirstUnlawful, IsCause, IsCauseIn, IsSharing, AreSoundBefore, IsUnlawfulAt}
 use Rattle.scq_judge.specs.Exports.{fault_of_merging, IsMergeOf, HasEqual, HasStampOfAnother, EventIsAt, AreQuiet, AreReadUntil, AreReadWhole}
 use Rattle.scq_judge.specs.Exports.{EventsAreOfFiles, AllAreOfFiles, recording_of}
 use Rattle.scq_judge.specs.Recording.{Recording}
@@ -123,7 +123,7 @@ file_at count (s ∷ ss) zero place all is =
     (let same : s.place ≡ place = cc in subst (λ (z : Place). IsFile count z.file) same (all 0 s (omega arith)))
 file_at count (s ∷ ss) (suc e) place all is = file_at count ss e place (λ k d lt. all (suc k) d (omega arith)) is
 
-file_of_place : (count : ℕ) (recorded : Recording) (place : Place) → EventsAreOfFiles count recorded.events → IsOutOfPlace recorded place → IsFile count place.file
+file_of_place : (count : ℕ) (recorded : Recording) (place : Place) → EventsAreOfFiles count recorded.events → IsFirstUnlawful recorded place → IsFile count place.file
 file_of_place count recorded place all h =
     let merged = h.history.merged in
     file_at count merged.merged h.e place

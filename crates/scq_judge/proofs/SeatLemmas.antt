@@ -6,7 +6,7 @@ use Rattle.std.specs.Map.{lookup}
 use Rattle.std.proofs.lemmas.Bool.{cases_eq}
 use Rattle.std.proofs.lemmas.Bool.Decides.{eqb_tells}
 use Rattle.std.proofs.lemmas.Option.{slice_get_within}
-use Rattle.scq_judge.specs.Exports.{event_seat, EventIsAt, HaveOwnFiles, HasSeatOfAnother, NoneBefore, IsSeatHome, AreHomes, IsAtHome, IsAway}
+use Rattle.scq_judge.specs.Exports.{event_seat, EventIsAt, EachSeatInOneFile, HasSeatOfAnother, NoneBefore, IsSeatHome, AreHomes, IsAtHome, IsAway}
 use Rattle.scq_judge.specs.Exports.{IsAwayFrom}
 use Rattle.scq_judge.specs.declared.recorded.Place.{Place}
 use Rattle.scq_judge.specs.declared.recorded.Stamped.{Stamped}
@@ -128,7 +128,7 @@ homes_more events i seat place old new none here now are = record {
 }
 
 -- all events have gone by
-pub homes_all : (events : List Stamped) (i : ℕ) (homes : Homes) → length events ≤ i → AreHomes events i homes → HaveOwnFiles events
+pub homes_all : (events : List Stamped) (i : ℕ) (homes : Homes) → length events ≤ i → AreHomes events i homes → EachSeatInOneFile events
 homes_all events i homes past are j k seat a b at_j at_k = by (get nat_cmp homes.known seat) (are.each seat) where
   j_lt : j < i
   j_lt = let lt = slice_get_within events j at_j.event at_j.stands in omega arith

@@ -11,7 +11,7 @@ pub use Rattle.scq_judge.specs.Reads.{HaveBeenRead, IsOfOneFile, ReadingStopped,
 pub use Rattle.scq_judge.specs.Reads.{FileIsAdded, IsLineFault, IsFileFault}
 pub use Rattle.scq_judge.specs.Merged.{RiseBelow, IsMergeOf, HasEqual, StampIsAbove, IsPlaceAt}
 pub use Rattle.scq_judge.specs.Merged.{HasStampOfAnother}
-pub use Rattle.scq_judge.specs.Seats.{event_seat, EventIsAt, HaveOwnFiles, IsAwayFrom}
+pub use Rattle.scq_judge.specs.Seats.{event_seat, EventIsAt, EachSeatInOneFile, IsAwayFrom}
 pub use Rattle.scq_judge.specs.Seats.{HasSeatOfAnother, NoneBefore, IsSeatHome, AreHomes, IsAtHome}
 pub use Rattle.scq_judge.specs.Seats.{IsAway}
 pub use Rattle.scq_judge.specs.Runs.{AreOfOneRun, IsOfAnotherRun, AreOfRun}
@@ -22,6 +22,7 @@ pub use Rattle.scq_judge.specs.Report.{verdict_text, event_text, put_text, got_t
 pub use Rattle.scq_judge.specs.Report.{origin_text, overtaker_text, plain_line, origin_line}
 pub use Rattle.scq_judge.specs.Report.{beside_line, waiting_line, order_line, full_line, count_line}
 pub use Rattle.scq_judge.specs.Report.{report_lines}
-pub use Rattle.scq_judge.specs.Judged.{IsHistoryOf, IsReported, IsOutOfPlace, IsSharing, IsCauseIn}
+pub use Rattle.scq_judge.specs.Judged.{IsHistoryOf, IsReported, IsFirstUnlawful, IsSharing}
+pub use Rattle.scq_judge.specs.Judged.{IsCauseIn}
 pub use Rattle.scq_judge.specs.Judged.{IsJudged, AreSoundBefore, IsCause, IsUnlawfulAt}
 pub use Rattle.scq_judge.specs.Judged.{fault_of_merging}

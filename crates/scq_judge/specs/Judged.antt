@@ -8,7 +8,7 @@ use Rattle.scq_judge.specs.Files.{NoneIsLarge, IsLarge}
 use Rattle.scq_judge.specs.Merged.{IsMergeOf, HasStampOfAnother}
 use Rattle.scq_judge.specs.Recording.{Recording, recording_of}
 use Rattle.scq_judge.specs.Runs.{AreOfOneRun, IsOfAnotherRun}
-use Rattle.scq_judge.specs.Seats.{HaveOwnFiles, HasSeatOfAnother}
+use Rattle.scq_judge.specs.Seats.{EachSeatInOneFile, HasSeatOfAnother}
 use Rattle.scq_judge.specs.Report.{IsReport, report_lines}
 use Rattle.scq_judge.specs.declared.judging.JudgeFault.{JudgeFault}
 use Rattle.scq_judge.specs.declared.judging.JudgeFault.TheVariants.{BadLine, Shared as SharedBy}
@@ -42,7 +42,7 @@ pub record IsReportOf (names : List (List ℕ)) (room : Option ℕ) (opening : L
 pub record IsReported (names : List (List ℕ)) (room : Option ℕ) (recorded : Recording)
     (text : List ℕ) : Type 0 where
   pub runs : AreOfOneRun recorded.runs
-  pub seats : HaveOwnFiles recorded.events
+  pub seats : EachSeatInOneFile recorded.events
   pub opening : List (List ℕ)
   pub events : List Event
   pub places : List Place
@@ -50,7 +50,7 @@ pub record IsReported (names : List (List ℕ)) (room : Option ℕ) (recorded : 
   pub reported : IsReportOf names room opening events places text
 
 -- the event of this place is the first of the history that is out of place
-pub record IsOutOfPlace (recorded : Recording) (place : Place) : Type 0 where
+pub record IsFirstUnlawful (recorded : Recording) (place : Place) : Type 0 where
   pub opening : List (List ℕ)
   pub events : List Event
   pub places : List Place
@@ -76,7 +76,7 @@ IsCauseIn recorded (TwoRuns file run other_file other_run) =
     IsOfAnotherRun recorded.runs (record { file = file; number = run })
     (record { file = other_file; number = other_run })
 IsCauseIn recorded (Unlawful file line) =
-    IsOutOfPlace recorded (record { file = file; line = line })
+    IsFirstUnlawful recorded (record { file = file; line = line })
 IsCauseIn recorded NoMemory = Unit {0}
 IsCauseIn recorded _ = ⊥
 

@@ -21,8 +21,8 @@ pub record EventIsAt (events : List Stamped) (i seat : ℕ) (place : Place) : Ty
   pub place_is : place ≡ event.place
 
 -- each seat's events stand in one file
-abbrev pub HaveOwnFiles : List Stamped → Type 0
-HaveOwnFiles events =
+abbrev pub EachSeatInOneFile : List Stamped → Type 0
+EachSeatInOneFile events =
     (i k seat : ℕ) (a b : Place) → EventIsAt events i seat a → EventIsAt events k seat b
     → a.file ≡ b.file
 

@@ -4,7 +4,7 @@ ghost use Rattle.std.specs.Prelude.{◌≡◌, ◌<◌, ◌⊎◌, length, map, 
 ghost use Rattle.scq_hist.specs.Exports.{IsLawful};
 ghost use Rattle.scq_check.specs.Exports.{AreWithin};
 ghost use Rattle.scq_judge.specs.Runs.{AreOfOneRun};
-ghost use Rattle.scq_judge.specs.Seats.{HaveOwnFiles};
+ghost use Rattle.scq_judge.specs.Seats.{EachSeatInOneFile};
 ghost use Rattle.scq_judge.specs.Judged.{shared_by, IsReported, IsReportOf};
 ghost use Rattle.scq_judge.specs.Judged.{IsCauseIn, IsUnlawfulAt};
 ghost use Rattle.scq_judge.specs.Report.{AreWrongRefusals, IsReport};
@@ -178,7 +178,7 @@ fn judge_apart(
     recorded: Recorded,
 ) -> Result<Bytes, JudgeFault>
     requires runs { AreOfOneRun recorded.runs }
-    requires seats { HaveOwnFiles recorded.events }
+    requires seats { EachSeatInOneFile recorded.events }
     ensures reported { IfOk result (IsReported (map string_bytes names.now) room recorded) }
     ensures refused { IfErr result (IsCauseIn recorded) }
 {

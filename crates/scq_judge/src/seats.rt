@@ -3,7 +3,7 @@
 ghost use Rattle.std.specs.Prelude.{◌≡◌, ◌+◌, ◌<◌, ℕ, List, length, IfOk, OnOk, MatchOption};
 ghost use Rattle.std.specs.BTreeMap.{get};
 ghost use Rattle.std.specs.Ordering.{nat_cmp};
-ghost use Rattle.scq_judge.specs.Seats.{event_seat, EventIsAt, HaveOwnFiles, HasSeatOfAnother};
+ghost use Rattle.scq_judge.specs.Seats.{event_seat, EventIsAt, EachSeatInOneFile, HasSeatOfAnother};
 ghost use Rattle.scq_judge.specs.Seats.{AreHomes};
 ghost use Rattle.scq_judge.specs.Seats.{IsAtHome, IsAway};
 ghost use Rattle.scq_judge.specs.declared.recorded.Stamped.{Stamped as TheStamped};
@@ -107,7 +107,7 @@ impl Homes {
 /// The first event that is of a seat which has one in another file before it.
 pub(crate) fn first_apart(alloc: Global, events: &[Stamped]) -> Result<Option<Apart>, NoMemory>
     ensures { IfOk result (λ found.
-        MatchOption found (HaveOwnFiles events.now) (λ apart.
+        MatchOption found (EachSeatInOneFile events.now) (λ apart.
         HasSeatOfAnother events.now apart.place apart.other)) }
 {
     let mut homes = Homes::new(alloc);

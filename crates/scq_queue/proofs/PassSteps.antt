@@ -9,7 +9,7 @@ use Rattle.scq_band.specs.Exports.{Identity}
 use Rattle.scq_band.specs.Standing.{Standing}
 use Rattle.scq_queue.specs.declared.counts.Counts.{Counts}
 use Rattle.scq_queue.specs.Exports.{was_full, fulls_in, with_send, with_take, counted, counts_of, PassStanding, HeldStanding, WasGivenBack, lists_of}
-use Rattle.scq_queue.specs.Exports.{was_told, CameOff, WasLentOne, WasPutOn, FoundRingEmpty, FoundNoneFree, WasSpent, IsInRun, StaysLifted, IsPass}
+use Rattle.scq_queue.specs.Exports.{was_told, CameOff, WasLentOfQueue, WasPutOn, FoundRingEmpty, FoundNoneFree, WasSpent, IsInRun, StaysLifted, IsPass}
 use Rattle.scq_queue.specs.Exports.{pass_over}
 use Rattle.scq_queue.proofs.HeldValues.{cases_spent}
 
@@ -103,7 +103,7 @@ module _ {B : Type 0} where
   -- a value that was lent, and one that was given back
   pub lent_seen : (contents : B → List ℕ) (IsSame : B → B → Type 0) (place : ℕ) (new : PassStanding B) (h : HeldStanding B) {band queue : Identity B}
       {p old : PassStanding B} → band ≡ queue → p ≡ old → old.queue ≡ queue → CameOff contents IsSame band 0 place p new h
-      → WasLentOne contents IsSame queue old new h
+      → WasLentOfQueue contents IsSame queue old new h
   lent_seen contents IsSame place new h {queue = queue} {old = old} same view own off =
       let came : CameOff contents IsSame queue 0 place old new h =
       as_seen (λ (q : Identity B) (x : PassStanding B). CameOff contents IsSame q 0 place x new h) same view off in

@@ -24,7 +24,7 @@ module _ {B : Type 0} where
 
   -- a pass was lent one of the queue's values: its index is below n, and its buffer is the same as
   -- the one given for its index. The pass's lists are as they were
-  pub record WasLentOne (contents : B → List ℕ) (IsSame : B → B → Type 0) (queue : Identity B)
+  pub record WasLentOfQueue (contents : B → List ℕ) (IsSame : B → B → Type 0) (queue : Identity B)
       (old new : PassStanding B) (h : HeldStanding B) : Type 0 where
     pub lent : WasLent contents old new h
     pub given : IsAsGiven IsSame queue.given h.index h.buffer

@@ -7,7 +7,7 @@ pub use Rattle.scq_queue.specs.Passes.{first_passes, lists_of, known_on, IsHeldB
 pub use Rattle.scq_queue.specs.Passes.{caller_of, after_put, after_get, after_spent_put}
 pub use Rattle.scq_queue.specs.Passes.{after_spent_get, after_look, HasGot, WasLent, WasGivenBack}
 pub use Rattle.scq_queue.specs.Passes.{FoundNothing, FoundEmpty, FoundFull}
-pub use Rattle.scq_queue.specs.Calls.{CameOff, WasLentOne, WasPutOn, FoundRingEmpty}
+pub use Rattle.scq_queue.specs.Calls.{CameOff, WasLentOfQueue, WasPutOn, FoundRingEmpty}
 pub use Rattle.scq_queue.specs.Calls.{FoundTopicEmpty, FoundNoneFree, WasSpent, GetWasSpent}
 pub use Rattle.scq_queue.specs.Calls.{PutWasSpent, IsInRun}
 pub use Rattle.scq_queue.specs.Closing.{records_of, callers_of, all_held, WasSent, WasTaken}

@@ -1,7 +1,7 @@
 //! The calls that pass buffers on.
 ghost use Rattle.std.specs.Prelude.{◌≡◌, ℕ, suc, ◌+◌, ◌<◌, Some, None, Err, IfOk, IfErr};
 ghost use Rattle.scq_queue.specs.Passes.{IsHeldBy, WasGivenBack};
-ghost use Rattle.scq_queue.specs.Calls.{CameOff, WasLentOne, WasPutOn, FoundTopicEmpty};
+ghost use Rattle.scq_queue.specs.Calls.{CameOff, WasLentOfQueue, WasPutOn, FoundTopicEmpty};
 ghost use Rattle.scq_queue.specs.Calls.{FoundNoneFree, GetWasSpent, PutWasSpent, IsInRun};
 
 use crate::counts::count;
@@ -48,7 +48,7 @@ impl<B: Buffer> Queue<B> {
         requires pass { pass.old.queue ≡ self.now }
         ensures own { (pass.new.queue ≡ pass.old.queue) × (pass.new.number ≡ pass.old.number) }
         ensures lent { IfOk result (λ held.
-            WasLentOne B.contents B.IsSameBuffer self.now pass.old pass.new held) }
+            WasLentOfQueue B.contents B.IsSameBuffer self.now pass.old pass.new held) }
         ensures full { (head : ℕ) → result ≡ Err (LendRefusal.Full head)
             → FoundNoneFree B.contents self.now head pass.old pass.new }
         ensures spent { (ticket : ℕ) → result ≡ Err (LendRefusal.Spent ticket)

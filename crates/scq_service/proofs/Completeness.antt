@@ -8,7 +8,7 @@ use Rattle.scq_frames.specs.Trouble.{Trouble}
 use Rattle.std.specs.Option.{option_map}
 use Rattle.scq_words.specs.declared.text_request.TextCommand.{TextCommand}
 use Rattle.scq_service.specs.Exports.{SourceOf, IsTroubled, Inputs, Wrote, EndsWithoutFiles, EndsAs, EndsOver, EndsWhole, IfContent, IsCalm}
-use Rattle.scq_service.specs.Exports.{IsCalmText, IsOfTextAlone, most_payload, most_text, EndsCalmly}
+use Rattle.scq_service.specs.Exports.{IsCalmText, IsOfTextAlone, most_payload, most_text, EndsWellWhereCalm}
 use Rattle.scq_files.specs.Exports.{all_left}
 use Rattle.scq_outside.specs.Exports.{Rose}
 use Rattle.scq_collect.specs.Exports.{one_thread_output}
@@ -137,7 +137,7 @@ complete-text command src name got r w (Some (Words fault)) e calm = inr (inr e.
 
 -- by what was asked
 pub calmly : {S : Type 0} (src : SourceOf S) (asked : Result Asked WordsFault) (r : Inputs S) (w : Wrote) (o : Outcome S)
-    → EndsAs src asked o.got.items r w o.fault → EndsCalmly src asked r w o
+    → EndsAs src asked o.got.items r w o.fault → EndsWellWhereCalm src asked r w o
 calmly src asked r w o e =
     let E : Result Asked WordsFault → Type 0 = λ a. EndsAs src a o.got.items r w o.fault in
     record {

@@ -11,7 +11,7 @@ use Rattle.scq_judge.specs.declared.judging.JudgeFault.TheVariants as judge
 use Rattle.scq_judge.proofs.JudgeLemmas.{cause_of_recorded, sound_all, until_recorded}
 use Rattle.scq_files.specs.Exports.{HasMoved, all_left}
 use Rattle.scq_service.specs.Exports.{FilesOf, SourceOf, HaveCome, IsMissing, without_names, Change, Wrote, HasGotSources, HasMissed, HaveAll}
-use Rattle.scq_service.specs.Exports.{EndsJudged, IfTold, ReportMeets, IsUnchanged, IsUnopened, IsUnwritten, inputs_of, fault_of_judge}
+use Rattle.scq_service.specs.Exports.{EndsJudged, IfTold, ReportMeets, IsUnchanged, JudgeMissesFile, IsUnwritten, inputs_of, fault_of_judge}
 use Rattle.scq_service.specs.declared.fault.Fault.{Fault}
 use Rattle.scq_service.specs.declared.fault.Fault.TheVariants.{OpenFault}
 use Rattle.scq_service.proofs.Coming.{SourceIsGot, IsMissed, IsNextName, come-got, come-missed, has-missed}
@@ -66,7 +66,7 @@ module _ {S : Type 0} (src : SourceOf S) (names : List (List ℕ)) (table : Chan
   -- the next source was not got
   pub unopened : (reader : Progress) (file : ℕ) → HaveBeenRead src.faults src.ends src.left olds news reader → reader.lone ≡ (length names == 1) → file ≡ length olds + 1
       → length olds < length names → HasMissed names (record { table = table; opens = opens; sources = olds; read = 0 })
-      → IsUnopened src names olds (record { table = table; opens = opens; sources = news; read = 0 }) file
+      → JudgeMissesFile src names olds (record { table = table; opens = opens; sources = news; read = 0 }) file
   unopened reader file had lone next within missed = record {
     next = next ∙ ap (λ n. n + 1) (sym had.many);
     within = omega (arith, within, had.many);

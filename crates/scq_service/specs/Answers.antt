@@ -52,10 +52,10 @@ HaveAllCome names r true = (length r.sources ≡ length names) × IsUnchanged r.
 HaveAllCome names r false = (length r.sources < length names) × HasMissed names r
 
 -- what workers made is there exactly where the text of it was whole
-abbrev pub WorkedAt : {W : Type 0} → Option Fault → Option W → Type 0
-WorkedAt None worked = IsSome worked
-WorkedAt (Some WriteFault) worked = IsSome worked
-WorkedAt (Some fault) worked = worked ≡ None
+abbrev pub IsThereAt : {W : Type 0} → Option Fault → Option W → Type 0
+IsThereAt None worked = IsSome worked
+IsThereAt (Some WriteFault) worked = IsSome worked
+IsThereAt (Some fault) worked = worked ≡ None
 
 -- where each source told its content when it was got, so many workers answered the messages of
 -- these contents
@@ -103,10 +103,10 @@ most_of a = most_together a.size a.batch
 abbrev pub WorkedAs : {S : Type 0} → SourceOf S → Result Asked WordsFault → List S → Inputs S
     → Option Fault → Option Worked → Type 0
 WorkedAs src (Ok (asks.run a)) got r end worked =
-    WorkedAt end worked × IsWorkOf a.topics a.size (most_of a) a.workers src.left got worked
+    IsThereAt end worked × IsWorkOf a.topics a.size (most_of a) a.workers src.left got worked
     × WorkersAnswered a.topics a.size (most_of a) most_payload a.workers src got r worked
 WorkedAs src (Ok (asks.generated a)) got r end worked =
-    WorkedAt end worked
+    IsThereAt end worked
     × IfSome worked (λ w.
     HasWorked self_topics (2 ^ 16) 0 a.workers
     (messages_in self_topics 1 (generated a.seed a.lines ∷ [])) w)
@@ -150,7 +150,7 @@ pub record TellsWork {S : Type 0} (j : Job) (src : SourceOf S) (names : List (Li
   pub status : o.status ≡ status_of o.fault
   -- what they made is there exactly where the text of it was whole, and answers such messages as
   -- the sources may have given: of contents that were told, and of every source
-  pub worked : WorkedAt o.fault o.worked
+  pub worked : IsThereAt o.fault o.worked
   pub unstaged : o.staged ≡ None
   pub known : IfSome o.worked (λ w.
       All (λ a. a.topic ≤ length j.topics) (members_of w.answered.items))
@@ -173,7 +173,7 @@ pub record TellsStages {S : Type 0} (j : StageJob) (src : SourceOf S) (names : L
   pub got : HasGotSources src names o.got.items r
   pub status : o.status ≡ status_of o.fault
   pub unworked : o.worked ≡ None
-  pub staged : WorkedAt o.fault o.staged
+  pub staged : IsThereAt o.fault o.staged
   pub handled : AreAllHandled src.left o.got.items o.staged
   pub told : IsStagedOf j.workers src.left o.got.items o.staged
   pub work : IsStaging j.size j.workers src o.got.items r o.staged
@@ -187,7 +187,7 @@ pub record TellsSelf {S : Type 0} (seed lines workers : ℕ) (o : Outcome S) : T
   pub sources : o.sources.items ≡ []
   pub read : o.read ≡ 0
   pub status : o.status ≡ status_of o.fault
-  pub worked : WorkedAt o.fault o.worked
+  pub worked : IsThereAt o.fault o.worked
   pub unstaged : o.staged ≡ None
   pub told : IfSome o.worked (λ w.
       HasWorked self_topics (2 ^ 16) 0 workers
@@ -209,7 +209,7 @@ pub record HasNoWorkers {S : Type 0} (o : Outcome S) : Type 0 where
 abbrev pub StagedAs : {S : Type 0} → SourceOf S → Result Asked WordsFault → List S → Inputs S
     → Option Fault → Option Staged → Type 0
 StagedAs src (Ok (asks.staged a)) got r end staged =
-    WorkedAt end staged × IsStagedOf a.workers src.left got staged
+    IsThereAt end staged × IsStagedOf a.workers src.left got staged
     × IsStaging a.size a.workers src got r staged
     × StrandsNothing a.order a.workers staged
 StagedAs src asked got r end staged = staged ≡ None

@@ -133,7 +133,7 @@ pub record HasMissed {S : Type 0} (names : List (List ℕ)) (r : Inputs S) : Typ
   pub missing : IfSome r.table.old (λ files. IsMissing files names (length r.sources + 1))
 
 -- a source was not got, and those before it were read to their ends and have no fault
-pub record IsNotOpened {S : Type 0} (size : ℕ) (src : SourceOf S) (names : List (List ℕ))
+pub record RunMissesFile {S : Type 0} (size : ℕ) (src : SourceOf S) (names : List (List ℕ))
     (got : List S) (r : Inputs S) (file : ℕ) : Type 0 where
   pub next : file ≡ length r.sources + 1
   pub within : length r.sources < length names
@@ -168,7 +168,7 @@ abbrev pub ReadsOver : {S : Type 0} → ℕ → SourceOf S → List (List ℕ) �
     → Option Fault → Type 0
 ReadsOver size src names got r None = IsAllRead size src names got r
 ReadsOver size src names got r (Some (OpenFault file)) =
-    IsNotOpened size src names got r file
+    RunMissesFile size src names got r file
 ReadsOver size src names got r (Some (ReadFault file)) =
     FileIsRefused size src names got r file (ReadFault file) × (r.read ≡ 0)
     × IsSomeAnd (slice_get r.sources (file - 1)) (λ source. 0 < src.faults source)
@@ -248,7 +248,7 @@ pub record FileIsReadWhole {S : Type 0} (src : SourceOf S) (name : List ℕ) (go
   pub read : r.read ≡ 0
 
 -- the file was not got, and nothing was read
-pub record IsNotGot {S : Type 0} (name : List ℕ) (r : Inputs S) : Type 0 where
+pub record TextMissesFile {S : Type 0} (name : List ℕ) (r : Inputs S) : Type 0 where
   pub none : r.sources ≡ []
   pub rose : Rose r.opens.old r.opens.new
   pub missing : IfSome r.table.old (λ files. files name ≡ None)
@@ -292,7 +292,7 @@ EndsWhole command src name got r w (Some WriteFault) =
     FileIsReadWhole src name got r × Rose w.faults.old w.faults.new
     × IsTold command src.left got (λ text. WrotePart w.written.old w.written.new text)
 EndsWhole command src name got r w (Some (OpenFault file)) =
-    (file ≡ 1) × IsNotGot name r × IsUnwritten w
+    (file ≡ 1) × TextMissesFile name r × IsUnwritten w
 EndsWhole command src name got r w (Some (ReadFault file)) =
     (file ≡ 1) × IsReadUntil src name got r × IsUnwritten w
 EndsWhole command src name got r w (Some (TooLarge file limit)) =
@@ -337,7 +337,7 @@ pub record IsRefusedBy {S : Type 0} (src : SourceOf S) (names : List (List ℕ))
   pub cause : IfTold src.left got (λ contents. IsCause (length names == 1) contents refused)
 
 -- a source was not got: those before it were read to their ends, and nothing is at fault in them
-pub record IsUnopened {S : Type 0} (src : SourceOf S) (names : List (List ℕ)) (got : List S)
+pub record JudgeMissesFile {S : Type 0} (src : SourceOf S) (names : List (List ℕ)) (got : List S)
     (r : Inputs S) (file : ℕ) : Type 0 where
   pub next : file ≡ length r.sources + 1
   pub within : length r.sources < length names
@@ -359,7 +359,7 @@ EndsJudged src room names got r w (Some WriteFault) =
     × Rose w.faults.old w.faults.new
     × ReportMeets src.left names room got (λ text. WrotePart w.written.old w.written.new text)
 EndsJudged src room names got r w (Some (OpenFault file)) =
-    IsUnopened src names got r file × IsUnwritten w
+    JudgeMissesFile src names got r file × IsUnwritten w
 EndsJudged src room names got r w (Some NoMemory) =
     (length r.sources ≤ length names) × AreQuiet src.faults got r.sources × (r.read ≡ 0)
     × IsUnwritten w
@@ -368,8 +368,8 @@ EndsJudged src room names got r w (Some fault) =
     × IsRefusedBy src names got r refused) × IsUnwritten w
 
 -- no file was asked for
-abbrev pub NoFileWasAskedFor : {S : Type 0} → Inputs S → Type 0
-NoFileWasAskedFor r = IsUnchanged r.table × IsUnchanged r.opens × (r.sources ≡ []) × (r.read ≡ 0)
+abbrev pub NoSourceCame : {S : Type 0} → Inputs S → Type 0
+NoSourceCame r = IsUnchanged r.table × IsUnchanged r.opens × (r.sources ≡ []) × (r.read ≡ 0)
 
 -- how a run ends that is asked for this: refused words, files, a generated file, recordings, one
 -- whole file, or files that go through stages, whose payloads have at most as many bytes as the
@@ -377,13 +377,13 @@ NoFileWasAskedFor r = IsUnchanged r.table × IsUnchanged r.opens × (r.sources �
 abbrev pub EndsAs : {S : Type 0} → SourceOf S → Result Asked WordsFault → List S → Inputs S → Wrote
     → Option Fault → Type 0
 EndsAs src (Err fault) got r w end =
-    NoFileWasAskedFor r × IsUnwritten w × ((end ≡ Some (Words fault)) ⊎ (end ≡ Some NoMemory))
+    NoSourceCame r × IsUnwritten w × ((end ≡ Some (Words fault)) ⊎ (end ≡ Some NoMemory))
 EndsAs src (Ok (run a)) got r w end =
     HasGotSources src a.files got r
     × EndsOver most_payload
     (one_thread_output a.topics) src a.files got r w end
 EndsAs src (Ok (generated a)) got r w end =
-    NoFileWasAskedFor r × EndsWithoutFiles (self_summary a.seed a.lines) w end
+    NoSourceCame r × EndsWithoutFiles (self_summary a.seed a.lines) w end
 EndsAs src (Ok (judged a)) got r w end =
     HasGotSources src a.files got r
     × EndsJudged src a.room a.files got r w end

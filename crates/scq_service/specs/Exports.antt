@@ -7,7 +7,7 @@ pub use Rattle.scq_service.specs.Ends.{Change, Inputs, Wrote, inputs_of, wrote_o
 pub use Rattle.scq_service.specs.Ends.{IsUnwritten, IfTold, HasGotSources, most_payload, HasMissed}
 pub use Rattle.scq_service.specs.Ends.{FileIsRefused, ReadsOver, EndsOver, EndsWithoutFiles}
 pub use Rattle.scq_service.specs.Ends.{most_text, IfContent, EndsWhole, HaveAll, ReportMeets}
-pub use Rattle.scq_service.specs.Ends.{IsUnopened, EndsJudged, EndsAs, IsCalm, IsCalmText}
+pub use Rattle.scq_service.specs.Ends.{JudgeMissesFile, EndsJudged, EndsAs, IsCalm, IsCalmText}
 pub use Rattle.scq_service.specs.Ends.{IsOfTextAlone}
 pub use Rattle.scq_service.specs.Faults.{status_of, file_line, entry_line, topics_line, words_line}
 pub use Rattle.scq_service.specs.Faults.{limit_line, payload_line, text_line, place_line, run_line}
@@ -15,8 +15,9 @@ pub use Rattle.scq_service.specs.Faults.{seat_line, shared_words, fault_line, fa
 pub use Rattle.scq_service.specs.Faults.{bytes_of_large, fault_of_judge}
 pub use Rattle.scq_service.specs.Writing.{written_with, WrotePart}
 pub use Rattle.scq_service.specs.Written.{HasWritten}
-pub use Rattle.scq_service.specs.Answers.{HaveCome, HaveAllCome, WorkedAt, WorkedAs, TellsWork}
+pub use Rattle.scq_service.specs.Answers.{HaveCome, HaveAllCome, IsThereAt, WorkedAs, TellsWork}
 pub use Rattle.scq_service.specs.Answers.{TellsStages, LeavesNothing, IsSeenAt, WaitedAs}
 pub use Rattle.scq_service.specs.Reports.{reported, counts_line, directs_in, worker_line}
 pub use Rattle.scq_service.specs.Reports.{worker_lines, all_line, workers_report, asks_report}
-pub use Rattle.scq_service.specs.Serving.{IsOutcomeOf, WorkersWaited, EndsCalmly, HasReported}
+pub use Rattle.scq_service.specs.Serving.{IsOutcomeOf, WorkersWaited, EndsWellWhereCalm}
+pub use Rattle.scq_service.specs.Serving.{HasReported}

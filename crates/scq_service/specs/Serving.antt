@@ -51,7 +51,7 @@ IsDoneButForMemory end = (end ≡ None) ⊎ (end ≡ Some NoMemory)
 -- where nothing stood in the way of a run over files, with stages or without, and where no write of
 -- a run of `self` failed, it ends with its output or for want of memory; a calm run over one whole
 -- file ends so, or with a fault that its text has; of `judge` nothing is said
-pub record EndsCalmly {S : Type 0} (src : SourceOf S) (asked : Result Asked WordsFault)
+pub record EndsWellWhereCalm {S : Type 0} (src : SourceOf S) (asked : Result Asked WordsFault)
     (r : Inputs S) (w : Wrote) (o : Outcome S) : Type 0 where
   pub files : (a : RunAsked) → asked ≡ Ok (asks.run a)
       → IsCalm most_payload src a.files o.got.items r w → IsDoneButForMemory o.fault

@@ -44,7 +44,7 @@ pub struct Outcome<S> {
 }
 
 impl<S: Drop> Outcome<S> {
-    ghost use Rattle.scq_service.specs.Answers.{WorkedAt};
+    ghost use Rattle.scq_service.specs.Answers.{IsThereAt};
 
     pub(crate) fn whole(sources: Vec<S>) -> Outcome<S>
         ensures status { result.status ≡ 0 }
@@ -219,9 +219,9 @@ impl<S: Drop> Outcome<S> {
         ensures fault { result.fault ≡ Some (fault_of_work size fault) }
         ensures sources { result.sources.items ≡ sources.items }
         ensures read { result.read ≡ bytes_of_large fault }
-        ensures worked { WorkedAt result.fault result.worked }
+        ensures worked { IsThereAt result.fault result.worked }
         ensures none { result.worked ≡ None }
-        ensures staged { WorkedAt result.fault result.staged }
+        ensures staged { IsThereAt result.fault result.staged }
         ensures unstaged { result.staged ≡ None }
     {
         match fault {

@@ -5,7 +5,7 @@ ghost use Rattle.scq_service.specs.Answers.{IsSeenAt, LeavesNothing, StagedAs, W
 ghost use Rattle.scq_service.specs.Ends.{EndsAs, inputs_of, wrote_of};
 ghost use Rattle.scq_service.specs.Faults.{status_of};
 ghost use Rattle.scq_service.specs.Reports.{asks_report, reported};
-ghost use Rattle.scq_service.specs.Serving.{EndsCalmly, IsOutcomeOf, HasReported};
+ghost use Rattle.scq_service.specs.Serving.{EndsWellWhereCalm, IsOutcomeOf, HasReported};
 
 use crate::commands::{run_files, run_judge, run_self, run_stages, run_text};
 use crate::job::{job_of, stage_job_of};
@@ -50,9 +50,9 @@ pub fn serve<R: Threads + Sync, F: Files, K: Sink, G: Gate + Sync>(
     ensures taken { result.fault ≡ Some (Fault.Words WordsFault.NotUnderstood)
         → is_accepted (map string_bytes words.now) ≡ false }
 
-    // Where nothing stood in the way of what was asked, it ends as `EndsCalmly` says, which says
+    // Where nothing stood in the way of what was asked, it ends as `EndsWellWhereCalm` says, which says
     // nothing of `judge`.
-    ensures complete { EndsCalmly F.Src.Source (asked (map string_bytes words.now))
+    ensures complete { EndsWellWhereCalm F.Src.Source (asked (map string_bytes words.now))
         (inputs_of F.Files files.old files.new result.sources.items result.read)
         (wrote_of K.Sink out.old out.new) result }
 

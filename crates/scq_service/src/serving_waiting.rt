@@ -4,7 +4,8 @@ ghost use Rattle.std.specs.Prelude.{OnSome, map, string_bytes};
 ghost use Rattle.scq_words.specs.Exports.{asked_for_run, is_taken_for_run};
 ghost use Rattle.scq_service.specs.Exports.{IsSeenAt, LeavesNothing, WaitedAs, WorkedAs, EndsAs};
 ghost use Rattle.scq_service.specs.Exports.{inputs_of, wrote_of, status_of, asks_report, reported};
-ghost use Rattle.scq_service.specs.Exports.{EndsCalmly, WorkersWaited, IsOutcomeOf, HasReported};
+ghost use Rattle.scq_service.specs.Exports.{EndsWellWhereCalm, WorkersWaited, IsOutcomeOf};
+ghost use Rattle.scq_service.specs.Exports.{HasReported};
 
 use crate::commands::run_files_waiting;
 use crate::job::job_of;
@@ -42,8 +43,8 @@ pub fn serve_waiting<R: Threads + Wait + Sync, F: Files, K: Sink, G: Gate + Sync
     ensures taken { result.fault ≡ Some (Fault.Words WordsFault.NotUnderstood)
         → is_taken_for_run (map string_bytes words.now) ≡ false }
 
-    // Where nothing stood in the way of what was asked, it ends as `EndsCalmly` says.
-    ensures complete { EndsCalmly F.Src.Source (asked_for_run (map string_bytes words.now))
+    // Where nothing stood in the way of what was asked, it ends as `EndsWellWhereCalm` says.
+    ensures complete { EndsWellWhereCalm F.Src.Source (asked_for_run (map string_bytes words.now))
         (inputs_of F.Files files.old files.new result.sources.items result.read)
         (wrote_of K.Sink out.old out.new) result }
 

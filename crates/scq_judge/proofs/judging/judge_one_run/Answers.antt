@@ -1,12 +1,12 @@
 use Rattle.std.proofs.Common.{List, Option, subst}
 use Rattle.std.specs.Prelude.{MatchOption}
-use Rattle.scq_judge.specs.Exports.{HaveOwnFiles, HasSeatOfAnother}
+use Rattle.scq_judge.specs.Exports.{EachSeatInOneFile, HasSeatOfAnother}
 use Rattle.scq_judge.specs.declared.recorded.Stamped.{Stamped}
 use Rattle.scq_judge.specs.declared.seats.Apart.{Apart}
 use Rattle.scq_judge.proofs.judging.judge_one_run.Goals as goal
 
 abbrev Found : List Stamped → Option Apart → Type 0
-Found events found = MatchOption found (HaveOwnFiles events) (λ apart. HasSeatOfAnother events apart.place apart.other)
+Found events found = MatchOption found (EachSeatInOneFile events) (λ apart. HasSeatOfAnother events apart.place apart.other)
 
 pub judge_apart-requires-clause-seats : goal.judge_apart-requires-clause-seats
 judge_apart-requires-clause-seats c =

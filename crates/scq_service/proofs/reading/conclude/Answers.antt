@@ -3,7 +3,7 @@ use Rattle.scq_desk.specs.declared.fault.EndFault.TheVariants.{NoMemory}
 use Rattle.scq_work.specs.Exports.{NothingIsStranded}
 use Rattle.scq_worker.specs.declared.job.Job.{Job}
 use Rattle.std.specs.Prelude.{◌+◌, length, IfSome, IsNone, IsSomeAnd}
-use Rattle.scq_service.specs.Exports.{SourceOf, fault_of_work, status_of, TellsWork, WorkedAt, HasGotSources, Inputs}
+use Rattle.scq_service.specs.Exports.{SourceOf, fault_of_work, status_of, TellsWork, IsThereAt, HasGotSources, Inputs}
 use Rattle.scq_service.specs.declared.fault.Fault.TheVariants as fault
 use Rattle.scq_service.specs.declared.outcome.Outcome.{Outcome}
 use Rattle.scq_service.proofs.Seen.{none-seen, some-seen}
@@ -12,7 +12,7 @@ use Rattle.scq_service.proofs.reading.conclude.Goals as goal
 
 -- where nothing was answered, what is told is of the sources and of the queue
 unanswered : {S : Type 0} (j : Job) (src : SourceOf S) (names : List (List ℕ)) (r : Inputs S) (o : Outcome S) → o.worked ≡ None
-    → HasGotSources src names o.got.items r → o.status ≡ status_of o.fault → WorkedAt o.fault o.worked → o.staged ≡ None
+    → HasGotSources src names o.got.items r → o.status ≡ status_of o.fault → IsThereAt o.fault o.worked → o.staged ≡ None
     → IfSome o.left (λ l. IsSomeAnd o.passes (λ p. IsSomeAnd o.frames (λ f.
     NothingIsStranded j.order (length j.topics + 1) j.workers p.value.items f.value.items l.items)))
     → (IsNone o.left → o.fault ≡ Some fault.NoMemory) → TellsWork j src names r o

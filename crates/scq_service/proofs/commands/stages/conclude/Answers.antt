@@ -5,7 +5,7 @@ use Rattle.scq_queue.specs.Exports.{PassStanding}
 use Rattle.scq_desk.specs.declared.fault.EndFault.TheVariants.{NoMemory}
 use Rattle.scq_stages.specs.Exports.{NothingIsStranded}
 use Rattle.scq_stages.specs.declared.job.StageJob.{StageJob}
-use Rattle.scq_service.specs.Exports.{SourceOf, status_of, TellsStages, WorkedAt, HasGotSources, Inputs}
+use Rattle.scq_service.specs.Exports.{SourceOf, status_of, TellsStages, IsThereAt, HasGotSources, Inputs}
 use Rattle.scq_service.specs.declared.fault.Fault.TheVariants as fault
 use Rattle.scq_service.specs.declared.outcome.Outcome.{Outcome}
 use Rattle.scq_service.proofs.Working.{at-ok, on-ok, told-met, told-stopped, told-whole}
@@ -25,7 +25,7 @@ nothing-stranded order workers (Some l) (Some p) (Some f) in_rings own back thes
 
 -- where nothing was finished, what is told is of the sources
 unfinished : {S : Type 0} (j : StageJob) (src : SourceOf S) (names : List (List ℕ)) (r : Inputs S) (o : Outcome S) → o.staged ≡ None
-    → HasGotSources src names o.got.items r → o.status ≡ status_of o.fault → o.worked ≡ None → WorkedAt o.fault o.staged → o.left ≡ None → o.waited ≡ None
+    → HasGotSources src names o.got.items r → o.status ≡ status_of o.fault → o.worked ≡ None → IsThereAt o.fault o.staged → o.left ≡ None → o.waited ≡ None
     → TellsStages j src names r o
 unfinished j src names r o none got status unworked staged left leaves = record {
   got = got;
