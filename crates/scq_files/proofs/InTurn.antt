@@ -1,9 +1,9 @@
 -- What each worker read of its files in turn, as they are gathered one after the other: none behind one at which it stopped.
-use Rattle.std.proofs.Common.{◌≡◌, ◌∙◌, refl, sym, ap, subst, inl, inr, arith, ℕ, ◌+◌, ◌<◌, List, [], ◌∷◌, ◌++◌, length, map, set, get_or-set_same, get_or-set_other}
+use Rattle.std.proofs.Common.{◌≡◌, ◌∙◌, refl, sym, ap, subst, inl, inr, arith, ℕ, ◌+◌, ◌<◌, List, [], ◌∷◌, ◌++◌, length, set, get_or-set_same, get_or-set_other}
 use Rattle.std.specs.Prelude.{slice_index_or, ◌%◌}
 use Rattle.std.specs.List.{All}
 use Rattle.std.proofs.lemmas.Bool.{cases_eq}
-use Rattle.std.proofs.lemmas.List.{length-append, length-map, length-set, get_or_append_left, get_or_default, get_or-map, get_or_push}
+use Rattle.std.proofs.lemmas.List.{length-append, length-set, get_or_append_left, get_or_push}
 use Rattle.scq_frames.specs.declared.fault.FrameFault.{FrameFault}
 use Rattle.scq_files.specs.Exports.{EndsSo, SourceOf, StopsAtFaults, IsNew, StopsAtAFault}
 use Rattle.scq_files.specs.declared.own_file.FileEnd.{FileEnd}

@@ -3,15 +3,7 @@ use Rattle.std.proofs.Common.{◌≡◌, ◌≢◌, ◌∙◌, sym, subst, arith
 use Rattle.std.specs.List.{AllWithin, AllZip}
 use Rattle.std.proofs.lemmas.List.Elements.{AllWithin-more_set}
 use Rattle.std.proofs.Math.Seq.{map-set_same}
-use Rattle.atomic_table.specs.Seated.{TableId}
-use Rattle.scq_block.specs.declared.frame.Frame.{Frame}
-use Rattle.scq_band.specs.Exports.{Identity}
-use Rattle.scq_rest.specs.Exports.{Task, task, HandsBack, IsReadyToBegin}
-use Rattle.scq_worker.specs.declared.job.Job.{Job}
-use Rattle.scq_rest.specs.declared.threads.HandedBack.{HandedBack}
-use Rattle.scq_rest.specs.declared.threads.WorksOn.{WorksOn}
 use Rattle.scq_passes.proofs.Parting.{turned}
-use Rattle.scq_files.specs.Exports.{SourceOf}
 
 -- lists in which one element after the other is replaced by one that f can't tell from what it was
 pub record Replaced {X Y : Type 0} (P Q : X → Type 0) (f : X → Y) (all : List Y) (xs : List X) (i : ℕ) : Type 0 where

@@ -1,6 +1,6 @@
 -- What a sink has after one writing and another.
 use Rattle.std.proofs.Common.{arith, min, take, length, subst, sym, ◌∙◌, ◌+◌, ◌≡◌, refl, ap, List, ℕ, ◌++◌, Option, Some, None, append_assoc}
-use Rattle.std.specs.Prelude.{Result, Ok, Err, OnOk}
+use Rattle.std.specs.Prelude.{Result, Ok, Err}
 use Rattle.std.proofs.Math.Seq.{take-append-add}
 use Rattle.std.proofs.lemmas.Grind.{common_steps}
 use Rattle.std.proofs.lemmas.List.{take-append-le}

@@ -1,6 +1,6 @@
 -- A worker that goes on after one message more, or has moved all that was in first, or stops at a ticket past the limit.
-use Rattle.std.proofs.Common.{◌≡◌, refl, sym, ◌∙◌, ap, subst, suc, ℕ, ◌+◌, ◌<◌, ◌≤◌, List, [], ◌∷◌, ◌++◌, length, take, Option, Some, None, Bool, false, rules}
-use Rattle.std.specs.Prelude.{filter, IfSome, IsSome}
+use Rattle.std.proofs.Common.{◌≡◌, refl, sym, ◌∙◌, ap, subst, suc, ℕ, ◌+◌, ◌<◌, List, [], ◌∷◌, ◌++◌, length, take, Option, Some, None, Bool, false}
+use Rattle.std.specs.Prelude.{filter}
 use Rattle.std.specs.List.{AllZip, filter_map}
 use Rattle.std.proofs.lemmas.List.{append-nil, length-append}
 use Rattle.std.proofs.lemmas.List.Elements.{filter-append, filter_map-append}
@@ -9,10 +9,10 @@ use Rattle.scq_core.specs.declared.ended.Ended.{Ended}
 use Rattle.scq_core.specs.declared.ended.Ended.TheVariants.{Done, Got, Nothing}
 use Rattle.scq_band.specs.Exports.{Identity}
 use Rattle.scq_frames.specs.declared.message.Message.{Message}
-use Rattle.scq_queue.specs.Exports.{Placed, sends_of, takes_of, PassStanding, HeldStanding, WasLent, after_spent_put, having_seen, known_on}
+use Rattle.scq_queue.specs.Exports.{Placed, sends_of, takes_of, PassStanding, HeldStanding, WasLent, known_on}
 use Rattle.scq_queue.proofs.Records.{sends-append, takes-append}
 use Rattle.scq_passes.specs.Exports.{Puts, on, ArePassedOn, EachHasItsCall, and_sent, and_made, HasTakenFollowed, HasFoundFull, HasSentSo, HasLeftSo}
-use Rattle.scq_passes.specs.Exports.{Suits, index_of, since, taken_since}
+use Rattle.scq_passes.specs.Exports.{since, taken_since}
 use Rattle.scq_passes.proofs.Between.{between-taken, between-full, between-sent}
 use Rattle.scq_passes.proofs.Following.{follows-others, follows-next}
 use Rattle.scq_passes.proofs.Kept.{taken-calls, sent-calls, placed, sent-sends, sent-takes, full-calls, full-sends, full-takes}

@@ -1,9 +1,8 @@
 -- A worker's whole work: how it begins, and what its end is, by how it left.
-use Rattle.std.proofs.Common.{◌≡◌, refl, sym, ◌∙◌, ap, subst, arith, ℕ, ◌<◌, List, [], ◌∷◌, ◌++◌, length, Option, Some, None, Bool, Ok, Err, Result, rules}
+use Rattle.std.proofs.Common.{◌≡◌, refl, sym, ◌∙◌, ap, subst, arith, ℕ, ◌<◌, List, [], ◌++◌, length, Option, None, Bool, Ok, Err, Result}
 use Rattle.std.specs.Prelude.{IfSome, OnOk}
 use Rattle.scq_core.specs.declared.ended.Ended.TheVariants.{Nothing}
 use Rattle.scq_band.specs.Exports.{Identity}
-use Rattle.scq_band.proofs.Opening.{numbers_length}
 use Rattle.scq_queue.specs.Exports.{PassStanding, HeldStanding, first_pass, known_on}
 use Rattle.scq_files.specs.Exports.{StopsAtAFault, all_given, AreRead, SourceOf}
 use Rattle.scq_files.specs.declared.own_file.OwnFile.{OwnFile}

@@ -1,5 +1,5 @@
 -- Sweeps of a worker, one behind the other.
-use Rattle.std.proofs.Common.{◌≡◌, ◌∙◌, sym, ap, subst, ℕ, false, List, [], Option}
+use Rattle.std.proofs.Common.{◌≡◌, ◌∙◌, sym, ap, subst, [], Option}
 use Rattle.std.proofs.lemmas.List.{append-nil}
 use Rattle.scq_queue.specs.Exports.{takes_of, HeldStanding}
 use Rattle.scq_passes.specs.Exports.{since, on}

@@ -1,7 +1,7 @@
 -- Once the queue is closed: a worker's parts, answered, are its sends as they are read and its direct answers; and what it took of such sends are the
 -- answers to the parts in them.
-use Rattle.std.proofs.Common.{◌≡◌, refl, sym, ◌∙◌, ap, subst, zero, suc, arith, ℕ, ◌+◌, ◌<◌, ◌≤◌, List, [], ◌∷◌, ◌++◌, length, map, get_or}
-use Rattle.std.specs.Prelude.{filter, flat_map, nat_le}
+use Rattle.std.proofs.Common.{◌≡◌, refl, sym, ◌∙◌, ap, subst, ℕ, ◌+◌, ◌≤◌, List, [], ◌∷◌, ◌++◌, length, map, get_or}
+use Rattle.std.specs.Prelude.{filter, flat_map}
 use Rattle.std.specs.List.{All, AllByRecursion, Contains}
 use Rattle.std.specs.List.Sorted.{IsPermutation}
 use Rattle.std.proofs.lemmas.Bool.{le-leb}
@@ -17,11 +17,11 @@ use Rattle.scq_collect.specs.declared.answered.Answered.{Answered}
 use Rattle.scq_collect.specs.declared.answered.Way.{Way}
 use Rattle.scq_collect.specs.declared.answered.Way.TheVariants.{Taken}
 use Rattle.scq_files.proofs.Lists.{map-map}
-use Rattle.scq_queue.specs.Exports.{Placed, sends_of, takes_of, PassStanding}
+use Rattle.scq_queue.specs.Exports.{Placed, sends_of, PassStanding}
 use Rattle.scq_passes.proofs.ManyLists.{flat-map, found-at, in-all}
 use Rattle.scq_passes.proofs.PassedOn.{passed-results, passed-send}
 use Rattle.scq_worker.specs.Exports.{answered, answers_from, answers_to_take, answers_to_takes, is_direct, AnswersSoFar, GotParts, IsBatch}
-use Rattle.scq_worker.specs.Exports.{BatchesArePassedOn, parts_among, HasListed, HasListedAll}
+use Rattle.scq_worker.specs.Exports.{BatchesArePassedOn, parts_among, HasListedAll}
 use Rattle.scq_work.proofs.SameParts.{batches-hold}
 use Rattle.scq_work.proofs.FlatLists.{flat-permutation}
 

@@ -1,5 +1,5 @@
 -- The lists that are made of the members of a list, one behind the other: of the same members in another order they are the same in another order.
-use Rattle.std.proofs.Common.{◌≡◌, refl, sym, ◌∙◌, ap, subst, arith, ℕ, ◌+◌, ◌-◌, ◌<◌, take, drop, true, false, Bool, List, [], ◌∷◌, ◌++◌, length, set, append_assoc, length-append}
+use Rattle.std.proofs.Common.{◌≡◌, refl, sym, ◌∙◌, ap, arith, ℕ, ◌+◌, ◌-◌, ◌<◌, take, drop, true, false, Bool, List, [], ◌∷◌, ◌++◌, length, set, append_assoc, length-append}
 use Rattle.std.specs.Prelude.{slice_index_or, flat_map}
 use Rattle.std.specs.List.{swap}
 use Rattle.std.specs.List.Sorted.{IsPermutation}

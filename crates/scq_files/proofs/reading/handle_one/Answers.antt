@@ -1,4 +1,4 @@
-use Rattle.std.proofs.Common.{rules, ◌≡◌, [], ◌∷◌}
+use Rattle.std.proofs.Common.{rules, [], ◌∷◌}
 use Rattle.scq_files.proofs.Results.{err-of}
 use Rattle.scq_files.proofs.reading.handle_one.Goals as goal
 use Rattle.scq_files.proofs.reading.handle_one.Goals.{then-may_wait+in_ok-pause, else-may_wait}

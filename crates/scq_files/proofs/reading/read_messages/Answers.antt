@@ -5,9 +5,7 @@ use Rattle.scq_topics.specs.Exports.{topic_of}
 use Rattle.scq_frames.specs.Exports.{Found, IsNext, fresh, visible_ahead}
 use Rattle.scq_frames.specs.Framing.{Framing}
 use Rattle.scq_frames.specs.declared.message.Message.{Message}
-use Rattle.scq_files.specs.Exports.{given_in, IsRead}
-use Rattle.scq_frames.specs.declared.fault.FrameFault.TheVariants.{NoMemory}
-use Rattle.scq_files.specs.declared.own_file.FileEnd.TheVariants.{Stopped}
+use Rattle.scq_files.specs.Exports.{given_in}
 use Rattle.scq_files.proofs.ReadLemmas.{FileIsBeingRead, Answers, reading-first, reading-next, reading-whole, reading-fault, reading-left}
 use Rattle.scq_files.proofs.Wants.{wants-none, wants-more}
 use Rattle.scq_files.proofs.reading.read_messages.Goals as goal

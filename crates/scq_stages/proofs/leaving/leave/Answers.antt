@@ -1,4 +1,4 @@
-use Rattle.std.proofs.Common.{◌≡◌, subst, ℕ, false}
+use Rattle.std.proofs.Common.{◌≡◌, subst, false}
 use Rattle.scq_queue.specs.Exports.{PassStanding}
 use Rattle.scq_passes.specs.Exports.{HasLeftSo, TookNoneBelow, after_retire}
 use Rattle.scq_passes.proofs.Results.{either-way, err-then, on-both}

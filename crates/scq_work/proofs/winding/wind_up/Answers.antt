@@ -1,7 +1,6 @@
 -- The end of the work of all workers.
 use Rattle.std.proofs.Common.{◌≡◌, ◌∙◌, refl, sym, ap, subst, arith, ℕ, ◌^◌, List, Some, None, map}
-use Rattle.std.specs.Prelude.{Vec, IfOk}
-use Rattle.std.specs.Global.{Global}
+use Rattle.std.specs.Prelude.{IfOk}
 use Rattle.scq_block.specs.declared.frame.Frame.{Frame}
 use Rattle.scq_frames.specs.declared.message.Message.{Message}
 use Rattle.scq_collect.specs.declared.answered.Answered.{Answered}

@@ -9,7 +9,7 @@ use Rattle.scq_passes.proofs.PassLemmas.{found-full, suits-taken, lent-and-sent}
 use Rattle.scq_passes.proofs.LeftLemmas.{left-so-at-get, left-so-full}
 use Rattle.scq_passes.proofs.ManyLists.{one-of-all}
 use Rattle.scq_stages.specs.declared.finished.Finished.{Finished}
-use Rattle.scq_stages.specs.Exports.{first, second, take_topic, SendsToFirst, HasTakenOrMoved, HasMovedIts, HasFinishedOnlySeconds, HasStoppedAt}
+use Rattle.scq_stages.specs.Exports.{first, second, take_topic, SendsToFirst, HasTakenOrMoved, HasMovedIts, HasFinishedOnlySeconds}
 use Rattle.scq_stages.specs.Exports.{HasFewStageCalls, IsAtWork}
 use Rattle.scq_desk.proofs.Passes.{suits-full}
 use Rattle.scq_files.proofs.Results.{err-of}

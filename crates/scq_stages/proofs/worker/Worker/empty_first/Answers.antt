@@ -1,12 +1,11 @@
-use Rattle.std.proofs.Common.{rules, ◌≡◌, ◌∙◌, ap, sym, refl, List, [], length}
+use Rattle.std.proofs.Common.{rules, ◌≡◌, ◌∙◌, ap, sym, refl, [], length}
 use Rattle.std.proofs.lemmas.List.{append-nil}
-use Rattle.scq_frames.specs.declared.message.Message.{Message}
 use Rattle.scq_queue.specs.Exports.{sends_of, takes_of, PassStanding}
 use Rattle.scq_passes.specs.Exports.{on, since}
 use Rattle.scq_passes.proofs.PassLemmas.{taken-nothing, taken-along}
 use Rattle.scq_passes.proofs.Since.{since-of, since-takes}
 use Rattle.scq_passes.proofs.LeftLemmas.{left-so-taken}
-use Rattle.scq_stages.specs.Exports.{first, second, HasFewStageCalls, IsAtWork, HasStopped}
+use Rattle.scq_stages.specs.Exports.{first, second, HasFewStageCalls}
 use Rattle.scq_files.proofs.Results.{err-of}
 use Rattle.scq_stages.proofs.AtWork.{work-done, work-left}
 use Rattle.scq_stages.proofs.FewCalls.{few_calls-moved}

@@ -1,10 +1,8 @@
-use Rattle.std.proofs.Common.{rules, ◌≡◌, ap, arith, refl, inl, suc, ℕ, length, ◌<◌}
+use Rattle.std.proofs.Common.{rules, ap, arith, refl, inl, suc, length, ◌<◌}
 use Rattle.scq_queue.specs.Exports.{takes_of, PassStanding}
-use Rattle.scq_passes.specs.Exports.{HasLeftSo}
 use Rattle.scq_passes.proofs.InRun.{only-along, only-back, only-got, only-nothing}
 use Rattle.scq_passes.proofs.Taking.{found-nothing}
 use Rattle.scq_passes.proofs.Vain.{vain-got}
-use Rattle.scq_stages.specs.Exports.{HasFewStageCalls}
 use Rattle.scq_files.proofs.Results.{err-of}
 use Rattle.scq_stages.proofs.Finishing.{since-took, since-found, finished-one, finished-nothing, took-one, found-one, left-take, left-back}
 use Rattle.scq_stages.proofs.worker.Worker.finish_one.Goals as goal

@@ -1,5 +1,5 @@
-use Rattle.std.proofs.Common.{rules, ◌≡◌, ◌∙◌, refl, sym, ◌++◌, ◌∷◌, [], ℕ}
-use Rattle.scq_passes.specs.Exports.{HasLeftSo, since}
+use Rattle.std.proofs.Common.{rules, ◌≡◌, ◌∙◌, refl, sym, ◌++◌, ◌∷◌, []}
+use Rattle.scq_passes.specs.Exports.{since}
 use Rattle.scq_passes.proofs.PassLemmas.{taken-along}
 use Rattle.scq_passes.proofs.Since.{since-takes}
 use Rattle.scq_passes.proofs.LeftLemmas.{left-so-taken}

@@ -1,10 +1,10 @@
-use Rattle.std.proofs.Common.{rules, ◌≡◌, ◌∙◌, ap, arith, refl, suc, ℕ, length, ◌<◌, ◌∷◌, []}
+use Rattle.std.proofs.Common.{rules, ◌≡◌, ◌∙◌, ap, arith, refl, suc, length, ◌<◌, ◌∷◌, []}
 use Rattle.std.specs.List.{filter_map}
 use Rattle.scq_core.specs.declared.ended.Ended.TheVariants.{Nothing}
 use Rattle.scq_queue.specs.Exports.{sends_of, takes_of, PassStanding}
-use Rattle.scq_passes.specs.Exports.{HasLeftSo, since, on}
+use Rattle.scq_passes.specs.Exports.{since, on}
 use Rattle.scq_passes.proofs.PassLemmas.{found-none, found-past}
-use Rattle.scq_stages.specs.Exports.{first, second, take_topic, HasFewStageCalls}
+use Rattle.scq_stages.specs.Exports.{first, second, take_topic}
 use Rattle.scq_files.proofs.Results.{err-of}
 use Rattle.scq_stages.proofs.Finishing.{since-found, moved-nothing, helped-nothing, left-take, left-back}
 use Rattle.scq_stages.proofs.Moved.{HasMovedOne, moved-took}

@@ -1,4 +1,4 @@
-use Rattle.std.proofs.Common.{rules, ◌≡◌, ◌+◌, ◌++◌, ◌∙◌, ap, subst, arith, refl, length, drop}
+use Rattle.std.proofs.Common.{◌≡◌, ◌+◌, ◌++◌, ◌∙◌, ap, subst, arith, refl, length, drop}
 use Rattle.scq_frames.specs.Exports.{BeginsWith, message_bytes, Part, part_of}
 use Rattle.scq_queue.specs.Exports.{having_seen, after_put}
 use Rattle.scq_stages.specs.Exports.{whole_of}

@@ -1,7 +1,7 @@
-use Rattle.std.proofs.Common.{rules, ◌≡◌, arith, refl}
+use Rattle.std.proofs.Common.{rules, arith, refl}
 use Rattle.std.specs.Prelude.{count_by}
 use Rattle.scq_passes.specs.Exports.{is_take}
-use Rattle.scq_worker.specs.Exports.{HasLeftAt, HasTakenAll, KeepsItsOwn}
+use Rattle.scq_worker.specs.Exports.{HasTakenAll, KeepsItsOwn}
 use Rattle.scq_passes.proofs.PassLemmas.{counted-below, counted-above}
 use Rattle.scq_passes.proofs.LeftLemmas.{left-taken}
 use Rattle.scq_files.proofs.Results.{err-of}

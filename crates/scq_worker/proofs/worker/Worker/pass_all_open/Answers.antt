@@ -1,6 +1,6 @@
 use Rattle.std.proofs.Common.{rules, ◌≡◌, ◌+◌, ◌<◌, sym, subst, arith, ℕ, [], ⊎_elim}
 use Rattle.std.proofs.lemmas.Bool.{cases_eq}
-use Rattle.scq_worker.specs.Exports.{open_on, HasStoppedIn, gathered-along, gathered-nothing, still-along, still-same, stopped-along}
+use Rattle.scq_worker.specs.Exports.{open_on, gathered-along, gathered-nothing, still-along, still-same, stopped-along}
 use Rattle.scq_files.proofs.Results.{err-of}
 use Rattle.scq_worker.proofs.Gathered.{closed-at, closed-still}
 use Rattle.scq_worker.proofs.worker.Worker.pass_all_open.Goals as goal

@@ -5,7 +5,7 @@ use Rattle.std.proofs.lemmas.List.{length-append}
 use Rattle.std.proofs.lemmas.List.FromFn.{length-map-range_with_len, map-range_with_len_more}
 use Rattle.scq_frames.specs.declared.message.Message.{Message}
 use Rattle.scq_frames.specs.Exports.{Part, part_of, parts_of, all_parts}
-use Rattle.scq_worker.specs.Exports.{HasGathered, HasStoppedIn, gathered-along, gathered-nothing, still-along, still-same, stopped-along}
+use Rattle.scq_worker.specs.Exports.{HasGathered, gathered-along, gathered-nothing, still-along, still-same, stopped-along}
 use Rattle.scq_files.proofs.Results.{err-of}
 use Rattle.scq_worker.proofs.Going.{stopped-within}
 use Rattle.scq_worker.proofs.worker.Worker.pass_on.Goals as goal

@@ -2,7 +2,7 @@ use Rattle.std.proofs.Common.{rules, ◌≡◌, ◌+◌, ◌<◌, ◌∙◌, ap,
 use Rattle.std.specs.Prelude.{slice_set}
 use Rattle.std.proofs.lemmas.List.{append-nil, get_or_read, length-append}
 use Rattle.scq_frames.specs.Exports.{Part}
-use Rattle.scq_worker.specs.Exports.{AreOpen, PartsAreGathered, open_on, gathered-nothing, HasStoppedIn, still-same, HasPassed}
+use Rattle.scq_worker.specs.Exports.{AreOpen, PartsAreGathered, open_on, gathered-nothing, still-same, HasPassed}
 use Rattle.scq_files.proofs.Results.{err-of}
 use Rattle.scq_worker.proofs.Gathered.{gathered-passed, open-closed, few-with, set-closed, set-few}
 use Rattle.scq_worker.proofs.PassedOn.{stopped-more}

@@ -1,6 +1,6 @@
 use Rattle.std.proofs.Common.{rules, ◌≡◌, ◌∙◌, false, refl, arith, List, [], ◌∷◌}
 use Rattle.scq_frames.specs.Exports.{Part, part_of}
-use Rattle.scq_worker.specs.Exports.{open_on, HasGathered, HasStoppedIn, IsSameWorker, gathered-along, still-along, stopped-along}
+use Rattle.scq_worker.specs.Exports.{open_on, HasGathered, IsSameWorker, gathered-along, still-along, stopped-along}
 use Rattle.scq_files.proofs.Results.{err-of}
 use Rattle.scq_worker.proofs.Gathered.{closed-at}
 use Rattle.scq_worker.proofs.Going.{gathered-one, gathered-still, gone-alone, still-as, stopped-alone, stopped-within}
