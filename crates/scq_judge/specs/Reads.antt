@@ -56,7 +56,7 @@ pub record AreReadBefore {S : Type 0} (faults end_count : S → ℕ) (left : S
 
 -- how far sources were got and read where recordings were refused: those before the file of the
 -- fault to their ends, and none behind it was got; and all of them where an event is out of place,
--- or shares what it may not with one of another file, and where two files are of two runs
+-- or shares with another what it may not, and where two files are of two runs
 abbrev pub AreReadUntil : {S : Type 0} → (S → ℕ) → (S → ℕ) → (S → Option (List ℕ)) → List S → List S
     → JudgeFault → Type 0
 AreReadUntil faults end_count left olds news (BadLine file line) =

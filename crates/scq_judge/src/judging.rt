@@ -31,7 +31,7 @@ pub struct Report {
     pub counts: Counts,
 }
 
-/// What events of two files may not share.
+/// What two events may not share: a stamp, or in two files a seat.
 #[derive(Clone, Copy, Debug, PartialEq, Eq, Error)]
 pub enum Shared {
     #[error("stamp")]
@@ -49,7 +49,7 @@ pub enum JudgeFault {
         file: u32,
         line: u32,
     },
-    /// The line's event has the stamp of another file's, or is of a seat that has an event in
+    /// The line's event has the stamp of another event, or is of a seat that has an event in
     /// another file.
     #[error("file {file} line {line}: same {what} as file {other_file} line {other_line}")]
     Shared {

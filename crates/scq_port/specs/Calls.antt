@@ -116,8 +116,8 @@ pub record WasEmpty (topic head : ℕ) (old new : PortStanding) : Type 0 where
   pub holds : HoldsAsBefore old new
   pub unspent : old.pass.spent ≡ None
 
--- the port keeps a ticket at or past the limit: one that this call drew on a ring, or one that it
--- kept before, and then nothing changed
+-- the port keeps this ticket: one that this call drew on a ring, at or past the limit, or one that
+-- it kept before, and then nothing changed
 pub record IsSpent (after : PassStanding PortBuffer) (ticket : ℕ)
     (old new : PortStanding) : Type 0 where
   pub drawn : old.pass.spent ≡ None
@@ -204,8 +204,8 @@ GaveBack (h ∷ hs) old new =
     × GaveBack hs between new
 
 -- what a port's end made of its pass. The values that it held were given back, from the highest
--- index down: all of them, where the pass keeps no spent ticket, and then it holds nothing; else
--- those before the first that was refused
+-- index down: all of them, where the pass keeps no spent ticket, and then it holds nothing; else a
+-- front of them
 pub record HasPassEnded (old : PortStanding) (new : PassStanding PortBuffer) : Type 0 where
   pub given : List Value
   pub left : List Value

@@ -51,7 +51,8 @@ abbrev pub HaveAllCome : {S : Type 0} → List (List ℕ) → Inputs S → Bool 
 HaveAllCome names r true = (length r.sources ≡ length names) × IsUnchanged r.opens
 HaveAllCome names r false = (length r.sources < length names) × HasMissed names r
 
--- what workers made is there exactly where the text of it was whole
+-- what workers made is there exactly where the whole text was made: where nothing failed, or only
+-- its writing did
 abbrev pub IsThereAt : {W : Type 0} → Option Fault → Option W → Type 0
 IsThereAt None worked = IsSome worked
 IsThereAt (Some WriteFault) worked = IsSome worked
@@ -148,7 +149,7 @@ pub record TellsWork {S : Type 0} (j : Job) (src : SourceOf S) (names : List (Li
     (r : Inputs S) (o : Outcome S) : Type 0 where
   pub got : HasGotSources src names o.got.items r
   pub status : o.status ≡ status_of o.fault
-  -- what they made is there exactly where the text of it was whole, and answers such messages as
+  -- what they made is there exactly where the whole text was made, and answers such messages as
   -- the sources may have given: of contents that were told, and of every source
   pub worked : IsThereAt o.fault o.worked
   pub unstaged : o.staged ≡ None

@@ -127,7 +127,7 @@ pub record IsAllRead {S : Type 0} (size : ℕ) (src : SourceOf S) (names : List 
   pub sound : IsFirstFileFault size src got r None
   pub read : r.read ≡ 0
 
--- the next source was not got: its name is missing, and `opens` rose
+-- the next source was not got: `opens` rose, and where the table is visible its name is missing
 pub record HasMissed {S : Type 0} (names : List (List ℕ)) (r : Inputs S) : Type 0 where
   pub rose : Rose r.opens.old r.opens.new
   pub missing : IfSome r.table.old (λ files. IsMissing files names (length r.sources + 1))

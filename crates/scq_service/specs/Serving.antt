@@ -22,7 +22,7 @@ pub record IsOutcomeOf {S : Type 0} (src : SourceOf S) (asked : Result Asked Wor
   pub status : o.status ≡ status_of o.fault
   -- the end is one of the cases of `EndsAs`, each with what was got, read and written, and why
   pub end : EndsAs src asked o.got.items r w o.fault
-  -- what workers answered is there exactly where the text of it was whole. Of `run` it answers such
+  -- what workers answered is there exactly where the whole text was made. Of `run` it answers such
   -- messages as `WorkersAnswered` says, which are those of the contents where these are visible; of
   -- `self` those of the generated file
   pub worked : WorkedAs src asked o.got.items r o.fault o.worked

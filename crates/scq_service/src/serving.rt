@@ -38,7 +38,7 @@ pub fn serve<R: Threads + Sync, F: Files, K: Sink, G: Gate + Sync>(
         (inputs_of F.Files files.old files.new result.sources.items result.read)
         (wrote_of K.Sink out.old out.new) result }
 
-    // What the workers of stages finished is there exactly where the text of it was whole, and is
+    // What the workers of stages finished is there exactly where the whole text was made, and is
     // what becomes of the messages. Where it is there, nothing is stranded in their queue.
     ensures staged { StagedAs F.Src.Source (asked (map string_bytes words.now)) result.got.items
         (inputs_of F.Files files.old files.new result.sources.items result.read)

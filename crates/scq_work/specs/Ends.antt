@@ -11,8 +11,8 @@ use Rattle.scq_work.specs.declared.worked.Worked.{Worked}
 use Rattle.scq_desk.specs.declared.end.End.{End}
 use Rattle.scq_desk.specs.Exports.{EndsReading}
 
--- what is known of the end of a job's work on these sources: as many come back in every case, each
--- as one that its own may have become
+-- what is known of the end of a job's work on these sources: how they were read; with no fault, that
+-- the lists answer all parts given; and where a queue was closed, that nothing is stranded in it
 pub record EndsWork {S : Type 0} (j : Job) (src : SourceOf S) (sources : List S)
     (end : End Worked S) : Type 0 where
   pub reading : EndsReading j.workers j.longest src sources end
@@ -29,8 +29,8 @@ pub record EndsWork {S : Type 0} (j : Job) (src : SourceOf S) (sources : List S)
   pub worked : IfOk end.result (λ w.
       (given : List (List Message)) × AreGiven j.topics j.longest src.left 1 sources given
       × HasWorked j.topics j.size j.most j.workers given w)
-  -- whatever the answer is, the queue was closed with each buffer free: each pass has retired, and
-  -- what was sent was taken
+  -- where a queue was closed, at a fault too, it was so with each buffer free: each pass has
+  -- retired, and what was sent was taken
   pub none_stranded : IfSome end.left (λ l. IsSomeAnd end.passes (λ p. IsSomeAnd end.frames (λ f.
       NothingIsStranded j.order (length j.topics
       + 1) j.workers p.value.items f.value.items l.items)))
