@@ -11,8 +11,9 @@ use Rattle.scq_work.specs.declared.worked.Worked.{Worked}
 use Rattle.scq_desk.specs.declared.end.End.{End}
 use Rattle.scq_desk.specs.Exports.{EndsReading}
 
--- what is known of the end of a job's work on these sources: how they were read; with no fault, that
--- the lists answer all parts given; and where a queue was closed, that nothing is stranded in it
+-- what is known of the end of a job's work on these sources: how they were read; with no fault,
+-- that the lists answer all parts given; and where a queue was closed, that nothing is stranded in
+-- it
 pub record EndsWork {S : Type 0} (j : Job) (src : SourceOf S) (sources : List S)
     (end : End Worked S) : Type 0 where
   pub reading : EndsReading j.workers j.longest src sources end
