@@ -21,10 +21,11 @@ use std::alloc::Global;
 pub struct Libraries;
 
 impl Calls for Libraries {
-    fn answer_to(&self, alloc: Global, call: &str, given: &str) -> Result<String> {
+    fn add_answer(&self, alloc: Global, into: &mut String, call: &str, given: &str) -> Result<()> {
         let mut row = Row::new(alloc);
         of_entries(&mut row, call, given);
-        row.answer().context("a call, what it is given, or memory")
+        let answer = row.answer().context("a call, what it is given, or memory")?;
+        Ok(into.push_str(&answer)?)
     }
 }
 

@@ -22,13 +22,13 @@ use anyhow::{Context, Result};
 use calls::Libraries;
 use outside::{on_stream, put_file, put_whole};
 use row::Row;
-use rows_text::run_rows;
+use rows_text::run_file;
 use scq_outside::StdStream;
-use std::{env, fs};
+use std::env;
 
 fn main(rt: HostRuntime) -> Result<()> {
     for name in env::args(&rt)?.skip(1) {
-        run_file(&rt, &name)?;
+        run_file(&rt, &Libraries, &name)?;
     }
     // A name is taken as it stands, with the spaces at its ends.
     read_file(&rt, "outside.txt")?;
@@ -37,14 +37,6 @@ fn main(rt: HostRuntime) -> Result<()> {
     read_whole(&rt, 10_000)?;
     write_stream(&rt, StdStream::Output(rt.stdout()))?;
     write_stream(&rt, StdStream::Errors(rt.stderr()))
-}
-
-/// Runs the rows of a file.
-fn run_file(rt: &HostRuntime, name: &str) -> Result<()> {
-    let text = fs::read_to_string(rt, name)?;
-    let rows = run_rows(rt, rt.alloc(), &Libraries, name, &text)?;
-    println!(rt; "{name}: {rows} rows")?;
-    Ok(())
 }
 
 fn read_file(rt: &HostRuntime, name: &str) -> Result<()> {

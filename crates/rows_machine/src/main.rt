@@ -15,7 +15,7 @@ use anyhow::{Result, anyhow};
 use long::{copied, repeated};
 use orders::ordered;
 use replays::replayed_lines;
-use rows_text::{Calls, run_rows};
+use rows_text::{Calls, run_file};
 use std::alloc::Global;
 use std::{env, fs};
 use steps::stepped_through;
@@ -25,48 +25,32 @@ use windows::longest_window;
 struct Machine;
 
 impl Calls for Machine {
-    fn answer_to(&self, alloc: Global, call: &str, given: &str) -> Result<String> {
-        let mut answer = String::new(alloc);
-        add_answer(alloc, &mut answer, call, given)?;
-        Ok(answer)
+    fn add_answer(&self, alloc: Global, into: &mut String, call: &str, given: &str) -> Result<()> {
+        match call {
+            "steps" => stepped_through(alloc, into, given),
+            "replayed" => replayed_lines(alloc, into, given),
+            "ordered" => ordered(alloc, into, given),
+            "repeated" => repeated(alloc, into, given),
+            "copied" => copied(alloc, into, given),
+            _ => Err(anyhow!("no such call")),
+        }
     }
 }
 
-fn add_answer(alloc: Global, into: &mut String, call: &str, given: &str) -> Result<()> {
-    match call {
-        "steps" => stepped_through(alloc, into, given),
-        "replayed" => replayed_lines(alloc, into, given),
-        "ordered" => ordered(alloc, into, given),
-        "repeated" => repeated(alloc, into, given),
-        "copied" => copied(alloc, into, given),
-        _ => Err(anyhow!("no such call")),
-    }
-}
-
-fn run_file(rt: HostRuntime, name: &str) -> Result<()> {
-    let text = fs::read_to_string(&rt, name)?;
-    if name.ends_with(".schedule") {
-        tell_window(rt, name, &text)
-    } else {
-        tell_rows(rt, name, &text)
-    }
-}
-
-fn tell_window(rt: HostRuntime, name: &str, schedule: &str) -> Result<()> {
-    let window = longest_window(rt.alloc(), schedule)?;
+fn tell_window(rt: HostRuntime, name: &str) -> Result<()> {
+    let schedule = fs::read_to_string(&rt, name)?;
+    let window = longest_window(rt.alloc(), &schedule)?;
     println!(rt; "{name}: {window}")?;
-    Ok(())
-}
-
-fn tell_rows(rt: HostRuntime, name: &str, text: &str) -> Result<()> {
-    let rows = run_rows(&rt, rt.alloc(), &Machine, name, text)?;
-    println!(rt; "{name}: {rows} rows")?;
     Ok(())
 }
 
 fn main(rt: HostRuntime) -> Result<()> {
     for name in env::args(&rt)?.skip(1) {
-        run_file(rt, &name)?;
+        if name.ends_with(".schedule") {
+            tell_window(rt, &name)?;
+        } else {
+            run_file(&rt, &Machine, &name)?;
+        }
     }
     Ok(())
 }

@@ -22,32 +22,26 @@ use crews::{in_turn, woken};
 use moves::moves;
 use pair::told;
 use ports::ported;
-use rows_text::{Calls, run_rows};
+use rows_text::{Calls, run_file};
 use std::alloc::Global;
+use std::env;
 use std::sync::Wait;
 use std::thread::Threads;
-use std::{env, fs};
 use threads::two_threads;
 
 /// The calls of the band, of the queue and of its ports.
 struct Queues;
 
 impl Calls for Queues {
-    fn answer_to(&self, alloc: Global, call: &str, given: &str) -> Result<String> {
-        let mut answer = String::new(alloc);
-        add_answer(alloc, &mut answer, call, given)?;
-        Ok(answer)
-    }
-}
-
-fn add_answer(alloc: Global, into: &mut String, call: &str, given: &str) -> Result<()> {
-    match call {
-        "moves" => moves(alloc, into, given),
-        "lifted" => lifted(alloc, into),
-        "called" => called(alloc, into, given),
-        "told" => told(alloc, into, given),
-        "ported" => ported(alloc, into, given),
-        _ => Err(anyhow!("no such call")),
+    fn add_answer(&self, alloc: Global, into: &mut String, call: &str, given: &str) -> Result<()> {
+        match call {
+            "moves" => moves(alloc, into, given),
+            "lifted" => lifted(alloc, into),
+            "called" => called(alloc, into, given),
+            "told" => told(alloc, into, given),
+            "ported" => ported(alloc, into, given),
+            _ => Err(anyhow!("no such call")),
+        }
     }
 }
 
@@ -56,13 +50,6 @@ const ROUNDS: u32 = 20_000;
 
 /// How often each of two workers wakes the other.
 const WAKES: u32 = 1_000;
-
-fn run_file(rt: HostRuntime, name: &str) -> Result<()> {
-    let text = fs::read_to_string(&rt, name)?;
-    let rows = run_rows(&rt, rt.alloc(), &Queues, name, &text)?;
-    println!(rt; "{name}: {rows} rows")?;
-    Ok(())
-}
 
 fn run_threads<R: Threads + Wait + Sync + Print>(rt: &R, alloc: Global) -> Result<()> {
     let kept = two_threads(rt, alloc, ROUNDS)?;
@@ -76,7 +63,7 @@ fn run_threads<R: Threads + Wait + Sync + Print>(rt: &R, alloc: Global) -> Resul
 
 fn main(rt: HostRuntime) -> Result<()> {
     for name in env::args(&rt)?.skip(1) {
-        run_file(rt, &name)?;
+        run_file(&rt, &Queues, &name)?;
     }
     run_threads(&rt, rt.alloc())
 }

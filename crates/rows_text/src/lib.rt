@@ -7,7 +7,7 @@
 mod rows;
 
 use anyhow::{Context, Result, ensure};
-pub use rows::{Calls, field, run_rows};
+pub use rows::{Calls, field, run_file};
 use std::alloc::Global;
 
 /// Adds the bytes of a line, and its LF.

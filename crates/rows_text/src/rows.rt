@@ -4,11 +4,13 @@
 use crate::add_said;
 use anyhow::{Result, ensure};
 use std::alloc::Global;
+use std::fs;
+use std::rt::Files;
 
 /// What rows can call.
 pub trait Calls {
-    /// What a call answers.
-    fn answer_to(&self, alloc: Global, call: &str, given: &str) -> Result<String>;
+    /// Adds what a call answers.
+    fn add_answer(&self, alloc: Global, into: &mut String, call: &str, given: &str) -> Result<()>;
 }
 
 /// A field of what is given, cut at spaces.
@@ -83,7 +85,8 @@ impl Rows {
     ) -> Result<()> {
         ensure!(self.is_read, "a row of bytes, or memory");
         self.count = self.count.saturating_add(1);
-        let answer = calls.answer_to(alloc, &self.call, &self.given)?;
+        let mut answer = String::new(alloc);
+        calls.add_answer(alloc, &mut answer, &self.call, &self.given)?;
         if self.wants(&answer) {
             Ok(())
         } else {
@@ -97,19 +100,20 @@ fn print_other<R: Print>(rt: &R, name: &str, line: u64, answer: &str) -> Result<
     Ok(())
 }
 
-/// Runs the rows of a file, prints those that are answered otherwise, and tells how many there are.
-pub fn run_rows<R: Print, C: Calls>(
+/// Runs the rows of a file, and prints those that are answered otherwise and how many there are.
+pub fn run_file<R: Files + AllocGlobal + Print, C: Calls>(
     rt: &R,
-    alloc: Global,
     calls: &C,
     name: &str,
-    text: &str,
-) -> Result<u64> {
-    let mut rows = Rows::new(alloc);
+) -> Result<()> {
+    let text = fs::read_to_string(rt, name)?;
+    let mut rows = Rows::new(rt.alloc());
     for line in text.lines() {
         if rows.read(line) {
-            rows.run(rt, alloc, calls, name)?;
+            rows.run(rt, rt.alloc(), calls, name)?;
         }
     }
-    Ok(rows.count)
+    let count = rows.count;
+    println!(rt; "{name}: {count} rows")?;
+    Ok(())
 }
