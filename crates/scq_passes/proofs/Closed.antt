@@ -35,7 +35,7 @@ module _ {B : Type 0} {contents : B → List ℕ} {IsSameBuffer : B → B → Ty
     (held : List (HeldStanding B)) (left : List ℕ) (closed : HasClosed contents IsSameBuffer c given passes held buffers left) where
   -- where each has swept, the takes are the sends
   pub all-taken : All HasSwept passes → SendsAreTakes passes
-  all-taken swept = sends-are-takes passes closed.takes closed.taken_once closed.sent_once closed.passed swept
+  all-taken swept = sends-are-takes passes closed.sent.takes closed.sent.taken_once closed.sent.sent_once closed.sent.passed swept
 
   -- what all passes shared
   pub have-shared : (Each : PassStanding B → Type 0) (most topics : ℕ) (shared : Identity B) → shared.setup ≡ c → given ≡ shared.given → c.rings ≡ topics + 1
@@ -45,7 +45,7 @@ module _ {B : Type 0} {contents : B → List ℕ} {IsSameBuffer : B → B → Ty
       → HaveShared contents IsSameBuffer Each most topics c passes buffers left
   have-shared Each most topics shared setup same_given rings queues numbers unspent swept alone each no_spent bounded none =
       let same = all-taken swept in
-      let nothing : NothingIsLeft topics left = nothing-is-left c passes topics left rings closed.balance same in
+      let nothing : NothingIsLeft topics left = nothing-is-left c passes topics left rings closed.sent.balance same in
       record {
         one = (shared, setup, queues);
         numbers = numbers;
@@ -53,14 +53,14 @@ module _ {B : Type 0} {contents : B → List ℕ} {IsSameBuffer : B → B → Ty
             (map contents buffers)) same_given closed.run;
         back = subst (λ (bs : List B). AreTheSame IsSameBuffer bs buffers) same_given closed.back;
         alone = alone;
-        fulls = closed.fulls;
+        fulls = closed.sent.fulls;
         each = each;
         unspent = unspent;
         no_spent = no_spent;
         same = same;
-        places = no-place-twice passes closed.sent_once;
-        balance = closed.balance;
+        places = no-place-twice passes closed.sent.sent_once;
+        balance = closed.sent.balance;
         none_left = nothing;
-        free = first-alone left topics (closed.balance.rings ∙ rings) nothing ∙ sum-alone left (n_of c.order) held none closed.all_there;
+        free = first-alone left topics (closed.sent.balance.rings ∙ rings) nothing ∙ sum-alone left (n_of c.order) held none closed.all_there;
         bounded = bounded;
       }

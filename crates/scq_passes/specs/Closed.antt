@@ -2,10 +2,8 @@
 use Rattle.std.specs.Prelude.{ℕ, List, map}
 use Rattle.scq_word.specs.declared.setup.Setup.{Setup}
 use Rattle.scq_band.specs.Exports.{opening_of, AreTheSame, IsOneRunToTheEnd}
-use Rattle.scq_queue.specs.Exports.{EachTakeIsASend, NoPlaceIsSentTwice, NoPlaceIsTakenTwice}
-use Rattle.scq_queue.specs.Exports.{IsBalance, EachSendPassedIsTaken, AllFullsStand}
-use Rattle.scq_queue.specs.Exports.{NoneIsKeptWithinTheLimit, IsAllThere, all_held, callers_of}
-use Rattle.scq_queue.specs.Exports.{records_of, PassStanding, HeldStanding}
+use Rattle.scq_queue.specs.Exports.{SentAndTook, NoneIsKeptWithinTheLimit, IsAllThere, all_held}
+use Rattle.scq_queue.specs.Exports.{callers_of, records_of, PassStanding, HeldStanding}
 
 -- what `close` says of the passes of a queue that was given these buffers, and gives those back
 pub record HasClosed {B : Type 0} (contents : B → List ℕ) (IsSameBuffer : B → B
@@ -15,11 +13,6 @@ pub record HasClosed {B : Type 0} (contents : B → List ℕ) (IsSameBuffer : B 
   pub run : IsOneRunToTheEnd c (opening_of contents given) (callers_of passes) (records_of passes)
       (all_held passes) (map contents buffers)
   pub back : AreTheSame IsSameBuffer given buffers
-  pub takes : EachTakeIsASend passes
-  pub sent_once : NoPlaceIsSentTwice passes
-  pub taken_once : NoPlaceIsTakenTwice passes
-  pub balance : IsBalance c passes left
-  pub passed : EachSendPassedIsTaken passes
-  pub fulls : AllFullsStand passes
+  pub sent : SentAndTook c passes left
   pub limits : NoneIsKeptWithinTheLimit c passes
   pub all_there : IsAllThere c held left

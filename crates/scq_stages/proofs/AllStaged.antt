@@ -112,10 +112,10 @@ module _ {B : Type 0} where
     all-few = All-map (λ (w : ℕ × PassStanding B). HasFewStageCalls 1 w.0 w.1) counted works (λ k d less. (done.each k d less).few_calls)
 
     sent-so : EachTakeIsASend (passes_of (map counted works))
-    sent-so = subst (λ (ps : List (PassStanding B)). EachTakeIsASend ps) (sym passes-same) closed.takes
+    sent-so = subst (λ (ps : List (PassStanding B)). EachTakeIsASend ps) (sym passes-same) closed.sent.takes
 
     once-so : NoPlaceIsTakenTwice (passes_of (map counted works))
-    once-so = subst (λ (ps : List (PassStanding B)). NoPlaceIsTakenTwice ps) (sym passes-same) closed.taken_once
+    once-so = subst (λ (ps : List (PassStanding B)). NoPlaceIsTakenTwice ps) (sym passes-same) closed.sent.taken_once
 
     unspent : NoneSpent (passes_in works)
     unspent =
@@ -186,7 +186,7 @@ module _ {B : Type 0} where
     all-keep = All-map KeepsStages (λ (w : Work B). w.pass) works (λ k d less.
         let w = get_or works k d in
         record {
-          moves = moved-all works all-moving closed.takes w (Contains-get_or works k d less);
+          moves = moved-all works all-moving closed.sent.takes w (Contains-get_or works k d less);
           retired = retired-empty w.messages w.pass w.list.items w.starved (all-ended k d less);
         })
 
@@ -226,7 +226,7 @@ module _ {B : Type 0} where
       once : IsPermutation (map without_way (finished_in (lists_in works))) (map handled_of (flat_map (λ own. own) given))
       once =
           IsPermutation-trans (map without_way (finished_in (lists_in works))) (map handled_of (worked_messages works)) (map handled_of (flat_map (λ own. own) given))
-          (all-finished works all-moving closed.takes all-works (no-place-twice (passes_in works) closed.sent_once) closed.taken_once
+          (all-finished works all-moving closed.sent.takes all-works (no-place-twice (passes_in works) closed.sent.sent_once) closed.sent.taken_once
           (all-taken c shared.given (passes_in works) (held_in works) left closed (of-passes HasSwept (λ w e. e.swept))))
           (IsPermutation-map handled_of (worked_messages works) (flat_map (λ own. own) given)
           (IsPermutation-sym (flat_map (λ own. own) given) (worked_messages works) all))
@@ -237,11 +237,11 @@ module _ {B : Type 0} where
           let e : Ends w = subst Ends has.2 (all-ended has.0 w has.1) in
           let none = nothing-behind-alone w.messages w.pass w.list.items w.starved e (λ m took.
           let its = on-member first (takes_of (calls_behind w.pass)) m took in
-          let from = was-sent works all-moving closed.takes w has m (took-behind works all-moving closed.takes w m its.0) in
+          let from = was-sent works all-moving closed.sent.takes w has m (took-behind works all-moving closed.sent.takes w m its.0) in
           subst (λ (v : Work B). Contains (sends_of v.pass.calls) m) (only-one works from.0 w one from.1 has) from.2) in
           zip-none _ (on first (takes_of (calls_behind w.pass))) (filter is_first w.list.items)
           (λ t took. absurd (omega (arith, (subst (λ (l : List Placed). Contains l t) none took).1)))
-          (firsts-all works all-moving closed.takes all-works w has)
+          (firsts-all works all-moving closed.sent.takes all-works w has)
 
       alone : length works ≡ 1 → filter is_first (finished_in (lists_in works)) ≡ []
       alone one =
@@ -260,9 +260,9 @@ module _ {B : Type 0} where
         follows = of-each (λ w p list. EachHasItsCall IsNextOf is_next (own_of (length works) w 1 given) p.calls) works
             (λ w d is. subst (λ ms. EachHasItsCall IsNextOf is_next ms d.pass.calls) (own w d is) (moving-at w d is).follows);
         firsts = of-each (λ w p list. FirstsAre (on first (takes_of (calls_behind p))) list) works
-            (λ w d is. firsts-all works all-moving closed.takes all-works d (stands-at works d w is));
+            (λ w d is. firsts-all works all-moving closed.sent.takes all-works d (stands-at works d w is));
         seconds = of-each (λ w p list. SecondsAre (on second (takes_of p.calls)) list) works
-            (λ w d is. seconds-all works all-moving closed.takes all-works d (stands-at works d w is));
+            (λ w d is. seconds-all works all-moving closed.sent.takes all-works d (stands-at works d w is));
         directs = of-each (λ w p list. DirectsAre p.fulls list) works (λ w d is. (work-at w d is).directs);
         alone = alone;
       }

@@ -103,15 +103,15 @@ module _ {B S : Type 0} where
       unspent =
           subst (λ (ps : List (PassStanding B)). NoneSpent ps) passes-same
           (none-spent c works ran.limit (omega (arith, ran.seats, length-map desks (counted size))) few-messages all-few
-          (subst (λ (ps : List (PassStanding B)). EachTakeIsASend ps) (sym passes-same) closed.takes)
-          (subst (λ (ps : List (PassStanding B)). NoPlaceIsTakenTwice ps) (sym passes-same) closed.taken_once)
+          (subst (λ (ps : List (PassStanding B)). EachTakeIsASend ps) (sym passes-same) closed.sent.takes)
+          (subst (λ (ps : List (PassStanding B)). NoPlaceIsTakenTwice ps) (sym passes-same) closed.sent.taken_once)
           (subst (λ (ps : List (PassStanding B)). NoneIsKeptWithinTheLimit c ps) (sym passes-same) closed.limits))
 
       bounded : All (IsBounded (2 ^ 36)) (passes_at desks)
       bounded = All-map (IsBounded (2 ^ 36)) (λ (d : Desk (Seated B) S). d.worker.worker.pass) desks (λ k d less.
           let long : k < length works = subst (λ n. k < n) (sym (length-map desks (counted size))) less in
-          let its = all-bounded works (2 ^ 36) few-messages all-few (subst (λ (ps : List (PassStanding B)). EachTakeIsASend ps) (sym passes-same) closed.takes)
-          (subst (λ (ps : List (PassStanding B)). NoPlaceIsTakenTwice ps) (sym passes-same) closed.taken_once) k (counted size d) long in
+          let its = all-bounded works (2 ^ 36) few-messages all-few (subst (λ (ps : List (PassStanding B)). EachTakeIsASend ps) (sym passes-same) closed.sent.takes)
+          (subst (λ (ps : List (PassStanding B)). NoPlaceIsTakenTwice ps) (sym passes-same) closed.sent.taken_once) k (counted size d) long in
           subst (λ (w : ℕ × PassStanding B). IsBounded (2 ^ 36) w.1) (get_or-map (counted size) desks k d (counted size d) less) its)
 
       spent-none : (k : ℕ) (d : Desk (Seated B) S) → k < length desks → (get_or desks k d).worker.worker.pass.spent ≡ None
@@ -212,7 +212,7 @@ module _ {B S : Type 0} where
         once : IsPermutation (map without_way (members_of (lists_at desks))) (part_answers topics size (flat_map (λ own. own) messages_given))
         once =
             let all = all-answered topics most (map (work_of size) desks) all-works
-            (subst (λ (ps : List (PassStanding B)). EachTakeIsASend ps) (sym work-passes) closed.takes)
+            (subst (λ (ps : List (PassStanding B)). EachTakeIsASend ps) (sym work-passes) closed.sent.takes)
             (subst (λ (ps : List (PassStanding B)). SendsAreTakes ps) (sym work-passes) same) in
             let members : members_among (map (work_of size) desks) ≡ members_of (lists_at desks) =
             flat_map-map (λ (w : Work B). w.members) (work_of size) desks ∙ sym
@@ -239,7 +239,7 @@ module _ {B S : Type 0} where
           short = members-short topics size (flat_map (λ own. own) messages_given) (members_of (lists_at desks)) once;
           takes = of-each (λ w p list. AnswersItsTakes topics most (takes_of p.calls) list) desks (λ w d is.
               all-taken topics most (map (work_of size) desks) all-works
-              (subst (λ (ps : List (PassStanding B)). EachTakeIsASend ps) (sym work-passes) closed.takes) (work_of size d)
+              (subst (λ (ps : List (PassStanding B)). EachTakeIsASend ps) (sym work-passes) closed.sent.takes) (work_of size d)
               (stands-at (map (work_of size) desks) (work_of size d) w (slice_get-map (work_of size) desks w ∙ ap (option_map (work_of size)) is)));
           listed = of-each (λ w p list. HasListedAll topics most (parts_in size (own_of (length desks) w 1 messages_given)) p list) desks (λ w d is.
               subst (λ ms. HasListedAll topics most ms d.worker.worker.pass d.worker.worker.members) (ap (parts_in size) (own-gave w d is))

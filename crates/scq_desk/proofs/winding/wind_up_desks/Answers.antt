@@ -136,12 +136,7 @@ returns-clause-closed g c =
     (subst (λ ps. Closed ps c.clear.new.left.held.items back) (passes g at) (record {
       run = close.run;
       back = close.back.buffers;
-      takes = close.sent.takes;
-      sent_once = close.sent.sent_once;
-      taken_once = close.sent.taken_once;
-      balance = close.sent.balance;
-      passed = close.sent.passed;
-      fulls = close.sent.fulls;
+      sent = close.sent;
       limits = close.spent.limits;
       all_there = close.values.all_there;
     })))
