@@ -9,8 +9,8 @@ values_in (Ok a) = []
 values_in (Err b) = b ∷ []
 
 -- a queue of one topic, its two passes, which have made no call, and room for a value of each
-abbrev pub IsNew : Made → Type 0
-IsNew made =
+abbrev pub IsMadeAnew : Made → Type 0
+IsMadeAnew made =
     (made.queue.setup.rings ≡ 2) × (made.queue.setup.seats ≡ 2)
     × (made.passes.items ≡ first_passes made.queue 2) × (made.values.items ≡ [])
     × (2 ≤ vec_capacity made.values)

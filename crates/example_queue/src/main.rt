@@ -13,7 +13,7 @@ ghost use Rattle.std.specs.Prelude.{◌≡◌, ◌<◌, ◌≤◌, [], ◌∷◌
 ghost use Rattle.std.specs.Option.{option_to_list};
 ghost use Rattle.scq_queue.specs.Exports.{first_passes};
 ghost use Rattle.scq_queue.specs.HoldsJust.{HoldsJust};
-ghost use Rattle.example_queue.specs.Values.{values_in, IsNew};
+ghost use Rattle.example_queue.specs.Values.{values_in, IsMadeAnew};
 
 use anyhow::{Result, anyhow};
 use marks::tell_by_a_mark;
@@ -204,7 +204,7 @@ fn work<R: Threads>(
 
 /// Runs both threads, takes what is left, and closes the queue.
 fn run<R: Threads>(rt: &R, mut made: Made) -> (u64, Closed<HeapBuffer>)
-    requires new { IsNew made }
+    requires new { IsMadeAnew made }
 {
     let (sender, taker) = two_of(&mut made.passes);
     let (sender, taker) = work(rt, &made.queue, sender, taker);
@@ -277,7 +277,7 @@ fn give_both<T>(
 
 /// A queue with one topic and two passes, over two buffers of one byte.
 fn make(alloc: Global) -> Result<Made>
-    ensures { IfOk result IsNew }
+    ensures { IfOk result IsMadeAnew }
 {
     let setup = Setup::new(1, 2, 2, 1 << 60)?;
     let mut buffers = Vec::with_capacity(alloc, 2)?;

@@ -5,7 +5,7 @@ ghost use Rattle.std.specs.Option.{option_to_list};
 ghost use Rattle.scq_band.specs.Exports.{opening_of, IsCallInRun, both_seen};
 ghost use Rattle.scq_queue.specs.HoldsJust.{HoldsJust};
 ghost use Rattle.scq_queue.specs.Exports.{first_passes, having_seen, caller_of};
-ghost use Rattle.example_queue.specs.Values.{IsNew};
+ghost use Rattle.example_queue.specs.Values.{IsMadeAnew};
 
 use crate::{Made, give_in, sent, two_of};
 use scq_queue::{HeapBuffer, Held, Mark, Pass, Queue, TakeRefusal};
@@ -67,7 +67,7 @@ fn number_behind(
 /// The first pass sends, the second takes behind its mark, and they meet: from now on, of any two
 /// runs that they had seen, one is a prefix of the other. The number that was taken.
 pub fn tell_by_a_mark(mut made: Made) -> Option<u8>
-    requires new { IsNew made }
+    requires new { IsMadeAnew made }
 {
     let (mut first, mut second) = two_of(&mut made.passes);
     let kept = number_sent(&made.queue, &mut first);

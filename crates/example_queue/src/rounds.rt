@@ -7,7 +7,7 @@ ghost use Rattle.std.specs.Prelude.{◌≡◌, ◌≤◌, [], ◌∷◌, Some, v
 ghost use Rattle.std.specs.Option.{option_to_list};
 ghost use Rattle.scq_queue.specs.Exports.{first_passes};
 ghost use Rattle.scq_queue.specs.HoldsJust.{HoldsJust};
-ghost use Rattle.example_queue.specs.Values.{IsNew};
+ghost use Rattle.example_queue.specs.Values.{IsMadeAnew};
 
 use crate::{Made, Worked, give_both, sent, taken, two_of};
 use crossbeam_channel::{Receiver, Sender, bounded};
@@ -197,7 +197,7 @@ pub fn make_rounds<H: Home + Send, R: Threads + Wait + Sync>(
     mut made: Made,
 ) -> Option<([u8; NUMBERS], [u8; NUMBERS])>
     requires home { H.table ≡ Some made.queue.table }
-    requires new { IsNew made }
+    requires new { IsMadeAnew made }
 {
     let (sender, taker) = two_of(&mut made.passes);
     let (Ok((to, from)), Ok((back, reply))) = (bounded(alloc, 1), bounded(alloc, 1)) else {
