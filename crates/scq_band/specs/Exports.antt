@@ -38,7 +38,8 @@ pub use Rattle.scq_band.specs.Standing.{first_standings, in_hand, laid_bytes, by
 pub use Rattle.scq_band.specs.Standing.{without_index, with_buffer, having_seen, caller_of}
 pub use Rattle.scq_band.specs.Standing.{seat_after_put, seat_after_get, seat_after_nothing}
 pub use Rattle.scq_band.specs.Standing.{seat_after_spent_put, seat_after_spent_get, IsAsGiven}
-pub use Rattle.scq_band.specs.Standing.{SeatHasTaken, SeatFoundEmpty, MarkStanding}
+pub use Rattle.scq_band.specs.Standing.{SeatHasTaken, SeatHasPut, SeatHasDequeued}
+pub use Rattle.scq_band.specs.Standing.{SeatFoundEmpty, SeatFoundNone, MarkStanding}
 pub use Rattle.scq_band.specs.Kept.{in_order, buffer_in, hand_of, identity_of, standing_from}
 pub use Rattle.scq_band.specs.Kept.{standing_of, AllGiven, IsSmall, AreSmall, IsKept, IsRotation}
 pub use Rattle.scq_band.specs.Kept.{note_with, note_sight_with, seen_in}

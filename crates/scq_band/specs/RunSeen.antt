@@ -23,8 +23,8 @@ pub record Seen : Type 0 where
   pub runs : List (List (ℕ × Step))
   pub retirees : List (ℕ × ℕ)
 
--- what is seen at first: nothing; after a call, or at the gate: this run; by one who learns what
--- another has seen: both
+-- what is seen at first: nothing; after a call, or at the gate: this run, in place of those before;
+-- by one who learns what another has seen: both
 abbrev pub nothing_seen : Seen
 nothing_seen = record { runs = []; retirees = [] }
 

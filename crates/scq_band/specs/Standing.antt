@@ -2,11 +2,13 @@
 use Rattle.std.specs.Prelude.{◌≡◌, ℕ, ◌+◌, ◌<◌, ◌≤◌, true, false, not, ◌==◌, if◌then◌else◌, List}
 use Rattle.std.specs.Prelude.{[], ◌∷◌, ◌++◌, map, filter, Option, Some, None, zero, suc, slice_get}
 use Rattle.atomic_table.specs.Seated.{TableId}
+use Rattle.scq_word.specs.Exports.{n_of}
 use Rattle.scq_word.specs.declared.setup.Setup.{Setup}
 use Rattle.scq_core.specs.declared.ended.Ended.{Ended}
 use Rattle.scq_core.specs.declared.ended.Ended.TheVariants.{Done, Got, Nothing, Spent}
 use Rattle.scq_band.specs.declared.numbers.Numbers.{Numbers}
-use Rattle.scq_band.specs.RunSeen.{Seen, nothing_seen, Caller}
+use Rattle.scq_band.specs.Buffers.{opening_of}
+use Rattle.scq_band.specs.RunSeen.{Seen, nothing_seen, Caller, WasEmptyInRun}
 use Rattle.scq_band.specs.Numbers.{known_of, first_numbers, changed, finishes, sees, passes, drew}
 use Rattle.scq_band.specs.Numbers.{empties}
 
@@ -172,6 +174,29 @@ module _ {B : Type 0} where
     -- a ticket that was drawn is below the limit, and no lower than the head that was known
     pub below : (ticket : ℕ) → drawn ≡ Some ticket → ticket < old.band.setup.limit
     pub past : (ticket : ℕ) → drawn ≡ Some ticket → (known_of old.numbers ring).head ≤ ticket
+
+  -- a seat that has put an index: the place is below the limit, and above each that it knew of a
+  -- put of the ring
+  pub record SeatHasPut (band : Identity B) (ring index place : ℕ) (bytes : List ℕ)
+      (old new : Standing B) : Type 0 where
+    pub below : place < band.setup.limit
+    pub above : (known_of old.numbers ring).seen < place
+    pub seat : new ≡ having_seen new.seen (seat_after_put ring index place bytes old)
+
+  -- a seat that has got an index: the place is below the limit, and not below the head that it knew
+  pub record SeatHasDequeued (contents : B → List ℕ) (IsSame : B → B → Type 0) (band : Identity B)
+      (ring place index : ℕ) (old new : Standing B) : Type 0 where
+    pub taken : SeatHasTaken contents IsSame ring place index old new
+    pub below : place < band.setup.limit
+    pub past : (known_of old.numbers ring).head ≤ place
+    pub low : index < n_of band.setup.order
+
+  -- a seat that has found a ring empty, and that it was so in the run of all seats
+  pub record SeatFoundNone (contents : B → List ℕ) (band : Identity B) (ring head : ℕ)
+      (old new : Standing B) : Type 0 where
+    pub seat : SeatFoundEmpty ring head old new
+    pub in_run : WasEmptyInRun band.setup (opening_of contents band.given) ring head (caller_of old)
+        (caller_of new)
 
 -- what contracts see of a mark
 pub record MarkStanding : Type 0 where

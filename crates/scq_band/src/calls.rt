@@ -8,14 +8,12 @@
 //! enqueue's point, whichever is later, and of an Empty the step that decided it.
 ghost use Rattle.std.specs.Prelude.{◌≡◌, ℕ, ◌<◌, ◌≤◌, List, [], ◌∷◌, ◌++◌, Some, None, Err, IfOk};
 ghost use Rattle.std.specs.Prelude.{IfErr, length, vec_capacity, slice_set};
-ghost use Rattle.scq_word.specs.Exports.{n_of};
 ghost use Rattle.scq_band.specs.Buffers.{opening_of};
 ghost use Rattle.scq_band.specs.Numbers.{known_of, changed, finishes, RisesInHead};
-ghost use Rattle.scq_band.specs.RunSeen.{IsCallInRun, WasEmptyInRun};
+ghost use Rattle.scq_band.specs.RunSeen.{IsCallInRun};
 ghost use Rattle.scq_band.specs.Standing.{caller_of, in_hand, bytes_in_hand, having_seen};
-ghost use Rattle.scq_band.specs.Standing.{seat_after_put, seat_after_spent_put};
-ghost use Rattle.scq_band.specs.Standing.{seat_after_spent_get, IsAsGiven};
-ghost use Rattle.scq_band.specs.Standing.{SeatHasTaken, SeatFoundEmpty};
+ghost use Rattle.scq_band.specs.Standing.{seat_after_spent_put, seat_after_spent_get, IsAsGiven};
+ghost use Rattle.scq_band.specs.Standing.{SeatHasPut, SeatHasDequeued, SeatFoundNone};
 
 use crate::band::Band;
 use crate::dequeue::{Without, dequeue};
@@ -84,11 +82,8 @@ impl<B: Buffer> Band<B> {
         requires ring { ring < self.now.setup.rings }
         requires held { (buffer : B) × (in_hand seat.old.hand index ≡ Some (Some buffer)) }
         ensures band { seat.new.band ≡ seat.old.band }
-        ensures put { IfOk result (λ place.
-            seat.new ≡ having_seen seat.new.seen (seat_after_put ring index place
-            (bytes_in_hand B.contents seat.old.hand index) seat.old)) }
-        ensures place { IfOk result (λ place.
-            (place < self.now.setup.limit) × ((known_of seat.old.numbers ring).seen < place)) }
+        ensures put { IfOk result (λ place. SeatHasPut self.now ring index place
+            (bytes_in_hand B.contents seat.old.hand index) seat.old seat.new) }
         ensures spent { IfErr result (λ spent. seat.old.spent ≡ None
             → (seat.new
             ≡ having_seen seat.new.seen (seat_after_spent_put ring spent.ticket seat.old))
@@ -132,10 +127,7 @@ impl<B: Buffer> Band<B> {
         requires given { IsAsGiven B.IsSameBuffer self.now.given index buffer }
         ensures band { (seat.new.band ≡ seat.old.band) × (seat.new.number ≡ seat.old.number) }
         ensures put { IfOk result (λ place.
-            seat.new ≡ having_seen seat.new.seen
-            (seat_after_put ring index place (B.contents buffer) seat.old)) }
-        ensures place { IfOk result (λ place.
-            (place < self.now.setup.limit) × ((known_of seat.old.numbers ring).seen < place)) }
+            SeatHasPut self.now ring index place (B.contents buffer) seat.old seat.new) }
         ensures back { IfErr result (λ refused. refused.0 ≡ buffer) }
         ensures spent { IfErr result (λ refused. seat.old.spent ≡ None
             → (seat.new ≡ having_seen seat.new.seen
@@ -172,22 +164,16 @@ impl<B: Buffer> Band<B> {
     /// (`laws::each_view_knows_the_truth`). In the run of all seats Head was at or past it after
     /// the call's last step, and at a moment inside the call each enqueue of the ring that had
     /// ended was claimed: by the dequeue that got its index, or by one that was under way (the
-    /// clause `empty_in_run`). Spent as with `enq`.
+    /// field `in_run`). Spent as with `enq`.
     #[inline(always)]
     pub fn deq(&self, seat: &mut Seat<B>, ring: u32) -> Result<(u64, u32), DeqRefusal>
         requires seat { seat.old.band ≡ self.now }
         requires ring { ring < self.now.setup.rings }
         ensures band { seat.new.band ≡ seat.old.band }
-        ensures got { IfOk result (λ r.
-            SeatHasTaken B.contents B.IsSameBuffer ring r.0 r.1 seat.old seat.new) }
-        ensures place { IfOk result (λ r.
-            (r.0 < self.now.setup.limit) × ((known_of seat.old.numbers ring).head ≤ r.0)) }
-        ensures index { IfOk result (λ r. r.1 < n_of self.now.setup.order) }
+        ensures got { IfOk result (λ r. SeatHasDequeued B.contents B.IsSameBuffer self.now
+            ring r.0 r.1 seat.old seat.new) }
         ensures empty { (head : ℕ) → result ≡ Err (DeqRefusal.Empty head)
-            → SeatFoundEmpty ring head seat.old seat.new }
-        ensures empty_in_run { (head : ℕ) → result ≡ Err (DeqRefusal.Empty head)
-            → WasEmptyInRun self.now.setup (opening_of B.contents self.now.given) ring head
-            (caller_of seat.old) (caller_of seat.new) }
+            → SeatFoundNone B.contents self.now ring head seat.old seat.new }
         ensures spent { (ticket : ℕ) → result ≡ Err (DeqRefusal.Spent ticket)
             → seat.old.spent ≡ None
             → (seat.new ≡ having_seen seat.new.seen (seat_after_spent_get ring ticket seat.old))

@@ -130,7 +130,7 @@ pub record OfOpen (order topics hold limit : ℕ) (memory : Memory) (code : ℕ)
   pub known : (code ≡ scq_ok) ⊎ ((scq_no_memory ≤ code) × (code ≤ scq_is_open))
 
 -- the last port of a queue closed, with this pass: there are passes, which are all of the queue,
--- what the queue's close says holds of them, and their counts were written out
+-- with what `HasClosedPorts` says of them, and their counts were written out
 pub record ClosedWithAllPasses (x : PortStanding) (its : PassStanding PortBuffer)
     (before after : List Tally) : Type 0 where
   pub passes : List (PassStanding PortBuffer)
@@ -140,8 +140,8 @@ pub record ClosedWithAllPasses (x : PortStanding) (its : PassStanding PortBuffer
   pub counts : AreWritten (map (λ (p : PassStanding PortBuffer). counts_of (lists_of p)) passes)
       before after
 
--- of a port's end: it retired, and what it held was given back, up to the first that a spent ticket
--- refused; where 1 is written out the queue closed with it, else no count is written
+-- of a port's end: it retired, and what it held was given back, all of it or as far as no ticket was
+-- spent; where 1 is written out the queue closed with it, else no count is written
 pub record OfEnd (x : PortStanding) (e : End) (before after : List Tally) : Type 0 where
   pub its : PassStanding PortBuffer
   pub ended : HasPassEnded (retired_port x) its

@@ -351,8 +351,9 @@ fn end_of(port: Port, out: &mut End, counts: &mut [Tally])
 }
 
 /// Closes a port: what it holds is given back, as `Port::close` says. Where 1 is told the queue
-/// closed with this port, and the counts of all ports are written, in the order of their numbers,
-/// as many as fit. No clause says that the last port is told so, or that anything is freed.
+/// closed with this port, and the counts of all passes are written, in the order of their numbers,
+/// as many as fit. No clause says that the last port is told so, that the other passes are those
+/// of the other ports, or that anything is freed.
 #[unsafe(no_mangle)]
 pub extern "C" fn scq_end(
     alloc: Global,
@@ -360,10 +361,10 @@ pub extern "C" fn scq_end(
     out: &mut End,
     counts: &mut [Tally],
 ) -> u32
-    ensures closed { handle.new.port ≡ None }
-    ensures was_closed { handle.old.port ≡ None
+    ensures closes { handle.new.port ≡ None }
+    ensures closed { handle.old.port ≡ None
         → (result ≡ scq_closed) × (out.new ≡ out.old) × (counts.new ≡ counts.old) }
-    ensures was_open { (x : PortStanding) → handle.old.port ≡ Some x
+    ensures answered { (x : PortStanding) → handle.old.port ≡ Some x
         → (result ≡ scq_ok) × OfEnd x out.new counts.old counts.new }
 {
     match taken(handle, alloc) {

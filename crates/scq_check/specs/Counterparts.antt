@@ -45,8 +45,8 @@ pub record IsRepeatOf (events : List Event) (e d : ℕ) : Type 0 where
   pub again : Names events e name
   pub first : IsFirstNamed events name d
 
--- in order: the get that ends at position e has got a put, and these that were finished when it
--- started wait for gets
+-- in order: the get that ends at position e has got a put, and these that were finished when that
+-- put started wait for gets
 pub record IsOvertaking (opening : List (List ℕ)) (events : List Event) (e : ℕ)
     (waiting : Waiting) : Type 0 where
   pub queue : ℕ

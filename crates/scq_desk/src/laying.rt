@@ -87,8 +87,7 @@ pub fn lay_out<L: Drop, W: Sits<Pass<Frame>, L>, S: Source>(
     requires seats { queue.now.setup.seats ≡ workers }
     requires passes { passes.items ≡ first_passes queue.now queue.now.setup.seats }
     requires room { IsRoomFor workers (vec_len sources) room }
-    ensures was { result.0.was.value ≡ sources }
-    ensures laid { IsLaid workers result.0 }
+    ensures laid { (result.0.was.value ≡ sources) × IsLaid workers result.0 }
     ensures count { length result.1.items ≡ workers }
     ensures fresh { All (λ d. IsToBegin W.pass_of W.has_none queue.now d.worker) result.1.items }
     ensures unread { All (λ d. All IsNew d.files.items) result.1.items }

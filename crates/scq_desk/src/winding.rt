@@ -4,10 +4,10 @@ ghost use Rattle.std.specs.Prelude.{IfSome};
 ghost use Rattle.std.specs.List.{All};
 ghost use Rattle.std.specs.Option.{option_to_list};
 ghost use Rattle.scq_block.specs.Exports.{AreAllOf, IsSame, bytes_of};
-ghost use Rattle.scq_queue.specs.Exports.{counts_of, lists_of, was_told};
 ghost use Rattle.scq_passes.specs.Exports.{index_of, HasClosed};
 ghost use Rattle.scq_files.specs.Exports.{AllEnded, AllStop, AllWhole, AreDealt, AreGathered};
 ghost use Rattle.scq_files.specs.Exports.{StopsAtFaults};
+ghost use Rattle.scq_desk.specs.Brought.{HaveBrought};
 ghost use Rattle.scq_desk.specs.Rooms.{IsLaid};
 
 use crate::clearing::{LeftBehind, clear};
@@ -70,12 +70,7 @@ pub fn wind_up_desks<L: Drop, W: Sits<Pass<Frame>, L>, S: Source>(
     ensures whole { result.fault ≡ None → AllWhole desks.items }
     ensures fed { result.starved ≡ false
         → All (λ d. W.starved_of d.worker.worker ≡ false) desks.items }
-    ensures lists { result.lists.items ≡ map (λ d. W.list_of d.worker.worker) desks.items }
-    ensures passes { (result.passes.value.items ≡ map (λ d. W.pass_of d.worker.worker) desks.items)
-        × (result.closing.value.items ≡ map (λ d. W.pass_of d.worker.worker) desks.items) }
-    ensures counts { result.counts.items
-        ≡ map (λ p. counts_of (lists_of p)) result.passes.value.items }
-    ensures saw { result.saw.items ≡ map (λ p. was_told p.gate) result.closing.value.items }
+    ensures brought { HaveBrought W.list_of W.pass_of desks.items result }
     ensures closed { HasClosed bytes_of IsSame queue.setup queue.given
         (map (λ d. W.pass_of d.worker.worker) desks.items)
         (flat_map (λ d. option_to_list d.worker.kept) desks.items) result.frames.value.items

@@ -23,8 +23,8 @@ end_fault file Unread = Some (file, frame.NoMemory)
 end_fault file Whole = None
 end_fault file (Stopped fault) = Some (file, fault)
 
--- whether the reading of a file stopped for want of memory, or because its worker met a ticket past
--- the limit, which counts as that. One that nobody read did not begin.
+-- whether the reading of a file stopped for want of memory, or because its handler stopped, which
+-- counts as that. One that nobody read did not begin.
 abbrev pub wanted_memory : FileEnd → Bool
 wanted_memory Unread = false
 wanted_memory Whole = false
@@ -84,8 +84,8 @@ all_left left (source ∷ sources) =
     option_and_then (λ content.
     option_map (λ more. content ∷ more) (all_left left sources)) (left source)
 
--- the messages that a file gave: on known topics, in order, with payloads of at most `size` bytes,
--- and all of its messages where its bytes are visible
+-- messages that a file may have given: on declared topics or the one of all others, in order, with
+-- payloads of at most `size` bytes; where its bytes are visible, just its own
 pub record FileGave {S : Type 0} (topics : List (List ℕ × Kind)) (size : ℕ)
     (left : S → Option (List ℕ)) (file : ℕ) (source : S) (given : List Message) : Type 0 where
   pub of : AreOf (length topics) file 0 given
@@ -93,7 +93,7 @@ pub record FileGave {S : Type 0} (topics : List (List ℕ × Kind)) (size : ℕ)
   pub all : IfSome (left source) (λ bytes.
       given ≡ map (numbered file (topic_of topics)) (messages_of bytes))
 
--- the messages of each of the files with these sources, of which the first has this number
+-- messages that each of the files with these sources may have given; the first has this number
 abbrev pub AreGiven : {S : Type 0} → List (List ℕ × Kind) → ℕ → (S → Option (List ℕ)) → ℕ → List S
     → List (List Message) → Type 0
 AreGiven topics size left file sources given =

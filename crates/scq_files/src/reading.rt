@@ -167,10 +167,9 @@ pub fn read_files<C, T, H: Handler<C, T>, S: Source>(
         beside.old handler.old beside.new handler.new) }
 
     // Behind want of memory it reads no message more, and a file tells of it.
-    ensures wanted { H.wanted handler.old ≡ false → WantsAtLast H.wanted (H.handled with.now)
-        (all_given files.new) beside.old handler.old }
-    ensures told { H.wanted handler.old ≡ false → H.wanted handler.new ≡ true
-        → TellsOfWant files.new }
+    ensures wanted { H.wanted handler.old ≡ false
+        → WantsAtLast H.wanted (H.handled with.now) (all_given files.new) beside.old handler.old
+        × (H.wanted handler.new ≡ true → TellsOfWant files.new) }
 {
     let mut at = files.len();
     'files: while at > 0 {

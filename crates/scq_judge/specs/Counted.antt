@@ -37,7 +37,7 @@ pub record IsBusy (events : List Event) (m seat : ℕ) : Type 0 where
   pub is : under_way events seat m ≡ Some s
 
 -- the call that starts at position s overlaps another: one is under way when it starts, or starts
--- next. (Where neither is so, the next event is its own End.)
+-- next. (Where neither is so, the next event is its own End, or there is none.)
 pub record Overlaps (events : List Event) (s : ℕ) : Type 0 where
   pub start : IsStartAt events s
   pub another : ((seat : ℕ) × IsBusy events s seat) ⊎ IsStartAt events (s + 1)

@@ -37,8 +37,8 @@ pub record IsReportOf (names : List (List ℕ)) (room : Option ℕ) (opening : L
   pub is_report : IsReport room opening events report
   pub said : text ≡ report_lines (record { names = names; places = places; events = events }) report
 
--- so of the history that what was read is merged to, which is that of one run, and of which each
--- seat's events stand in one file
+-- the text is the report of the history that what was read is merged to: the files that tell their
+-- run tell the same one, and each seat's events stand in one file
 pub record IsReported (names : List (List ℕ)) (room : Option ℕ) (recorded : Recording)
     (text : List ℕ) : Type 0 where
   pub runs : AreOfOneRun recorded.runs
@@ -49,7 +49,7 @@ pub record IsReported (names : List (List ℕ)) (room : Option ℕ) (recorded : 
   pub history : IsHistoryOf recorded opening events places
   pub reported : IsReportOf names room opening events places text
 
--- the event of this place is the first of the history that is out of place
+-- the event of this place is the first of the merged history that is unlawful
 pub record IsFirstUnlawful (recorded : Recording) (place : Place) : Type 0 where
   pub opening : List (List ℕ)
   pub events : List Event
@@ -67,7 +67,7 @@ IsSharing events Seat place other = HasSeatOfAnother events place other
 abbrev pub shared_by : Shared → Place → Place → JudgeFault
 shared_by what place other = SharedBy what place.file place.line other.file other.line
 
--- what is at fault in what was read
+-- what is at fault in what was read. No other fault comes of it, since each line was understood
 abbrev pub IsCauseIn : Recording → JudgeFault → Type 0
 IsCauseIn recorded (SharedBy what file line other_file other_line) =
     IsSharing recorded.events what (record { file = file; line = line })
@@ -108,9 +108,9 @@ pub record IsFirstBad (lone : Bool) (contents : List (List ℕ)) (file line : �
   pub small : NoneIsLarge (take (file - 1) contents)
   pub bad : recording_of lone contents ≡ Err (record { file = file; line = line })
 
--- what is at fault in the contents of the files that were read, of which the last is the fault's
--- where it is of one file, and that nothing is in the files before; a read that fails and want of
--- memory aren't
+-- this is at fault in the contents of the files that were read; where it is of one file that is the
+-- last of them, and nothing is at fault in those before. Of a read that failed and of want of
+-- memory nothing is said
 abbrev pub IsCause : Bool → List (List ℕ) → JudgeFault → Type 0
 IsCause lone contents (BadLine file line) = IsFirstBad lone contents file line
 IsCause lone contents (SharedBy what file line other_file other_line) =

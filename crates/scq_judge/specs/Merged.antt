@@ -40,7 +40,8 @@ StampIsAbove merged i =
 abbrev pub IsPlaceAt : List Stamped → ℕ → Place → Type 0
 IsPlaceAt merged i place = (d : Stamped) → (slice_index_or merged i d).place ≡ place
 
--- the event of this place has the stamp of another, whose place is the other
+-- the event of this place has the stamp of another, whose place is the other: in some order of all
+-- events they stand side by side
 pub record HasStampOfAnother (events : List Stamped) (place other : Place) : Type 0 where
   pub merged : List Stamped
   pub same : IsPermutation events merged

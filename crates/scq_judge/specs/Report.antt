@@ -13,7 +13,8 @@ use Rattle.scq_judge.specs.declared.counting.Named.TheVariants.{Seat, Queue}
 use Rattle.scq_judge.specs.declared.judging.Report.{Report}
 use Rattle.scq_judge.specs.Telling.{Told, event_at_text, token_text}
 
--- where it is known for how many values each queue has room: the refusals that found a place
+-- where it is known for how many values each queue has room: the refused puts that should have
+-- found a place free
 abbrev pub AreWrongRefusals : Option ℕ → List (List ℕ) → List Event → Option Failures → Type 0
 AreWrongRefusals None opening history told = told ≡ None
 AreWrongRefusals (Some room) opening history None = ⊥

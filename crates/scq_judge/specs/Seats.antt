@@ -26,8 +26,8 @@ EachSeatInOneFile events =
     (i k seat : ℕ) (a b : Place) → EventIsAt events i seat a → EventIsAt events k seat b
     → a.file ≡ b.file
 
--- the event of this place, at position i, is of a seat that has one of the other place, in another
--- file
+-- the event of this place, at position i, is of a seat of which another event has the other place,
+-- in another file
 pub record IsAwayFrom (events : List Stamped) (i : ℕ) (place other : Place) : Type 0 where
   pub k : ℕ
   pub seat : ℕ
@@ -35,7 +35,7 @@ pub record IsAwayFrom (events : List Stamped) (i : ℕ) (place other : Place) : 
   pub there : EventIsAt events k seat other
   pub apart : ¬ (other.file ≡ place.file)
 
--- so is that of this place, wherever it stands
+-- so it is at some position
 abbrev pub HasSeatOfAnother : List Stamped → Place → Place → Type 0
 HasSeatOfAnother events place other = (i : ℕ) × IsAwayFrom events i place other
 

@@ -70,8 +70,9 @@ impl Reader {
 
     /// The report of the history that the recordings are merged to, as text. Where it is told for
     /// how many values each queue has room, refused puts are judged too. Files are told by these
-    /// names, in the order in which they were read. No clause says that memory and
-    /// time grow little faster than the number of events.
+    /// names, in the order in which they were read. Of faults only Shared, TwoRuns, Unlawful and
+    /// NoMemory come. No clause says that memory and time grow little faster than the number of
+    /// events.
     pub fn judge(
         self,
         alloc: Global,

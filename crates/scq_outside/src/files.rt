@@ -1,6 +1,6 @@
-ghost use Rattle.std.specs.Prelude.{◌≡◌, ℕ, ◌≤◌, Option, IsSome, IfOk, OnOk, OnErr, IfSome};
+ghost use Rattle.std.specs.Prelude.{◌≡◌, ℕ, ◌≤◌, Option, IsSome, IfOk, OnOk, OnErr, IsErr, IfSome};
 ghost use Rattle.std.specs.Option.{option_map};
-ghost use Rattle.scq_outside.specs.Counts.{Rose};
+ghost use Rattle.scq_outside.specs.Counts.{RoseWhere};
 ghost use Rattle.scq_outside.specs.Table.{Table, without_name};
 
 use crate::{Failed, Source};
@@ -24,11 +24,10 @@ pub trait Files {
             IsSome (files name.now) × (Self.Src.left source ≡ files name.now))) }
         ensures given { OnOk result (table self.new
             ≡ option_map (without_name name.now) (table self.old)) }
-        ensures kept { OnOk result (faults self.new ≡ faults self.old) }
 
-        // After a fault the table is what it was.
+        // After a fault the table is what it was. Faults are counted, and nothing else is.
         ensures missing { OnErr result (IfSome (table self.old) (λ files. files name.now ≡ None)) }
         ensures unchanged { OnErr result (table self.new ≡ table self.old) }
-        ensures rose { OnErr result (Rose (faults self.old) (faults self.new)) }
-        ensures never_falls { faults self.old ≤ faults self.new };
+        ensures counted { RoseWhere (IsErr result) (faults self.old) (faults self.new)
+            × (faults self.old ≤ faults self.new) };
 }

@@ -1,5 +1,5 @@
-ghost use Rattle.std.specs.Prelude.{◌≡◌, ◌≤◌, ℕ, List, Some, if◌then◌else◌, IfOk, OnOk, OnErr};
-ghost use Rattle.scq_outside.specs.Counts.{one_more};
+ghost use Rattle.std.specs.Prelude.{◌≡◌, ◌≤◌, ℕ, List, Some, if◌then◌else◌, IfOk, OnOk, OnErr, IsErr};
+ghost use Rattle.scq_outside.specs.Counts.{RoseWhere};
 ghost use Rattle.scq_outside.specs.Readable.{Readable};
 ghost use Rattle.std.specs.Str.{bytes_eq};
 
@@ -77,14 +77,13 @@ impl Files for MemFiles {
         ensures given { OnOk result ((other : List ℕ) →
             source_in self.new other
             ≡ (if bytes_eq name.now other then None else source_in self.old other)) }
-        ensures kept { OnOk result (faults_of self.new ≡ faults_of self.old) }
 
         // A name that is missing leaves the files as they are, and counts once.
         ensures missing { OnErr result (source_in self.old name.now ≡ None) }
         ensures unchanged { OnErr result ((other : List ℕ)
             → source_in self.new other ≡ source_in self.old other) }
-        ensures counted { OnErr result (faults_of self.new ≡ one_more (faults_of self.old)) }
-        ensures never_falls { faults_of self.old ≤ faults_of self.new }
+        ensures counted { RoseWhere (IsErr result) (faults_of self.old) (faults_of self.new)
+            × (faults_of self.old ≤ faults_of self.new) }
     {
         match self.sources.remove(name) {
             Some(added) => Ok(added.source),

@@ -1,7 +1,7 @@
 ghost use Rattle.std.specs.Prelude.{◌≡◌, ◌⊎◌, ◌+◌, ◌<◌, ◌≤◌, ◌++◌, [], Some, IsTrue, false, length};
-ghost use Rattle.std.specs.Prelude.{take, min, vec_capacity, IfOk, OnOk, OnErr, IsErr, ◌↔◌};
+ghost use Rattle.std.specs.Prelude.{take, min, vec_capacity, IfOk, OnErr, IsErr, ◌↔◌};
 ghost use Rattle.scq_outside.specs.Calls.{are_pieces, first_call, next_call, fails_next, granted};
-ghost use Rattle.scq_outside.specs.Counts.{one_more};
+ghost use Rattle.scq_outside.specs.Counts.{RoseWhere};
 ghost use Rattle.scq_outside.specs.Written.{Written};
 
 use crate::script::Script;
@@ -79,13 +79,12 @@ impl Sink for MemSink {
         ensures appended { IfOk result (λ k. self.new.bytes ≡ self.old.bytes ++ take k piece.now) }
         ensures room { IfOk result (λ k. self.old.room ≡ self.new.room + k) }
         ensures next { self.new.writes ≡ next_call self.old.writes }
-        ensures kept { OnOk result (self.new.faults ≡ self.old.faults) }
 
         // A write that fails takes nothing, and counts once.
         ensures unwritten { OnErr result (self.new.bytes ≡ self.old.bytes) }
         ensures same_room { OnErr result (self.new.room ≡ self.old.room) }
-        ensures counted { OnErr result (self.new.faults ≡ one_more self.old.faults) }
-        ensures never_falls { self.old.faults ≤ self.new.faults }
+        ensures counted { RoseWhere (IsErr result) self.old.faults self.new.faults
+            × (self.old.faults ≤ self.new.faults) }
     {
         let count = match self.writes.next(piece.len()) {
             Some(most) => most.min(self.room),

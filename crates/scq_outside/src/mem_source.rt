@@ -1,7 +1,7 @@
-ghost use Rattle.std.specs.Prelude.{◌≡◌, ◌≢◌, ℕ, ◌<◌, ◌≤◌, ◌++◌, List, [], Some, Ok, IsTrue, false};
-ghost use Rattle.std.specs.Prelude.{length, take, drop, min, IfOk, OnOk, OnErr, IsErr, ◌↔◌};
+ghost use Rattle.std.specs.Prelude.{◌≡◌, ℕ, ◌<◌, ◌≤◌, ◌++◌, List, [], Some, Ok, IsTrue, false};
+ghost use Rattle.std.specs.Prelude.{length, take, drop, min, IfOk, OnErr, IsErr, ◌↔◌};
 ghost use Rattle.scq_outside.specs.Calls.{are_pieces, first_call, next_call, fails_next, granted};
-ghost use Rattle.scq_outside.specs.Counts.{one_more};
+ghost use Rattle.scq_outside.specs.Counts.{RoseWhere};
 ghost use Rattle.scq_outside.specs.Readable.{Readable};
 
 use crate::script::Script;
@@ -62,15 +62,13 @@ impl Source for MemSource {
         ensures end { IfOk result (λ k. k ≡ 0 → self.old.left ≡ []) }
         ensures behind { IfOk result (λ k. drop k into.new ≡ drop k into.old) }
         ensures next { self.new.reads ≡ next_call self.old.reads }
-        ensures kept { OnOk result (self.new.faults ≡ self.old.faults) }
-        ensures ended { result ≡ Ok 0 → self.new.ends ≡ one_more self.old.ends }
-        ensures not_ended { result ≢ Ok 0 → self.new.ends ≡ self.old.ends }
+        ensures ended { RoseWhere (result ≡ Ok 0) self.old.ends self.new.ends }
 
         // A read that fails moves nothing, and counts once.
         ensures unmoved { OnErr result (self.new.left ≡ self.old.left) }
         ensures untouched { OnErr result (into.new ≡ into.old) }
-        ensures counted { OnErr result (self.new.faults ≡ one_more self.old.faults) }
-        ensures never_falls { self.old.faults ≤ self.new.faults }
+        ensures counted { RoseWhere (IsErr result) self.old.faults self.new.faults
+            × (self.old.faults ≤ self.new.faults) }
     {
         let Some(most) = self.reads.next(into.len()) else {
             self.faults = self.faults.saturating_add(1);

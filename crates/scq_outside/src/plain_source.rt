@@ -1,6 +1,6 @@
-ghost use Rattle.std.specs.Prelude.{◌≡◌, ◌≢◌, ℕ, ◌<◌, ◌≤◌, ◌++◌, List, [], Some, Ok, length, take};
+ghost use Rattle.std.specs.Prelude.{◌≡◌, ℕ, ◌<◌, ◌≤◌, ◌++◌, List, [], Some, Ok, length, take};
 ghost use Rattle.std.specs.Prelude.{drop, min, IfOk};
-ghost use Rattle.scq_outside.specs.Counts.{one_more};
+ghost use Rattle.scq_outside.specs.Counts.{RoseWhere};
 ghost use Rattle.scq_outside.specs.Readable.{Plain};
 
 use crate::{Failed, Source};
@@ -50,8 +50,7 @@ impl Source for PlainSource {
         ensures moved { IfOk result (λ k. self.old.left ≡ take k into.new ++ self.new.left) }
         ensures end { IfOk result (λ k. k ≡ 0 → self.old.left ≡ []) }
         ensures behind { IfOk result (λ k. drop k into.new ≡ drop k into.old) }
-        ensures ended { result ≡ Ok 0 → self.new.ends ≡ one_more self.old.ends }
-        ensures not_ended { result ≢ Ok 0 → self.new.ends ≡ self.old.ends }
+        ensures ended { RoseWhere (result ≡ Ok 0) self.old.ends self.new.ends }
     {
         let rest = &self.bytes[self.at..];
         let count = into.len().min(rest.len());

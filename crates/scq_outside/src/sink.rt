@@ -1,7 +1,7 @@
-ghost use Rattle.std.specs.Prelude.{◌≡◌, ℕ, ◌<◌, ◌≤◌, ◌++◌, List, Option, length, take, IfOk, OnOk};
-ghost use Rattle.std.specs.Prelude.{OnErr};
+ghost use Rattle.std.specs.Prelude.{◌≡◌, ℕ, ◌<◌, ◌≤◌, ◌++◌, List, Option, length, take, IfOk};
+ghost use Rattle.std.specs.Prelude.{OnErr, IsErr};
 ghost use Rattle.std.specs.Option.{option_map};
-ghost use Rattle.scq_outside.specs.Counts.{Rose};
+ghost use Rattle.scq_outside.specs.Counts.{RoseWhere};
 
 use crate::Failed;
 
@@ -21,10 +21,9 @@ pub trait Sink {
         ensures within { IfOk result (λ k. k ≤ length piece.now) }
         ensures appended { IfOk result (λ k.
             written self.new ≡ option_map (λ bytes. bytes ++ take k piece.now) (written self.old)) }
-        ensures kept { OnOk result (faults self.new ≡ faults self.old) }
 
-        // After a fault the sink has what it had.
+        // After a fault the sink has what it had. Faults are counted, and nothing else is.
         ensures unwritten { OnErr result (written self.new ≡ written self.old) }
-        ensures rose { OnErr result (Rose (faults self.old) (faults self.new)) }
-        ensures never_falls { faults self.old ≤ faults self.new };
+        ensures counted { RoseWhere (IsErr result) (faults self.old) (faults self.new)
+            × (faults self.old ≤ faults self.new) };
 }

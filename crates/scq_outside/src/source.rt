@@ -1,7 +1,7 @@
-ghost use Rattle.std.specs.Prelude.{◌≡◌, ◌≢◌, ℕ, ◌<◌, ◌≤◌, ◌++◌, List, [], Option, Ok, length};
-ghost use Rattle.std.specs.Prelude.{take, IfOk, OnOk, OnErr, IfSome};
+ghost use Rattle.std.specs.Prelude.{◌≡◌, ℕ, ◌<◌, ◌≤◌, ◌++◌, List, [], Option, Ok, length, take, IfOk};
+ghost use Rattle.std.specs.Prelude.{OnErr, IsErr, IfSome};
 ghost use Rattle.std.specs.Option.{option_map};
-ghost use Rattle.scq_outside.specs.Counts.{Rose};
+ghost use Rattle.scq_outside.specs.Counts.{RoseWhere};
 
 use thiserror::Error;
 
@@ -29,15 +29,13 @@ pub trait Source: Send + Drop {
         ensures moved { IfOk result (λ k.
             left self.old ≡ option_map (λ rest. take k into.new ++ rest) (left self.new)) }
         ensures end { IfOk result (λ k. k ≡ 0 → IfSome (left self.old) (λ bytes. bytes ≡ [])) }
-        ensures kept { OnOk result (faults self.new ≡ faults self.old) }
 
         // An end that is answered is counted, and nothing else is: so that a caller can say that it
         // read no source again behind its end.
-        ensures ended { result ≡ Ok 0 → Rose (ends self.old) (ends self.new) }
-        ensures not_ended { result ≢ Ok 0 → ends self.new ≡ ends self.old }
+        ensures ended { RoseWhere (result ≡ Ok 0) (ends self.old) (ends self.new) }
 
-        // After a fault the source has what it had.
+        // After a fault the source has what it had. Faults are counted, and nothing else is.
         ensures unmoved { OnErr result (left self.new ≡ left self.old) }
-        ensures rose { OnErr result (Rose (faults self.old) (faults self.new)) }
-        ensures never_falls { faults self.old ≤ faults self.new };
+        ensures counted { RoseWhere (IsErr result) (faults self.old) (faults self.new)
+            × (faults self.old ≤ faults self.new) };
 }

@@ -52,13 +52,11 @@ pub fn sweep<C, B: Buffer, T: Taker<C, B>>(
     requires topics { topics ≡ T.declared with.now + 1 }
     ensures taken { OnOk result (HasTakenFollowed T.follows (T.pass taker.old) (T.pass taker.new)) }
     ensures made { OnOk result (T.made with.now taker.old taker.new) }
-    ensures only { OnOk result
-        (HasOnlyCalled B.contents (T.queue with.now) (T.pass taker.old) (T.pass taker.new)) }
-    ensures emptied { OnOk result (HasEmptiedAll topics (T.pass taker.old) (T.pass taker.new)) }
-    ensures fewer { result ≡ Ok true
-        → takes_left (T.queue with.now).setup.limit topics (T.pass taker.new)
-        < takes_left (T.queue with.now).setup.limit topics (T.pass taker.old) }
-    ensures more { result ≡ Ok true → TookMore (T.pass taker.old) (T.pass taker.new) }
+    ensures emptied { OnOk result (HasEmptiedAll topics (T.pass taker.old) (T.pass taker.new)
+        × HasOnlyCalled B.contents (T.queue with.now) (T.pass taker.old) (T.pass taker.new)) }
+    ensures some { result ≡ Ok true → TookMore (T.pass taker.old) (T.pass taker.new)
+        × (takes_left (T.queue with.now).setup.limit topics (T.pass taker.new)
+        < takes_left (T.queue with.now).setup.limit topics (T.pass taker.old)) }
     ensures nothing { result ≡ Ok false → TookNothing (T.pass taker.old) (T.pass taker.new) }
     ensures left { IfErr result (λ l. T.left with.now taker.old taker.new l.held) }
 {

@@ -192,7 +192,7 @@ pub record HasCounted (topic count : ℕ) (old new : PortStanding) : Type 0 wher
       (suc topic)
       count (caller_of old.pass) (caller_of new.pass)
 
--- the values that stand in these places, from the last on
+-- the values that stand in these places, the last first
 abbrev pub values_of : List (Option Value) → List Value
 values_of slots = filter_map (λ (o : Option Value). o) (reverse slots)
 
@@ -214,8 +214,8 @@ pub record HasPassEnded (old : PortStanding) (new : PassStanding PortBuffer) : T
   pub before : PassStanding PortBuffer
   pub gave : GaveBack given old.pass before
   pub home : new.spent ≡ None → (left ≡ []) × (new ≡ before) × (new.held ≡ [])
-  -- the ticket was drawn then, and is at or past the limit; or the port kept it, and nothing
-  -- changed
+  -- the ticket was drawn then, and is at or past the limit; or the port kept it, and nothing was
+  -- given back
   pub drawn : (ticket : ℕ) → old.pass.spent ≡ None → new.spent ≡ Some ticket
       → (new ≡ having_seen new.seen (after_spent_put 0 ticket before))
       × (old.pass.queue.setup.limit ≤ ticket)

@@ -42,8 +42,8 @@ module _ {B : Type 0} where
 
   -- a ring was found empty. In a run that has the call, after its last step the ring's Head was at
   -- or past the number answered; and at a moment inside the call each put there that had ended was
-  -- got by a get begun by then, or had another such get, still under way, to itself. The pass's
-  -- lists are as they were
+  -- got by a get begun by then, or had another such get, still under way when the call ends, to
+  -- itself. The pass's lists are as they were
   pub record FoundRingEmpty (contents : B → List ℕ) (queue : Identity B) (ring head : ℕ)
       (old new : PassStanding B) : Type 0 where
     pub found : FoundNothing ring head old new
@@ -79,7 +79,7 @@ module _ {B : Type 0} where
   PutWasSpent queue ring ticket old new =
       WasSpent queue ticket (after_spent_put ring ticket old) old new
 
-  -- the call is one in a run of all passes, behind all that its pass had seen
+  -- the call is one in a run, behind all that its pass had seen
   abbrev pub IsInRun : (B → List ℕ) → Identity B → PassStanding B → PassStanding B → Type 0
   IsInRun contents queue old new =
       IsCallInRun queue.setup (opening_of contents queue.given) (caller_of old) (caller_of new)

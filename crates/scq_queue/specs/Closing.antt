@@ -88,7 +88,7 @@ module _ {B : Type 0} where
   abbrev pub IsAllThere : Setup → List (HeldStanding B) → List ℕ → Type 0
   IsAllThere c held left = sum left + length held ≡ n_of c.order
 
-  -- the Full replies of each pass are those in its record
+  -- the Full replies of each pass are as many as its record has
   abbrev pub AllFullsStand : List (PassStanding B) → Type 0
   AllFullsStand passes = All (λ p. length p.fulls ≡ fulls_in p.calls) passes
 

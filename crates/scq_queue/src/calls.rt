@@ -29,10 +29,10 @@ pub enum TakeRefusal {
     Spent { ticket: u64 },
 }
 
-// Each call of a pass that keeps no spent ticket is a call in a run of all passes (the clause
-// `run`): all that the pass had seen lies before the call's first step, and the call's last step is
-// the last that the pass has seen from then on. That two calls lie in one run say `meet` and
-// `close`.
+// Each call of a pass that keeps no spent ticket is a call in a run (the clause `run`): all that
+// the pass had seen lies before the call's first step, and the call's last step is the last that
+// the pass has seen from then on. So a pass's own calls lie in one run; that calls of two passes do
+// say `meet` and `close`.
 impl<B: Buffer> Queue<B> {
     /// Lends the pass a free buffer, which it didn't hold, with whatever bytes stand in it. That no
     /// other pass holds it, nor a topic has it, is told of all passes together by `close`.
@@ -41,9 +41,9 @@ impl<B: Buffer> Queue<B> {
     /// buffer to be given back. In a run that has the call, after its last step Head was at or past
     /// the number answered; and at a moment inside the call each buffer that was free at first
     /// or had been given back was lent by a call begun by then, or had another such call, still
-    /// under way, to itself (the field `in_run`). Spent where the ticket that was drawn is at or
-    /// past the limit; the pass keeps it, and from then on it is answered and the pass stays as it
-    /// is.
+    /// under way when this one ends, to itself (the field `in_run`). Spent where the ticket that
+    /// was drawn is at or past the limit; the pass keeps it, and from then on it is answered and
+    /// the pass stays as it is.
     #[inline(always)]
     pub fn lend(&self, pass: &mut Pass<B>) -> Result<Held<B>, LendRefusal>
         requires pass { pass.old.queue ≡ self.now }
@@ -113,8 +113,8 @@ impl<B: Buffer> Queue<B> {
     /// Empty where there was none: the topic's Head is past each place of a send that the pass knew
     /// to be finished. In a run that has the call, after its last step Head was at or past the
     /// number answered; and at a moment inside the call each send that had ended was taken by a
-    /// call begun by then, or had another such call, still under way, to itself (the field
-    /// `in_run`). Spent as with `lend`.
+    /// call begun by then, or had another such call, still under way when this one ends, to itself
+    /// (the field `in_run`). Spent as with `lend`.
     #[inline(always)]
     pub fn take(&self, pass: &mut Pass<B>, topic: u32) -> Result<(u64, Held<B>), TakeRefusal>
         requires pass { pass.old.queue ≡ self.now }

@@ -1,8 +1,7 @@
 //! How a worker waits in place of leaving early, whoever it is.
-ghost use Rattle.std.specs.Prelude.{◌≡◌, ℕ, ◌+◌, ◌<◌, Some, IfErr, OnOk};
-ghost use Rattle.scq_queue.specs.Exports.{known_on};
-ghost use Rattle.scq_passes.specs.Exports.{SweepsInVain, HasTakenFollowed, Suits};
-ghost use Rattle.scq_rest.specs.Exports.{HasSweptTold};
+ghost use Rattle.std.specs.Prelude.{◌≡◌, ℕ, ◌+◌, IfErr, OnOk};
+ghost use Rattle.scq_passes.specs.Exports.{HasTakenFollowed, Suits};
+ghost use Rattle.scq_rest.specs.Exports.{HasSweptOut, HasSweptTold};
 
 use scq_park::{Crew, Stand};
 use scq_passes::{AtLimit, Taker, sweep};
@@ -25,18 +24,14 @@ pub fn sweep_and_rest<C, B: Buffer, T: Taker<C, B>, R: Wait>(
     requires stand { stand.old.crew ≡ crew.now }
     ensures taken { OnOk result (HasTakenFollowed T.follows (T.pass taker.old) (T.pass taker.new)) }
     ensures made { OnOk result (T.made with.now taker.old taker.new) }
-    ensures past { OnOk result ((t : ℕ) → t < topics
-        → (known_on t (T.pass taker.new)).finished < (known_on t (T.pass taker.new)).head) }
+    ensures out { OnOk result (HasSweptOut topics stand.old.rests stand.new.rests
+        (T.pass taker.old) (T.pass taker.new)) }
     ensures swept { OnOk result ((rests : ℕ) × (stand.new.rests ≡ stand.old.rests + rests)
         × HasSweptTold B.contents (T.queue with.now) T.follows topics rests
         (T.pass taker.old) (T.pass taker.new)) }
-    ensures told { OnOk result ((T.pass taker.new).gate ≡ Some 0) }
-    ensures vain { OnOk result ((behind : ℕ)
-        → SweepsInVain topics behind 0 stand.old.rests (T.pass taker.old)
-        → SweepsInVain topics behind 1 stand.new.rests (T.pass taker.new)) }
     ensures left { IfErr result (λ l. T.left with.now taker.old taker.new l.held) }
-    ensures stand { (stand.new.crew ≡ stand.old.crew) × (stand.new.worker ≡ stand.old.worker) }
-    ensures wakes { stand.new.wakes ≡ stand.old.wakes }
+    ensures stand { (stand.new.crew ≡ stand.old.crew) × (stand.new.worker ≡ stand.old.worker)
+        × (stand.new.wakes ≡ stand.old.wakes) }
 {
     'sweeps: for _ in rt.forever() {
         let over = taker.closed(with);

@@ -77,13 +77,13 @@ module _ {S : Type 0} (src : SourceOf S) where
       ∙ ap (λ (before : List (List ℕ)). Some (before ++ content ∷ [])) (sym p.4)
 
   -- with the next source, which was got, one source more has come
-  pub come-more : (names : List (List ℕ)) (table : Change (Option Table)) (opens opens' : Change ℕ) (sources : List S) (source : S) (name : List ℕ)
+  pub come-more : (names : List (List ℕ)) (table : Change (Option Table)) (misses misses' : Change ℕ) (sources : List S) (source : S) (name : List ℕ)
       (new : Option Table)
-      → HaveCome src names (record { table = table; opens = opens; sources = sources; read = 0 })
+      → HaveCome src names (record { table = table; misses = misses; sources = sources; read = 0 })
       → length sources < length names → name ≡ get_or names (length sources) [] → new ≡ option_map (without_name name) table.new → src.faults source ≡ 0
       → IfSome table.new (λ files. IsSome (files name) × (src.left source ≡ files name))
-      → HaveCome src names (record { table = record { old = table.old; new = new }; opens = opens'; sources = sources ++ source ∷ []; read = 0 })
-  come-more names table opens opens' sources source name new come more is_name given quiet there =
+      → HaveCome src names (record { table = record { old = table.old; new = new }; misses = misses'; sources = sources ++ source ∷ []; read = 0 })
+  come-more names table misses misses' sources source name new come more is_name given quiet there =
       let longer : length (sources ++ source ∷ []) ≡ length sources + 1 = length-append sources (source ∷ []) in
       let front : take (length (sources ++ source ∷ [])) names ≡ take (length sources) names ++ name ∷ [] =
       ap (λ n. take n names) longer ∙ take_more names (length sources) [] more ∙ ap (λ (x : List ℕ). take (length sources) names ++ x ∷ []) (sym is_name) in
@@ -98,12 +98,12 @@ module _ {S : Type 0} (src : SourceOf S) where
       }
 
   -- the next source was not got, so that its name is missing
-  pub missed : (names : List (List ℕ)) (table : Change (Option Table)) (opens : Change ℕ) (sources : List S) (name : List ℕ) (new : Option Table) (count : ℕ)
-      → HaveCome src names (record { table = table; opens = opens; sources = sources; read = 0 }) → opens.new ≡ opens.old
-      → length sources < length names → name ≡ get_or names (length sources) [] → IfSome table.new (λ files. files name ≡ None) → Rose opens.new count
-      → HasMissed names (record { table = record { old = table.old; new = new }; opens = record { old = opens.old; new = count }; sources = sources; read = 0 })
-  missed names table opens sources name new count come kept more is none rose = record {
-    rose = rose-since opens.old opens.new count kept rose;
+  pub missed : (names : List (List ℕ)) (table : Change (Option Table)) (misses : Change ℕ) (sources : List S) (name : List ℕ) (new : Option Table) (count : ℕ)
+      → HaveCome src names (record { table = table; misses = misses; sources = sources; read = 0 }) → misses.new ≡ misses.old
+      → length sources < length names → name ≡ get_or names (length sources) [] → IfSome table.new (λ files. files name ≡ None) → Rose misses.new count
+      → HasMissed names (record { table = record { old = table.old; new = new }; misses = record { old = misses.old; new = count }; sources = sources; read = 0 })
+  missed names table misses sources name new count come kept more is none rose = record {
+    rose = rose-since misses.old misses.new count kept rose;
     missing = missing table.old table.new names (length sources) name more is come.table none;
   }
 

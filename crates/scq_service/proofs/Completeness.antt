@@ -52,7 +52,7 @@ pub complete : {S : Type 0} (size : ℕ) (text : List (List ℕ) → List ℕ) (
 complete size text src names got r w None e calm = inl refl
 complete size text src names got r w (Some NoMemory) e calm = inr refl
 complete size text src names got r w (Some WriteFault) e calm = absurd (calm.writes e.1)
-complete size text src names got r w (Some (OpenFault file)) e calm = absurd (calm.opens e.0.missed.rose)
+complete size text src names got r w (Some (OpenFault file)) e calm = absurd (calm.misses e.0.missed.rose)
 complete size text src names got r w (Some (ReadFault file)) e calm = absurd (above-none src.faults r.sources (file - 1) calm.quiet e.0.2)
 complete size text src names got r w (Some (TooLong file line len limit)) e calm =
     absurd (never size (LongPayload line len) (all_left src.left got) file _ calm.visible calm.sound e.0.5 (λ contents t. t))
@@ -120,7 +120,7 @@ pub complete-text : {S : Type 0} (command : TextCommand) (src : SourceOf S) (nam
 complete-text command src name got r w None e calm = inl refl
 complete-text command src name got r w (Some NoMemory) e calm = inr (inl refl)
 complete-text command src name got r w (Some WriteFault) e calm = absurd (calm.writes e.1)
-complete-text command src name got r w (Some (OpenFault file)) e calm = absurd (calm.opens e.1.rose)
+complete-text command src name got r w (Some (OpenFault file)) e calm = absurd (calm.misses e.1.rose)
 complete-text command src name got r w (Some (ReadFault file)) e calm = absurd (one-apart src.faults r.sources e.1.one.one.1 calm.quiet e.1.failed)
 complete-text command src name got r w (Some (TooLarge file limit)) e calm =
     absurd (fits-or-large src.left got r.sources r.read e.2.one.one.0 e.2.one.one.1 calm.visible e.2.read e.2.bytes calm.fits)

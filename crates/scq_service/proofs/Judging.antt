@@ -47,26 +47,26 @@ pub moved_of : {S : Type 0} (src : SourceOf S) (olds news : List S) → OfEach (
 moved_of {S} src olds news given = λ k d lt. let h = given k d lt in record { bytes = h.bytes; moved = h.took; counted = h.counted }
 
 -- what is said of the end of a run over these sources, which came so and are now these
-module _ {S : Type 0} (src : SourceOf S) (names : List (List ℕ)) (table : Change (Option Table)) (opens : Change ℕ) (olds news : List S)
-    (come : HaveCome src names (record { table = table; opens = opens; sources = olds; read = 0 })) where
-  pub got_after : length news ≡ length olds → OfEach (length olds) (HasGiven src.faults src.left) olds news → (length olds ≡ length names → IsUnchanged opens)
-      → HasGotSources src names olds (record { table = table; opens = opens; sources = news; read = 0 })
-  got_after many given kept = has-got 0 src names table opens olds news many come 0 (moved_of src olds news given) kept
+module _ {S : Type 0} (src : SourceOf S) (names : List (List ℕ)) (table : Change (Option Table)) (misses : Change ℕ) (olds news : List S)
+    (come : HaveCome src names (record { table = table; misses = misses; sources = olds; read = 0 })) where
+  pub got_after : length news ≡ length olds → OfEach (length olds) (HasGiven src.faults src.left) olds news → (length olds ≡ length names → IsUnchanged misses)
+      → HasGotSources src names olds (record { table = table; misses = misses; sources = news; read = 0 })
+  got_after many given kept = has-got 0 src names table misses olds news many come 0 (moved_of src olds news given) kept
 
   -- where all sources came, those that are there now are the sources of all names
-  pub have_all : length news ≡ length olds → length olds ≡ length names → IsUnchanged opens
-      → HaveAll names (record { table = table; opens = opens; sources = news; read = 0 })
+  pub have_all : length news ≡ length olds → length olds ≡ length names → IsUnchanged misses
+      → HaveAll names (record { table = table; misses = misses; sources = news; read = 0 })
   have_all many all kept = record {
     all = many ∙ all;
-    opens = kept;
+    misses = kept;
     table = come.table ∙ ap (λ ns. option_map (without_names ns) table.old) (ap (λ n. take n names) all ∙ take-length names);
     read = refl;
   }
 
   -- the next source was not got
   pub unopened : (reader : Progress) (file : ℕ) → HaveBeenRead src.faults src.ends src.left olds news reader → reader.lone ≡ (length names == 1) → file ≡ length olds + 1
-      → length olds < length names → HasMissed names (record { table = table; opens = opens; sources = olds; read = 0 })
-      → JudgeMissesFile src names olds (record { table = table; opens = opens; sources = news; read = 0 }) file
+      → length olds < length names → HasMissed names (record { table = table; misses = misses; sources = olds; read = 0 })
+      → JudgeMissesFile src names olds (record { table = table; misses = misses; sources = news; read = 0 }) file
   unopened reader file had lone next within missed = record {
     next = next ∙ ap (λ n. n + 1) (sym had.many);
     within = omega (arith, within, had.many);
@@ -82,9 +82,9 @@ module _ {S : Type 0} (src : SourceOf S) (names : List (List ℕ)) (table : Chan
     read = refl;
   }
 
-  module _ (room : Option ℕ) (w : Wrote) (fault : JudgeFault) (kept : IsUnchanged opens) (unwritten : IsUnwritten w) where
+  module _ (room : Option ℕ) (w : Wrote) (fault : JudgeFault) (kept : IsUnchanged misses) (unwritten : IsUnwritten w) where
     abbrev Ends : JudgeFault → Type 0
-    Ends f = EndsJudged src room names olds (record { table = table; opens = opens; sources = news; read = 0 }) w (Some (fault_of_judge f))
+    Ends f = EndsJudged src room names olds (record { table = table; misses = misses; sources = news; read = 0 }) w (Some (fault_of_judge f))
 
     -- a file is at fault
     pub ends_stopped : ReadingStopped src.faults src.ends src.left (length names == 1) olds news fault → Ends fault
@@ -110,7 +110,7 @@ module _ {S : Type 0} (src : SourceOf S) (names : List (List ℕ)) (table : Chan
         let B : Bool → Type 0 = λ b. recording_of b contents ≡ Ok reader.recorded in
         cause_of_recorded (length names == 1) contents reader.recorded told.0 (subst B lone told.1) fault in_it)
         (until_recorded src.faults src.ends src.left olds news reader.recorded had.files had.whole fault in_it) where
-          have : HaveAll names (record { table = table; opens = opens; sources = news; read = 0 })
+          have : HaveAll names (record { table = table; misses = misses; sources = news; read = 0 })
           have = have_all had.many all kept
 
           by : (fault : JudgeFault) → IsCauseIn reader.recorded fault

@@ -108,32 +108,32 @@ module _ {S : Type 0} (size : ℕ) (src : SourceOf S) where
       let below : j < k = omega (arith, less, length-take-le k news within) in
       subst P (sym (get_or-take k news j d below)) (each j d below)
 
-  module _ (names : List (List ℕ)) (table : Change (Option Table)) (opens : Change ℕ) (olds news : List S) (long : length news ≡ length olds)
-      (come : HaveCome src names (record { table = table; opens = opens; sources = olds; read = 0 })) where
+  module _ (names : List (List ℕ)) (table : Change (Option Table)) (misses : Change ℕ) (olds news : List S) (long : length news ≡ length olds)
+      (come : HaveCome src names (record { table = table; misses = misses; sources = olds; read = 0 })) where
     -- what follows from the contents is so where they were told
     pub if-got : (Q : List (List ℕ) → Type 0) → ((contents : List (List ℕ)) → all_left src.left olds ≡ Some contents → Q contents) → IfTold src.left olds Q
     if-got Q more = if-some (all_left src.left olds) Q more
 
-    next-missed : HasMissed names (record { table = table; opens = opens; sources = olds; read = 0 }) → (read : ℕ)
-        → HasMissed names (record { table = table; opens = opens; sources = news; read = read })
+    next-missed : HasMissed names (record { table = table; misses = misses; sources = olds; read = 0 }) → (read : ℕ)
+        → HasMissed names (record { table = table; misses = misses; sources = news; read = read })
     next-missed m read =
         let M : ℕ → Type 0 = λ n. IfSome table.old (λ files. IsMissing files names (n + 1)) in
         record { rose = m.rose; missing = subst M (sym long) m.missing }
 
     -- where all had come the count of files was kept, and else the next was missed
-    pub kept-of : (all : Bool) → HaveAllCome names (record { table = table; opens = opens; sources = olds; read = 0 }) all → length olds ≡ length names
-        → IsUnchanged opens
+    pub kept-of : (all : Bool) → HaveAllCome names (record { table = table; misses = misses; sources = olds; read = 0 }) all → length olds ≡ length names
+        → IsUnchanged misses
     kept-of true came all = came.1
     kept-of false came all = absurd (omega (arith, came.0, all))
 
-    missed-of : (all : Bool) → HaveAllCome names (record { table = table; opens = opens; sources = olds; read = 0 }) all → length olds < length names
-        → HasMissed names (record { table = table; opens = opens; sources = olds; read = 0 })
+    missed-of : (all : Bool) → HaveAllCome names (record { table = table; misses = misses; sources = olds; read = 0 }) all → length olds < length names
+        → HasMissed names (record { table = table; misses = misses; sources = olds; read = 0 })
     missed-of true came less = absurd (omega (arith, came.0, less))
     missed-of false came less = came.1
 
     pub has-got : (read : ℕ) → ((k : ℕ) (d : S) → k < length olds → HasMoved src (slice_index_or olds k d) (slice_index_or news k d))
-        → (length olds ≡ length names → IsUnchanged opens) → HasGotSources src names olds
-        (record { table = table; opens = opens; sources = news; read = read })
+        → (length olds ≡ length names → IsUnchanged misses) → HasGotSources src names olds
+        (record { table = table; misses = misses; sources = news; read = read })
     has-got read moved kept =
         let T : ℕ → Type 0 = λ n. table.new ≡ option_map (without_names (take n names)) table.old in
         let V : ℕ → Type 0 = λ n. IfVisible table.old (take n names) (λ contents. all_left src.left olds ≡ Some contents) in
@@ -150,7 +150,7 @@ module _ {S : Type 0} (size : ℕ) (src : SourceOf S) where
 
     ends-all : ((k : ℕ) (d : S) → k < length olds → reading.IsWhole size src (slice_index_or olds k d) (slice_index_or news k d))
         → length olds ≡ length names
-        → ReadsOver size src names olds (record { table = table; opens = opens; sources = news; read = 0 }) None
+        → ReadsOver size src names olds (record { table = table; misses = misses; sources = news; read = 0 }) None
     ends-all whole all = record {
       all = long ∙ all;
       quiet = λ k d less. let within : k < length olds = omega (arith, less, long) in (whole k d within).kept ∙ come.fresh k d within;
@@ -162,8 +162,8 @@ module _ {S : Type 0} (size : ℕ) (src : SourceOf S) where
 
     ends-stopped : ((k : ℕ) (d : S) → k < length olds → reading.IsWhole size src (slice_index_or olds k d) (slice_index_or news k d))
         → length olds < length names
-        → HasMissed names (record { table = table; opens = opens; sources = olds; read = 0 })
-        → ReadsOver size src names olds (record { table = table; opens = opens; sources = news; read = 0 })
+        → HasMissed names (record { table = table; misses = misses; sources = olds; read = 0 })
+        → ReadsOver size src names olds (record { table = table; misses = misses; sources = news; read = 0 })
         (Some (OpenFault (length olds + 1)))
     ends-stopped whole more m = record {
       next = ap (λ n. n + 1) (sym long);
@@ -178,8 +178,8 @@ module _ {S : Type 0} (size : ℕ) (src : SourceOf S) where
 
     -- the file that has the first fault
     refused : (read file : ℕ) (fault : FrameFault) → fault ≢ frame.NoMemory → ReadingStopsAt size src olds news file fault
-        → (length olds < length names → HasMissed names (record { table = table; opens = opens; sources = olds; read = 0 }))
-        → FileIsRefused size src names olds (record { table = table; opens = opens; sources = news; read = read }) file
+        → (length olds < length names → HasMissed names (record { table = table; misses = misses; sources = olds; read = 0 }))
+        → FileIsRefused size src names olds (record { table = table; misses = misses; sources = news; read = read }) file
         (fault_of_file size file fault)
     refused read file fault other stops missed =
         let within : file - 1 < length olds = omega (arith, stops.first, stops.last) in
@@ -217,8 +217,8 @@ module _ {S : Type 0} (size : ℕ) (src : SourceOf S) where
       )
 
     ends-met : (fault : EndFault) → HasCause size src olds news fault
-        → (length olds < length names → HasMissed names (record { table = table; opens = opens; sources = olds; read = 0 }))
-        → ReadsOver size src names olds (record { table = table; opens = opens; sources = news; read = bytes_of_large fault })
+        → (length olds < length names → HasMissed names (record { table = table; misses = misses; sources = olds; read = 0 }))
+        → ReadsOver size src names olds (record { table = table; misses = misses; sources = news; read = bytes_of_large fault })
         (Some (fault_of_work size fault))
     ends-met (work.Read file) stops missed =
         let at = source-at file stops.first stops.last (λ old new. reading.IsStopped size src old new frame.ReadFault) stops.cause in (
@@ -267,45 +267,45 @@ instead : {X : Type 0} (P : List X → List X → Type 0) {us vs xs ys : List X}
 instead P {us = us} {ys = ys} first second p = subst (λ xs. P xs ys) (sym first) (subst (λ ys. P us ys) (sym second) p)
 
 abbrev inputs_with : {S : Type 0} → Change (Option Table) → Change ℕ → ℕ → List S → Inputs S
-inputs_with table opens read sources = record { table = table; opens = opens; sources = sources; read = read }
+inputs_with table misses read sources = record { table = table; misses = misses; sources = sources; read = read }
 
 -- what was got of sources, and how their reading ended
 abbrev Told : {S : Type 0} → ℕ → SourceOf S → List (List ℕ) → (List S → Inputs S) → Option Fault → List S → List S → Type 0
 Told size src names with_ fault got sources = HasGotSources src names got (with_ sources) × ReadsOver size src names got (with_ sources) fault
 
 -- where the workers of a run have left these sources of those that had come, of all names or not of all
-module _ {T S : Type 0} {workers : ℕ} (size : ℕ) {src : SourceOf S} {names : List (List ℕ)} {table : Change (Option Table)} {opens : Change ℕ}
-    {olds : List S} (end : End T S) (did : EndsReading workers size src olds end) (come : HaveCome src names (inputs_with table opens 0 olds)) (all : Bool)
-    (came : HaveAllCome names (inputs_with table opens 0 olds) all) {got sources : List S} {read : ℕ}
+module _ {T S : Type 0} {workers : ℕ} (size : ℕ) {src : SourceOf S} {names : List (List ℕ)} {table : Change (Option Table)} {misses : Change ℕ}
+    {olds : List S} (end : End T S) (did : EndsReading workers size src olds end) (come : HaveCome src names (inputs_with table misses 0 olds)) (all : Bool)
+    (came : HaveAllCome names (inputs_with table misses 0 olds) all) {got sources : List S} {read : ℕ}
     (same_got : got ≡ olds) (same_sources : sources ≡ end.sources.items) where
-  told : (fault : Option Fault) → ReadsOver size src names olds (inputs_with table opens read end.sources.items) fault
-      → Told size src names (inputs_with table opens read) fault got sources
+  told : (fault : Option Fault) → ReadsOver size src names olds (inputs_with table misses read end.sources.items) fault
+      → Told size src names (inputs_with table misses read) fault got sources
   told fault ends =
-      instead (Told size src names (inputs_with table opens read) fault) same_got same_sources (
-        has-got size src names table opens olds end.sources.items did.count come read did.moved
-            (kept-of size src names table opens olds end.sources.items did.count come all came),
+      instead (Told size src names (inputs_with table misses read) fault) same_got same_sources (
+        has-got size src names table misses olds end.sources.items did.count come read did.moved
+            (kept-of size src names table misses olds end.sources.items did.count come all came),
         ends,
       )
 
   -- each was read to its end, with those of all names or until the next was missed
   pub told-whole : (fault : Option Fault) (made : T) → end.result ≡ Ok made → all ≡ true → read ≡ 0 → fault ≡ None
-      → Told size src names (inputs_with table opens read) fault got sources
+      → Told size src names (inputs_with table misses read) fault got sources
   told-whole fault made is true_ none_read none =
-      let A : Bool → Type 0 = λ all. HaveAllCome names (inputs_with table opens 0 olds) all in
-      told fault (rw (none_read, none) (ends-all size src names table opens olds end.sources.items did.count come (on-ok end.result _ is did.whole)
+      let A : Bool → Type 0 = λ all. HaveAllCome names (inputs_with table misses 0 olds) all in
+      told fault (rw (none_read, none) (ends-all size src names table misses olds end.sources.items did.count come (on-ok end.result _ is did.whole)
       (subst A true_ came).0))
 
   pub told-stopped : (fault : Option Fault) (made : T) → end.result ≡ Ok made → all ≡ false → read ≡ 0 → fault ≡ Some (OpenFault (length olds + 1))
-      → Told size src names (inputs_with table opens read) fault got sources
+      → Told size src names (inputs_with table misses read) fault got sources
   told-stopped fault made is false_ none_read some =
-      let A : Bool → Type 0 = λ all. HaveAllCome names (inputs_with table opens 0 olds) all in
+      let A : Bool → Type 0 = λ all. HaveAllCome names (inputs_with table misses 0 olds) all in
       let next = subst A false_ came in
-      told fault (rw (none_read, some) (ends-stopped size src names table opens olds end.sources.items did.count come (on-ok end.result _ is did.whole)
+      told fault (rw (none_read, some) (ends-stopped size src names table misses olds end.sources.items did.count come (on-ok end.result _ is did.whole)
       next.0 next.1))
 
   -- the workers met a fault
   pub told-met : (fault : Option Fault) (met : EndFault) → end.result ≡ Err met → read ≡ bytes_of_large met → fault ≡ Some (fault_of_work size met)
-      → Told size src names (inputs_with table opens read) fault got sources
+      → Told size src names (inputs_with table misses read) fault got sources
   told-met fault met is some_read some =
-      told fault (rw (some_read, some) (ends-met size src names table opens olds end.sources.items did.count come met (at-err end.result _ is did.cause)
-      (missed-of size src names table opens olds end.sources.items did.count come all came)))
+      told fault (rw (some_read, some) (ends-met size src names table misses olds end.sources.items did.count come met (at-err end.result _ is did.cause)
+      (missed-of size src names table misses olds end.sources.items did.count come all came)))

@@ -48,7 +48,7 @@ pub record HaveCome {S : Type 0} (src : SourceOf S) (names : List (List ℕ)) (r
 
 -- those of all names, or the next was not got
 abbrev pub HaveAllCome : {S : Type 0} → List (List ℕ) → Inputs S → Bool → Type 0
-HaveAllCome names r true = (length r.sources ≡ length names) × IsUnchanged r.opens
+HaveAllCome names r true = (length r.sources ≡ length names) × IsUnchanged r.misses
 HaveAllCome names r false = (length r.sources < length names) × HasMissed names r
 
 -- what workers made is there exactly where the whole text was made: where nothing failed, or only

@@ -39,11 +39,12 @@ pub record Change (A : Type 0) : Type 0 where
   pub old : A
   pub new : A
 
--- what became of the inputs of a run: the table of files, how often a source was not got (`opens`),
--- the sources that were got, and how many bytes were read of a file that is too large
+-- what became of the inputs of a run: the table of files, how often a source was not got (`misses`),
+-- the sources that were got, and, where a file is too large, how many bytes were read of it (`read`,
+-- else 0)
 pub record Inputs (S : Type 0) : Type 0 where
   pub table : Change (Option Table)
-  pub opens : Change ℕ
+  pub misses : Change ℕ
   pub sources : List S
   pub read : ℕ
 
@@ -57,7 +58,7 @@ abbrev pub inputs_of : {F S : Type 0} → FilesOf F S → F → F → List S →
 inputs_of files old new sources read =
     record {
       table = record { old = files.table old; new = files.table new };
-      opens =
+      misses =
           record { old = files.faults old; new = files.faults new };
       sources = sources;
       read = read;
@@ -86,13 +87,13 @@ IfTold left got P = IfSome (all_left left got) P
 
 -- sources were got, with no fault counted. Where the table is visible their names left it, and each
 -- told its name's content, in order; where a content was told, the source has left what follows the
--- bytes that it gave. Where all were got, `opens` was kept
+-- bytes that it gave. Where all were got, `misses` was kept
 pub record HasGotSources {S : Type 0} (src : SourceOf S) (names : List (List ℕ)) (got : List S)
     (r : Inputs S) : Type 0 where
   pub within : length r.sources ≤ length names
   pub count : length got ≡ length r.sources
   pub table : r.table.new ≡ option_map (without_names (take (length r.sources) names)) r.table.old
-  pub kept : length r.sources ≡ length names → IsUnchanged r.opens
+  pub kept : length r.sources ≡ length names → IsUnchanged r.misses
   pub fresh : All (λ source. src.faults source ≡ 0) got
   pub told : IfVisible r.table.old (take (length r.sources) names) (λ contents.
       all_left src.left got ≡ Some contents)
@@ -117,7 +118,8 @@ AreReadOut {S} end_count count got r =
     (k : ℕ) (d : S) → k < count
     → Rose (end_count (slice_index_or got k d)) (end_count (slice_index_or r.sources k d))
 
--- every source was got and read to its end, there is no fault, and none was too large
+-- every source was got and read to its end, no read failed, and none was too large. Where each told
+-- its content there is no fault in them
 pub record IsAllRead {S : Type 0} (size : ℕ) (src : SourceOf S) (names : List (List ℕ))
     (got : List S) (r : Inputs S) : Type 0 where
   pub all : length r.sources ≡ length names
@@ -127,12 +129,13 @@ pub record IsAllRead {S : Type 0} (size : ℕ) (src : SourceOf S) (names : List 
   pub sound : IsFirstFileFault size src got r None
   pub read : r.read ≡ 0
 
--- the next source was not got: `opens` rose, and where the table is visible its name is missing
+-- the next source was not got: `misses` rose, and where the table is visible its name is missing
 pub record HasMissed {S : Type 0} (names : List (List ℕ)) (r : Inputs S) : Type 0 where
-  pub rose : Rose r.opens.old r.opens.new
+  pub rose : Rose r.misses.old r.misses.new
   pub missing : IfSome r.table.old (λ files. IsMissing files names (length r.sources + 1))
 
--- a source was not got, and those before it were read to their ends and have no fault
+-- a source was not got, and those before it were read to their ends, where no read failed. Where
+-- each told its content there is no fault in them
 pub record RunMissesFile {S : Type 0} (size : ℕ) (src : SourceOf S) (names : List (List ℕ))
     (got : List S) (r : Inputs S) (file : ℕ) : Type 0 where
   pub next : file ≡ length r.sources + 1
@@ -144,8 +147,9 @@ pub record RunMissesFile {S : Type 0} (size : ℕ) (src : SourceOf S) (names : L
   pub sound : IsFirstFileFault size src got r None
   pub read : r.read ≡ 0
 
--- this file has the first fault, and those before it were read to their ends; where not all sources
--- were got, the next one was not
+-- this file is refused, and those before it were read to their ends, where no read failed; where
+-- not all sources were got, the next one was not. Where each told its content this is the first
+-- fault in them
 pub record FileIsRefused {S : Type 0} (size : ℕ) (src : SourceOf S) (names : List (List ℕ))
     (got : List S) (r : Inputs S) (file : ℕ) (fault : Fault) : Type 0 where
   pub first : 0 < file
@@ -193,8 +197,9 @@ ReadsOver size src names got r (Some (TwoRunsOf file n g s)) = ⊥
 ReadsOver size src names got r (Some (UnlawfulOf file line)) = ⊥
 ReadsOver size src names got r (Some (Words fault)) = ⊥
 
--- how a run over files of these names ends: with the text written, with a front of it where out
--- failed, or with nothing written
+-- how a run over files of these names ends: each was read and the text written, or, where out
+-- failed, a front of it; else nothing was written. Which text was written is said where each source
+-- told its content
 abbrev pub EndsOver : {S : Type 0} → ℕ → (List (List ℕ) → List ℕ) → SourceOf S → List (List ℕ)
     → List S → Inputs S → Wrote → Option Fault → Type 0
 EndsOver size text src names got r w None =
@@ -231,7 +236,7 @@ IfContent left got P = All (λ source. IfSome (left source) P) got
 pub record IsOneGot {S : Type 0} (src : SourceOf S) (name : List ℕ) (got : List S) (r : Inputs S)
     : Type 0 where
   pub one : (length got ≡ 1) × (length r.sources ≡ 1)
-  pub opens : IsUnchanged r.opens
+  pub misses : IsUnchanged r.misses
   pub table : r.table.new ≡ option_map (without_name name) r.table.old
   pub fresh : All (λ source. src.faults source ≡ 0) got
   pub told : IfSome r.table.old (λ files.
@@ -250,7 +255,7 @@ pub record FileIsReadWhole {S : Type 0} (src : SourceOf S) (name : List ℕ) (go
 -- the file was not got, so none was too large
 pub record TextMissesFile {S : Type 0} (name : List ℕ) (r : Inputs S) : Type 0 where
   pub none : r.sources ≡ []
-  pub rose : Rose r.opens.old r.opens.new
+  pub rose : Rose r.misses.old r.misses.new
   pub missing : IfSome r.table.old (λ files. files name ≡ None)
   pub table : IsUnchanged r.table
   pub read : r.read ≡ 0
@@ -310,7 +315,7 @@ EndsWhole command src name got r w (Some fault) =
 -- the files of all names were got
 pub record HaveAll {S : Type 0} (names : List (List ℕ)) (r : Inputs S) : Type 0 where
   pub all : length r.sources ≡ length names
-  pub opens : IsUnchanged r.opens
+  pub misses : IsUnchanged r.misses
   pub table : r.table.new ≡ option_map (without_names names) r.table.old
   pub read : r.read ≡ 0
 
@@ -321,12 +326,13 @@ abbrev pub ReportMeets : {S : Type 0} → (S → Option (List ℕ)) → List (Li
 ReportMeets left names room got P =
     IfTold left got (λ contents. (text : List ℕ) × IsJudged names room contents text × P text)
 
--- how many files were got at this fault: those of all names where it is of several files, or of the
--- merged history, and else those up to its own, of which each was there
+-- what was asked for before this fault: the files of all names where it is of several files, or of
+-- the merged history. Where it is of one file each that was asked for was there; that its own was
+-- the last of them tells `AreReadUntil`
 abbrev pub AreGotFor : {S : Type 0} → List (List ℕ) → Inputs S → JudgeFault → Type 0
-AreGotFor names r (judge.BadLine file line) = IsUnchanged r.opens × (r.read ≡ 0)
-AreGotFor names r (judge.ReadFault file) = IsUnchanged r.opens × (r.read ≡ 0)
-AreGotFor names r (judge.TooLarge file) = IsUnchanged r.opens × (r.read ≡ 0)
+AreGotFor names r (judge.BadLine file line) = IsUnchanged r.misses × (r.read ≡ 0)
+AreGotFor names r (judge.ReadFault file) = IsUnchanged r.misses × (r.read ≡ 0)
+AreGotFor names r (judge.TooLarge file) = IsUnchanged r.misses × (r.read ≡ 0)
 AreGotFor names r _ = HaveAll names r
 
 -- recordings were refused: sources were got and read so far, and this is at fault in what they told
@@ -367,13 +373,13 @@ EndsJudged src room names got r w (Some fault) =
     ((refused : JudgeFault) × (fault ≡ fault_of_judge refused)
     × IsRefusedBy src names got r refused) × IsUnwritten w
 
--- no file was asked for
+-- nothing was got, and nothing that was asked for was missing
 abbrev pub NoSourceCame : {S : Type 0} → Inputs S → Type 0
-NoSourceCame r = IsUnchanged r.table × IsUnchanged r.opens × (r.sources ≡ []) × (r.read ≡ 0)
+NoSourceCame r = IsUnchanged r.table × IsUnchanged r.misses × (r.sources ≡ []) × (r.read ≡ 0)
 
 -- how a run ends that is asked for this: refused words, files, a generated file, recordings, one
 -- whole file, or files that go through stages, whose payloads have at most as many bytes as the
--- size that is asked for. The sources of files are told as they were when they were got
+-- size that is asked for. `got` are the sources as they were when they were got
 abbrev pub EndsAs : {S : Type 0} → SourceOf S → Result Asked WordsFault → List S → Inputs S → Wrote
     → Option Fault → Type 0
 EndsAs src (Err fault) got r w end =
@@ -398,7 +404,7 @@ EndsAs src (Ok (staged a)) got r w end =
 pub record IsCalm {S : Type 0} (size : ℕ) (src : SourceOf S) (names : List (List ℕ)) (got : List S)
     (r : Inputs S) (w : Wrote) : Type 0 where
   pub all : length r.sources ≡ length names
-  pub opens : ¬ Rose r.opens.old r.opens.new
+  pub misses : ¬ Rose r.misses.old r.misses.new
   pub writes : ¬ Rose w.faults.old w.faults.new
   pub quiet : All (λ source. src.faults source ≡ 0) r.sources
   pub visible : IsSome (all_left src.left got)
@@ -409,7 +415,7 @@ pub record IsCalm {S : Type 0} (size : ℕ) (src : SourceOf S) (names : List (Li
 -- content, and that is not too large
 pub record IsCalmText {S : Type 0} (src : SourceOf S) (got : List S) (r : Inputs S) (w : Wrote)
     : Type 0 where
-  pub opens : ¬ Rose r.opens.old r.opens.new
+  pub misses : ¬ Rose r.misses.old r.misses.new
   pub writes : ¬ Rose w.faults.old w.faults.new
   pub quiet : All (λ source. src.faults source ≡ 0) r.sources
   pub visible : All (λ source. IsSome (src.left source)) got

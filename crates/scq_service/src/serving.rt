@@ -47,12 +47,12 @@ pub fn serve<R: Threads + Sync, F: Files, K: Sink, G: Gate + Sync>(
     // No worker of it waits, so nothing is told of waiting.
     ensures leaves { result.waited ≡ None }
 
-    // NotUnderstood is answered only to words that `clap` isn't said to take.
+    // Words that `clap` is said to take are never NotUnderstood.
     ensures taken { result.fault ≡ Some (Fault.Words WordsFault.NotUnderstood)
         → is_accepted (map string_bytes words.now) ≡ false }
 
-    // Where nothing stood in the way of what was asked, it ends as `EndsWellWhereCalm` says, which
-    // says nothing of `judge`.
+    // Where nothing stood in the way of what was asked, and each source told its content, it ends
+    // as `EndsWellWhereCalm` says, which says nothing of `judge`.
     ensures complete { EndsWellWhereCalm F.Src.Source (asked (map string_bytes words.now))
         (inputs_of F.Files files.old files.new result.sources.items result.read)
         (wrote_of K.Sink out.old out.new) result }

@@ -43,7 +43,8 @@ pub fn serve_waiting<R: Threads + Wait + Sync, F: Files, K: Sink, G: Gate + Sync
     ensures taken { result.fault ≡ Some (Fault.Words WordsFault.NotUnderstood)
         → is_taken_for_run (map string_bytes words.now) ≡ false }
 
-    // Where nothing stood in the way of what was asked, it ends as `EndsWellWhereCalm` says.
+    // Where nothing stood in the way of what was asked, and each source told its content, it ends
+    // as `EndsWellWhereCalm` says.
     ensures complete { EndsWellWhereCalm F.Src.Source (asked_for_run (map string_bytes words.now))
         (inputs_of F.Files files.old files.new result.sources.items result.read)
         (wrote_of K.Sink out.old out.new) result }

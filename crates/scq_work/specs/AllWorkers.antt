@@ -25,8 +25,8 @@ module _ {B : Type 0} where
       (w : ℕ) (p : PassStanding B) (list : List Answered) → slice_get passes w ≡ Some p
       → slice_get lists w ≡ Some list → P w p list
 
-  -- the workers' lists, against the messages of files and the workers' passes, where a part has at
-  -- most `size` bytes, and parts go together where these have at most `most`
+  -- the workers' lists, against the messages of files and the workers' passes. A part has at most
+  -- `size` bytes; those that go together have at most `most`, with 24 more for each
   pub record HaveAnswered (topics : List (List ℕ × Kind)) (size most workers : ℕ)
       (given : List (List Message)) (passes : List (PassStanding B))
       (lists : List (List Answered)) : Type 0 where
@@ -36,8 +36,8 @@ module _ {B : Type 0} where
     pub once : IsPermutation (map without_way (members_of lists))
         (part_answers topics size (flat_map (λ own. own) given))
     -- so they are whole messages: of each file and line that stands in the lists the members are
-    -- its parts 1 to `parts`, each once and on one topic. That is a known one, and no part has more
-    -- than `size` bytes.
+    -- its parts 1 to `parts`, each once and on one topic. That is a declared one or that of all
+    -- others, and no part has more than `size` bytes.
     pub whole : AreWhole (members_of lists)
     pub known : All (λ a. a.topic ≤ length topics) (members_of lists)
     pub short : All (λ a. a.bytes ≤ size) (members_of lists)
@@ -58,9 +58,9 @@ module _ {B : Type 0} where
     pub retired : HasRetired (HelpsOnceAfterEachFull topics) p
 
 -- the queue of a job with so many topics, that of all undeclared ones among them, is closed, and
--- nothing is stranded in it, whatever its workers met: they have retired (of sweeps tells `behind`
--- of `work`), no ticket was spent, no pass made more than 2^36 sends, takes or Fulls, and all
--- buffers are free: those that came back are the frames of its block that it was given
+-- nothing is stranded in it, whatever its workers met: they have retired (of their sweeps this says
+-- nothing), no ticket was spent, no pass made more than 2^36 sends, takes or Fulls, and all buffers
+-- are free: those that came back are the ones that it was given
 pub record NothingIsStranded (order topics workers : ℕ) (passes : List (PassStanding Frame))
     (frames : List Frame) (left : List ℕ) : Type 0 where
   pub setup : Setup

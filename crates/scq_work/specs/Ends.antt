@@ -21,12 +21,12 @@ pub record EndsWork {S : Type 0} (j : Job) (src : SourceOf S) (sources : List S)
   pub answers : IfOk end.result (λ w. IfSome (all_left src.left sources) (λ contents.
       IsPermutation (map without_way (members_of w.answered.items))
       (part_answers j.topics j.size (messages_to j.topics 1 contents))))
-  -- the lists answer for the messages that the files gave, and the passes for what was sent and
-  -- taken: `worked` says it of every source, and `told` and `answers` follow from it where the
-  -- contents are visible
+  -- and the passes answer for what was sent and taken
   pub told : IfOk end.result (λ w.
       IfSome (all_left src.left sources) (λ contents.
       HasWorked j.topics j.size j.most j.workers (messages_in j.topics 1 contents) w))
+  -- of every source: of one whose bytes aren't visible the lists answer for some messages of the
+  -- right shape. `told` and `answers` follow
   pub worked : IfOk end.result (λ w.
       (given : List (List Message)) × AreGiven j.topics j.longest src.left 1 sources given
       × HasWorked j.topics j.size j.most j.workers given w)

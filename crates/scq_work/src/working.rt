@@ -34,8 +34,8 @@ pub(crate) fn setup_of(job: &Job) -> Setup
 
 /// Answers the messages of all sources by the job's workers, each of which reads its own files:
 /// file f, from 1, is that of worker (f - 1) mod the number of workers. They share a queue of
-/// buffers, and call the gate, on which no clause depends. There are at most 64 sources. They come
-/// back in their order in every case.
+/// buffers, and call the gate, on which no clause depends. There are at most 64 sources. As many
+/// come back in every case, each of them what the one of its place may have become.
 pub fn work<R: Threads + Sync, S: Source, G: Gate + Sync>(
     rt: &R,
     alloc: Global,
@@ -47,7 +47,8 @@ pub fn work<R: Threads + Sync, S: Source, G: Gate + Sync>(
     ensures end { EndsWork job.now S.Source sources.items result }
 
     // Each worker asked before each of its sweeps whether all had retired, and left after one
-    // before which they had, or after 64 in a row that took nothing.
+    // before which they had, or after 64 in a row that took nothing. How often it asked and what it
+    // read last is its pass's; what it read before is a possible past.
     ensures behind { IfSome result.passes (λ passes.
         All (HasLeftSwept bytes_of IsReturn (length job.now.topics + 1) 64) passes.value.items) }
 {

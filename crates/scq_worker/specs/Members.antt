@@ -36,7 +36,8 @@ abbrev pub numbered_way : Way → ℕ → Way
 numbered_way (Taken place first) number = Taken place number
 numbered_way (Direct head) number = Direct head
 
--- the answers to parts of which the first has this number in its value: to those on known topics
+-- the answers to parts of which the first has this number in its value: to those on a declared
+-- topic or the one of all others, which are the known ones
 abbrev pub answers_from : List (List ℕ × Kind) → Way → ℕ → List Part → List Answered
 answers_from topics way number [] = []
 answers_from topics way number (p ∷ parts) =

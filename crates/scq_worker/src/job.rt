@@ -12,8 +12,8 @@ const MOST: u32 = 4096 + 24;
 
 /// What workers are to do: messages are answered by `workers` workers through 2^order buffers. A
 /// payload may have `longest` bytes, and goes through the buffers in parts of at most `size`. Parts
-/// go together where they have at most `most` bytes, each with 24 for its numbers: none do where
-/// that is 0.
+/// that go together have at most `most` bytes, each with 24 for its numbers: none do where that is
+/// 0.
 #[derive(Drop)]
 pub struct Job {
     pub order: u32,
@@ -34,11 +34,10 @@ impl Job {
     /// aren't in 1 to 4,096. Parts go together where `batch` says so.
     pub fn new(order: u32, size: u32, workers: u32, topics: Topics, batch: bool) -> Option<Job>
         ensures refused { IsNone result ↔ ¬ IsJob order size workers }
-        ensures order { IfSome result (λ job. job.order ≡ order) }
-        ensures size { IfSome result (λ job. job.size ≡ size) }
+        ensures numbers { IfSome result (λ job. (job.order ≡ order) × (job.size ≡ size)
+            × (job.workers ≡ workers)) }
         ensures longest { IfSome result (λ job. job.longest ≡ 2 ^ 20) }
         ensures most { IfSome result (λ job. job.most ≡ most_together size batch) }
-        ensures workers { IfSome result (λ job. job.workers ≡ workers) }
         ensures topics { IfSome result (λ job. job.topics ≡ topics) }
     {
         if !(1..=12).contains(&order) || !(1..=65_536).contains(&size) {

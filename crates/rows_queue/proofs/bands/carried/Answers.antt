@@ -9,7 +9,7 @@ use Rattle.rows_queue.proofs.bands.carried.Goals as goal
 
 pub lift-buffer-requires-clause-laid : goal.lift-buffer-requires-clause-laid
 lift-buffer-requires-clause-laid c κs =
-    let got = c.in-Ok.ensures.got in (
+    let got = c.in-Ok.ensures.got.taken in (
       got.buffer,
       ap (λ (s : Standing HeapBuffer). in_hand s.hand c.in-Ok.index) got.seat ∙ in_hand-come c.args.seat.now.hand c.in-Ok.index got.buffer got.came,
     )

@@ -101,25 +101,20 @@ returns-clause-fed g c none =
     all-same P c.gather.new.desks c.args.desks.items (same g at)
     (subst (λ (ds : List (Desk (Seat _ Frame) _)). All (λ d. P d.worker) ds) (whole g at) fed)
 
-pub returns-clause-lists : goal.returns-clause-lists
-returns-clause-lists g c =
-    let at = (goal.at.returns-clause-lists g c).After-clear in
+pub returns-clause-brought : goal.returns-clause-brought
+returns-clause-brought g c =
+    let at = (goal.at.returns-clause-brought g c).After-clear in
+    let its = passes g at in
+    let back = c.close-buffers.ensures.back in
     let list_at : Desk (Seat _ Frame) _ → _ = λ d. g.W.Sits.list_of d.worker.worker in
-    c.clear.ensures.lists ∙ ap (map list_at) (whole g at)
-    ∙ same-shown (λ (s : Seat _ Frame). g.W.Sits.list_of s.worker) c.gather.new.desks c.args.desks.items (same g at)
-
-pub returns-clause-passes : goal.returns-clause-passes
-returns-clause-passes g c =
-    let its = passes g (goal.at.returns-clause-passes g c).After-clear in
-    (c.close-buffers.ensures.back.passes ∙ its, ap (λ v. v.items) c.of-closing.ensures ∙ its)
-
-pub returns-clause-counts : goal.returns-clause-counts
-returns-clause-counts g c =
-    c.close-buffers.ensures.back.counts ∙ ap (map (λ (p : PassStanding Frame). counts_of (lists_of p))) (sym c.close-buffers.ensures.back.passes)
-
-pub returns-clause-saw : goal.returns-clause-saw
-returns-clause-saw g c =
-    c.close-buffers.ensures.back.saw ∙ ap (λ v. map (λ (p : PassStanding Frame). was_told p.gate) v.items) (sym c.of-closing.ensures)
+    record {
+      lists = c.clear.ensures.lists ∙ ap (map list_at) (whole g at)
+          ∙ same-shown (λ (s : Seat _ Frame). g.W.Sits.list_of s.worker) c.gather.new.desks c.args.desks.items (same g at);
+      passes = back.passes ∙ its;
+      closing = ap (λ v. v.items) c.of-closing.ensures ∙ its;
+      counts = back.counts ∙ ap (map (λ (p : PassStanding Frame). counts_of (lists_of p))) (sym back.passes);
+      saw = back.saw ∙ ap (λ v. map (λ (p : PassStanding Frame). was_told p.gate) v.items) (sym c.of-closing.ensures);
+    }
 
 pub returns-clause-closed : goal.returns-clause-closed
 returns-clause-closed g c =

@@ -129,8 +129,7 @@ returns-in_err-read_file g c =
       handled = search rules;
       stopped = err-of _ c.from_residual.result stop (search rules) (subst Stopped-after (sym (given-after g at))
           (g.met.H.Handler.then_stopped _ _ _ _ _ _ _ _ _ stop c.files.invariant.handled c.in_err-read_file.ensures.stopped));
-      wanted = wants-after g at;
-      told = told-after g at;
+      wanted = λ fed. (wants-after g at fed, told-after g at fed);
     }
 
 pub returns-in-Stopped : goal.returns-in-Stopped
@@ -142,8 +141,7 @@ returns-in-Stopped g c =
       stops = stops-after g at;
       handled = handled-after g at c.in_ok-read_file.ensures.handled;
       stopped = search rules;
-      wanted = wants-after g at;
-      told = told-after g at;
+      wanted = λ fed. (wants-after g at fed, told-after g at fed);
     }
 
 pub returns-clause-stops : goal.returns-clause-stops
@@ -185,7 +183,6 @@ files-preserved g c =
     }
 
 pub returns-clause-wanted : goal.returns-clause-wanted
-returns-clause-wanted g c fed = wants-none _ _ _ _ _ c.files.invariant.handled (c.files.invariant.fed fed)
-
-pub returns-clause-told : goal.returns-clause-told
-returns-clause-told g c fed wants = absurd (true≢false (sym wants ∙ c.files.invariant.fed fed))
+returns-clause-wanted g c fed =
+    let still = c.files.invariant.fed fed in
+    (wants-none _ _ _ _ _ c.files.invariant.handled still, λ wants. absurd (true≢false (sym wants ∙ still)))

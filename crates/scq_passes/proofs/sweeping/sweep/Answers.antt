@@ -2,7 +2,7 @@ use Rattle.std.proofs.Common.{rules, ◌≡◌, ◌∙◌, ap, sym, subst, arith
 use Rattle.std.proofs.lemmas.Bool.{cases_lt, cases_Bool}
 use Rattle.std.specs.Prelude.{IfErr, Result, Err}
 use Rattle.scq_queue.specs.Exports.{PassStanding}
-use Rattle.scq_passes.specs.Exports.{EndsAtEmpty, MetTopicEmpty}
+use Rattle.scq_passes.specs.Exports.{EndsAtEmpty, HasEmptiedAll, MetTopicEmpty}
 use Rattle.scq_passes.proofs.InRun.{only-from, only-found}
 use Rattle.scq_passes.proofs.PassLemmas.{suits-taken, taken-nothing, taken-along, left-falls, left-falls-at, empty-more}
 use Rattle.scq_passes.proofs.Sweeps.{found-earlier, found-later}
@@ -94,7 +94,14 @@ returns-in_err-more-clause-left g c =
     (g.met.T.Taker.left_along _ _ _ _ _ c.swept.invariant.taken c.swept.invariant.made c.in_err-more.ensures.left)
 
 -- each topic was found empty, so some call was made
-pub returns-clause-only : goal.returns-clause-only
-returns-clause-only g c =
+pub returns-clause-emptied : goal.returns-clause-emptied
+returns-clause-emptied g c =
     let inv = c.swept.invariant in
-    only-found 0 _ _ (inv.emptied.found 0 (omega arith)) inv.only
+    let emptied : HasEmptiedAll c.args.topics (g.T.Taker.pass c.args.taker.now) (g.T.Taker.pass c.swept.taker) = search rules in
+    (emptied, only-found 0 _ _ (inv.emptied.found 0 (omega arith)) inv.only)
+
+pub returns-clause-some : goal.returns-clause-some
+returns-clause-some g c is =
+    let inv = c.swept.invariant in
+    let some : c.swept.some ≡ true = cc in
+    (inv.more some, inv.fewer some)

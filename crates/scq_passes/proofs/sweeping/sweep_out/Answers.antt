@@ -22,7 +22,7 @@ swept-once g c =
     let said = c.closed-over.ensures.looked in
     let its = c.in_ok-some.ensures in
     sweep-of c.args.topics said.0 (pass c.sweeps.taker) (pass c.closed-over.new.self) (pass c.sweep.new.taker) said.1
-    c.closed-over.ensures.in_run its.taken its.only its.emptied
+    c.closed-over.ensures.in_run its.taken its.emptied.1 its.emptied.0
 
 pub sweeps-init : goal.sweeps-init
 sweeps-init g c =
@@ -53,7 +53,7 @@ sweeps-smaller g c =
     elim c.if-some.branch [
       | then-some w ↦
           let full : c.in_ok-some.some ≡ true = w.if-some.true in
-          let falls = c.in_ok-some.ensures.fewer (ap Ok full) in
+          let falls = (c.in_ok-some.ensures.some (ap Ok full)).1 in
           omega arith
       | else-some w ↦ omega arith
     ]
@@ -80,7 +80,7 @@ sweeps-preserved g c =
       sweeps = elim c.if-some.branch [
         | then-some w ↦ subst (λ n. AreSweeps contents queue g.T.Taker.follows c.args.topics (λ k. k < 64) n p now) (sym w.idle-is)
             (and_some said.0 inv.sweeps sweep (some-left said.0 (sym said.2 ∙ going))
-            (took-some said.0 at asks now said.1 (its.more (ap Ok w.if-some.true))))
+            (took-some said.0 at asks now said.1 (its.some (ap Ok w.if-some.true)).0))
         | else-some w ↦ subst (λ n. AreSweeps contents queue g.T.Taker.follows c.args.topics (λ k. k < 64) n p now) (sym w.idle-is)
             (and_idle said.0 inv.sweeps sweep (some-left said.0 (sym said.2 ∙ going))
             (took-nothing said.0 at asks now said.1 (its.nothing (ap Ok w.if-some.false))) (omega arith))
@@ -98,7 +98,7 @@ returns-clause-made g c =
     g.met.T.Taker.made_along _ _ _ _ (asked g at) its.taken (made-asked g at) its.made
 
 pub returns-clause-past : goal.returns-clause-past
-returns-clause-past g c = c.in_ok-some.ensures.emptied.past
+returns-clause-past g c = c.in_ok-some.ensures.emptied.0.past
 
 pub returns-clause-swept : goal.returns-clause-swept
 returns-clause-swept g c =

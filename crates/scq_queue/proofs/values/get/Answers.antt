@@ -10,7 +10,7 @@ use Rattle.scq_queue.proofs.values.get.Goals as goal
 
 pub lift-buffer-requires-clause-laid : goal.lift-buffer-requires-clause-laid
 lift-buffer-requires-clause-laid g c κs within =
-    let taken = c.in-Ok.ensures.got in (
+    let taken = c.in-Ok.ensures.got.taken in (
       taken.buffer,
       value_came g.B.Buffer.contents g.B.Buffer.IsSameBuffer c.args.seat.now c.deq.new.seat c.args.ring c.in-Ok.place c.in-Ok.index c.requires.lifted taken,
     )
@@ -18,14 +18,15 @@ lift-buffer-requires-clause-laid g c κs within =
 pub returns-in-Ok-clause-stays : goal.returns-in-Ok-clause-stays
 returns-in-Ok-clause-stays g c =
     got_stays g.B.Buffer.contents g.B.Buffer.IsSameBuffer c.args.seat.now c.deq.new.seat c.args.ring c.in-Ok.place c.in-Ok.index c.requires.lifted
-    c.in-Ok.ensures.got c.lift-buffer.new.seat c.lift-buffer.result c.lift-buffer.ensures.buffer c.lift-buffer.ensures.lifted
+    c.in-Ok.ensures.got.taken c.lift-buffer.new.seat c.lift-buffer.result c.lift-buffer.ensures.buffer c.lift-buffer.ensures.lifted
 
 pub returns-in-Ok-clause-got : goal.returns-in-Ok-clause-got
 returns-in-Ok-clause-got g c fulls =
+    let off = c.in-Ok.ensures.got in
     let got = got_value g.B.Buffer.contents g.B.Buffer.IsSameBuffer c.args.seat.now c.deq.new.seat c.args.ring c.in-Ok.place c.in-Ok.index c.requires.lifted
-    c.in-Ok.ensures.got c.lift-buffer.new.seat c.lift-buffer.result c.lift-buffer.ensures.buffer c.lift-buffer.ensures.lifted fulls in
+    off.taken c.lift-buffer.new.seat c.lift-buffer.result c.lift-buffer.ensures.buffer c.lift-buffer.ensures.lifted fulls in
     came_off g.B.Buffer.contents g.B.Buffer.IsSameBuffer c.args.band.now c.args.ring c.in-Ok.place c.in-Ok.index c.lift-buffer.result c.args.seat.now
-    c.lift-buffer.new.seat _ fulls c.of.ensures got c.in-Ok.ensures.place c.lift-buffer.ensures.given c.in-Ok.ensures.index
+    c.lift-buffer.new.seat _ fulls c.of.ensures got (off.below, off.past) c.lift-buffer.ensures.given off.low
 
 pub returns-in-Ok-clause-run : goal.returns-in-Ok-clause-run
 returns-in-Ok-clause-run g c none fulls =
@@ -35,15 +36,15 @@ returns-in-Ok-clause-run g c none fulls =
 
 pub returns-in-Err-clause-stays : goal.returns-in-Err-clause-stays
 returns-in-Err-clause-stays g c =
-    refused_stays c.args.band.now c.args.seat.now c.deq.new.seat c.args.ring c.in-Err.refusal c.requires.lifted c.in-Err.ensures.empty c.in-Err.ensures.spent
+    refused_stays c.args.band.now c.args.seat.now c.deq.new.seat c.args.ring c.in-Err.refusal c.requires.lifted (λ head is. (c.in-Err.ensures.empty head is).seat) c.in-Err.ensures.spent
     c.in-Err.ensures.kept
 
 pub returns-in-Err-clause-empty : goal.returns-in-Err-clause-empty
 returns-in-Err-clause-empty g c head is fulls =
     let same : c.in-Err.refusal ≡ Empty head = cc in
     let here = ap (λ (r : DeqRefusal). Err r) same in
-    found_empty g.B.Buffer.contents c.args.band.now c.args.seat.now c.deq.new.seat c.args.ring head fulls (c.in-Err.ensures.empty head here)
-    (c.in-Err.ensures.empty_in_run head here)
+    let none = c.in-Err.ensures.empty head here in
+    found_empty g.B.Buffer.contents c.args.band.now c.args.seat.now c.deq.new.seat c.args.ring head fulls none.seat none.in_run
 
 pub returns-in-Err-clause-spent : goal.returns-in-Err-clause-spent
 returns-in-Err-clause-spent g c ticket is fulls =

@@ -14,14 +14,14 @@ put-requires-clause-lifted g c κs within =
 pub returns-in-Ok-clause-stays : goal.returns-in-Ok-clause-stays
 returns-in-Ok-clause-stays g c =
     put_stays c.args.band.now c.args.seat.now c.put.new.seat c.args.ring c.held.inside.index c.in-Ok.place (g.B.Buffer.contents c.held.inside.buffer)
-    c.requires.lifted c.in-Ok.ensures.put
+    c.requires.lifted c.in-Ok.ensures.put.seat
 
 pub returns-in-Ok-clause-put : goal.returns-in-Ok-clause-put
 returns-in-Ok-clause-put g c fulls =
     subst (λ (h : HeldStanding g.row.B.Denot). WasPutOn c.args.band.now c.args.ring c.in-Ok.place h.index (g.B.Buffer.contents h.buffer)
     (pass_over c.args.seat.now fulls) (pass_over c.put.new.seat fulls)) c.held.view_is
     (put_value c.args.band.now c.args.seat.now c.put.new.seat c.args.ring c.held.inside.index c.in-Ok.place (g.B.Buffer.contents c.held.inside.buffer)
-    c.requires.lifted c.in-Ok.ensures.put fulls c.in-Ok.ensures.place)
+    c.requires.lifted c.in-Ok.ensures.put.seat fulls (c.in-Ok.ensures.put.below, c.in-Ok.ensures.put.above))
 
 pub returns-in-Err-clause-stays : goal.returns-in-Err-clause-stays
 returns-in-Err-clause-stays g c =

@@ -35,7 +35,7 @@ returns-in-Ok-clause-run g c =
     let end = c.in-Ok.ensures in
     swept-out c.args.queue.now c.args.job.now g.S.Source c.args.desk.now.files.items c.args.desk.now.worker.worker
     c.sweep_and_rest.new.taker c.args.desk.now.worker.kept (sweeps g (goal.at.returns-in-Ok-clause-run g c).In-None)
-    c.len.result c.len.ensures.value end.taken end.past end.made
+    c.len.result c.len.ensures.value end.taken end.out.past end.made
 
 pub returns-in-Ok-clause-waited : goal.returns-in-Ok-clause-waited
 returns-in-Ok-clause-waited g c =
@@ -47,7 +47,7 @@ returns-in-Ok-clause-waited g c =
     waited-told c.args.queue.now c.args.job.now g.S.Source c.args.desk.now.files.items c.args.desk.now.worker.worker
     c.sweep_and_rest.new.taker c.args.desk.now.worker.kept (sweeps g (goal.at.returns-in-Ok-clause-waited g c).In-None) bytes_of
     c.args.stand.now.rests rests c.len.result c.len.ensures.value end.taken
-    (subst (λ n. HasSweptTold bytes_of c.args.queue.now IsReturn (c.len.result + 1) n was now) all end.swept.2) end.told end.vain
+    (subst (λ n. HasSweptTold bytes_of c.args.queue.now IsReturn (c.len.result + 1) n was now) all end.swept.2) end.out.told end.out.vain
 
 pub returns-in-Ok-clause-number : goal.returns-in-Ok-clause-number
 returns-in-Ok-clause-number g c =

@@ -26,7 +26,7 @@ swept-once g c =
     let said = c.closed-over.ensures.looked in
     let its = c.in_ok-some.ensures in
     sweep-of c.args.topics said.0 (pass c.sweeps.taker) (pass c.closed-over.new.self) (pass c.sweep.new.taker) said.1
-    c.closed-over.ensures.in_run its.taken its.only its.emptied
+    c.closed-over.ensures.in_run its.taken its.emptied.1 its.emptied.0
 
 -- what it took and how often it rested pay for what it took in vain
 paid-at : (g : _) (c : In_ok-some g) (behind last rests : ℕ)
@@ -42,7 +42,7 @@ paid-at g c behind last rests paid was =
     let same = ap (λ l. length (takes_of l)) calls in
     let its = c.in_ok-some.ensures in
     vain-swept c.args.topics behind 0 c.sweeps.stand.rests last rests (pass c.sweeps.taker) asks (pass c.sweep.new.taker) calls
-    (ap (λ (x : PassStanding _). x.fulls) is) (ap (λ (x : PassStanding _). x.fulls) its.taken.pass) its.emptied.vain (sends-rise asks _ its.taken)
+    (ap (λ (x : PassStanding _). x.fulls) is) (ap (λ (x : PassStanding _). x.fulls) its.taken.pass) its.emptied.0.vain (sends-rise asks _ its.taken)
     (omega (arith, paid, same)) was
 
 pub sweeps-init : goal.sweeps-init
@@ -83,9 +83,6 @@ returns-then-over-clause-made g c =
     let its = c.in_ok-some.ensures in
     g.met.T.Taker.made_along _ _ _ _ (asked g at) its.taken (made-asked g at) its.made
 
-pub returns-then-over-clause-past : goal.returns-then-over-clause-past
-returns-then-over-clause-past g c = c.in_ok-some.ensures.emptied.past
-
 pub returns-then-over-clause-swept : goal.returns-then-over-clause-swept
 returns-then-over-clause-swept g c =
     let pass = g.T.Taker.pass in
@@ -103,16 +100,17 @@ returns-then-over-clause-swept g c =
       },
     )
 
-pub returns-then-over-clause-told : goal.returns-then-over-clause-told
-returns-then-over-clause-told g c =
+pub returns-then-over-clause-out : goal.returns-then-over-clause-out
+returns-then-over-clause-out g c =
     let said = c.closed-over.ensures.looked in
     let none : said.0 ≡ 0 = eqb-true said.0 0 (sym said.2 ∙ c.if-over.true) in
-    c.in_ok-some.ensures.only.gate ∙ ap (λ (x : PassStanding _). x.gate) said.1 ∙ ap Some none
-
-pub returns-then-over-clause-vain : goal.returns-then-over-clause-vain
-returns-then-over-clause-vain g c behind was =
     let rise = takes-rise (g.T.Taker.pass c.closed-over.new.self) (g.T.Taker.pass c.sweep.new.taker) c.in_ok-some.ensures.taken in
-    paid-at g (goal.at.returns-then-over-clause-vain g c).In_ok-some behind 1 c.sweeps.stand.rests (omega (arith, rise)) (c.sweeps.invariant.vain behind was)
+    record {
+      told = c.in_ok-some.ensures.emptied.1.gate ∙ ap (λ (x : PassStanding _). x.gate) said.1 ∙ ap Some none;
+      past = c.in_ok-some.ensures.emptied.0.past;
+      vain = λ behind was. paid-at g (goal.at.returns-then-over-clause-out g c).In_ok-some behind 1 c.sweeps.stand.rests (omega (arith, rise))
+          (c.sweeps.invariant.vain behind was);
+    }
 
 -- it took nothing, and rested
 pub sweeps-preserved-then-not-some : goal.sweeps-preserved-then-not-some
@@ -156,7 +154,7 @@ sweeps-preserved g c =
     let said = c.closed-over.ensures.looked in
     let its = c.in_ok-some.ensures in
     let full : c.in_ok-some.some ≡ true = c.if-not-some.false in
-    let more = its.more (ap Ok full) in
+    let more = (its.some (ap Ok full)).0 in
     let at_look = (goal.at.sweeps-preserved g c).After-closed-over in
     let at_some = (goal.at.sweeps-preserved g c).In_ok-some in
     record {

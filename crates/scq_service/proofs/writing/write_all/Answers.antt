@@ -21,5 +21,5 @@ loop-done-preserved g c =
       written = c.in_ok-done.ensures.appended
           ∙ ap (λ written. written_with written (take k (take (length bytes - done) (drop done bytes)))) c.loop-done.invariant.written
           ∙ written-then _ (take done bytes) _ ∙ ap (written_with (g.K.Sink.written c.args.sink.now)) front;
-      kept = c.in_ok-done.ensures.kept ∙ c.loop-done.invariant.kept;
+      kept = c.in_ok-done.ensures.counted.0.kept (λ e. cc) ∙ c.loop-done.invariant.kept;
     }

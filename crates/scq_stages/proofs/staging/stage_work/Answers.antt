@@ -35,7 +35,7 @@ returns-in-Err-clause-end g c =
 pub returns-in-Ok-make_queue-clause-end : goal.returns-in-Ok-make_queue-clause-end
 returns-in-Ok-make_queue-clause-end g c =
     let S = g.row.S.Denot in
-    subst (λ (v : Vec S Global). EndsStages c.args.job.now g.S.Source v.items c.wind_up.result) c.lay_out-laid.ensures.was c.wind_up.ensures.end
+    subst (λ (v : Vec S Global). EndsStages c.args.job.now g.S.Source v.items c.wind_up.result) c.lay_out-laid.ensures.laid.0 c.wind_up.ensures.end
 
 -- the passes were there when the queue was closed
 pub returns-in-Ok-make_queue-clause-behind : goal.returns-in-Ok-make_queue-clause-behind

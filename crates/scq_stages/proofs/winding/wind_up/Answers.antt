@@ -71,17 +71,17 @@ returns-clause-end g c =
     let whole = said.whole is.2 in
     let fed = said.fed is.1 in
     let gave = messages_given queue.setup queue size src sources desks f left_in said.closed whole fed in
-    let its_passes : wound.passes.value.items ≡ passes_at desks = said.passes.0 in
+    let its_passes : wound.passes.value.items ≡ passes_at desks = said.brought.passes in
     let Are : List (PassStanding Frame) → List (Vec Finished Global) → ℕ → Type 0 = λ ps ls n. HaveFinished n gave ps ls in
     subst Of (sym is.0) (
       gave,
       desks-gave queue.setup queue size src sources desks f left_in said.closed whole fed,
       record {
         staged = subst (λ (ps : List (PassStanding Frame)). Are ps wound.lists.items workers) (sym its_passes)
-            (subst (λ (ls : List (Vec Finished Global)). Are (passes_at desks) ls workers) (sym said.lists)
+            (subst (λ (ls : List (Vec Finished Global)). Are (passes_at desks) ls workers) (sym said.brought.lists)
             (subst (λ n. Are (passes_at desks) (lists_at desks) n) c.requires.count
             (desks-staged queue.setup queue size src sources desks f left_in said.closed whole fed)));
-        counts = said.counts ∙ ap (map (λ (p : PassStanding Frame). counts_of (lists_of p))) its_passes
+        counts = said.brought.counts ∙ ap (map (λ (p : PassStanding Frame). counts_of (lists_of p))) its_passes
             ∙ counts-exact (2 ^ 37) (omega arith) (passes_at desks) shared.bounded ∙ ap (map lengths_of) (sym its_passes);
       },
     )) in
@@ -97,10 +97,10 @@ returns-clause-end g c =
       left = record {
         setup = queue.setup;
         of_job = record { buffers = setup.0; rings = omega (arith, setup.1); seats = setup.2; limit = setup.3 };
-        shared = rw said.passes.1 shared;
+        shared = rw said.brought.closing shared;
       };
-      same = ok-more result _ _ ok (λ s is. said.passes.1 ∙ sym said.passes.0 ∙ ap (λ (x : Staged). x.passes.value.items) (sym is.0));
+      same = ok-more result _ _ ok (λ s is. said.brought.closing ∙ sym said.brought.passes ∙ ap (λ (x : Staged). x.passes.value.items) (sym is.0));
     }
 
 pub returns-clause-passes : goal.returns-clause-passes
-returns-clause-passes g c = c.wind_up_desks-sources.ensures.passes.1
+returns-clause-passes g c = c.wind_up_desks-sources.ensures.brought.closing

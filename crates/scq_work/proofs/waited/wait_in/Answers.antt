@@ -24,7 +24,7 @@ pub returns-clause-end : goal.returns-clause-end
 returns-clause-end g c =
     let S = g.row.S.Denot in
     subst (λ (v : Vec S Global). EndsWork c.args.job.now g.S.Source v.items c.wind_up-end.result.0)
-    c.lay_out-laid.ensures.was c.wind_up-end.ensures.end
+    c.lay_out-laid.ensures.laid.0 c.wind_up-end.ensures.end
 
 pub returns-clause-waited : goal.returns-clause-waited
 returns-clause-waited g c =

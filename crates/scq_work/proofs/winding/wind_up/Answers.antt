@@ -78,7 +78,7 @@ returns-clause-end g c =
     let worked : IfOk result Of = ok-more result _ Of ok (λ w is.
     let whole = said.whole is.2 in
     let answered = have-answered queue.setup queue topics size most longest src sources desks f left_in said.closed whole (said.fed is.1) in
-    let its_passes : wound.passes.value.items ≡ passes_at desks = said.passes.0 in
+    let its_passes : wound.passes.value.items ≡ passes_at desks = said.brought.passes in
     let gave = given queue.setup queue topics size most longest src sources desks f in
     let Are : List (PassStanding Frame) → List (List Answered) → ℕ → Type 0 = λ ps ls n. HaveAnswered topics size most n gave ps ls in
     subst Of (sym is.0) (
@@ -86,9 +86,9 @@ returns-clause-end g c =
       is-given queue.setup queue topics size most longest src sources desks f whole,
       record {
         answered = subst (λ (ps : List (PassStanding Frame)). Are ps wound.lists.items c.args.job.now.workers) (sym its_passes)
-            (subst (λ (ls : List (List Answered)). Are (passes_at desks) ls c.args.job.now.workers) (sym said.lists)
+            (subst (λ (ls : List (List Answered)). Are (passes_at desks) ls c.args.job.now.workers) (sym said.brought.lists)
             (subst (λ n. Are (passes_at desks) (lists_at desks) n) c.requires.count answered));
-        counts = said.counts ∙ ap (map (λ (p : PassStanding Frame). counts_of (lists_of p))) its_passes
+        counts = said.brought.counts ∙ ap (map (λ (p : PassStanding Frame). counts_of (lists_of p))) its_passes
             ∙ counts-exact (2 ^ 36) (omega arith) (passes_at desks) shared.bounded ∙ ap (map lengths_of) (sym its_passes);
       },
     )) in
@@ -104,15 +104,15 @@ returns-clause-end g c =
       none_stranded = record {
         setup = queue.setup;
         of_job = record { buffers = setup.0; rings = omega (arith, setup.1); seats = setup.2; limit = setup.3 };
-        shared = rw said.passes.1 shared;
+        shared = rw said.brought.closing shared;
       };
-      same = ok-more result _ _ ok (λ w is. said.passes.1 ∙ sym said.passes.0 ∙ ap (λ (x : Worked). x.passes.value.items) (sym is.0));
+      same = ok-more result _ _ ok (λ w is. said.brought.closing ∙ sym said.brought.passes ∙ ap (λ (x : Worked). x.passes.value.items) (sym is.0));
     }
 
 -- each pass says whether it was told that all had retired
 pub returns-clause-saw : goal.returns-clause-saw
-returns-clause-saw g c = c.wind_up_desks-sources.ensures.saw
+returns-clause-saw g c = c.wind_up_desks-sources.ensures.brought.saw
 
 -- the passes are those of the desks
 pub returns-clause-passes : goal.returns-clause-passes
-returns-clause-passes g c = c.wind_up_desks-sources.ensures.passes.1
+returns-clause-passes g c = c.wind_up_desks-sources.ensures.brought.closing

@@ -32,7 +32,7 @@ pub returns-in-Ok-make_queue-clause-end : goal.returns-in-Ok-make_queue-clause-e
 returns-in-Ok-make_queue-clause-end g c =
     let S = g.row.S.Denot in
     subst (λ (v : Vec S Global). EndsWork c.args.job.now g.S.Source v.items c.wind_up-end.result.0)
-    c.lay_out-laid.ensures.was c.wind_up-end.ensures.end
+    c.lay_out-laid.ensures.laid.0 c.wind_up-end.ensures.end
 
 -- the passes were there when the queue was closed
 pub returns-in-Ok-make_queue-clause-behind : goal.returns-in-Ok-make_queue-clause-behind

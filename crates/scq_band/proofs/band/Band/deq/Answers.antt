@@ -79,10 +79,6 @@ dequeue-found-requires-clause-alone g c κs within = c.seat.invariant.alone
 pub dequeue-found-requires-clause-idle : goal.dequeue-found-requires-clause-idle
 dequeue-found-requires-clause-idle g c κs within = (c.seat.invariant.idle, sym c.seat.invariant.spent ∙ c.in_default.is)
 
-pub returns-in-Ok-clause-index : goal.returns-in-Ok-clause-index
-returns-in-Ok-clause-index g c =
-    subst (λ (s : Setup). c.in-Ok.index < n_of s.order) (ap (λ (i : Identity g.row.B.Denot). i.setup) c.self.view_is) c.in-Ok.ensures.got.got.low
-
 -- the seat keeps a ticket
 still_spent : (g : _) (c : In-Some g) → c.args.seat.now.spent ≡ None → ⊥
 still_spent g c fresh =
@@ -120,17 +116,18 @@ gets-requires-clause-above g c =
 
 pub returns-in-Ok-clause-got : goal.returns-in-Ok-clause-got
 returns-in-Ok-clause-got g c =
-    got_standing g.B.Buffer.contents g.B.Buffer.IsSameBuffer c.seat.inside.token.me.0.seen c.dequeue-found.new.token.me.0.seen c.seat.inside.token.table_id
-    c.dequeue-found.new.token.table_id c.seat.inside.key.value (known_me c.seat.inside.token.me) (known_me c.dequeue-found.new.token.me) c.args.seat.now
-    c.args.ring c.in-Ok.place c.in-Ok.index c.seat.view_is c.dequeue-found.ensures.own.0 (got g (goal.at.returns-in-Ok-clause-got g c).In-Ok)
-
-pub returns-in-Ok-clause-place : goal.returns-in-Ok-clause-place
-returns-in-Ok-clause-place g c =
-    let at = (goal.at.returns-in-Ok-clause-place g c).In-Ok in
-    let numbers = c.seat.invariant.numbers ∙ ap (λ (s : Standing g.row.B.Denot). s.numbers) c.seat.view_is in (
-      subst (λ (s : Setup). c.in-Ok.place < s.limit) (ap (λ (i : Identity g.row.B.Denot). i.setup) c.self.view_is) c.in-Ok.ensures.got.below,
-      subst (λ (ns : List Numbers). (known_of ns c.args.ring).head ≤ c.in-Ok.place) numbers (above g at (got g at)),
-    )
+    let at = (goal.at.returns-in-Ok-clause-got g c).In-Ok in
+    let setup = ap (λ (i : Identity g.row.B.Denot). i.setup) c.self.view_is in
+    let numbers = c.seat.invariant.numbers ∙ ap (λ (s : Standing g.row.B.Denot). s.numbers) c.seat.view_is in
+    record {
+      taken =
+          got_standing g.B.Buffer.contents g.B.Buffer.IsSameBuffer c.seat.inside.token.me.0.seen c.dequeue-found.new.token.me.0.seen c.seat.inside.token.table_id
+          c.dequeue-found.new.token.table_id c.seat.inside.key.value (known_me c.seat.inside.token.me) (known_me c.dequeue-found.new.token.me) c.args.seat.now
+          c.args.ring c.in-Ok.place c.in-Ok.index c.seat.view_is c.dequeue-found.ensures.own.0 (got g at);
+      below = subst (λ (s : Setup). c.in-Ok.place < s.limit) setup c.in-Ok.ensures.got.below;
+      past = subst (λ (ns : List Numbers). (known_of ns c.args.ring).head ≤ c.in-Ok.place) numbers (above g at (got g at));
+      low = subst (λ (s : Setup). c.in-Ok.index < n_of s.order) setup c.in-Ok.ensures.got.got.low;
+    }
 
 pub finds_none-later-requires-clause-drawn : goal.finds_none-later-requires-clause-drawn
 finds_none-later-requires-clause-drawn g c =
@@ -183,35 +180,6 @@ invariant_of-seat-in-Nothing g c =
     _ c.seat.inside.numbers.items _ _ c.args.ring c.in-Nothing.drawn c.seat.invariant none.view none.slots
     (c.note_head.ensures ∙ ap (λ (x : Numbers). slice_set c.seat.inside.numbers.items c.args.ring x) (later-is g at.After-finds_none-later (knows g at.After-index-known)))
 
-pub returns-in-Nothing-clause-empty : goal.returns-in-Nothing-clause-empty
-returns-in-Nothing-clause-empty g c head is =
-    let at = goal.at.returns-in-Nothing-clause-empty g c in
-    let none = found g at.In-Nothing in
-    let r = c.args.ring in
-    let drawn = c.in-Nothing.drawn in
-    let numbers = c.seat.inside.numbers.items in
-    let setup = sym (ap (λ (i : Identity g.row.B.Denot). i.setup) c.requires.seat) in
-    let standing = c.seat.invariant.numbers ∙ ap (λ (s : Standing g.row.B.Denot). s.numbers) c.seat.view_is in
-    let there : r < length numbers = ring_there c.seat.inside.key.value c.seat.inside.token.me _ c.seat.view_is c.requires.seat c.seat.invariant.rings
-    c.requires.ring in
-    let answered : c.finds_none-later.result.head ≡ head = same_head is in
-    let end : (known_of c.dequeue-found.new.token.me.0.known.numbers r).head ≡ (empties (drew drawn (known_of numbers r))).head =
-    ap (λ (u : Known). (known_of u.numbers r).head) none.view
-    ∙ ap (λ (ns : List Numbers). (known_of (changed (λ x. empties (drew drawn x)) r ns) r).head) (sym c.seat.invariant.numbers)
-    ∙ ap (λ (x : Numbers). x.head) (known_here numbers r (empties (drew drawn (known_of numbers r))) there) in
-    record {
-      drawn = drawn;
-      seat =
-          none_standing g.B.Buffer.IsSameBuffer c.seat.inside.token.me.0.seen c.dequeue-found.new.token.me.0.seen c.seat.inside.token.table_id
-          c.dequeue-found.new.token.table_id c.seat.inside.key.value (known_me c.seat.inside.token.me) (known_me c.dequeue-found.new.token.me) c.args.seat.now r
-          drawn c.seat.view_is c.dequeue-found.ensures.own.0 none.view none.slots;
-      known = sym answered ∙ ap (λ (x : Numbers). x.head) (later-is g at.After-finds_none-later (knows g at.After-index-known)) ∙ sym end;
-      below = λ t drew_it. subst (λ (s : Setup). t < s.limit) setup (none.below t drew_it);
-      past =
-          λ t drew_it. subst (λ (ns : List Numbers). (known_of ns r).head ≤ t) standing
-          (known_so (λ x. x.head ≤ t) numbers _ r r c.seat.invariant.numbers refl there (none.past t drew_it));
-    }
-
 -- a call that ended is one of the run
 called : (g : _) (c : After-dequeue-found g) → {v : Known} → c.dequeue-found.new.token.me.0.known ≡ v → (my v).part.phase ≡ Idle
     → (my v).number ≡ (my c.seat.inside.token.me.0.known).number
@@ -237,24 +205,51 @@ returns-in-Nothing-clause-run g c fresh =
     let view = (found g at.In-Nothing).view in
     called g at.After-dequeue-found view refl refl
 
-pub returns-in-Nothing-clause-empty_in_run : goal.returns-in-Nothing-clause-empty_in_run
-returns-in-Nothing-clause-empty_in_run g c head is_empty =
-    let at = goal.at.returns-in-Nothing-clause-empty_in_run g c in
-    let view = (found g at.In-Nothing).view in
-    let there : c.args.ring < length c.dequeue-found.new.token.me.0.known.numbers =
+pub returns-in-Nothing-clause-empty : goal.returns-in-Nothing-clause-empty
+returns-in-Nothing-clause-empty g c head is =
+    let at = goal.at.returns-in-Nothing-clause-empty g c in
+    let none = found g at.In-Nothing in
+    let r = c.args.ring in
+    let drawn = c.in-Nothing.drawn in
+    let numbers = c.seat.inside.numbers.items in
+    let setup = sym (ap (λ (i : Identity g.row.B.Denot). i.setup) c.requires.seat) in
+    let standing = c.seat.invariant.numbers ∙ ap (λ (s : Standing g.row.B.Denot). s.numbers) c.seat.view_is in
+    let there : r < length numbers = ring_there c.seat.inside.key.value c.seat.inside.token.me _ c.seat.view_is c.requires.seat c.seat.invariant.rings
+    c.requires.ring in
+    let answered : c.finds_none-later.result.head ≡ head = same_head is in
+    let end : (known_of c.dequeue-found.new.token.me.0.known.numbers r).head ≡ (empties (drew drawn (known_of numbers r))).head =
+    ap (λ (u : Known). (known_of u.numbers r).head) none.view
+    ∙ ap (λ (ns : List Numbers). (known_of (changed (λ x. empties (drew drawn x)) r ns) r).head) (sym c.seat.invariant.numbers)
+    ∙ ap (λ (x : Numbers). x.head) (known_here numbers r (empties (drew drawn (known_of numbers r))) there) in
+    let known : head ≡ (known_of c.dequeue-found.new.token.me.0.known.numbers r).head =
+    sym answered ∙ ap (λ (x : Numbers). x.head) (later-is g at.After-finds_none-later (knows g at.After-index-known)) ∙ sym end in
+    let now_there : r < length c.dequeue-found.new.token.me.0.known.numbers =
     let kept = invariant_of-seat-in-Nothing g c in
-    subst (λ (ns : List Numbers). c.args.ring < length ns) kept.numbers
+    subst (λ (ns : List Numbers). r < length ns) kept.numbers
     (ring_there c.seat.inside.key.value c.seat.inside.token.me _ c.seat.view_is c.requires.seat kept.rings c.requires.ring) in
-    empty_seen g.B.Buffer.contents c.seat.inside.token.table_id c.dequeue-found.new.token.table_id c.self.inside.table.shared.table_id
-    c.seat.inside.key.value c.self.inside.table.shared.key c.args.self.now c.args.seat.now c.seat.inside.token.me c.dequeue-found.new.token.me c.args.ring head
-    c.seat.view_is c.requires.seat c.self.view_is c.dequeue-found.ensures.went c.seat.invariant.idle (ap (λ (u : Known). (my u).part.phase) view)
-    (ap (λ (u : Known). (my u).number) view) there (returns-in-Nothing-clause-empty g c head is_empty).known (ap (λ (u : Known). (my u).part.calls) view)
+    record {
+      seat =
+          record {
+            drawn = drawn;
+            seat =
+                none_standing g.B.Buffer.IsSameBuffer c.seat.inside.token.me.0.seen c.dequeue-found.new.token.me.0.seen c.seat.inside.token.table_id
+                c.dequeue-found.new.token.table_id c.seat.inside.key.value (known_me c.seat.inside.token.me) (known_me c.dequeue-found.new.token.me) c.args.seat.now r
+                drawn c.seat.view_is c.dequeue-found.ensures.own.0 none.view none.slots;
+            known = known;
+            below = λ t drew_it. subst (λ (s : Setup). t < s.limit) setup (none.below t drew_it);
+            past =
+                λ t drew_it. subst (λ (ns : List Numbers). (known_of ns r).head ≤ t) standing
+                (known_so (λ x. x.head ≤ t) numbers _ r r c.seat.invariant.numbers refl there (none.past t drew_it));
+          };
+      in_run =
+          empty_seen g.B.Buffer.contents c.seat.inside.token.table_id c.dequeue-found.new.token.table_id c.self.inside.table.shared.table_id
+          c.seat.inside.key.value c.self.inside.table.shared.key c.args.self.now c.args.seat.now c.seat.inside.token.me c.dequeue-found.new.token.me r head
+          c.seat.view_is c.requires.seat c.self.view_is c.dequeue-found.ensures.went c.seat.invariant.idle (ap (λ (u : Known). (my u).part.phase) none.view)
+          (ap (λ (u : Known). (my u).number) none.view) now_there known (ap (λ (u : Known). (my u).part.calls) none.view);
+    }
 
 pub returns-in-Ok-clause-empty : goal.returns-in-Ok-clause-empty
 returns-in-Ok-clause-empty g c head is = absurd (ok_no_err _ _ is)
-
-pub returns-in-Ok-clause-empty_in_run : goal.returns-in-Ok-clause-empty_in_run
-returns-in-Ok-clause-empty_in_run g c head is = absurd (ok_no_err _ _ is)
 
 pub returns-in-Ok-clause-spent : goal.returns-in-Ok-clause-spent
 returns-in-Ok-clause-spent g c ticket is fresh = absurd (ok_no_err _ _ is)
@@ -265,11 +260,5 @@ returns-in-Nothing-clause-spent g c ticket is fresh = absurd (empty_no_spent _ _
 pub returns-in-Spent-clause-empty : goal.returns-in-Spent-clause-empty
 returns-in-Spent-clause-empty g c head is = absurd (spent_no_empty _ _ is)
 
-pub returns-in-Spent-clause-empty_in_run : goal.returns-in-Spent-clause-empty_in_run
-returns-in-Spent-clause-empty_in_run g c head is = absurd (spent_no_empty _ _ is)
-
 pub returns-in-Some-clause-empty : goal.returns-in-Some-clause-empty
 returns-in-Some-clause-empty g c head is = absurd (spent_no_empty _ _ is)
-
-pub returns-in-Some-clause-empty_in_run : goal.returns-in-Some-clause-empty_in_run
-returns-in-Some-clause-empty_in_run g c head is = absurd (spent_no_empty _ _ is)

@@ -78,13 +78,14 @@ invariant_of-seat-in-Err g c = (refused g (goal.at.invariant_of-seat-in-Err g c)
 
 pub returns-in-Ok-clause-put : goal.returns-in-Ok-clause-put
 returns-in-Ok-clause-put g c =
-    laid_put g.B.Buffer.contents (laid g (goal.at.returns-in-Ok-clause-put g c).After-bring_to_front) c.enqueue.new.token.me
-    c.in-Ok.ensures.put c.ring.ensures.number c.in-Ok.ensures.own.0
-
-pub returns-in-Ok-clause-place : goal.returns-in-Ok-clause-place
-returns-in-Ok-clause-place g c =
-    laid_place g.B.Buffer.contents (laid g (goal.at.returns-in-Ok-clause-place g c).After-bring_to_front) c.self.inside.table.shared.key c.enqueue.new.token.me c.in-Ok.ensures.put c.ring.ensures.number
-    (ring_there c.seat.inside.key.value c.seat.inside.token.me _ c.seat.view_is c.requires.seat c.seat.invariant.rings c.requires.ring) c.self.view_is
+    let its = laid g (goal.at.returns-in-Ok-clause-put g c).After-bring_to_front in
+    let place = laid_place g.B.Buffer.contents its c.self.inside.table.shared.key c.enqueue.new.token.me c.in-Ok.ensures.put c.ring.ensures.number
+    (ring_there c.seat.inside.key.value c.seat.inside.token.me _ c.seat.view_is c.requires.seat c.seat.invariant.rings c.requires.ring) c.self.view_is in
+    record {
+      below = place.0;
+      above = place.1;
+      seat = laid_put g.B.Buffer.contents its c.enqueue.new.token.me c.in-Ok.ensures.put c.ring.ensures.number c.in-Ok.ensures.own.0;
+    }
 
 pub returns-in-Err-clause-spent : goal.returns-in-Err-clause-spent
 returns-in-Err-clause-spent g c fresh =

@@ -15,16 +15,16 @@ pub returns-then-count-eq0-clause-files : goal.returns-then-count-eq0-clause-fil
 returns-then-count-eq0-clause-files g c = λ count is all. c.take_last.ensures.files count is (c.reads.invariant.files count is all)
 
 pub returns-then-size-gt-MOST_BYTES-clause-given : goal.returns-then-size-gt-MOST_BYTES-clause-given
-returns-then-size-gt-MOST_BYTES-clause-given g c = given_last _ _ _ _ _ _ (take c.in-Ok.count c.read.new.into) c.reads.invariant.source c.in-Ok.ensures.moved c.in-Ok.ensures.kept
+returns-then-size-gt-MOST_BYTES-clause-given g c = given_last _ _ _ _ _ _ (take c.in-Ok.count c.read.new.into) c.reads.invariant.source c.in-Ok.ensures.moved (c.in-Ok.ensures.counted.0.kept (λ e. cc))
 
 pub returns-in_err-extend_from_slice-clause-given : goal.returns-in_err-extend_from_slice-clause-given
-returns-in_err-extend_from_slice-clause-given g c = given_last _ _ _ _ _ _ (take c.in-Ok.count c.read.new.into) c.reads.invariant.source c.in-Ok.ensures.moved c.in-Ok.ensures.kept
+returns-in_err-extend_from_slice-clause-given g c = given_last _ _ _ _ _ _ (take c.in-Ok.count c.read.new.into) c.reads.invariant.source c.in-Ok.ensures.moved (c.in-Ok.ensures.counted.0.kept (λ e. cc))
 
 pub returns-in_err-taken-clause-given : goal.returns-in_err-taken-clause-given
-returns-in_err-taken-clause-given g c = given_last _ _ _ _ _ _ (take c.in-Ok.count c.read.new.into) c.reads.invariant.source c.in-Ok.ensures.moved c.in-Ok.ensures.kept
+returns-in_err-taken-clause-given g c = given_last _ _ _ _ _ _ (take c.in-Ok.count c.read.new.into) c.reads.invariant.source c.in-Ok.ensures.moved (c.in-Ok.ensures.counted.0.kept (λ e. cc))
 
 pub returns-in_err-front-clause-given : goal.returns-in_err-front-clause-given
-returns-in_err-front-clause-given g c = given_last _ _ _ _ _ _ (take c.in-Ok.count c.read.new.into) c.reads.invariant.source c.in-Ok.ensures.moved c.in-Ok.ensures.kept
+returns-in_err-front-clause-given g c = given_last _ _ _ _ _ _ (take c.in-Ok.count c.read.new.into) c.reads.invariant.source c.in-Ok.ensures.moved (c.in-Ok.ensures.counted.0.kept (λ e. cc))
 
 pub returns-in_err-extend_from_slice-clause-refused : goal.returns-in_err-extend_from_slice-clause-refused
 returns-in_err-extend_from_slice-clause-refused g c = handed_on c.from_residual.result NoMemory _ c.from_residual.ensures.1 tt
@@ -63,5 +63,5 @@ reads-preserved g c =
           (let count = length-take-le c.in-Ok.count c.read.new.into (let within = c.in-Ok.ensures.within in omega arith) in omega arith);
       files = λ count is all. c.in_ok-taken.ensures.files count is (c.reads.invariant.files count is all);
       source = taken_more g.S.Source.faults g.S.Source.ends g.S.Source.left c.args.source.now c.reads.source c.read.new.self piece
-          c.reads.invariant.source c.in-Ok.ensures.moved c.in-Ok.ensures.kept (c.in-Ok.ensures.not_ended (not_end _ _ c.in-Ok.count refl refl (grind arith)));
+          c.reads.invariant.source c.in-Ok.ensures.moved (c.in-Ok.ensures.counted.0.kept (λ e. cc)) (c.in-Ok.ensures.ended.kept (not_end _ _ c.in-Ok.count refl refl (grind arith)));
     }

@@ -1,4 +1,4 @@
-use Rattle.std.proofs.Common.{◌≡◌, arith, subst, Ok}
+use Rattle.std.proofs.Common.{◌≡◌, refl, arith, subst, Ok}
 use Rattle.std.specs.Prelude.{string_bytes}
 use Rattle.std.proofs.lemmas.List.{length-map}
 use Rattle.scq_judge.specs.Exports.{recording_of}
@@ -12,7 +12,7 @@ files-preserved g c =
     let next = next-name string_bytes c.args.names.now c.files.got.items c.files.name-index c.name-item.result c.as_str.result.now so.count c.files-test.true c.as_str.ensures.value c.name-item.is in
     let said = c.in-Ok.ensures in
     let got : SourceIsGot g.F.Files g.F.Src.Source c.as_str.result.now c.files.files c.source.new.self c.in-Ok.source =
-    record { given = said.given; fresh = said.fresh; content = said.content; kept = said.kept } in
+    record { given = said.given; fresh = said.fresh; content = said.content; kept = said.counted.0.kept (λ e. cc) } in
     rw (c.with-got.ensures, c.and-sources.ensures) (one-more so c.read-read.new.source next got c.in-Ok-read.ensures.lone (c.in-Ok-read.ensures.read c.files.got.items c.files.sources.items so.read))
 
 pub returns-in-Err-clause-got : goal.returns-in-Err-clause-got
@@ -20,7 +20,7 @@ returns-in-Err-clause-got g c =
     let so = c.files.invariant in
     let next = next-name string_bytes c.args.names.now c.files.got.items c.files.name-index c.name-item.result c.as_str.result.now so.count c.files-test.true c.as_str.ensures.value c.name-item.is in
     let said = c.in-Err.ensures in
-    let miss : IsMissed g.F.Files c.as_str.result.now c.files.files c.source.new.self = record { unchanged = said.unchanged; missing = said.missing; rose = said.rose } in
+    let miss : IsMissed g.F.Files c.as_str.result.now c.files.files c.source.new.self = record { unchanged = said.unchanged; missing = said.missing; rose = said.counted.0.rose refl } in
     missed-got so next miss
 
 pub returns-in-Err-clause-refused : goal.returns-in-Err-clause-refused
@@ -28,7 +28,7 @@ returns-in-Err-clause-refused g c = λ w unwritten.
     let so = c.files.invariant in
     let next = next-name string_bytes c.args.names.now c.files.got.items c.files.name-index c.name-item.result c.as_str.result.now so.count c.files-test.true c.as_str.ensures.value c.name-item.is in
     let said = c.in-Err.ensures in
-    let miss : IsMissed g.F.Files c.as_str.result.now c.files.files c.source.new.self = record { unchanged = said.unchanged; missing = said.missing; rose = said.rose } in
+    let miss : IsMissed g.F.Files c.as_str.result.now c.files.files c.source.new.self = record { unchanged = said.unchanged; missing = said.missing; rose = said.counted.0.rose refl } in
     missed-ends so c.args.room w next miss unwritten
 
 pub returns-in-Err-read-clause-got : goal.returns-in-Err-read-clause-got
@@ -37,7 +37,7 @@ returns-in-Err-read-clause-got g c =
     let next = next-name string_bytes c.args.names.now c.files.got.items c.files.name-index c.name-item.result c.as_str.result.now so.count c.files-test.true c.as_str.ensures.value c.name-item.is in
     let said = c.in-Ok.ensures in
     let got : SourceIsGot g.F.Files g.F.Src.Source c.as_str.result.now c.files.files c.source.new.self c.in-Ok.source =
-    record { given = said.given; fresh = said.fresh; content = said.content; kept = said.kept } in
+    record { given = said.given; fresh = said.fresh; content = said.content; kept = said.counted.0.kept (λ e. cc) } in
     stopped-got so c.read-read.new.source next got (c.in-Err-read.ensures.stopped c.files.got.items c.files.sources.items so.read) _ _ c.with-got.ensures c.and-sources.ensures
 
 pub returns-in-Err-read-clause-refused : goal.returns-in-Err-read-clause-refused
@@ -46,7 +46,7 @@ returns-in-Err-read-clause-refused g c = λ w unwritten.
     let next = next-name string_bytes c.args.names.now c.files.got.items c.files.name-index c.name-item.result c.as_str.result.now so.count c.files-test.true c.as_str.ensures.value c.name-item.is in
     let said = c.in-Ok.ensures in
     let got : SourceIsGot g.F.Files g.F.Src.Source c.as_str.result.now c.files.files c.source.new.self c.in-Ok.source =
-    record { given = said.given; fresh = said.fresh; content = said.content; kept = said.kept } in
+    record { given = said.given; fresh = said.fresh; content = said.content; kept = said.counted.0.kept (λ e. cc) } in
     stopped-ends so c.read-read.new.source c.args.room w next got (c.in-Err-read.ensures.stopped c.files.got.items c.files.sources.items so.read) unwritten _ _ _ c.with-got.ensures
     c.and-sources.ensures c.from.ensures
 
