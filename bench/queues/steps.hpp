@@ -4,12 +4,16 @@
 using Word = std::atomic<uint64_t>;
 
 constexpr uint64_t ZERO_LEVEL = uint64_t(1) << 32;
-constexpr size_t DISTANCE = 16; // of the gate, Tail, Head and Threshold, in words, as in `scq_band`
+constexpr size_t DISTANCE = 16;             // of the gate, Tail, Head and Threshold, in words, as in `scq_band`
+constexpr uint32_t LARGEST_LINED_ORDER = 7; // up to which each entry has a cache line to itself, likewise
 
-// A ring: its Tail, Head and Threshold, behind which the entries stand by slot, and what a call needs of the setup.
+// How many rows of eight words the entries of a ring take, as a power of two.
+static inline uint32_t column_bits(uint32_t order) { return order <= LARGEST_LINED_ORDER ? order + 1 : order - 2; }
+
+// A ring: its Tail, Head and Threshold, behind which the entries stand, and what a call needs of the setup.
 struct Ring {
     Word *tail, *head, *threshold;
-    uint32_t order;
+    uint32_t order, column;
     uint64_t limit, level;
 
     uint64_t slots() const { return uint64_t(2) << order; }
@@ -19,11 +23,12 @@ struct Ring {
     bool is_safe(uint64_t entry) const { return entry & slots(); }
     bool has_index(uint64_t entry) const { return (entry & mark()) != mark(); }
     uint64_t packed(uint64_t cycle, uint64_t safe, uint64_t index) const { return cycle << (order + 2) | safe | index; }
-    uint64_t slot(uint64_t ticket) const {
-        const uint64_t rest = ticket & mark();
-        return order < 3 ? rest : (rest & (slots() / 8 - 1)) * 8 + (rest >> (order - 2));
+    // Of the cycle before, safe, without an index.
+    uint64_t guess(uint64_t ticket) const { return packed(cycle(ticket) - 1, slots(), mark()); }
+    Word &entry(uint64_t ticket) const {
+        const uint64_t row = ticket & ((uint64_t(1) << column) - 1);
+        return threshold[DISTANCE + row * 8 + ((ticket & mark()) >> column)];
     }
-    Word &entry(uint64_t ticket) const { return threshold[DISTANCE + slot(ticket)]; }
 };
 
 // All rings, in one list of words. Ring 0 has all indices.
@@ -48,28 +53,35 @@ struct Rings {
             }
         }
     }
-    static size_t ring_words(uint32_t order) { return 4 * DISTANCE - 1 + (size_t(2) << order); }
+    static size_t ring_words(uint32_t order) { return 4 * DISTANCE - 1 + (size_t(8) << column_bits(order)); }
     Ring ring(uint32_t number) {
         Word *tail = words.data() + DISTANCE + number * ring_words(order);
-        return Ring{tail, tail + DISTANCE, tail + 2 * DISTANCE, order, limit, level};
+        return Ring{tail, tail + DISTANCE, tail + 2 * DISTANCE, order, column_bits(order), limit, level};
     }
 };
+
+// Whether the index was placed at the ticket.
+static INLINE bool place(const Ring &r, uint64_t ticket, uint32_t index) {
+    Word &entry = r.entry(ticket);
+    const uint64_t filled = r.packed(r.cycle(ticket), r.slots(), index);
+    uint64_t found = r.guess(ticket);
+    if (entry.compare_exchange_strong(found, filled)) return true;
+    for (;;) {
+        if (r.cycle_in(found) >= r.cycle(ticket) || r.has_index(found)) return false;
+        if (!r.is_safe(found) && r.head->load() > ticket) return false;
+        if (entry.compare_exchange_strong(found, filled)) return true;
+        found = entry.load();
+    }
+}
 
 // Whether the index was put.
 static INLINE bool enq(const Ring r, uint32_t index) {
     for (;;) {
         const uint64_t ticket = r.tail->fetch_add(1);
         if (ticket >= r.limit) return false;
-        Word &entry = r.entry(ticket);
-        for (;;) {
-            uint64_t found = entry.load();
-            if (r.cycle_in(found) >= r.cycle(ticket) || r.has_index(found)) break;
-            if (!r.is_safe(found) && r.head->load() > ticket) break;
-            if (entry.compare_exchange_strong(found, r.packed(r.cycle(ticket), r.slots(), index))) {
-                if (r.threshold->load() != r.level) r.threshold->store(r.level);
-                return true;
-            }
-        }
+        if (!place(r, ticket, index)) continue;
+        if (r.threshold->load() != r.level) r.threshold->store(r.level);
+        return true;
     }
 }
 

@@ -8,7 +8,7 @@ use Rattle.scq_word.specs.Exports.{n_of}
 use Rattle.scq_core.specs.declared.phase.Phase.{Phase}
 use Rattle.scq_core.specs.declared.phase.Phase.TheVariants.{Idle, AtE1, AtE2}
 use Rattle.scq_core.specs.declared.step.Step.TheVariants.{E1, E1Again}
-use Rattle.scq_core.specs.Exports.{holds_index, turn_at, goes_on, spends, tail_of}
+use Rattle.scq_core.specs.Exports.{ring_slots, holds_index, turn_at, goes_on, spends, tail_of}
 use Rattle.scq_band.specs.declared.numbers.Numbers.{Numbers}
 use Rattle.scq_band.specs.declared.ring.Ring.{Ring}
 use Rattle.scq_band.specs.declared.slot.Slot.{Slot}
@@ -97,6 +97,7 @@ pub record DrewFromTail {S : Type 0} (c : Setup) (v : Known) (slots : List (ℕ 
   pub past : c.limit ≤ x → later.0 ≡ spent_at r x true v
   pub kept : later.1 ≡ slots
   pub above : (known : Numbers) → slice_get v.numbers r ≡ Some known → known.seen < x
+  pub past_first : ring_slots c ≤ x
 
 pub drew_from_tail : {S : Type 0} (Lies : ℕ → S → List ℕ → Type 0) (c : Setup) (v : Known) (slots : List (ℕ × S)) (me later : Me S Known) (turn : Phase)
     (x r i : ℕ) (w : List ℕ) (l : ℕ) → turn ≡ AtE1 r i w l → IsAlone v → me.0 ≡ goes_to (my_phase me.0) v → me.1 ≡ slots → Turned Lies c turn me x later
@@ -107,4 +108,5 @@ drew_from_tail Lies c v slots me later turn x r i w l is alone went same turned 
       past = λ past. drew_past Lies c v me later turn x r i w l is alone went past turned;
       kept = (turned_as is turned).slots ∙ same;
       above = drew_above Lies c v me later turn x r i w l is went turned;
+      past_first = (turned_as is turned).past_first;
     }

@@ -81,7 +81,8 @@ ground c m k s t reach low enabled =
       ready = ready_turn c m.cells (m.part k).hand t busy (words_fit c m reach) (has_indices c m reach) wakes;
       finds = (retries_rise c m reach).finds k s t enabled;
       covers = threshold_covers c m reach;
-      first = calm.heads;
+      tails = calm.tails;
+      heads = calm.heads;
       got =
           λ r h is.
           let answer = places.answered k r h (takes_phase c (m.part k) s r h (enabled ∙ ap Some is)) in

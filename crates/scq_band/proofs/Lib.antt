@@ -1,4 +1,5 @@
 pub mod Refusals
+pub mod EntryOffsets
 pub mod Layouts
 pub mod WordLemmas
 pub mod Handles
@@ -18,6 +19,8 @@ pub mod RingLists
 pub mod PutOutcomes
 pub mod RingWords
 pub mod Placing
+pub mod Guessing
+pub mod Looking
 pub mod Ending
 pub mod Drawing
 pub mod Seeking

@@ -22,7 +22,7 @@ use Rattle.scq_core.proofs.UpdatedLemmas.{updated_here, updated_else}
 use Rattle.scq_law.specs.Exports.{times, OneHand, ThresholdCovers, FindsAtLeast, recorded_after}
 use Rattle.scq_band.specs.declared.numbers.Numbers.{Numbers}
 use Rattle.scq_band.specs.Exports.{at, IsLocation, Member, Scene, LeadsTo, Has, IsMember, Owns, IsView, learned, turned_member, made, FindsIndex}
-use Rattle.scq_band.specs.Exports.{Draws, MayTurn, Carries, Turned, my, my_of}
+use Rattle.scq_band.specs.Exports.{Draws, IsPastFirstRound, MayTurn, Carries, Turned, my, my_of}
 use Rattle.scq_band.specs.Known.{Known}
 use Rattle.scq_band.specs.Shown.{Shown}
 use Rattle.scq_law.proofs.Replays.LongerRuns.{run_last}
@@ -44,7 +44,8 @@ pub record Ground (c : Setup) (m : Machine) (k : ℕ) (t : Phase) : Type 0 where
   pub ready : IsReady c t (read m.cells (location_of c t))
   pub finds : FindsAtLeast c t (read m.cells (location_of c t))
   pub covers : ThresholdCovers c m
-  pub first : (r : ℕ) → ring_slots c ≤ m.cells.head r
+  pub tails : (r : ℕ) → ring_slots c ≤ m.cells.tail r
+  pub heads : (r : ℕ) → ring_slots c ≤ m.cells.head r
   pub got : (r h : ℕ) → t ≡ AtD4 r h → h < m.cells.tail r
   pub up : CountersRise m.cells (moved c m k t).cells
   pub stay : FinishedStay c m (moved c m k t)
@@ -57,6 +58,13 @@ draws_above : (c : Setup) (m : Machine) (t : Phase) (numbers : List Numbers) →
 draws_above c m (AtE1 r i w l) numbers all = λ x e. (all r x e).seen
 draws_above c m (AtD2 r l) numbers all = λ x e. (all r x e).head
 draws_above c m t numbers all = tt
+
+-- and past the first round
+past_first_round : (c : Setup) (m : Machine) (t : Phase) → ((r : ℕ) → ring_slots c ≤ m.cells.tail r) → ((r : ℕ) → ring_slots c ≤ m.cells.head r)
+    → IsPastFirstRound c t (read m.cells (location_of c t))
+past_first_round c m (AtE1 r i w l) tails heads = tails r
+past_first_round c m (AtD2 r l) tails heads = heads r
+past_first_round c m t tails heads = tt
 
 -- where a get takes, an index stands
 finds_index : (c : Setup) (m : Machine) (t : Phase) → ((r h : ℕ) → t ≡ AtD4 r h → is_none_in (ring_slots c) (word_at c m.cells r h) ≡ false)
@@ -184,7 +192,7 @@ module _ {S : Type 0} (Lies : ℕ → S → List ℕ → Type 0) where
                         subst (λ (xs : List Member). Owns Lies c (record sh.scene { state = moved c m k t }) (homes_after s.homes me.1 h.act) id
                         (map (turned_member c t (read m.cells l) (beside m.cells l)) xs)) (sym may.alone)
                         (owns_own c sh.scene s.homes (homes_after s.homes me.1 h.act) id t may.member may.out x_is);
-                    numbers = learned_true c m k t me.0.numbers g.busy g.up g.stay g.covers g.first g.got mine.numbers;
+                    numbers = learned_true c m k t me.0.numbers g.busy g.up g.stay g.covers g.heads g.got mine.numbers;
                     rings = rings_told c t (read m.cells l) (beside m.cells l) me.0 mine.rings;
                     last_gate = mine.last_gate;
                   } in
@@ -247,6 +255,7 @@ module _ {S : Type 0} (Lies : ℕ → S → List ℕ → Type 0) where
         stands = finds_index c m t g.stands;
         ready = g.ready;
         draws = draws_above c m t me.0.numbers mine.numbers;
+        past_first = past_first_round c m t g.tails g.heads;
         fits =
             hand_of_made (λ h. length h ≤ n_of c.order) c t (read m.cells l) (beside m.cells l) me.0 may.member may.alone
             (subst (λ (p : SeatPart). length (after c t (read m.cells l) (beside m.cells l) p).hand ≤ n_of c.order) x_is.part

@@ -65,7 +65,7 @@ exchange_says c turn x old new is = absurd is
 pub reset_tells : {S : Type 0} (Lies : ℕ → S → List ℕ → Type 0) (c : Setup) (t : Phase) (me later : Me S Known) (x y : ℕ) → IsReset t
     → Turned Lies c t me x later → Turned Lies c t me y later
 reset_tells Lies c (AtE6 r i w t) me later x y is told =
-    record { beside = told.beside; view = told.view; slots = told.slots; found = tt; stands = tt; ready = tt; draws = tt; fits = told.fits; once = told.once }
+    record { beside = told.beside; view = told.view; slots = told.slots; found = tt; stands = tt; ready = tt; draws = tt; past_first = tt; fits = told.fits; once = told.once }
 reset_tells Lies c turn me later x y is told = absurd is
 
 pub reset_says : (c : Setup) (t : Phase) (x level : ℕ) → IsReset t → level ≡ reset_level c → level ≡ writes c t x

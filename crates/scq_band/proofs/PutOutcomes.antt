@@ -19,11 +19,6 @@ abbrev pub takes_an_index : Setup → ℕ → ℕ → Bool
 takes_an_index c t x = nat_lt (cycle_in (ring_slots c) x) (cycle c t) && is_none_in (ring_slots c) x
 
 module _ {S : Type 0} (Lies : ℕ → S → List ℕ → Type 0) (c : Setup) (me later : Me S Known) (turn : Phase) (x r i : ℕ) (w : List ℕ) where
-  pub saw_unsafe : (t l : ℕ) → turn ≡ AtE2 r i w t l → IsAlone me.0 → takes_an_index c t x ≡ true → (safe_in (ring_slots c) x == 1) ≡ false
-      → Turned Lies c turn me x later → later.0 ≡ goes_to (AtE3 r i w t x) me.0
-  saw_unsafe t l is alone does unsafe turned =
-      goes_as Lies c turn (AtE2 r i w t l) me later x (goes_on (AtE3 r i w t x) (my me.0).part) is alone (λ y. rw (does, unsafe) refl) turned
-
   pub saw_vacant : (t l : ℕ) → turn ≡ AtE2 r i w t l → IsAlone me.0 → IsPlainlyVacant c t x → Turned Lies c turn me x later
       → later.0 ≡ goes_to (AtE4 r i w t x) me.0
   saw_vacant t l is alone vacant turned =

@@ -3,16 +3,16 @@ use Rattle.std.proofs.Common.{◌≡◌, ℕ, ◌*◌, ◌^◌, ◌<◌, ◌≤�
 use Rattle.std.proofs.Math.Nat.{mul-le-mul_right}
 use Rattle.scq_word.specs.declared.setup.Setup.{Setup}
 use Rattle.scq_core.specs.Exports.{Location, tail_of, head_of, threshold_of}
-use Rattle.scq_core.proofs.Entries.{few_indices}
 use Rattle.scq_band.specs.declared.ring.Ring.{Ring}
 use Rattle.scq_band.specs.Exports.{ring_words, distance, word_count, at, entry_at, IsLocation, IsRing}
+use Rattle.scq_band.proofs.EntryOffsets.{columns_few}
 use Rattle.scq_band.proofs.Layouts.{at_low}
 use Rattle.scq_band.proofs.Grounds.{tail_location, head_location, threshold_location, entry_location}
 
 -- a table has few words
 pub few_words : (c : Setup) → word_count c < 2 ^ 32
 few_words c =
-    let few = few_indices c in
+    let few = columns_few c.order c.order_in_range.1 in
     let rings = c.rings_in_range in
     let le : c.rings * ring_words distance c ≤ 18 * ring_words distance c = mul-le-mul_right (ring_words distance c) (omega arith) in
     omega arith

@@ -43,6 +43,18 @@ safe_bits c x mark is =
     let bits : 2 * mark + 1 ≡ 2 ^ (o + 1 + 1) - 1 = omega (arith, is, twice, pow, some) in
     subst (λ (k : ℕ). bit_and x (2 * mark + 1) ≡ x % k) twice (masked (o + 1) (o + 1 + 1) (2 * mark + 1) x refl bits)
 
+-- such a word of an earlier cycle is plainly vacant
+vacant_of : (c : Setup) (t q x : ℕ) → x ≡ packed (ring_slots c) q 1 (ring_slots c - 1) → q < cycle c t → IsPlainlyVacant c t x
+vacant_of c t q x is earlier =
+    let m = ring_slots c in
+    let some = n_of_some c.order in
+    let fits : m - 1 < m = omega (arith, some) in
+    record {
+      earlier = subst (λ (k : ℕ). k < cycle c t) (sym (ap (cycle_in m) is ∙ cycle_in-packed m q 1 (m - 1) fits (omega arith))) earlier;
+      none = ap (λ (k : ℕ). k == mark_of m) (ap (index_in m) is ∙ index_in-packed m q 1 (m - 1) fits) ∙ eq-eqb (mark_of m) (mark_of m) refl;
+      safe = ap (safe_in m) is ∙ safe_in-packed m q 1 (m - 1) fits (omega arith);
+    }
+
 pub plainly_vacant : (c : Setup) (t x new mark : ℕ) → mark ≡ mark_of (ring_slots c) → IsFilled c t new → x < new → bit_and x (2 * mark + 1) ≡ 2 * mark + 1
     → IsPlainlyVacant c t x
 plainly_vacant c t x new mark mark_is filled low all =
@@ -52,14 +64,7 @@ plainly_vacant c t x new mark mark_is filled low all =
     let bits = safe_bits c x mark mark_is in
     let q = x / (2 * m) in
     let is : x ≡ packed m q 1 (m - 1) = all_set m x (omega (arith, some)) (omega (arith, bits, all, mark_is, some)) in
-    let fits : m - 1 < m = omega (arith, some) in
-    record {
-      earlier =
-          subst (λ (k : ℕ). k < cycle c t) (sym (ap (cycle_in m) is ∙ cycle_in-packed m q 1 (m - 1) fits (omega arith)))
-          (earlier_of m q (cycle c t) filled.index x (omega (arith, small)) is (subst (λ (k : ℕ). x < k) filled.is low));
-      none = ap (λ (k : ℕ). k == mark_of m) (ap (index_in m) is ∙ index_in-packed m q 1 (m - 1) fits) ∙ eq-eqb (mark_of m) (mark_of m) refl;
-      safe = ap (safe_in m) is ∙ safe_in-packed m q 1 (m - 1) fits (omega arith);
-    }
+    vacant_of c t q x is (earlier_of m q (cycle c t) filled.index x (omega (arith, small)) is (subst (λ (k : ℕ). x < k) filled.is low))
 
 -- twice a ticket's round is the round of the entries of its cycle
 rounds : (c : Setup) (t mark : ℕ) → mark ≡ mark_of (ring_slots c) → 2 * (t - bit_and t mark) ≡ cycle c t * (2 * ring_slots c)
@@ -78,6 +83,29 @@ filled_is c t i mark is =
     let some = n_of_some c.order in
     let turn = rounds c t mark is in
     omega (arith, turn, is, some)
+
+-- the guess is of the cycle before a ticket's, safe, and has no index
+pub guess_is : (c : Setup) (t mark : ℕ) → mark ≡ mark_of (ring_slots c) → mark < t → IsPlainlyVacant c t (2 * (t - bit_and t mark) - 1)
+unfolding cycle_of packed
+guess_is c t mark mark_is later =
+    let m = ring_slots c in
+    let some = n_of_some c.order in
+    let parts : t / m * m + t % m ≡ t = div-add-mod' t m in
+    let low = mod_below t m (omega (arith, some)) in
+    let turn = rounds c t mark mark_is in
+    let q = t / m - 1 in
+    let first : 0 < t / m =
+    elim (cases_lt 0 (t / m)) [
+      | inl above ↦ above
+      | inr none ↦
+          let zero : t / m ≡ 0 = omega (arith, none) in
+          let product : t / m * m ≡ 0 * m = ap (λ (k : ℕ). k * m) zero in
+          absurd (omega (arith, product, parts, low, later, mark_is, some))
+    ] in
+    let next : t / m ≡ q + 1 = omega (arith, first) in
+    let product : t / m * (2 * m) ≡ q * (2 * m) + 2 * m = ap (λ (k : ℕ). k * (2 * m)) next ∙ grind arith in
+    let is : 2 * (t - bit_and t mark) - 1 ≡ packed m q 1 (m - 1) = omega (arith, turn, product, some) in
+    vacant_of c t q (2 * (t - bit_and t mark) - 1) is (omega (arith, next))
 
 -- the bits above those of a slot in a ticket, and above those of an index and the safe bit in an entry
 high_bits : (c : Setup) (x t : ℕ) → bit_xor (x / 2) t / ring_slots c ≡ bit_xor (cycle_in (ring_slots c) x) (cycle c t)

@@ -6,15 +6,15 @@ use Rattle.std.proofs.lemmas.List.{length-set, get_or-set_same, get_or-set_other
 use Rattle.scq_word.specs.declared.setup.Setup.{Setup}
 use Rattle.scq_core.specs.Exports.{Location, read, start_cells}
 use Rattle.scq_band.specs.declared.slot.Slot.{Slot}
-use Rattle.scq_band.specs.Exports.{ring_at, IsLocation, offset_of, gate_word, at, full_slot, lifted, AllLaid, WordsAreOpened}
-use Rattle.scq_band.proofs.Layouts.{same_offset, at_low, at_some, at_apart}
+use Rattle.scq_band.specs.Exports.{ring_at, IsLocation, number_in_ring, gate_word, at, full_slot, lifted, AllLaid, WordsAreOpened}
+use Rattle.scq_band.proofs.Layouts.{same_number, at_low, at_some, at_apart}
 
 -- where a word stands, there is room for one
 pub stands_low : (c : Setup) (words : List ℕ) (r o i : ℕ) (l : Location) → WordsAreOpened c words r o → IsLocation c l → i ≡ at c l → i < length words
 stands_low c words r o i l before here at_l = let low = at_low c l here in let many = before.count in omega (arith, low, at_l, many)
 
 -- one word more is put where it stands
-pub opens_next : (c : Setup) (words : List ℕ) (r o i x : ℕ) (l : Location) → WordsAreOpened c words r o → IsLocation c l → ring_at l ≡ r → offset_of 1 l ≡ o
+pub opens_next : (c : Setup) (words : List ℕ) (r o i x : ℕ) (l : Location) → WordsAreOpened c words r o → IsLocation c l → ring_at l ≡ r → number_in_ring l ≡ o
     → i ≡ at c l → x ≡ read (start_cells c []) l → WordsAreOpened c (slice_set words i x) r (suc o)
 opens_next c words r o i x l before here ring offset at_l is =
     rw at_l (record {
@@ -32,11 +32,11 @@ opens_next c words r o i x l before here ring offset at_l is =
                   | inr near ↦
                       inr (
                         near.0,
-                        elim (cases_lt (offset_of 1 k) o) [
+                        elim (cases_lt (number_in_ring k) o) [
                           | inl low ↦ low
                           | inr high ↦
-                              let last : offset_of 1 k ≡ offset_of 1 l = let less = near.1 in omega (arith, less, high, offset) in
-                              absurd (apart (ap (at c) (same_offset 1 k l (omega arith) (near.0 ∙ sym ring) last)))
+                              let last : number_in_ring k ≡ number_in_ring l = let less = near.1 in omega (arith, less, high, offset) in
+                              absurd (apart (ap (at c) (same_number k l (near.0 ∙ sym ring) last)))
                         ],
                       )
                 ])

@@ -1,6 +1,7 @@
 -- What proofs and other crates import of these files.
-unfoldable pub use Rattle.scq_band.specs.Layout.{at, ring_of_word}
+unfoldable pub use Rattle.scq_band.specs.Layout.{at, ring_of_word, column_bits, entry_offset}
 pub use Rattle.scq_band.specs.Layout.{entry_at, ring_at, IsSlotAt, IsLocation, offset_of}
+pub use Rattle.scq_band.specs.Layout.{remainder_of, largest_lined_order, number_in_ring}
 pub use Rattle.scq_band.specs.Layout.{ring_words, count_by, word_by, ring_by, gate_word, distance}
 pub use Rattle.scq_band.specs.Layout.{word_count, IsHot, StandApart, HotWordsAreApart}
 pub use Rattle.scq_band.specs.Numbers.{before_places, first_numbers_of, first_numbers, known_of}
@@ -16,8 +17,8 @@ pub use Rattle.scq_band.specs.RunSeen.{EachTwoPrefixesAreComparable, HaveSeenOne
 pub use Rattle.scq_band.specs.Shown.{Scene, awake, LeadsTo, ShowsWords, StandsAmong, StandsInAView}
 pub use Rattle.scq_band.specs.Shown.{Has, Stored, IsMember, Owns, IsView, first_members, first_view}
 pub use Rattle.scq_band.specs.Knowing.{EachViewKnowsTruth}
-pub use Rattle.scq_band.specs.Turns.{learned, turned_member, made, FindsIndex, Draws, MayTurn}
-pub use Rattle.scq_band.specs.Turns.{Fronts, Takes, Carries, SlotsAfter, Turned}
+pub use Rattle.scq_band.specs.Turns.{learned, turned_member, made, FindsIndex, Draws}
+pub use Rattle.scq_band.specs.Turns.{IsPastFirstRound, MayTurn, Fronts, Takes, Carries, SlotsAfter, Turned}
 pub use Rattle.scq_band.specs.Buffers.{LiesIn, opening_of}
 pub use Rattle.scq_band.specs.Steps.{my_of, my, my_phase, front_index, bytes_in, front_bytes}
 pub use Rattle.scq_band.specs.Steps.{loading, drawing, load_turn, draw_turn, OnlyReads, IsDraw}

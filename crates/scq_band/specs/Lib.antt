@@ -10,6 +10,7 @@ pub mod Steps
 pub mod Sights
 pub mod Seats
 pub mod Rings
+pub mod Guesses
 pub mod Standing
 pub mod Kept
 pub mod Homes

@@ -8,7 +8,7 @@ use Rattle.scq_core.specs.StateLists.{StateLists}
 use Rattle.scq_band.specs.declared.slot.Slot.{Slot}
 use Rattle.scq_band.specs.declared.making.Room.{Room}
 use Rattle.scq_band.specs.declared.making.Memory.{Memory}
-use Rattle.scq_band.specs.Layout.{ring_at, IsLocation, offset_of, gate_word, word_count, at}
+use Rattle.scq_band.specs.Layout.{ring_at, IsLocation, number_in_ring, gate_word, word_count, at}
 use Rattle.scq_band.specs.Known.{Known}
 use Rattle.scq_band.specs.Shown.{first_view, first_members}
 use Rattle.scq_band.specs.Numbers.{first_numbers}
@@ -42,7 +42,7 @@ pub record IsRoom (c : Setup) (room : Room) : Type 0 where
 -- a location of a ring before r, or in r one of the first o of Tail, Head, Threshold and the
 -- entries by slot
 abbrev pub IsLocatedBefore : ℕ → ℕ → Location → Type 0
-IsLocatedBefore r o l = (ring_at l < r) ⊎ ((ring_at l ≡ r) × (offset_of 1 l < o))
+IsLocatedBefore r o l = (ring_at l < r) ⊎ ((ring_at l ≡ r) × (number_in_ring l < o))
 
 -- the words of a table, of which the gate and those before stand as they do at the start
 pub record WordsAreOpened (c : Setup) (words : List ℕ) (r o : ℕ) : Type 0 where

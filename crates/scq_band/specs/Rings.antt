@@ -1,10 +1,10 @@
 -- For private calls: what the running code keeps of a ring.
-use Rattle.std.specs.Prelude.{◌≡◌, ℕ, suc, ◌<◌, true, List, [], ◌∷◌, length}
+use Rattle.std.specs.Prelude.{◌≡◌, ℕ, suc, ◌-◌, ◌^◌, ◌<◌, true, List, [], ◌∷◌, length}
 use Rattle.scq_word.specs.declared.setup.Setup.{Setup}
 use Rattle.scq_core.specs.Exports.{tail_of, ring_slots, cycle, reset_level}
 use Rattle.scq_word.specs.Exports.{n_of, mark_of, packed, cycle_in, safe_in, is_none_in}
 use Rattle.scq_band.specs.declared.ring.Ring.{Ring}
-use Rattle.scq_band.specs.Layout.{at}
+use Rattle.scq_band.specs.Layout.{at, column_bits}
 
 -- it is a ring of this setup
 pub record IsRing (c : Setup) (ring : Ring) : Type 0 where
@@ -14,6 +14,8 @@ pub record IsRing (c : Setup) (ring : Ring) : Type 0 where
   pub limit : ring.limit ≡ c.limit
   pub tail : ring.tail ≡ at c (tail_of ring.number)
   pub level : ring.level ≡ reset_level c
+  pub rows : ring.columns.row_mask ≡ 2 ^ column_bits c.order - 1
+  pub columns : ring.columns.bits ≡ column_bits c.order
 
 -- it is the entry that a put of some index leaves at a ticket
 pub record IsFilled (c : Setup) (ticket word : ℕ) : Type 0 where

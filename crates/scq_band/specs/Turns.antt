@@ -48,6 +48,12 @@ Draws (AtE1 r i w l) x numbers =
 Draws (AtD2 r l) x numbers = (known : Numbers) → slice_get numbers r ≡ Some known → known.head ≤ x
 Draws turn x numbers = Unit {0}
 
+-- a ticket is past the first round, in which no ticket is drawn
+abbrev pub IsPastFirstRound : Setup → Phase → ℕ → Type 0
+IsPastFirstRound c (AtE1 r i w l) x = ring_slots c ≤ x
+IsPastFirstRound c (AtD2 r l) x = ring_slots c ≤ x
+IsPastFirstRound c turn x = Unit {0}
+
 -- one seat stands in the view, none of its slots was brought home, and it may make this turn
 pub record MayTurn (c : Setup) (v : Known) (t : Phase) : Type 0 where
   pub member : Member
@@ -88,6 +94,7 @@ module _ {S : Type 0} (Lies : ℕ → S → List ℕ → Type 0) where
     pub stands : FindsIndex c t x
     pub ready : IsReady c t x
     pub draws : Draws t x me.0.numbers
+    pub past_first : IsPastFirstRound c t x
     -- its hand has room for no more than all indices
     pub fits : length (my later.0).part.hand ≤ n_of c.order
     -- and has each of them once

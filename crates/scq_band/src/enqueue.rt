@@ -6,15 +6,67 @@ ghost use Rattle.scq_band.specs.Exports.{LiesIn, opening_of, Fronts, word_count,
 ghost use Rattle.scq_band.specs.Exports.{IsRing, IsFilled, known_me, Went, my, my_phase};
 ghost use Rattle.scq_band.specs.Exports.{front_index, front_bytes, IsAlone, IsLooking, IsEnding};
 ghost use Rattle.scq_band.specs.Exports.{goes_to, placed_to, done_at, HasPut, HasSpentPut};
-ghost use Rattle.scq_band.specs.Exports.{put_index, content_of, least_of};
+ghost use Rattle.scq_band.specs.Exports.{put_index, content_of, least_of, GoesOn};
+ghost use Rattle.scq_band.specs.Guesses.{HasLooked};
 ghost use Rattle.scq_core.specs.declared.phase.Phase.TheVariants.{Idle, AtE1, AtE4};
-ghost use Rattle.scq_word.specs.Exports.{n_of, rank_in};
+ghost use Rattle.scq_word.specs.Exports.{n_of, rank_in, IsIndexOrMark};
 ghost use Rattle.scq_core.specs.Exports.{ring_slots, holds_index};
 
 use crate::ring::Ring;
 use crate::rule::{Token, Words};
-use crate::steps::{draw, exchange, load, reset};
+use crate::steps::{draw, exchange, load, place_or_load, reset};
 use scq_word::{Buffer, cycle_of, unpack};
+
+/// What E2 makes of the entry that it found, and E3 where that is unsafe: whether an index may be
+/// placed there. `new` is what the entry is to become.
+#[inline(always)]
+fn has_room<B: Buffer>(
+    words: &Words<B>,
+    token: &mut Token<B>,
+    ring: &Ring,
+    ticket: u64,
+    found: u64,
+    new: u64,
+) -> bool
+    requires own { (token.old.table_id ≡ words.now.table_id)
+        × (words.now.table_id.words ≡ word_count words.now.key.setup) }
+    requires ring { IsRing words.now.key.setup ring.now }
+    requires alone { IsAlone token.old.me.0.known }
+    requires ready { IsIndexOrMark words.now.key.setup.order found }
+    requires looked { HasLooked words.now.key.setup ring.now.number ticket found
+        (my_phase token.old.me.0.known) }
+    requires new { IsFilled words.now.key.setup ticket new }
+    ensures own { (token.new.table_id ≡ token.old.table_id) × (token.new.id ≡ token.old.id) }
+    ensures went { GoesOn words.now.key.setup
+        (opening_of B.contents words.now.key.given.value.items) token.old.me.0 token.new.me.0 }
+    ensures slots { token.new.me.1 ≡ token.old.me.1 }
+    ensures room { IsTrue result → token.new.me.0.known
+        ≡ goes_to (AtE4 ring.now.number (put_index (my_phase token.old.me.0.known))
+        (content_of (my_phase token.old.me.0.known)) ticket found)
+        token.old.me.0.known }
+    ensures no_room { IsFalse result → token.new.me.0.known
+        ≡ goes_to (AtE1 ring.now.number (put_index (my_phase token.old.me.0.known))
+        (content_of (my_phase token.old.me.0.known))
+        (ticket + 1)) token.old.me.0.known }
+{
+    if ring.is_plainly_vacant(found, new) {
+        return true;
+    }
+    let entry = unpack(ring.shape, found);
+    if entry.cycle >= cycle_of(ring.shape, ticket) {
+        return false;
+    }
+    if entry.index.is_some() {
+        return false;
+    }
+    if entry.safe {
+        return true;
+    }
+    if load(words, token, ring.head()) > ticket {
+        return false;
+    }
+    true
+}
 
 /// E2, and E3 where the entry is unsafe: loads the entry of the ticket's slot, and answers it where
 /// an index may be placed there. `new` is what it is to become.
@@ -52,17 +104,10 @@ fn load_vacant<B: Buffer>(
         (ticket + 1)) token.old.me.0.known) }
 {
     let found = load(words, token, word);
-    if ring.is_plainly_vacant(found, new) {
+    if has_room(words, token, ring, ticket, found, new) {
         return Some(found);
     }
-    let entry = unpack(ring.shape, found);
-    if entry.cycle >= cycle_of(ring.shape, ticket) || entry.index.is_some() {
-        return None;
-    }
-    if !entry.safe && load(words, token, ring.head()) > ticket {
-        return None;
-    }
-    Some(found)
+    None
 }
 
 /// E2 to E4, again where the exchange fails: places the index at the ticket, unless `load_vacant`
@@ -106,6 +151,54 @@ fn try_place<B: Buffer>(
             return true;
         }
     }
+}
+
+/// E2 to E4, first E2 and E4 by one exchange from a guess of the entry: places the index at the
+/// ticket, unless there is no room; whether it is placed.
+#[inline(always)]
+fn place<B: Buffer>(
+    words: &Words<B>,
+    token: &mut Token<B>,
+    ring: &Ring,
+    ticket: u64,
+    index: u32,
+) -> bool
+    requires own { (token.old.table_id ≡ words.now.table_id)
+        × (words.now.table_id.words ≡ word_count words.now.key.setup) }
+    requires ring { IsRing words.now.key.setup ring.now }
+    requires alone { IsAlone token.old.me.0.known }
+    requires looks { IsLooking ring.now.number ticket (my_phase token.old.me.0.known) }
+    requires limit { ticket < ring.now.limit }
+    requires index { (index ≡ put_index (my_phase token.old.me.0.known))
+        × (index < n_of words.now.key.setup.order) }
+    requires front { Fronts (LiesIn B.contents B.IsSameBuffer words.now.key.given.value.items) index
+        (content_of (my_phase token.old.me.0.known)) token.old.me.1 }
+    requires past_first { ring.now.mark < ticket }
+    ensures own { (token.new.table_id ≡ token.old.table_id) × (token.new.id ≡ token.old.id) }
+    ensures went { Went words.now.key.setup
+        (opening_of B.contents words.now.key.given.value.items) token.old.me.0 token.new.me.0 }
+    ensures slots { token.new.me.1 ≡ (if result then rest token.old.me.1 else token.old.me.1) }
+    ensures placed { IsTrue result → token.new.me.0.known
+        ≡ placed_to ring.now.number index
+        (content_of (my_phase token.old.me.0.known)) ticket token.old.me.0.known }
+    ensures passed { IsFalse result → token.new.me.0.known
+        ≡ goes_to (AtE1 ring.now.number index (content_of (my_phase token.old.me.0.known)) (ticket
+        + 1)) token.old.me.0.known }
+{
+    let new = ring.filled(ticket, index);
+    let word = ring.entry(ticket);
+    let guess = ring.guess(ticket);
+    let found = place_or_load(words, token, word, guess, new);
+    if found == guess {
+        return true;
+    }
+    if !has_room(words, token, ring, ticket, found, new) {
+        return false;
+    }
+    if exchange(words, token, word, found, new) == found {
+        return true;
+    }
+    try_place(words, token, ring, ticket, index)
 }
 
 /// E5, and E6 where Threshold isn't at the reset value.
@@ -164,7 +257,7 @@ pub fn enqueue<B: Buffer>(
         if ticket >= ring.limit {
             return Err(ticket);
         }
-        if try_place(words, token, ring, ticket, index) {
+        if place(words, token, ring, ticket, index) {
             reset_threshold(words, token, ring, ticket);
             return Ok(ticket);
         }

@@ -8,7 +8,7 @@ ghost use Rattle.scq_core.proofs.Indices.{HasIndices};
 ghost use Rattle.scq_law.specs.Exports.{left_in};
 ghost use Rattle.scq_band.specs.Exports.{word_count, ShowsWords, full_slot};
 
-use crate::layout::{entry_word, tail_word};
+use crate::layout::{slot_word, tail_word};
 use crate::slot::Slot;
 use atomic_table::Closed;
 use scq_word::{Setup, unpack};
@@ -27,7 +27,7 @@ fn left_in_ring<B>(closed: &Closed<Slot<B>, Global>, setup: &Setup, ring: u32) -
     let tail = tail_word(setup, ring);
     let mut left = 0;
     for slot in 0..shape.slots() {
-        if unpack(shape, closed.word(entry_word(tail, slot)))
+        if unpack(shape, closed.word(slot_word(setup, tail, slot)))
             .index
             .is_some()
         {

@@ -8,7 +8,7 @@ ghost use Rattle.scq_band.specs.Rings.{AreRings};
 ghost use Rattle.scq_band.specs.Making.{lifted, AllLaid, IsRoom, IsMemory, IsOfStart};
 ghost use Rattle.scq_band.specs.Making.{WordsAreOpened};
 
-use crate::layout::{GATE, entry_word, head_word, tail_word, threshold_word, word_count};
+use crate::layout::{GATE, head_word, slot_word, tail_word, threshold_word, word_count};
 use crate::numbers::Numbers;
 use crate::ring::Ring;
 use crate::slot::Slot;
@@ -120,7 +120,7 @@ fn open_ring(words: &mut Vec<u64>, state: &State, ring: u32)
     words[head_word(tail)] = state.head(ring);
     words[threshold_word(tail)] = first_threshold(&setup, ring);
     for slot in 0..setup.shape().slots() {
-        words[entry_word(tail, slot)] = state.entry(ring, slot);
+        words[slot_word(&setup, tail, slot)] = state.entry(ring, slot);
     }
 }
 

@@ -6,12 +6,13 @@ ghost use Rattle.scq_band.specs.Layout.{at, entry_at};
 ghost use Rattle.scq_band.specs.Rings.{IsRing, IsFilled, IsPlainlyVacant};
 ghost use Rattle.scq_word.specs.Exports.{packed, cycle_in, index_in};
 
-use crate::layout::{entry_word, head_word, tail_word, threshold_word};
+use crate::layout::{Columns, entry_word, head_word, tail_word, threshold_word};
 use scq_core::reset_level;
-use scq_word::{Setup, Shape, slot_of};
+use scq_word::{Setup, Shape};
 
-/// `tail` is the word of its Tail, which tells where its other words are. `level` is what Threshold
-/// is reset to. `mark` says "no index" in an entry, and has all bits of an index.
+/// `tail` is the word of its Tail, which tells where its other words are, and `columns` which of
+/// them is a ticket's entry. `level` is what Threshold is reset to. `mark` says "no index" in an
+/// entry, and has all bits of an index.
 #[derive(Clone, Copy)]
 pub struct Ring {
     pub number: u32,
@@ -20,6 +21,7 @@ pub struct Ring {
     pub limit: u64,
     pub tail: usize,
     pub level: u64,
+    pub columns: Columns,
 }
 
 impl Ring {
@@ -35,6 +37,7 @@ impl Ring {
             limit: setup.limit(),
             tail: tail_word(setup, number),
             level: reset_level(setup),
+            columns: Columns::of(setup),
         }
     }
 
@@ -61,7 +64,9 @@ impl Ring {
         ensures { (c : Setup) → IsRing c self.now
             → result ≡ at c (entry_at c self.now.number ticket) }
     {
-        entry_word(self.tail, slot_of(self.shape, ticket))
+        let row = ticket & u64::from(self.columns.row_mask);
+        let column = (ticket & u64::from(self.mark)) >> self.columns.bits;
+        entry_word(self.tail, row, column)
     }
 
     /// The entry of an index at its ticket.
@@ -73,6 +78,17 @@ impl Ring {
     {
         let mark = u64::from(self.mark);
         2 * (ticket - (ticket & mark)) + (mark + 1) + u64::from(index)
+    }
+
+    /// What the entry of a ticket's slot mostly is when an enqueue draws the ticket: of the cycle
+    /// before, safe, with no index.
+    #[inline(always)]
+    pub fn guess(&self, ticket: u64) -> u64
+        requires small { ticket < 2 ^ 60 }
+        requires later { self.now.mark < ticket }
+        ensures { (c : Setup) → IsRing c self.now → IsPlainlyVacant c ticket result }
+    {
+        2 * (ticket - (ticket & u64::from(self.mark))) - 1
     }
 
     /// Whether an entry is of a ticket's cycle: the bits above those of a slot, and above those of

@@ -1,11 +1,14 @@
 //! The six atomic operations that the machine's sixteen steps are made of. Each makes one step of
-//! the seat: the one that its call is at, or the first of a call.
+//! the seat: the one that its call is at, or the first of a call. Only an enqueue's exchange from a
+//! guess makes two at once, E2 and E4, if the guess is right.
 ghost use Rattle.std.specs.Prelude.{◌≡◌, ◌<◌};
 ghost use Rattle.scq_word.specs.Exports.{mark_of};
 ghost use Rattle.scq_core.specs.Exports.{ring_slots, reset_level, location_of};
 ghost use Rattle.scq_band.specs.Exports.{at, LiesIn, opening_of, MayTurn, Carries, Turned};
 ghost use Rattle.scq_band.specs.Exports.{known_me, Went, my_phase, load_turn, draw_turn, OnlyReads};
 ghost use Rattle.scq_band.specs.Exports.{IsDraw, Exchanges, IsReset, IsTakingTurn, IsCountDown};
+ghost use Rattle.scq_band.specs.Exports.{IsAlone};
+ghost use Rattle.scq_band.specs.Guesses.{Guesses, CarriesGuess, Guessed};
 
 use crate::rule::{Token, Words};
 use scq_word::Buffer;
@@ -85,6 +88,36 @@ pub fn exchange<B: Buffer>(
         (opening_of B.contents words.now.key.given.value.items) token.old.me.0 token.new.me.0 }
 {
     words.compare_exchange::<Brand>(token, word, old, new)
+}
+
+/// E2 and E4 at once: a compare-and-exchange from a guess of the entry. Answers the entry as it was.
+/// If it was as guessed it has become `new`; else the seat has made E2 alone.
+#[inline(always)]
+pub fn place_or_load<B: Buffer>(
+    words: &Words<B>,
+    token: &mut Token<B>,
+    word: usize,
+    guess: u64,
+    new: u64,
+) -> u64
+    requires own { token.old.table_id ≡ words.now.table_id }
+    requires low { word < words.now.table_id.words }
+    requires alone { IsAlone token.old.me.0.known }
+    requires kind { Guesses words.now.key.setup (my_phase token.old.me.0.known) guess new }
+    requires word { word
+        ≡ at words.now.key.setup (location_of words.now.key.setup (my_phase token.old.me.0.known)) }
+    requires carries { CarriesGuess
+        (LiesIn B.contents B.IsSameBuffer words.now.key.given.value.items)
+        (my_phase token.old.me.0.known) token.old.me.1 }
+    ensures own { (token.new.table_id ≡ token.old.table_id) × (token.new.id ≡ token.old.id) }
+    ensures guessed { Guessed
+        (LiesIn B.contents B.IsSameBuffer words.now.key.given.value.items) words.now.key.setup
+        (my_phase token.old.me.0.known) guess
+        (known_me token.old.me) result (known_me token.new.me) }
+    ensures went { Went words.now.key.setup
+        (opening_of B.contents words.now.key.given.value.items) token.old.me.0 token.new.me.0 }
+{
+    words.compare_exchange::<Brand>(token, word, guess, new)
 }
 
 /// E6: the reset value into Threshold.

@@ -1,4 +1,5 @@
 use Rattle.std.proofs.Common.{◌≡◌, ℕ, List, ◌+◌, ◌<◌, ◌≤◌, refl, inr, sym, ◌∙◌, ap, subst, arith}
+use Rattle.scq_word.proofs.EntryLemmas.{n_of_some}
 use Rattle.scq_core.specs.declared.phase.Phase.{Phase}
 use Rattle.scq_core.specs.declared.phase.Phase.TheVariants.{AtE1, AtE2, AtE5}
 use Rattle.scq_band.specs.declared.slot.Slot.{Slot}
@@ -66,21 +67,29 @@ returns-then-ticket-ring-clause-spent g c =
     let past : c.args.words.now.key.setup.limit ≤ c.draw-ticket.result = let more = c.if-ticket-ring.true in omega (arith, limit, more) in
     record { view = its.past past; slots = its.kept; past = past }
 
-pub try_place-requires-clause-looks : goal.try_place-requires-clause-looks
-try_place-requires-clause-looks g c κs within =
+pub place-requires-clause-looks : goal.place-requires-clause-looks
+place-requires-clause-looks g c κs within =
     looks_as c.draw-ticket.new.token.me.0.known c.args.ring.now.number c.args.index (front_bytes g.B.Buffer.contents c.args.token.now.me.1)
-    c.draw-ticket.result 0 (ap my_phase (below-limit g (goal.at.try_place-requires-clause-looks g c).After-draw-ticket c.if-ticket-ring.false))
+    c.draw-ticket.result 0 (ap my_phase (below-limit g (goal.at.place-requires-clause-looks g c).After-draw-ticket c.if-ticket-ring.false))
 
-pub try_place-requires-clause-alone : goal.try_place-requires-clause-alone
-try_place-requires-clause-alone g c κs within = alone g (goal.at.try_place-requires-clause-alone g c).After-draw-ticket c.if-ticket-ring.false
+pub place-requires-clause-past_first : goal.place-requires-clause-past_first
+place-requires-clause-past_first g c κs within =
+    let k = c.args.words.now.key.setup in
+    let past = (drawn g (goal.at.place-requires-clause-past_first g c).After-draw-ticket).past_first in
+    let mark = c.requires.ring.mark in
+    let some = n_of_some k.order in
+    omega (arith, past, mark, some)
 
-pub try_place-requires-clause-index : goal.try_place-requires-clause-index
-try_place-requires-clause-index g c κs within =
-    (sym (ap (λ u. put_index (my_phase u)) (below-limit g (goal.at.try_place-requires-clause-index g c).After-draw-ticket c.if-ticket-ring.false)), c.requires.held.1)
+pub place-requires-clause-alone : goal.place-requires-clause-alone
+place-requires-clause-alone g c κs within = alone g (goal.at.place-requires-clause-alone g c).After-draw-ticket c.if-ticket-ring.false
 
-pub try_place-requires-clause-front : goal.try_place-requires-clause-front
-try_place-requires-clause-front g c κs within =
-    let at = (goal.at.try_place-requires-clause-front g c).After-draw-ticket in
+pub place-requires-clause-index : goal.place-requires-clause-index
+place-requires-clause-index g c κs within =
+    (sym (ap (λ u. put_index (my_phase u)) (below-limit g (goal.at.place-requires-clause-index g c).After-draw-ticket c.if-ticket-ring.false)), c.requires.held.1)
+
+pub place-requires-clause-front : goal.place-requires-clause-front
+place-requires-clause-front g c κs within =
+    let at = (goal.at.place-requires-clause-front g c).After-draw-ticket in
     let Lie = LiesIn g.B.Buffer.contents g.B.Buffer.IsSameBuffer c.args.words.now.key.given.value.items in
     subst (λ (w : List ℕ). Fronts Lie c.args.index w c.draw-ticket.new.token.me.1) (sym (ap (λ u. content_of (my_phase u)) (below-limit g at c.if-ticket-ring.false)))
     (subst (λ (ss : List (ℕ × Slot g.row.B.Denot)). Fronts Lie c.args.index (front_bytes g.B.Buffer.contents c.args.token.now.me.1) ss) (sym (drawn g at).kept)
@@ -89,16 +98,16 @@ try_place-requires-clause-front g c κs within =
 pub reset_threshold-requires-clause-alone : goal.reset_threshold-requires-clause-alone
 reset_threshold-requires-clause-alone g c κs within =
     let stands = alone g (goal.at.reset_threshold-requires-clause-alone g c).After-draw-ticket c.if-ticket-ring.false in
-    alone_seated c.draw-ticket.new.token.me.0.known c.try_place.new.token.me.0.known _ _ stands.out (c.if-try_place.ensures.placed refl)
+    alone_seated c.draw-ticket.new.token.me.0.known c.place.new.token.me.0.known _ _ stands.out (c.if-place.ensures.placed refl)
 
 pub reset_threshold-requires-clause-placed : goal.reset_threshold-requires-clause-placed
 reset_threshold-requires-clause-placed g c κs within =
-    let is = ap my_phase (c.if-try_place.ensures.placed refl) in
+    let is = ap my_phase (c.if-place.ensures.placed refl) in
     subst (λ (p : Phase). p ≡ AtE5 c.args.ring.now.number (put_index p) (content_of p) c.draw-ticket.result) (sym is) refl
 
-pub returns-then-try_place-clause-put : goal.returns-then-try_place-clause-put
-returns-then-try_place-clause-put g c =
-    let its = drawn g (goal.at.returns-then-try_place-clause-put g c).After-draw-ticket in
+pub returns-then-place-clause-put : goal.returns-then-place-clause-put
+returns-then-place-clause-put g c =
+    let its = drawn g (goal.at.returns-then-place-clause-put g c).After-draw-ticket in
     let limit = c.requires.ring.limit in
     let low : c.draw-ticket.result < c.args.words.now.key.setup.limit = let less = c.if-ticket-ring.false in omega (arith, limit, less) in
     let r = c.args.ring.now.number in
@@ -106,8 +115,8 @@ returns-then-try_place-clause-put g c =
     record {
       view =
           c.reset_threshold.ensures.done ∙ ap (λ u. done_at r t (content_of (my_phase u)) u)
-          (c.if-try_place.ensures.placed refl ∙ ap (λ u. placed_to r c.args.index (content_of (my_phase u)) t u) (its.within low));
-      slots = c.reset_threshold.ensures.slots ∙ c.if-try_place.ensures.slots ∙ ap rest its.kept;
+          (c.if-place.ensures.placed refl ∙ ap (λ u. placed_to r c.args.index (content_of (my_phase u)) t u) (its.within low));
+      slots = c.reset_threshold.ensures.slots ∙ c.if-place.ensures.slots ∙ ap rest its.kept;
       low = low;
       above = its.above;
     }
@@ -116,9 +125,9 @@ pub returns-then-ticket-ring-clause-went : goal.returns-then-ticket-ring-clause-
 returns-then-ticket-ring-clause-went g c =
     goes_then c.draws.invariant.5 c.draw-ticket.ensures.went
 
-pub returns-then-try_place-clause-went : goal.returns-then-try_place-clause-went
-returns-then-try_place-clause-went g c =
-    goes_then c.draws.invariant.5 (went_on c.draw-ticket.ensures.went (went_on c.try_place.ensures.went c.reset_threshold.ensures.went))
+pub returns-then-place-clause-went : goal.returns-then-place-clause-went
+returns-then-place-clause-went g c =
+    goes_then c.draws.invariant.5 (went_on c.draw-ticket.ensures.went (went_on c.place.ensures.went c.reset_threshold.ensures.went))
 
 pub draws-smaller : goal.draws-smaller
 draws-smaller g c =
@@ -126,8 +135,8 @@ draws-smaller g c =
     let limit = c.requires.ring.limit in
     let low = c.if-ticket-ring.false in
     let found = least g at in
-    let next : least_of (my_phase c.try_place.new.token.me.0.known) ≡ c.draw-ticket.result + 1 =
-    ap (λ u. least_of (my_phase u)) (c.if-try_place.ensures.passed refl) in
+    let next : least_of (my_phase c.place.new.token.me.0.known) ≡ c.draw-ticket.result + 1 =
+    ap (λ u. least_of (my_phase u)) (c.if-place.ensures.passed refl) in
     omega (arith, limit, low, found, next)
 
 pub draws-preserved : goal.draws-preserved
@@ -137,15 +146,15 @@ draws-preserved g c =
     let r = c.args.ring.now.number in
     let t = c.draw-ticket.result in
     let w = front_bytes g.B.Buffer.contents c.args.token.now.me.1 in
-    let next : c.try_place.new.token.me.0.known ≡ goes_to (AtE1 r c.args.index w (t + 1)) v =
-    c.if-try_place.ensures.passed refl
+    let next : c.place.new.token.me.0.known ≡ goes_to (AtE1 r c.args.index w (t + 1)) v =
+    c.if-place.ensures.passed refl
     ∙ ap (λ u. goes_to (AtE1 r c.args.index (content_of (my_phase u)) (t + 1)) u) (below-limit g at c.if-ticket-ring.false) in
     let phase = ap my_phase next in (
-      c.try_place.ensures.own.0 ∙ c.draw-ticket.ensures.own.0 ∙ c.draws.invariant.0,
-      c.try_place.ensures.own.1 ∙ c.draw-ticket.ensures.own.1 ∙ c.draws.invariant.1,
-      c.if-try_place.ensures.slots ∙ (drawn g at).kept,
+      c.place.ensures.own.0 ∙ c.draw-ticket.ensures.own.0 ∙ c.draws.invariant.0,
+      c.place.ensures.own.1 ∙ c.draw-ticket.ensures.own.1 ∙ c.draws.invariant.1,
+      c.if-place.ensures.slots ∙ (drawn g at).kept,
       next ∙ ap (λ p. goes_to p v) (sym phase),
       inr (phase ∙ ap (λ l. AtE1 r c.args.index w l) (sym (ap least_of phase))),
       inr (goes_then c.draws.invariant.5
-          (went_on c.draw-ticket.ensures.went c.try_place.ensures.went)),
+          (went_on c.draw-ticket.ensures.went c.place.ensures.went)),
     )

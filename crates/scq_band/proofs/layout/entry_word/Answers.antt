@@ -4,4 +4,4 @@ use Rattle.scq_band.proofs.Layouts.{from_tail}
 use Rattle.scq_band.proofs.layout.entry_word.Goals as goal
 
 pub returns : goal.returns
-returns c k r is = let there = from_tail k r (entry_of r c.args.slot) refl in omega (arith, is, there)
+returns c k r s is offset = let there = from_tail k r (entry_of r s) refl in omega (arith, is, offset, there)

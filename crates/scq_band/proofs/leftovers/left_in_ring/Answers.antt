@@ -1,4 +1,4 @@
-use Rattle.std.proofs.Common.{◌≡◌, ◌∙◌, sym, ap, subst, arith, ℕ, true, false}
+use Rattle.std.proofs.Common.{◌≡◌, ◌∙◌, refl, sym, ap, subst, arith, ℕ, true, false}
 use Rattle.std.specs.Prelude.{is_some}
 use Rattle.std.specs.Mem.Slots.{slots_items, slots_len}
 use Rattle.scq_word.specs.Exports.{index_unless_mark, IsIndexOrMark, slots_of}
@@ -13,7 +13,7 @@ pub unpack-requires : goal.unpack-requires
 unpack-requires g c =
     let k = c.args.setup.now in
     let slots : c.slots-slot-end.result ≡ ring_slots k = c.slots-slot-end.ensures ∙ ap slots_of c.shape-shape.ensures in
-    let place = c.entry_word.ensures k c.args.ring c.tail_word-tail.ensures.word in
+    let place = c.slot_word.ensures k c.args.ring refl c.tail_word-tail.ensures.word in
     subst (λ (o : ℕ). IsIndexOrMark o c.word.result) (sym c.shape-shape.ensures)
     (word_has k (slots_items c.args.closed.now.words) c.args.ring c.loop-slot.slot _ c.word.result place c.word.ensures c.requires.ring (omega arith)
     c.requires.shows)
@@ -32,7 +32,7 @@ word-requires g c =
     let slots : c.slots-slot-end.result ≡ ring_slots k = c.slots-slot-end.ensures ∙ ap slots_of c.shape-shape.ensures in
     let words = c.args.closed.now.words in (
       slot_word_low k (slots_items words) c.args.ring c.loop-slot.slot _ (slots_len words)
-          (c.entry_word.ensures k c.args.ring c.tail_word-tail.ensures.word)
+          (c.slot_word.ensures k c.args.ring refl c.tail_word-tail.ensures.word)
           c.requires.ring (omega arith) words.ok.0 c.requires.shows,
       c.requires.full,
     )
@@ -45,7 +45,7 @@ loop-slot-preserved g c =
     let index : c.unpack.result.index ≡ index_unless_mark k.order c.word.result =
     ap (λ (e : Entry). e.index) c.unpack.ensures.entry ∙ ap (λ o. index_unless_mark o c.word.result) c.shape-shape.ensures in
     let next = λ (later : ℕ). counts_next k words c.args.ring c.loop-slot.slot _ c.word.result c.loop-slot.left later c.unpack.result.index
-    (c.entry_word.ensures k c.args.ring c.tail_word-tail.ensures.word) c.word.ensures index c.loop-slot.invariant.1 in
+    (c.slot_word.ensures k c.args.ring refl c.tail_word-tail.ensures.word) c.word.ensures index c.loop-slot.invariant.1 in
     elim c.if-is_some.branch [
       | then-is_some w ↦
           let some : is_some c.unpack.result.index ≡ true = sym c.is_some.ensures ∙ w.if-is_some.true in

@@ -52,7 +52,7 @@ index_mut-requires-in-loop-slot c =
     let at_tail = tail-at (goal.at.index_mut-requires-in-loop-slot c).After-tail_word-tail in
     let slots = c.slots-slot-end.ensures ∙ ap slots_of (c.shape.ensures ∙ ap (λ (s : Setup). s.order) c.setup-setup.ensures) in
     let small : s < ring_slots k = omega (arith, c.loop-slot-test.true, slots) in
-    let low = stands_low _ _ _ _ _ (entry_of c.args.ring s) c.loop-slot.invariant (c.requires.ring, small) (c.entry_word.ensures k c.args.ring at_tail) in
+    let low = stands_low _ _ _ _ _ (entry_of c.args.ring s) c.loop-slot.invariant (c.requires.ring, small) (c.slot_word.ensures k c.args.ring c.setup-setup.ensures at_tail) in
     omega (arith, low, c.loop-slot.words.ok)
 
 pub loop-slot-preserved : goal.loop-slot-preserved
@@ -64,6 +64,6 @@ loop-slot-preserved c =
     let slots = c.slots-slot-end.ensures ∙ ap slots_of (c.shape.ensures ∙ ap (λ (s : Setup). s.order) c.setup-setup.ensures) in
     let small : s < ring_slots k = omega (arith, c.loop-slot-test.true, slots) in
     let next : suc (3 + s) ≡ 3 + (s + 1) = omega arith in
-    subst (WordsAreOpened k (slice_set c.loop-slot.words.items c.entry_word.result c.entry.result) r) next
-    (opens_next k c.loop-slot.words.items r (3 + s) c.entry_word.result c.entry.result (entry_of r s) c.loop-slot.invariant (c.requires.ring, small) refl refl
-    (c.entry_word.ensures k r at_tail) (c.entry.ensures.word ∙ ap (λ (m : Machine). m.cells.entries.word r s) c.requires.start.start))
+    subst (WordsAreOpened k (slice_set c.loop-slot.words.items c.slot_word.result c.entry.result) r) next
+    (opens_next k c.loop-slot.words.items r (3 + s) c.slot_word.result c.entry.result (entry_of r s) c.loop-slot.invariant (c.requires.ring, small) refl refl
+    (c.slot_word.ensures k r c.setup-setup.ensures at_tail) (c.entry.ensures.word ∙ ap (λ (m : Machine). m.cells.entries.word r s) c.requires.start.start))

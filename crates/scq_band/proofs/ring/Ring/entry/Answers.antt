@@ -1,10 +1,10 @@
-use Rattle.std.proofs.Common.{◌≡◌, ◌∙◌, ap}
-use Rattle.scq_word.specs.Exports.{slot_of}
-use Rattle.scq_core.specs.Exports.{entry_of}
-use Rattle.scq_band.specs.Exports.{at}
+use Rattle.std.proofs.Common.{◌∙◌}
+use Rattle.scq_core.specs.Exports.{slot}
+use Rattle.scq_band.proofs.EntryOffsets.{entry_offset-of_ticket}
 use Rattle.scq_band.proofs.ring.Ring.entry.Goals as goal
 
 pub returns : goal.returns
 returns c k is =
-    let its_slot : c.slot_of.result ≡ slot_of k.order c.args.ticket = c.slot_of.ensures.slot ∙ ap (λ o. slot_of o c.args.ticket) is.order in
-    c.entry_word.ensures k c.args.self.now.number is.tail ∙ ap (λ s. at k (entry_of c.args.self.now.number s)) its_slot
+    let ring = c.args.self.now in
+    c.entry_word.ensures k ring.number (slot k c.args.ticket) is.tail
+    (entry_offset-of_ticket k.order c.args.ticket c.from-2.result c.from.result ring.columns.bits (c.from-2.ensures ∙ is.mark) (c.from.ensures ∙ is.rows) is.columns)

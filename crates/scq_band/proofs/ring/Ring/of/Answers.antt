@@ -11,4 +11,6 @@ returns-clause-ring c =
       limit = c.limit.ensures;
       tail = c.tail_word.ensures.word;
       level = c.reset_level.ensures;
+      rows = c.of.ensures.rows;
+      columns = c.of.ensures.bits;
     }
