@@ -10,6 +10,8 @@ use Rattle.scq_port.specs.Exports.{PortStanding, IsLent, ValueIsTaken, IsSent, V
 use Rattle.scq_port.specs.Exports.{WasFull, WasEmpty, IsSpentGet, IsSpentPut, HasNoRoom, HasTopic}
 use Rattle.scq_port.specs.Exports.{HasNoTopic, HoldsNoSuch, PortHasRetired, HasAsked, HasCounted}
 use Rattle.scq_port.specs.Exports.{retired_port, AreOpened, HasPassEnded, HasClosedPorts}
+use Rattle.scq_port.specs.Exports.{buffer_bytes}
+use Rattle.scq_queue.specs.declared.closing.Closed.{Closed}
 use Rattle.scq_port.specs.declared.port_buffer.PortBuffer.{PortBuffer}
 use Rattle.scq_c.specs.declared.exports.End.{End}
 use Rattle.scq_c.specs.declared.exports.Held.{Held}
@@ -129,22 +131,23 @@ pub record OfOpen (order topics hold limit : ℕ) (memory : Memory) (code : ℕ)
   pub is_open : code ≡ scq_is_open → All IsClosed before → ⊥
   pub known : (code ≡ scq_ok) ⊎ ((scq_no_memory ≤ code) × (code ≤ scq_is_open))
 
--- the last port of a queue closed, with this pass: there are passes, which are all of the queue,
--- with what `HasClosedPorts` says of them, and their counts were written out
+-- the port's queue closed with this, as this pass of the port ended: `HasClosedPorts` says of it what
+-- holds of all passes of the queue, one of which this is. The counts of all of them were written out
 pub record ClosedWithAllPasses (x : PortStanding) (its : PassStanding PortBuffer)
-    (before after : List Tally) : Type 0 where
-  pub passes : List (PassStanding PortBuffer)
-  pub left : List ℕ
-  pub bytes : List (List ℕ)
-  pub closed : HasClosedPorts x.pass.queue its passes left bytes
-  pub counts : AreWritten (map (λ (p : PassStanding PortBuffer). counts_of (lists_of p)) passes)
+    (closed : Closed PortBuffer) (before after : List Tally) : Type 0 where
+  pub closed_ports : HasClosedPorts x.pass.queue its closed.passes.value.items closed.left.items
+      (map buffer_bytes closed.buffers.items)
+  pub counts : AreWritten
+      (map (λ (p : PassStanding PortBuffer). counts_of (lists_of p)) closed.passes.value.items)
       before after
 
--- of a port's end: it retired, and what it held was given back, all of it or as far as no ticket was
--- spent; where 1 is written out the queue closed with it, else no count is written
+-- of a port's end, with the pass that the port had then, and with what its queue closed with: it
+-- retired, and what it held was given back, all of it or as far as no ticket was spent; 1 is written
+-- out exactly where the queue closed with it, else no count is written
 pub record OfEnd (x : PortStanding) (e : End) (before after : List Tally) : Type 0 where
-  pub its : PassStanding PortBuffer
-  pub ended : HasPassEnded (retired_port x) its
-  pub last : e.last ≡ 1 → ClosedWithAllPasses x its before after
-  pub other : (e.last ≡ 1 → ⊥) → after ≡ before
+  pub ended : HasPassEnded (retired_port x) e.ended.its
+  pub last : e.last ≡ 1
+      → (closed : Closed PortBuffer) × (e.ended.closed ≡ Some closed)
+      × ClosedWithAllPasses x e.ended.its closed before after
+  pub other : e.last ≡ 0 → (e.ended.closed ≡ None) × (after ≡ before)
   pub known : (e.last ≡ 0) ⊎ (e.last ≡ 1)

@@ -10,7 +10,7 @@ ghost use Rattle.scq_c.specs.Codes.{scq_ok, scq_spent, scq_closed};
 use crate::answers::{CLOSED, EMPTY, FULL, NO_ROOM, NO_TOPIC, NOT_HELD, OK, RETIRED, SPENT};
 use crate::handle::{Handle, put, taken};
 use crate::tally::{Tally, write_out};
-use scq_port::{GiveBackRefusal, LendRefusal, Port, SendRefusal, TakeRefusal};
+use scq_port::{Ended, GiveBackRefusal, LendRefusal, Port, SendRefusal, TakeRefusal};
 use std::alloc::Global;
 
 /// A buffer that a port holds: where its bytes lie and how many they are, which C finds by the
@@ -26,18 +26,20 @@ pub struct Held {
 }
 
 /// What a port's end tells. 1 says that the queue closed with it, as the last of its ports.
+/// For contracts alone it tells how the port ended too, and what the queue closed with.
 #[repr(C)]
 #[derive(Drop)]
 pub struct End {
     pub last: u32,
+    pub ended: Ended,
 }
 
 /// The version of these calls.
 #[unsafe(no_mangle)]
 pub extern "C" fn scq_version() -> u32
-    ensures { result ≡ 2 }
+    ensures { result ≡ 3 }
 {
-    2
+    3
 }
 
 /// Writes out the index of a value, and its place.
@@ -339,21 +341,21 @@ pub extern "C" fn scq_count(alloc: Global, handle: &mut Handle, topic: u32, out:
 fn end_of(port: Port, out: &mut End, counts: &mut [Tally])
     ensures { OfEnd port out.new counts.old counts.new }
 {
-    let (_ended, closed) = port.close();
-    *out = match closed {
+    let (ended, closed) = port.close();
+    let last = match closed {
         Some(closed) => {
             write_out(closed.counts.as_slice(), counts);
             drop(closed);
-            End { last: 1 }
+            1
         }
-        None => End { last: 0 },
+        None => 0,
     };
+    *out = End { last, ended };
 }
 
 /// Closes a port: what it holds is given back, as `Port::close` says. Where 1 is told the queue
 /// closed with this port, and the counts of all passes are written, in the order of their numbers,
-/// as many as fit. No clause says that the last port is told so, that the other passes are those
-/// of the other ports, or that anything is freed.
+/// as many as fit. No clause says that some port is told so, or that anything is freed.
 #[unsafe(no_mangle)]
 pub extern "C" fn scq_end(
     alloc: Global,

@@ -1,5 +1,6 @@
 pub mod Lists
 pub mod Keeping
+mod Marking
 pub mod Records
 pub mod Going
 pub mod Unpacking

@@ -1,7 +1,7 @@
 -- A port may go to another thread: so may its pass and its values, and the queue may go and be shared; and buffers may go and be shared.
 use denote.Builtin.{u32, u64, usize, bool}
 use denote.RattleType.{RattleType}
-use denote.Param.Send.{IsSend, IsSync, sendable, view_send, view_sync}
+use denote.Param.Send.{IsSend, IsSync, array_send, sendable, view_send, view_sync}
 use denote.Param.SendFields.{declared_send, declared_sync}
 use Rattle.std.proofs.Crossing as crossing
 use Rattle.std.proofs.alloc.Global.TheSendSync as heap
@@ -205,6 +205,9 @@ pub port_sent : IsSend port.the_row
 port_sent =
     view_send port_inside.the_row _ _ _ _
     (declared_send port_inside.the_type (
-      crossing.Arc-send owner.the_row owner_sent owner_sync,
-      (pass_sent buffer.the_row buffers.ghosts buffer_sent, (hand_sent, (u32_sent, (u32_sent, (bool_sent, tt))))),
+      array_send u64 16 u64_sent,
+      (
+        crossing.Arc-send owner.the_row owner_sent owner_sync,
+        (pass_sent buffer.the_row buffers.ghosts buffer_sent, (hand_sent, (u32_sent, (u32_sent, (bool_sent, (array_send u64 16 u64_sent, tt)))))),
+      ),
     ))

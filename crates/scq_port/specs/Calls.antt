@@ -6,7 +6,7 @@ use Rattle.std.specs.List.{Contains}
 use Rattle.scq_word.specs.declared.setup.Setup.{Setup}
 use Rattle.scq_word.specs.Exports.{n_of}
 use Rattle.scq_band.specs.Exports.{opening_of, IsCallInRun, WasEmptyInRun, IsReadingInRun}
-use Rattle.scq_band.specs.Exports.{WasCountedInRun, AllWereSeenRetired, with_retiree}
+use Rattle.scq_band.specs.Exports.{WasCountedInRun, AllWereSeenRetired, with_retiree, Seen}
 use Rattle.scq_queue.specs.Exports.{with_send, with_take, with_full, PassStanding, lists_of}
 use Rattle.scq_queue.specs.Exports.{known_on, WasLent, HasGot, WasGivenBack, FoundNothing}
 use Rattle.scq_queue.specs.Exports.{FoundFull, having_seen, caller_of, after_put, after_spent_put}
@@ -191,6 +191,10 @@ pub record HasCounted (topic count : ℕ) (old new : PortStanding) : Type 0 wher
   pub in_run : WasCountedInRun old.pass.queue.setup (opening_of buffer_bytes old.pass.queue.given)
       (suc topic)
       count (caller_of old.pass) (caller_of new.pass)
+
+-- a port that has seen this of the run, and else is as it was
+abbrev pub port_having_seen : Seen → PortStanding → PortStanding
+port_having_seen seen x = record x { pass = having_seen seen x.pass }
 
 -- the values that stand in these places, the last first
 abbrev pub values_of : List (Option Value) → List Value

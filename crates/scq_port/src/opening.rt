@@ -8,7 +8,7 @@ ghost use Rattle.scq_port.specs.Exports.{HoldsNothing};
 
 use crate::hand::Hand;
 use crate::owner::Owner;
-use crate::port::Port;
+use crate::port::{APART, Port};
 use crate::port_buffer::PortBuffer;
 use scq_queue::{Held, Pass, Queue};
 use scq_word::{NoMemory, Setup};
@@ -28,12 +28,15 @@ fn buffers(alloc: Global, count: u32) -> Result<Vec<PortBuffer>, NoMemory>
     Ok(made)
 }
 
+// How many places of a hand stay free behind those of its indices: two lines of 64 bytes.
+const PLACES_APART: usize = 11;
+
 /// A hand without values, with a place for each of so many indices.
 fn empty_hand(alloc: Global, places: u32, hold: u32) -> Result<Hand, NoMemory>
     ensures { IfOk result (λ hand.
         (hand.slots.items ≡ replicate places None) × (hand.used ≡ 0) × (hand.hold ≡ hold)) }
 {
-    let mut slots = Vec::with_capacity(alloc, places as usize)?;
+    let mut slots = Vec::with_capacity(alloc, places as usize + PLACES_APART)?;
     while slots.len() < places as usize {
         slots.push_reserved(None);
     }
@@ -63,12 +66,14 @@ fn port_of(
     let owner = Arc::try_clone(owner)?;
     let hand = empty_hand(alloc, setup.shape().n(), hold)?;
     Ok(Port {
+        before: [0; APART],
         owner,
         pass,
         hand,
         topics: setup.rings() - 1,
         number,
         awake: true,
+        behind: [0; APART],
     })
 }
 

@@ -10,6 +10,7 @@ ghost use Rattle.scq_port.specs.Calls.{HasNoTopic, HoldsNoSuch, HasPassEnded};
 ghost use Rattle.scq_port.specs.Ports.{buffer_bytes};
 ghost use Rattle.scq_port.specs.Closed.{HasClosedPorts};
 
+use crate::ended::Ended;
 use crate::hand::Hand;
 use crate::holding;
 use crate::letting_go::let_go;
@@ -23,16 +24,24 @@ use std::marker::Model;
 use std::snapshot::Snapshot;
 use std::sync::Arc;
 
+/// How many words stay free before a port and behind it: two lines of 64 bytes, so that no port's
+/// calls write in a line that another port uses.
+pub(crate) const APART: usize = 16;
+
 /// A pass with its queue and the values that it holds. One call at a time is made with it, by
 /// whichever thread has it. Where it is dropped it gives back what it holds, and the last port of a
 /// queue frees it.
+///
+/// `before` and `behind` are never used.
 pub struct Port {
+    pub(crate) before: [u64; APART],
     pub(crate) owner: Arc<Owner, Global>,
     pub(crate) pass: Pass<PortBuffer>,
     pub(crate) hand: Hand,
     pub(crate) topics: u32,
     pub(crate) number: u32,
     pub(crate) awake: bool,
+    pub(crate) behind: [u64; APART],
 }
 
 impl Model for Port {
@@ -187,13 +196,29 @@ impl Port {
         self.pass.spent()
     }
 
-    /// Closes the port, as dropping it does: retires it, gives back what it holds, and answers for
-    /// contracts alone what its pass was then. The last port of a queue that closes closes the
-    /// queue, and is told of all passes together.
+    /// Closes the port, as dropping it does: retires it, gives back what it holds, and answers how it
+    /// ended, for contracts alone. The last port of a queue that closes closes the queue, and is told
+    /// of all passes together.
     ///
     /// Where the pass keeps a spent ticket, or draws one, what can't be given back goes with it,
     /// and back to the queue where that closes.
-    pub fn close(self) -> (Snapshot<Pass<PortBuffer>>, Option<Closed<PortBuffer>>)
+    pub fn close(self) -> (Ended, Option<Closed<PortBuffer>>)
+        ensures ended { HasPassEnded (retired_port self) result.0.its }
+        ensures same { result.0.closed ≡ result.1 }
+        ensures closed { IfSome result.1 (λ closed.
+            HasClosedPorts self.pass.queue result.0.its closed.passes.value.items
+            closed.left.items (map buffer_bytes closed.buffers.items)) }
+        ensures counts { IfSome result.1 (λ closed.
+            closed.counts.items ≡ map (λ p. counts_of (lists_of p)) closed.passes.value.items) }
+    {
+        let left = self.leave();
+        let ended = Ended::of(&left);
+        (ended, left.1)
+    }
+
+    /// Takes the port apart, and leaves its pass where the last one finds it. Answers what the pass
+    /// was then, and what the queue closed with.
+    fn leave(self) -> (Snapshot<Pass<PortBuffer>>, Option<Closed<PortBuffer>>)
         ensures ended { HasPassEnded (retired_port self) result.0.value }
         ensures closed { IfSome result.1 (λ closed.
             HasClosedPorts self.pass.queue result.0.value closed.passes.value.items
@@ -202,12 +227,14 @@ impl Port {
             closed.counts.items ≡ map (λ p. counts_of (lists_of p)) closed.passes.value.items) }
     {
         let Port {
+            before: _,
             owner,
             mut pass,
             hand,
             topics: _,
             number,
             awake,
+            behind: _,
         } = self;
         retire(&owner.queue, &mut pass, awake);
         let (ended, leaving) = let_go(owner.alloc, &owner.queue, pass, hand);
