@@ -6,7 +6,8 @@ use Rattle.scq_desk.specs.declared.end.End.{End}
 use Rattle.scq_desk.specs.declared.fault.EndFault.TheVariants.{NoMemory}
 
 -- what is known of the end of the work of so many workers on these sources, of messages that have
--- at most `longest` bytes: as many come back in every case, each as one that its own may have become
+-- at most `longest` bytes: as many come back in every case, each as one that its own may have
+-- become
 pub record EndsReading {T S : Type 0} (workers longest : ℕ) (src : SourceOf S) (sources : List S)
     (end : End T S) : Type 0 where
   pub count : length end.sources.items ≡ length sources
@@ -21,6 +22,7 @@ pub record EndsReading {T S : Type 0} (workers longest : ℕ) (src : SourceOf S)
   pub none : end.left ≡ None → IsErrOf end.result NoMemory
   -- a fault is that of its file, and those in front of it were read to their ends. Where there is
   -- one of a file, each source is as one whose reading didn't stop for want of memory. Where bytes
-  -- aren't visible, both say no more than of which sources a read failed
+  -- aren't visible they say nothing of what stood in a file: only of which sources a read failed,
+  -- and by the counts of ends that those in front were read to their ends
   pub cause : IfErr end.result (HasCause longest src sources end.sources.items)
   pub none_starved : IfErr end.result (NoneStarved longest src sources end.sources.items)

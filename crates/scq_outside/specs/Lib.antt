@@ -4,5 +4,6 @@ pub mod Memory
 pub mod Readable
 pub mod Table
 pub mod Taking
+pub mod Tries
 pub mod Written
 pub mod Exports

@@ -1,5 +1,7 @@
-ghost use Rattle.std.specs.Prelude.{◌≡◌, None};
+ghost use Rattle.std.specs.Prelude.{◌≡◌, ◌⊎◌, ◌<◌, ◌≤◌, None, Ok, length, IfOk, IsErr};
+ghost use Rattle.scq_outside.specs.Counts.{Rose, RoseWhere, last_count};
 
+use crate::tried::Tried;
 use crate::uninterrupted::read_uninterrupted;
 use crate::{Failed, Files, Source};
 use std::fs::File;
@@ -54,7 +56,7 @@ impl<R: rt::Files<File = File> + Drop> Files for DiskFiles<R> {
     fn source(&mut self, name: &str) -> Result<DiskSource<DiskFile>, Failed> {
         match self.open(name) {
             Ok(file) => Ok(DiskSource {
-                file,
+                file: Tried::new(file),
                 faults: 0,
                 ends: 0,
             }),
@@ -84,10 +86,10 @@ impl Read for DiskFile {
     }
 }
 
-/// An open file of the system. A read that a signal interrupts is made again.
+/// An open file of the system. A read that a signal interrupts is made again, and no other.
 #[derive(Drop)]
 pub struct DiskSource<F> {
-    file: F,
+    file: Tried<F>,
     faults: u64,
     ends: u64,
 }
@@ -99,7 +101,17 @@ impl<F: Read + Send + Drop> Source for DiskSource<F> {
 
     ghost left = { λ _. None };
 
-    fn read(&mut self, into: &mut [u8]) -> Result<usize, Failed> {
+    /// Of the tries that a call makes one was not interrupted: its answer is the call's.
+    fn read(&mut self, into: &mut [u8]) -> Result<usize, Failed>
+        requires { 0 < length into.old }
+        ensures within { IfOk result (λ k. k ≤ length into.new) }
+        ensures ended { RoseWhere (result ≡ Ok 0) self.old.ends self.new.ends }
+        ensures counted { RoseWhere (IsErr result) self.old.faults self.new.faults
+            × (self.old.faults ≤ self.new.faults) }
+        ensures once { Rose self.old.file.settled self.new.file.settled
+            ⊎ (IsErr result × (self.new.file.settled ≡ self.old.file.settled)
+            × (last_count ≤ self.new.file.interrupted)) }
+    {
         match read_uninterrupted(&mut self.file, into) {
             Ok(count) => {
                 if count == 0 {

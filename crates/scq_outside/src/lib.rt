@@ -17,6 +17,7 @@ mod script;
 mod sink;
 mod source;
 mod std_sink;
+mod tried;
 mod uninterrupted;
 mod whole;
 

@@ -1,4 +1,5 @@
-ghost use Rattle.std.specs.Prelude.{◌≡◌, ◌≤◌, ℕ, List, Some, if◌then◌else◌, IfOk, OnOk, OnErr, IsErr};
+ghost use Rattle.std.specs.Prelude.{◌≡◌, ◌≤◌, ℕ, List, Some, if◌then◌else◌, IfOk, OnOk};
+ghost use Rattle.std.specs.Prelude.{OnErr, IsErr};
 ghost use Rattle.scq_outside.specs.Counts.{RoseWhere};
 ghost use Rattle.scq_outside.specs.Readable.{Readable};
 ghost use Rattle.std.specs.Str.{bytes_eq};

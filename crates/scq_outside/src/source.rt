@@ -1,5 +1,5 @@
-ghost use Rattle.std.specs.Prelude.{◌≡◌, ℕ, ◌<◌, ◌≤◌, ◌++◌, List, [], Option, Ok, length, take, IfOk};
-ghost use Rattle.std.specs.Prelude.{OnErr, IsErr, IfSome};
+ghost use Rattle.std.specs.Prelude.{◌≡◌, ℕ, ◌<◌, ◌≤◌, ◌++◌, List, [], Option, Ok, length, take};
+ghost use Rattle.std.specs.Prelude.{IfOk, OnErr, IsErr, IfSome};
 ghost use Rattle.std.specs.Option.{option_map};
 ghost use Rattle.scq_outside.specs.Counts.{RoseWhere};
 
@@ -34,7 +34,8 @@ pub trait Source: Send + Drop {
         // read no source again behind its end.
         ensures ended { RoseWhere (result ≡ Ok 0) (ends self.old) (ends self.new) }
 
-        // After a fault the source has what it had. Faults are counted, and nothing else is.
+        // After a fault the source has what it had. Among faults this count counts each, and an
+        // answer other than a fault it doesn't count.
         ensures unmoved { OnErr result (left self.new ≡ left self.old) }
         ensures counted { RoseWhere (IsErr result) (faults self.old) (faults self.new)
             × (faults self.old ≤ faults self.new) };

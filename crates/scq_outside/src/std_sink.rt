@@ -1,5 +1,7 @@
-ghost use Rattle.std.specs.Prelude.{◌≡◌, None};
+ghost use Rattle.std.specs.Prelude.{◌≡◌, ◌⊎◌, ◌<◌, ◌≤◌, None, length, IfOk, IsErr};
+ghost use Rattle.scq_outside.specs.Counts.{Rose, RoseWhere, last_count};
 
+use crate::tried::Tried;
 use crate::uninterrupted::write_uninterrupted;
 use crate::{Failed, Sink};
 use std::io::{self, Stderr, Stdout, Write};
@@ -28,10 +30,10 @@ impl Write for StdStream {
 }
 
 /// A stream of the system without a buffer. What it took isn't visible. A write that a signal
-/// interrupts took nothing, and is made again.
+/// interrupts took nothing, and is made again; no other is.
 #[derive(Drop)]
 pub struct StdSink<W: Write + Drop> {
-    stream: W,
+    stream: Tried<W>,
     faults: u64,
 }
 
@@ -39,7 +41,10 @@ impl<W: Write + Drop> StdSink<W> {
     pub fn new(stream: W) -> StdSink<W>
         ensures { ⟦<StdSink<W> as Sink>⟧.faults result ≡ 0 }
     {
-        StdSink { stream, faults: 0 }
+        StdSink {
+            stream: Tried::new(stream),
+            faults: 0,
+        }
     }
 }
 
@@ -48,7 +53,17 @@ impl<W: Write + Drop> Sink for StdSink<W> {
 
     ghost written = { λ _. None };
 
-    fn write(&mut self, piece: &[u8]) -> Result<usize, Failed> {
+    /// Of the tries that a call makes one was not interrupted: its answer is the call's.
+    fn write(&mut self, piece: &[u8]) -> Result<usize, Failed>
+        requires { 0 < length piece.now }
+        ensures some { IfOk result (λ k. 0 < k) }
+        ensures within { IfOk result (λ k. k ≤ length piece.now) }
+        ensures counted { RoseWhere (IsErr result) self.old.faults self.new.faults
+            × (self.old.faults ≤ self.new.faults) }
+        ensures once { Rose self.old.stream.settled self.new.stream.settled
+            ⊎ (IsErr result × (self.new.stream.settled ≡ self.old.stream.settled)
+            × (last_count ≤ self.new.stream.interrupted)) }
+    {
         match write_uninterrupted(&mut self.stream, piece) {
             Ok(count) if count > 0 => Ok(count),
             _ => {

@@ -1,3 +1,5 @@
+ghost use Rattle.std.specs.Prelude.{◌≡◌};
+
 use crate::passes::WakePass;
 use crate::waker::Sleeper;
 use std::marker::Model;
@@ -21,4 +23,13 @@ impl Model for Stand {
     ghost view = { λ s. post_of s.worker s.sleeper s.links.items };
 
     ghost invariant = { λ s. IsStand s.worker s.sleeper s.links.items };
+}
+
+impl Stand {
+    /// The number of its worker.
+    pub fn worker(&self) -> u32
+        ensures { result ≡ self.now.worker }
+    {
+        self.worker
+    }
 }

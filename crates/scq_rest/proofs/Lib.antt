@@ -1,4 +1,5 @@
 mod Waited
+mod Wakes
 mod PlaceLemmas
 mod WorkSent
 pub mod Settling

@@ -10,13 +10,14 @@ use Rattle.scq_block.specs.declared.frame.Frame.{Frame}
 use Rattle.scq_queue.specs.Exports.{PassStanding, was_told}
 use Rattle.scq_park.specs.declared.rested.Rested.{Rested}
 use Rattle.scq_park.specs.Exports.{Post, AreInWorkerOrder, AreAll, counted, plus, woken, ended, rested_of, no_wakes, first_post, first_posts}
-use Rattle.scq_worker.specs.Exports.{takes_behind, IsToBegin, Seated}
+use Rattle.scq_worker.specs.Exports.{takes_behind, IsToBegin, Seated, HasRung}
 use Rattle.scq_files.specs.Exports.{IsNew, ids_of}
 use Rattle.scq_rest.specs.Exports.{AreSettled, Task, IsGiven, HasDone, HasLeftTold, HasWaited, EachWaited, HaveWaited}
 use Rattle.scq_passes.specs.Exports.{NoneSpent, SweepsInVain, IsReturn}
 use Rattle.scq_block.specs.Exports.{bytes_of}
 use Rattle.scq_files.specs.declared.desk.Desk.{Desk}
 use Rattle.scq_rest.specs.declared.threads.Work.{Work}
+use Rattle.scq_rest.proofs.Wakes.{rung-as, rung-told}
 
 -- lists whose members go along one by one
 pub zip-length : {X Y : Type 0} (R : X → Y → Type 0) (xs : List X) (ys : List Y) → AllZip R xs ys → length ys ≡ length xs
@@ -122,9 +123,30 @@ module _ {S : Type 0} where
       (subst (λ (q : Post). HasWaited bytes_of (length t.topics + 1) (takes_behind t.most) q.rests y.desk.worker.worker.pass) stand z.0.waited)
   each-waited t (x ∷ xs) (y ∷ ys) z (suc w) s p stands passes = each-waited t xs ys z.1 w s p stands passes
 
+  -- each has woken the others
+  each-rang : (t : Task S) (v : ℕ) (xs ys : List (Work S)) → AllZip (HasDone t) xs ys → AreInWorkerOrder v (map stand_of xs)
+      → All (IsFirst t.crew) (map stand_of xs) → length t.crew ≡ t.workers
+      → (w : ℕ) (s : Post) (p : PassStanding Frame) → slice_get (map stand_of ys) w ≡ Some s
+      → slice_get (map (λ (d : Desk (Seated Frame) S). d.worker.worker.pass) (map desk_of ys)) w ≡ Some p → p.spent ≡ None
+      → HasRung (v + w) (length t.crew) p (no_wakes t.crew) s.wakes
+  each-rang t v [] [] z order new many w s p stands passes awake = absurd (cc)
+  each-rang t v [] (y ∷ ys) z order new many w s p stands passes awake = absurd z
+  each-rang t v (x ∷ xs) [] z order new many w s p stands passes awake = absurd z
+  each-rang t v (x ∷ xs) (y ∷ ys) z order new many zero s p stands passes awake =
+      let stand : y.stand ≡ s = cc in
+      let pass : y.desk.worker.worker.pass ≡ p = cc in
+      let first : x.stand ≡ first_post t.crew x.stand.worker = All-head (IsFirst t.crew) x.stand (map stand_of xs) new in
+      rung-as x.stand.worker (v + 0) t.workers (length t.crew) y.desk.worker.worker.pass p x.stand.wakes (no_wakes t.crew) y.stand.wakes s.wakes
+      (order.0 ∙ omega arith) (sym many) pass (ap (λ (q : Post). q.wakes) first) (ap (λ (q : Post). q.wakes) stand)
+      (z.0.rung (subst (λ (q : PassStanding Frame). q.spent ≡ None) (sym pass) awake))
+  each-rang t v (x ∷ xs) (y ∷ ys) z order new many (suc w) s p stands passes awake =
+      rung-as (suc v + w) (v + suc w) (length t.crew) (length t.crew) p p (no_wakes t.crew) (no_wakes t.crew) s.wakes s.wakes (omega arith) refl refl refl refl
+      (each-rang t (suc v) xs ys z.1 order.1 (All-tail (IsFirst t.crew) x.stand (map stand_of xs) new) many w s p stands passes awake)
+
   pub settled : (t : Task S) (xs ys : List (Work S)) → AllZip (HasDone t) xs ys → AreAll t.crew (map stand_of xs)
+      → All (IsFirst t.crew) (map stand_of xs) → length t.crew ≡ t.workers
       → AreSettled t.crew (length t.topics + 1) (takes_behind t.most) (map stand_of ys) (map (λ (d : Desk (Seated Frame) S). d.worker.worker.pass) (map desk_of ys))
-  settled t xs ys z all =
+  settled t xs ys z all new many =
       record {
         all = record {
           own = still-own t t.crew xs ys z all.own;
@@ -133,6 +155,9 @@ module _ {S : Type 0} where
         };
         many = length-map ys stand_of ∙ sym (length-map ys desk_of) ∙ sym (length-map (map desk_of ys) (λ (d : Desk (Seated Frame) S). d.worker.worker.pass));
         waited = each-waited t xs ys z;
+        rang = λ w s p stands passes awake.
+            rung-as (0 + w) w (length t.crew) (length t.crew) p p (no_wakes t.crew) (no_wakes t.crew) s.wakes s.wakes (omega arith) refl refl refl refl
+            (each-rang t 0 xs ys z all.order new many w s p stands passes awake);
       }
 
 -- how many members the lists have that a crew tells where it closes
@@ -223,5 +248,8 @@ have-waited topics behind workers crew ps passes saw rested settled none long sa
           (subst (λ (rs : List Rested). slice_get rs w ≡ Some r) rested_is rest);
       vain = λ w p r pass rest.
           vain-told topics behind ps (woken (no_wakes crew) ps) passes none settled.waited w p r pass
+          (subst (λ (rs : List Rested). slice_get rs w ≡ Some r) rested_is rest);
+      rung = λ w p r pass rest.
+          rung-told crew workers ps passes settled.rang none settled.all.many long posts w p r pass
           (subst (λ (rs : List Rested). slice_get rs w ≡ Some r) rested_is rest);
     }

@@ -20,6 +20,12 @@ module _ {S : Type 0} where
   given_to (Here was work) = was.work.value
   given_to (Done was work) = was.work.value
 
+  -- how many workers of a place the caller runs, which are to read their files
+  abbrev pub here : Runner S → ℕ
+  here (Started h) = 0
+  here (Here was work) = 1
+  here (Done was work) = 0
+
   -- a worker of this queue, job and crew was given what one begins with
   pub record IsReadyToBegin (q : Identity Frame) (j : Job) (crew : List TableId) (src : SourceOf S)
       (w : WorksOn S) : Type 0 where

@@ -27,7 +27,7 @@ module _ {B : Type 0} where
 
   -- it was told that all had retired, and then found each topic empty, behind each place of it that
   -- the pass knows to be finished. What it took in vain, but for that last sweep, is paid for by
-  -- what it took and by its rests
+  -- its rests, and as before the call by its takes, Fulls and sends
   pub record HasSweptOut (topics rests_before rests : ℕ) (old new : PassStanding B) : Type 0 where
     pub told : new.gate ≡ Some 0
     pub past : (t : ℕ) → t < topics → (known_on t new).finished < (known_on t new).head

@@ -1,5 +1,5 @@
 -- What the worker of a thread is given, what it makes of that, and how its thread ends.
-use Rattle.std.specs.Prelude.{◌≡◌, ℕ, ◌+◌, ◌<◌, ◌≤◌, List, length, All}
+use Rattle.std.specs.Prelude.{◌≡◌, ℕ, ◌+◌, ◌<◌, ◌≤◌, List, length, All, None}
 use Rattle.atomic_table.specs.Seated.{TableId}
 use Rattle.scq_block.specs.Exports.{bytes_of}
 use Rattle.scq_block.specs.declared.frame.Frame.{Frame}
@@ -7,6 +7,7 @@ use Rattle.scq_topics.specs.declared.kind.Kind.{Kind}
 use Rattle.scq_band.specs.Exports.{Identity}
 use Rattle.scq_park.specs.Exports.{first_post}
 use Rattle.scq_worker.specs.Exports.{takes_behind, IsToBegin, HasProduced, HasRun, but_wakes}
+use Rattle.scq_worker.specs.Exports.{HasRung}
 use Rattle.scq_files.specs.Exports.{IsNew, ids_of, SourceOf}
 use Rattle.scq_rest.specs.Waiting.{HasWaited}
 use Rattle.scq_worker.specs.declared.job.Job.{Job}
@@ -66,12 +67,21 @@ module _ {S : Type 0} where
     pub stand : w.stand.crew ≡ t.crew
     pub unrested : w.stand.rests ≡ 0
 
+  -- where it met no ticket past the limit it woke the next worker as often as it sent, and each
+  -- other once more
+  abbrev pub RangOn : Task S → Work S → Work S → Type 0
+  RangOn t old new =
+      new.desk.worker.worker.pass.spent ≡ None
+      → HasRung old.stand.worker t.workers new.desk.worker.worker.pass old.stand.wakes
+      new.stand.wakes
+
   -- so far it made this of what it was given. Its stand is as it was, but for whom it woke
   pub record HasBegun (t : Task S) (old new : Work S) : Type 0 where
     pub begun : HasReadAndRetired t new
     pub files : ids_of new.desk.files.items ≡ ids_of old.desk.files.items
     pub number : new.desk.worker.worker.pass.number ≡ old.desk.worker.worker.pass.number
     pub stand : but_wakes new.stand ≡ but_wakes old.stand
+    pub rung : RangOn t old new
 
   -- its whole work is done
   pub record HasDone (t : Task S) (old new : Work S) : Type 0 where
@@ -84,6 +94,7 @@ module _ {S : Type 0} where
     pub number : new.desk.worker.worker.pass.number ≡ old.desk.worker.worker.pass.number
     pub crew : new.stand.crew ≡ old.stand.crew
     pub worker : new.stand.worker ≡ old.stand.worker
+    pub rung : RangOn t old new
 
   -- how the thread of a worker ends: it did all, or nothing
   abbrev pub HandsBack : Task S → Work S → HandedBack S → Type 0

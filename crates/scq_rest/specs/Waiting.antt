@@ -1,10 +1,11 @@
 -- Workers that have waited in place of leaving early: how often each rested and took in vain.
 -- `topics` is the number of topic rings, and `behind` how often a worker takes behind each send.
-use Rattle.std.specs.Prelude.{◌≡◌, ◌⊎◌, ℕ, ◌-◌, ◌^◌, ◌≤◌, Bool, true, List, length, map, All}
+use Rattle.std.specs.Prelude.{◌≡◌, ◌⊎◌, ℕ, zero, suc, ◌+◌, ◌-◌, ◌^◌, ◌≤◌, Bool, true, List, length}
+use Rattle.std.specs.Prelude.{map, All}
 use Rattle.std.specs.Prelude.{Some, None, slice_get}
 use Rattle.scq_park.specs.declared.rested.Rested.{Rested}
 use Rattle.scq_park.specs.Exports.{Post, counted}
-use Rattle.scq_queue.specs.Exports.{PassStanding, was_told}
+use Rattle.scq_queue.specs.Exports.{PassStanding, was_told, sends_of}
 use Rattle.scq_block.specs.Exports.{bytes_of}
 use Rattle.scq_block.specs.declared.frame.Frame.{Frame}
 use Rattle.scq_passes.specs.Exports.{IsReturn, SweepsInVain}
@@ -26,11 +27,20 @@ EachWaited topics behind stands passes =
     (w : ℕ) (s : Post) (p : PassStanding Frame) → slice_get stands w ≡ Some s
     → slice_get passes w ≡ Some p → HasWaited bytes_of topics behind s.rests p
 
+-- the worker before this one, of so many: before the first is the last
+abbrev pub before_of : ℕ → ℕ → ℕ
+before_of zero workers = workers - 1
+before_of (suc w) workers = w
+
+-- how many wakes a worker is given at retirements, of so many workers: one at that of each other
+abbrev pub at_retirements : ℕ → ℕ
+at_retirements workers = workers - 1
+
 -- all workers: each saw that all had retired, as its pass read the gate, rested no more often than
 -- it was woken, took in vain no more often than one does that rests after each sweep that took
 -- nothing, rested as often as sweeps before its last took nothing, and left after a sweep before
--- which it was told that all had retired. A count of rests stands still at the last value of 64
--- bits
+-- which it was told that all had retired; and it was woken once at each send of the worker before
+-- it, and at the retirements. A count of rests or wakes stands still at the last value of 64 bits
 pub record HaveWaited (topics behind workers : ℕ) (passes : List (PassStanding Frame))
     (saw : List Bool) (rested : List Rested) : Type 0 where
   pub each_saw : length saw ≡ workers
@@ -44,3 +54,6 @@ pub record HaveWaited (topics behind workers : ℕ) (passes : List (PassStanding
   pub left : (w : ℕ) (p : PassStanding Frame) (r : Rested) → slice_get passes w ≡ Some p
       → slice_get rested w ≡ Some r
       → (rests : ℕ) × (r.rests ≡ counted rests) × HasLeftTold bytes_of IsReturn topics rests p
+  pub rung : (w : ℕ) (p : PassStanding Frame) (r : Rested)
+      → slice_get passes (before_of w workers) ≡ Some p → slice_get rested w ≡ Some r
+      → r.wakes ≡ counted (length (sends_of p.calls) + at_retirements workers)

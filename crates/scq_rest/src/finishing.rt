@@ -1,9 +1,11 @@
 //! What a worker that may rest does once it has retired.
-ghost use Rattle.std.specs.Prelude.{◌≡◌, ◌+◌, length};
+ghost use Rattle.std.specs.Prelude.{◌≡◌, ◌+◌, length, None};
 ghost use Rattle.scq_block.specs.Exports.{bytes_of};
 ghost use Rattle.scq_worker.specs.Exports.{HasProducedAt, HasRunAt, takes_behind};
+ghost use Rattle.scq_queue.specs.Exports.{sends_of};
 ghost use Rattle.scq_rest.specs.Exports.{HasWaited};
 
+use crate::awaited::Awaited;
 use crate::sweeping::sweep_and_rest;
 use scq_block::Frame;
 use scq_outside::Source;
@@ -24,9 +26,11 @@ pub fn finish<S: Source, G: Gate, R: Wait>(
     gate: &G,
     crew: &Crew,
     stand: &mut Stand,
+    awaited: &Awaited,
 )
     requires produced { HasProducedAt queue.now job.now S.Source desk.old }
     requires stand { (stand.old.crew ≡ crew.now) × (stand.old.rests ≡ 0) }
+    requires none { awaited.now ≡ 0 }
     ensures same { desk.new.files.items ≡ desk.old.files.items }
     ensures run { HasRunAt queue.now job.now S.Source desk.new }
     ensures waited { HasWaited bytes_of (length job.now.topics
@@ -34,6 +38,10 @@ pub fn finish<S: Source, G: Gate, R: Wait>(
     ensures number { desk.new.worker.worker.pass.number ≡ desk.old.worker.worker.pass.number }
     ensures stand { (stand.new.crew ≡ stand.old.crew) × (stand.new.worker ≡ stand.old.worker) }
     ensures wakes { stand.new.wakes ≡ stand.old.wakes }
+    ensures unsent { desk.new.worker.worker.pass.spent ≡ None
+        → (desk.old.worker.worker.pass.spent ≡ None)
+        × (sends_of desk.new.worker.worker.pass.calls
+        ≡ sends_of desk.old.worker.worker.pass.calls) }
 {
     match desk.worker.worker.pass.spent() {
         Some(_) => {}
@@ -45,7 +53,8 @@ pub fn finish<S: Source, G: Gate, R: Wait>(
                 gate,
             };
             let worker = &mut desk.worker.worker;
-            match sweep_and_rest(worker, &with, job.topics.len() + 1, rt, crew, stand) {
+            let topics = job.topics.len() + 1;
+            match sweep_and_rest(worker, &with, topics, rt, crew, stand, awaited) {
                 Ok(()) => gate.at(desk.worker.worker.number, Point::BeforeLeave),
                 Err(at_limit) => desk.worker.keep(at_limit),
             }

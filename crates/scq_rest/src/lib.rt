@@ -3,6 +3,7 @@
 //! where one could be made, and a stand of the crew, by which it rests and wakes others.
 #![tactic(auto)]
 
+mod awaited;
 mod finishing;
 mod places;
 mod resting;

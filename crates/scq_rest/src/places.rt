@@ -1,10 +1,13 @@
 //! The workers beside the first: each in a thread of its own, or with the caller where none could
 //! be made.
-ghost use Rattle.std.specs.Prelude.{◌≡◌, ◌≤◌, [], length, map, All, vec_len, vec_capacity};
+ghost use Rattle.std.specs.Prelude.{◌≡◌, ◌+◌, ◌<◌, ◌≤◌, [], length, map, sum_by, All, vec_len};
+ghost use Rattle.std.specs.Prelude.{vec_capacity};
 ghost use Rattle.std.specs.List.{AllZip};
 ghost use Rattle.scq_rest.specs.Threads.{task, CanStart, IsGiven, HasBegun, HasDone};
-ghost use Rattle.scq_rest.specs.Places.{given_to, HasWork, IsUntouched, CanAllBegin, HaveDone};
+ghost use Rattle.scq_rest.specs.Places.{given_to, here, HasWork, IsUntouched, CanAllBegin};
+ghost use Rattle.scq_rest.specs.Places.{HaveDone};
 
+use crate::awaited::Awaited;
 use crate::threads::{HandedBack, Work, WorksOn, start};
 use scq_block::Frame;
 use scq_outside::Source;
@@ -26,7 +29,7 @@ pub enum Runner<S: Source> {
     Done { was: WorksOn<S>, work: Work<S> },
 }
 
-/// Starts a worker.
+/// Starts a worker. Where it has no thread of its own the caller runs it, and it is awaited still.
 fn begin<'s, E, R: Threads + Wait + Sync + 's, S: Source + 's, G: Gate + Sync + 's>(
     rt: &'s R,
     scope: &Scope<'s, E>,
@@ -37,17 +40,26 @@ fn begin<'s, E, R: Threads + Wait + Sync + 's, S: Source + 's, G: Gate + Sync + 
     crew: &'s Crew,
     held_back: &'s AtomicBool,
     given: Work<S>,
+    awaited: &mut Awaited,
 ) -> Runner<S>
     requires ready { CanStart (task queue.now job.now crew.now S.Source) }
     requires given { IsGiven (task queue.now job.now crew.now S.Source) given }
+    requires awaited { 0 < awaited.old }
     ensures given { given_to result ≡ given }
     ensures stands { HasWork IsUntouched queue.now job.now crew.now S.Source result }
+    ensures awaited { awaited.new + 1 ≡ awaited.old + here result }
 {
     let was = WorksOn::of(job, queue, crew, &given);
     match start(rt, scope, alloc, job, queue, gate, crew, held_back, given) {
-        Ok(handle) => Runner::Started(handle),
+        Ok(handle) => {
+            awaited.one_less();
+            Runner::Started(handle)
+        }
         Err(HandedBack::Unbegun(work)) => Runner::Here { was, work },
-        Err(HandedBack::Worked(work)) => Runner::Done { was, work },
+        Err(HandedBack::Worked(work)) => {
+            awaited.one_less();
+            Runner::Done { was, work }
+        }
     }
 }
 
@@ -60,15 +72,18 @@ impl<S: Source> Runner<S> {
         queue: &Queue<Frame>,
         gate: &G,
         crew: &Crew,
+        awaited: &mut Awaited,
     )
         requires ready { CanStart (task queue.now job.now crew.now S.Source) }
         requires stands { HasWork IsUntouched queue.now job.now crew.now S.Source self.old }
+        requires awaited { here self.old ≤ awaited.old }
         ensures given { given_to self.new ≡ given_to self.old }
         ensures stands { HasWork HasBegun queue.now job.now crew.now S.Source self.new }
+        ensures awaited { awaited.new + here self.old ≡ awaited.old }
     {
         match self {
             Runner::Started(_) => {}
-            Runner::Here { work, .. } => work.produce(alloc, job, queue, gate, crew),
+            Runner::Here { work, .. } => work.produce(alloc, job, queue, gate, crew, awaited),
             Runner::Done { .. } => {}
         }
     }
@@ -82,14 +97,18 @@ impl<S: Source> Runner<S> {
         queue: &Queue<Frame>,
         gate: &G,
         crew: &Crew,
+        awaited: &Awaited,
     )
         requires stands { HasWork HasBegun queue.now job.now crew.now S.Source self.old }
+        requires none { awaited.now ≡ 0 }
         ensures given { given_to self.new ≡ given_to self.old }
         ensures stands { HasWork HasDone queue.now job.now crew.now S.Source self.new }
     {
         match self {
             Runner::Started(_) => {}
-            Runner::Here { work, .. } => work.finish(rt, alloc, job, queue, gate, crew),
+            Runner::Here { work, .. } => {
+                work.finish(rt, alloc, job, queue, gate, crew, awaited);
+            }
             Runner::Done { .. } => {}
         }
     }
@@ -103,18 +122,22 @@ impl<S: Source> Runner<S> {
         queue: &Queue<Frame>,
         gate: &G,
         crew: &Crew,
+        awaited: &mut Awaited,
     ) -> Work<S>
         requires ready { CanStart (task queue.now job.now crew.now S.Source) }
         requires stands { HasWork HasDone queue.now job.now crew.now S.Source self }
-        ensures { HasDone (task queue.now job.now crew.now S.Source) (given_to self) result }
+        requires none { awaited.old ≡ 0 }
+        ensures none { awaited.new ≡ 0 }
+        ensures done { HasDone (task queue.now job.now crew.now S.Source) (given_to self) result }
     {
         match self {
             Runner::Started(handle) => match handle.join(rt) {
                 HandedBack::Worked(work) => work,
                 HandedBack::Unbegun(given) => {
                     let mut work = given;
-                    work.produce(alloc, job, queue, gate, crew);
-                    work.finish(rt, alloc, job, queue, gate, crew);
+                    awaited.one_more();
+                    work.produce(alloc, job, queue, gate, crew, awaited);
+                    work.finish(rt, alloc, job, queue, gate, crew, awaited);
                     work
                 }
             },
@@ -124,6 +147,7 @@ impl<S: Source> Runner<S> {
     }
 }
 
+/// All that the caller runs read their files and retire, so that none of them is awaited then.
 fn produce_all<S: Source, G: Gate>(
     places: &mut [Runner<S>],
     alloc: Global,
@@ -131,16 +155,19 @@ fn produce_all<S: Source, G: Gate>(
     queue: &Queue<Frame>,
     gate: &G,
     crew: &Crew,
+    awaited: &mut Awaited,
 )
     requires ready { CanStart (task queue.now job.now crew.now S.Source) }
     requires stands { All
         (HasWork IsUntouched queue.now job.now crew.now S.Source) places.old }
+    requires awaited { awaited.old ≡ sum_by here places.old }
+    ensures none { awaited.new ≡ 0 }
     ensures given { map given_to places.new ≡ map given_to places.old }
     ensures stands { All
         (HasWork HasBegun queue.now job.now crew.now S.Source) places.new }
 {
     'places: for place in places.iter_mut() {
-        place.produce(alloc, job, queue, gate, crew);
+        place.produce(alloc, job, queue, gate, crew, awaited);
     }
 }
 
@@ -152,19 +179,22 @@ fn finish_all<S: Source, G: Gate, R: Wait>(
     queue: &Queue<Frame>,
     gate: &G,
     crew: &Crew,
+    awaited: &Awaited,
 )
     requires stands { All
         (HasWork HasBegun queue.now job.now crew.now S.Source) places.old }
+    requires none { awaited.now ≡ 0 }
     ensures given { map given_to places.new ≡ map given_to places.old }
     ensures stands { All
         (HasWork HasDone queue.now job.now crew.now S.Source) places.new }
 {
     'places: for place in places.iter_mut() {
-        place.finish(rt, alloc, job, queue, gate, crew);
+        place.finish(rt, alloc, job, queue, gate, crew, awaited);
     }
 }
 
-/// Starts all, in their order. The places are put into an empty list with room.
+/// Starts all, in their order. The places are put into an empty list with room. Those that the
+/// caller runs are awaited still.
 fn begin_all<'s, E, R: Threads + Wait + Sync + 's, S: Source + 's, G: Gate + Sync + 's>(
     rt: &'s R,
     scope: &Scope<'s, E>,
@@ -176,6 +206,7 @@ fn begin_all<'s, E, R: Threads + Wait + Sync + 's, S: Source + 's, G: Gate + Syn
     flags: &'s [AtomicBool],
     mut given: Vec<Work<S>>,
     places: &mut Vec<Runner<S>>,
+    awaited: &mut Awaited,
 )
     requires ready { CanStart (task queue.now job.now crew.now S.Source) }
     requires given { All
@@ -183,14 +214,18 @@ fn begin_all<'s, E, R: Threads + Wait + Sync + 's, S: Source + 's, G: Gate + Syn
     requires flags { vec_len given ≤ length flags.now }
     requires empty { places.old.items ≡ [] }
     requires room { vec_len given ≤ vec_capacity places.old }
+    requires awaited { vec_len given ≤ awaited.old }
     ensures given { map given_to places.new.items ≡ given.items }
     ensures stands { All
         (HasWork IsUntouched queue.now job.now crew.now S.Source) places.new.items }
+    ensures awaited { awaited.new + vec_len given ≡ awaited.old + sum_by here places.new.items }
 {
     given.reverse();
     'starts: while let Some(work) = given.pop() {
         let held_back = &flags[given.len()];
-        places.push_reserved(begin(rt, scope, alloc, job, queue, gate, crew, held_back, work));
+        places.push_reserved(begin(
+            rt, scope, alloc, job, queue, gate, crew, held_back, work, awaited,
+        ));
     }
 }
 
@@ -204,8 +239,10 @@ fn end_all<S: Source, G: Gate, R: Threads + Wait>(
     gate: &G,
     crew: &Crew,
     ends: &mut Vec<Work<S>>,
+    awaited: &mut Awaited,
 )
     requires ready { CanStart (task queue.now job.now crew.now S.Source) }
+    requires none { awaited.old ≡ 0 }
     requires stands { All
         (HasWork HasDone queue.now job.now crew.now S.Source) places.items }
     requires empty { ends.old.items ≡ [] }
@@ -215,7 +252,7 @@ fn end_all<S: Source, G: Gate, R: Threads + Wait>(
 {
     places.reverse();
     'ends: while let Some(place) = places.pop() {
-        ends.push_reserved(place.end(rt, alloc, job, queue, gate, crew));
+        ends.push_reserved(place.end(rt, alloc, job, queue, gate, crew, awaited));
     }
 }
 
@@ -239,6 +276,7 @@ fn all_in<'s, E, R: Threads + Wait + Sync + 's, S: Source + 's, G: Gate + Sync +
         (length flags.now) first given places ends }
     ensures { HaveDone (task queue.now job.now crew.now S.Source) first given result.0 result.1 }
 {
+    let mut awaited = Awaited::of(1 + given.len());
     begin_all(
         rt,
         scope,
@@ -250,12 +288,40 @@ fn all_in<'s, E, R: Threads + Wait + Sync + 's, S: Source + 's, G: Gate + Sync +
         flags,
         given,
         &mut places,
+        &mut awaited,
     );
-    first.produce(alloc, job, queue, gate, crew);
-    produce_all(places.as_mut_slice(), alloc, job, queue, gate, crew);
-    first.finish(rt, alloc, job, queue, gate, crew);
-    finish_all(places.as_mut_slice(), rt, alloc, job, queue, gate, crew);
-    end_all(places, rt, alloc, job, queue, gate, crew, &mut ends);
+    first.produce(alloc, job, queue, gate, crew, &mut awaited);
+    produce_all(
+        places.as_mut_slice(),
+        alloc,
+        job,
+        queue,
+        gate,
+        crew,
+        &mut awaited,
+    );
+    first.finish(rt, alloc, job, queue, gate, crew, &awaited);
+    finish_all(
+        places.as_mut_slice(),
+        rt,
+        alloc,
+        job,
+        queue,
+        gate,
+        crew,
+        &awaited,
+    );
+    end_all(
+        places,
+        rt,
+        alloc,
+        job,
+        queue,
+        gate,
+        crew,
+        &mut ends,
+        &mut awaited,
+    );
     (first, ends)
 }
 

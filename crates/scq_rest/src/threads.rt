@@ -1,7 +1,8 @@
 //! The threads of workers that may rest: what each is given, and hands back.
-ghost use Rattle.std.specs.Prelude.{◌≡◌, IfOk, IfErr};
+ghost use Rattle.std.specs.Prelude.{◌≡◌, ◌+◌, ◌<◌, IfOk, IfErr};
 ghost use Rattle.scq_rest.specs.Threads.{task, CanBegin, HandsBack};
 
+use crate::awaited::Awaited;
 use crate::finishing::finish;
 use scq_band::Lifted;
 use scq_block::Frame;
@@ -58,7 +59,7 @@ impl<S: Source> Work<S> {
     }
 
     /// It reads its files and passes their messages on, and retires. It wakes others, and never
-    /// rests.
+    /// rests. From then on it isn't awaited.
     pub fn produce<G: Gate>(
         &mut self,
         alloc: Global,
@@ -66,17 +67,22 @@ impl<S: Source> Work<S> {
         queue: &Queue<Frame>,
         gate: &G,
         crew: &Crew,
+        awaited: &mut Awaited,
     )
         requires ready { CanStart (task queue.now job.now crew.now S.Source) }
         requires given { IsGiven (task queue.now job.now crew.now S.Source) self.old }
-        ensures { HasBegun
+        requires awaited { 0 < awaited.old }
+        ensures begun { HasBegun
             (task queue.now job.now crew.now S.Source) self.old self.new }
+        ensures awaited { awaited.new + 1 ≡ awaited.old }
     {
         let desk = &mut self.desk;
         produce(desk, alloc, job, queue, gate, crew, &mut self.stand);
+        awaited.one_less();
     }
 
-    /// It sweeps and rests until all have retired.
+    /// It sweeps and rests until all have retired. None of the workers that its thread runs may be
+    /// awaited then.
     pub fn finish<G: Gate, R: Wait>(
         &mut self,
         rt: &R,
@@ -85,14 +91,17 @@ impl<S: Source> Work<S> {
         queue: &Queue<Frame>,
         gate: &G,
         crew: &Crew,
+        awaited: &Awaited,
     )
         requires begun { HasReadAndRetired (task queue.now job.now crew.now S.Source) self.old }
+        requires none { awaited.now ≡ 0 }
         ensures { (given : _)
             → HasBegun (task queue.now job.now crew.now S.Source) given self.old
             → HasDone (task queue.now job.now crew.now S.Source) given self.new }
     {
         let desk = &mut self.desk;
-        finish(desk, rt, alloc, job, queue, gate, crew, &mut self.stand);
+        let stand = &mut self.stand;
+        finish(desk, rt, alloc, job, queue, gate, crew, stand, awaited);
     }
 }
 
@@ -153,8 +162,9 @@ fn work_there<R: Wait, S: Source, G: Gate>(
         return HandedBack::Unbegun(given);
     }
     let mut work = given;
-    work.produce(alloc, job, queue, gate, crew);
-    work.finish(rt, alloc, job, queue, gate, crew);
+    let mut awaited = Awaited::of(1);
+    work.produce(alloc, job, queue, gate, crew, &mut awaited);
+    work.finish(rt, alloc, job, queue, gate, crew, &awaited);
     HandedBack::Worked(work)
 }
 

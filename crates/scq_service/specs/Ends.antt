@@ -39,9 +39,9 @@ pub record Change (A : Type 0) : Type 0 where
   pub old : A
   pub new : A
 
--- what became of the inputs of a run: the table of files, how often a source was not got (`misses`),
--- the sources that were got, and, where a file is too large, how many bytes were read of it (`read`,
--- else 0)
+-- what became of the inputs of a run: the table of files, how often a source was not got
+-- (`misses`), the sources that were got, and, where a file is too large, how many bytes were read
+-- of it (`read`, else 0)
 pub record Inputs (S : Type 0) : Type 0 where
   pub table : Change (Option Table)
   pub misses : Change ℕ
@@ -373,7 +373,8 @@ EndsJudged src room names got r w (Some fault) =
     ((refused : JudgeFault) × (fault ≡ fault_of_judge refused)
     × IsRefusedBy src names got r refused) × IsUnwritten w
 
--- nothing was got, and nothing that was asked for was missing
+-- nothing was got, and nothing that was asked for was missing, but where the count of misses stands
+-- still
 abbrev pub NoSourceCame : {S : Type 0} → Inputs S → Type 0
 NoSourceCame r = IsUnchanged r.table × IsUnchanged r.misses × (r.sources ≡ []) × (r.read ≡ 0)
 

@@ -26,7 +26,7 @@ module _ {B : Type 0} where
       → slice_get lists w ≡ Some list → P w p list
 
   -- the workers' lists, against the messages of files and the workers' passes. A part has at most
-  -- `size` bytes; those that go together have at most `most`, with 24 more for each
+  -- `size` bytes; those that go together have at most `most`, 24 for each part counted in
   pub record HaveAnswered (topics : List (List ℕ × Kind)) (size most workers : ℕ)
       (given : List (List Message)) (passes : List (PassStanding B))
       (lists : List (List Answered)) : Type 0 where

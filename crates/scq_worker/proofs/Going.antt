@@ -51,17 +51,17 @@ module _ {B : Type 0} (q : Identity B) (j : Job) where
       (omega (arith, few, length-append parts ps, length-append parts ns)) (one parts at)
 
   -- its pass is the same
-  pub goes-same : (w v : Worker B) (was : List ℕ) → Suits q (length j.topics) w.pass → w.pass.retired ≡ None → v.pass ≡ w.pass
+  pub goes-same : (w v : Worker B) (was : Post) → Suits q (length j.topics) w.pass → w.pass.retired ≡ None → v.pass ≡ w.pass
       → KeepsCalling q j w v was was
   goes-same w v was suits stays same =
       let Goes : PassStanding B → Type 0 = λ p. Suits q (length j.topics) p × (p.retired ≡ None)
       × (HelpsInVain (length j.topics + 1) (takes_behind j.most) w.pass → HelpsInVain (length j.topics + 1) (takes_behind j.most) p)
-      × RingsOn w.number j.workers w.pass p was was in
+      × RingsOn was.worker j.workers w.pass p was.wakes was.wakes in
       let its = subst Goes (sym same) (suits, stays, (λ few. few), (λ first rings. rings)) in
       record { suits = its.0; stays = its.1; vain = its.2; rung = its.3 }
 
   -- nothing that is open has changed
-  pub gathered-still : (w v : Worker B) (was : List ℕ) → Suits q (length j.topics) w.pass → w.pass.retired ≡ None
+  pub gathered-still : (w v : Worker B) (was : Post) → Suits q (length j.topics) w.pass → w.pass.retired ≡ None
       → AreOpen j.most (length j.topics + 1) v.opens.items → ((t : ℕ) → open_on t v.opens.items ≡ open_on t w.opens.items)
       → v.pass ≡ w.pass → v.members ≡ w.members → v.starved ≡ w.starved → HasGathered q j [] w v was was
   gathered-still w v was suits stays opens same pass list starved = record {
@@ -73,7 +73,7 @@ module _ {B : Type 0} (q : Identity B) (j : Job) where
   }
 
   -- a part is added to those that are open on its topic
-  pub gathered-one : (p : Part) (w v : Worker B) (was : List ℕ) → Suits q (length j.topics) w.pass → w.pass.retired ≡ None
+  pub gathered-one : (p : Part) (w v : Worker B) (was : Post) → Suits q (length j.topics) w.pass → w.pass.retired ≡ None
       → AreOpen j.most (length j.topics + 1) v.opens.items → 0 < j.most
       → ((t : ℕ) → open_on t v.opens.items ≡ open_on t w.opens.items ++ (if t == p.topic then p ∷ [] else []))
       → v.pass ≡ w.pass → v.members ≡ w.members → v.starved ≡ w.starved → HasGathered q j (p ∷ []) w v was was
@@ -88,7 +88,7 @@ module _ {B : Type 0} (q : Identity B) (j : Job) where
   }
 
   -- a part goes alone, where nothing is open on its topic
-  pub gone-alone : (p : Part) (u v w : Worker B) (was mid is : List ℕ) → v.number ≡ u.number → HasGathered q j [] u v was mid
+  pub gone-alone : (p : Part) (u v w : Worker B) (was mid is : Post) → mid.worker ≡ was.worker → HasGathered q j [] u v was mid
       → open_on p.topic v.opens.items ≡ [] → KeepsCalling q j v w mid is → HasPassedOn j (p ∷ []) v w → w.opens ≡ v.opens
       → HasGathered q j (p ∷ []) u w was is
   gone-alone p u v w was mid is same one none goes passed kept = record {
@@ -106,7 +106,7 @@ module _ {B : Type 0} (q : Identity B) (j : Job) where
   }
 
   -- or it stopped there
-  pub stopped-alone : (p : Part) (u v w : Worker B) (was mid : List ℕ) (kept : Option (HeldStanding B)) → HasGathered q j [] u v was mid
+  pub stopped-alone : (p : Part) (u v w : Worker B) (was mid : Post) (kept : Option (HeldStanding B)) → HasGathered q j [] u v was mid
       → HasStoppedBehind q j v w kept → HasStoppedIn q j (p ∷ []) u w kept
   stopped-alone p u v w was mid kept one left parts at =
       let last = one.work parts at in
@@ -115,7 +115,7 @@ module _ {B : Type 0} (q : Identity B) (j : Job) where
       (left last.batches last.passed)
 
   -- what is told of an answer with these parts, of the same parts
-  pub told-gathered : {X E : Type 0} (r : Result X E) (ps ns : List Part) (u w : Worker B) (was is : List ℕ) (a b : Post) → ps ≡ ns
+  pub told-gathered : {X E : Type 0} (r : Result X E) (ps ns : List Part) (u w : Worker B) (was is a b : Post) → ps ≡ ns
       → OnOk r (HasGathered q j ps u w was is) → IsSameWorker u w a b → OnOk r (HasGathered q j ns u w was is × IsSameWorker u w a b)
   told-gathered (Ok x) ps ns u w was is a b same gathered still = (subst (λ (l : List Part). HasGathered q j l u w was is) same gathered, still)
   told-gathered (Err e) ps ns u w was is a b same gathered still = tt

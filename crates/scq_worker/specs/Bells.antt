@@ -1,13 +1,27 @@
 -- Stands by which workers wake others, and how often each was woken.
-use Rattle.std.proofs.Common.{subst}
-use Rattle.std.specs.Prelude.{◌≡◌, ℕ, zero, suc, ◌+◌, ◌==◌, if◌then◌else◌, List, [], length}
-use Rattle.std.specs.Prelude.{nat_lt, slice_index, slice_set}
+use Rattle.std.proofs.Common.{ap, subst}
+use Rattle.std.specs.Prelude.{◌≡◌, ℕ, zero, suc, ◌+◌, ◌==◌, if◌then◌else◌, List, [], ◌∷◌, ◌++◌}
+use Rattle.std.specs.Prelude.{length, nat_lt, slice_index, slice_set}
+use Rattle.scq_core.specs.declared.ended.Ended.{Ended}
+use Rattle.scq_core.specs.declared.ended.Ended.TheVariants.{Done}
 use Rattle.scq_park.specs.Exports.{Post, post}
 use Rattle.scq_queue.specs.Exports.{sends_of, PassStanding}
 
 -- a stand, but for whom it woke
 abbrev pub but_wakes : Post → Post
 but_wakes p = post p.crew p.worker [] p.rests
+
+-- so it is of the same worker
+pub same-worker : (p q : Post) → but_wakes q ≡ but_wakes p → q.worker ≡ p.worker
+same-worker p q same = ap (λ (x : Post). x.worker) same
+
+-- the last call of a pass was a send
+pub record HasJustSent {B : Type 0} (p : PassStanding B) : Type 0 where
+  pub before : List Ended
+  pub topic : ℕ
+  pub place : ℕ
+  pub bytes : List ℕ
+  pub last : p.calls ≡ before ++ Done (suc topic) place bytes ∷ []
 
 -- the worker behind this one, of so many: behind the last is the first
 abbrev pub next_of : ℕ → ℕ → ℕ

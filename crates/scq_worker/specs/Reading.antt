@@ -8,7 +8,7 @@ use Rattle.scq_band.specs.Exports.{Identity}
 use Rattle.scq_park.specs.Exports.{Post}
 use Rattle.scq_queue.specs.Exports.{HeldStanding}
 use Rattle.scq_passes.specs.Exports.{Suits, HelpsInVain}
-use Rattle.scq_worker.specs.Bells.{RingsOn, rings-along}
+use Rattle.scq_worker.specs.Bells.{but_wakes, RingsOn, rings-along}
 use Rattle.scq_worker.specs.Opening.{AreOpen, takes_behind}
 use Rattle.scq_worker.specs.Working.{IsAtWork, HasPassed, HasStopped}
 use Rattle.scq_worker.specs.declared.job.Job.{Job}
@@ -25,7 +25,7 @@ pub record IsSameWorker {B : Type 0} (old new : Worker B) (was is : Post) : Type
   pub starved : new.starved ≡ false → old.starved ≡ false
   pub number : new.number ≡ old.number
   pub pass : new.pass.number ≡ old.pass.number
-  pub bell : is ≡ was
+  pub bell : but_wakes is ≡ but_wakes was
 
 module _ {B : Type 0} where
   pub still-same : (w : Worker B) (p : Post) → IsSameWorker w w p p
@@ -48,16 +48,16 @@ HasPassedOn j batch old new =
 
 module _ {B : Type 0} (q : Identity B) (j : Job) where
   -- a worker may make further calls, took in vain no more than it helped, and woke the next one at
-  -- each send: `was` and `is` are how often each was woken
-  pub record KeepsCalling (old new : Worker B) (was is : List ℕ) : Type 0 where
+  -- each send: `was` and `is` are what is seen of its stand
+  pub record KeepsCalling (old new : Worker B) (was is : Post) : Type 0 where
     pub suits : Suits q (length j.topics) new.pass
     pub stays : new.pass.retired ≡ None
     pub vain : HelpsInVain (length j.topics + 1) (takes_behind j.most) old.pass
         → HelpsInVain (length j.topics + 1) (takes_behind j.most) new.pass
-    pub rung : RingsOn old.number j.workers old.pass new.pass was is
+    pub rung : RingsOn was.worker j.workers old.pass new.pass was.wakes is.wakes
 
   -- behind whatever it had gathered it has gathered these parts, and goes on
-  pub record HasGathered (more : List Part) (old new : Worker B) (was is : List ℕ)
+  pub record HasGathered (more : List Part) (old new : Worker B) (was is : Post)
       : Type 0 where
     pub goes : KeepsCalling old new was is
     pub opens : AreOpen j.most (length j.topics + 1) new.opens.items
@@ -77,7 +77,7 @@ module _ {B : Type 0} (q : Identity B) (j : Job) where
       → HasStopped q (length (parts ++ more)) new.pass kept
 
   -- it has gathered nothing
-  pub gathered-nothing : (w : Worker B) (was : List ℕ) → Suits q (length j.topics) w.pass
+  pub gathered-nothing : (w : Worker B) (was : Post) → Suits q (length j.topics) w.pass
       → w.pass.retired ≡ None → AreOpen j.most (length j.topics + 1) w.opens.items
       → HasGathered [] w w was was
   gathered-nothing w was suits stays opens = record {
@@ -92,19 +92,19 @@ module _ {B : Type 0} (q : Identity B) (j : Job) where
         subst (λ (l : List Part). IsWorking j.topics j.most l w) (sym (append-nil parts)) at;
   }
 
-  pub goes-along : (u v w : Worker B) (was mid is : List ℕ) → v.number ≡ u.number
+  pub goes-along : (u v w : Worker B) (was mid is : Post) → mid.worker ≡ was.worker
       → KeepsCalling u v was mid → KeepsCalling v w mid is → KeepsCalling u w was is
   goes-along u v w was mid is same one more = record {
     suits = more.suits;
     stays = more.stays;
     vain = λ few. more.vain (one.vain few);
-    rung = rings-along j.workers u.number v.number u.pass v.pass w.pass was mid is same one.rung
-        more.rung;
+    rung = rings-along j.workers was.worker mid.worker u.pass v.pass w.pass was.wakes mid.wakes
+        is.wakes same one.rung more.rung;
   }
 
   -- more parts behind these
-  pub gathered-along : (ps ns : List Part) (u v w : Worker B) (was mid is : List ℕ)
-      → v.number ≡ u.number → HasGathered ps u v was mid → HasGathered ns v w mid is
+  pub gathered-along : (ps ns : List Part) (u v w : Worker B) (was mid is : Post)
+      → mid.worker ≡ was.worker → HasGathered ps u v was mid → HasGathered ns v w mid is
       → HasGathered (ps ++ ns) u w was is
   gathered-along ps ns u v w was mid is same one more = record {
     goes = goes-along u v w was mid is same one.goes more.goes;
@@ -115,7 +115,7 @@ module _ {B : Type 0} (q : Identity B) (j : Job) where
   }
 
   -- it stopped at one of those
-  pub stopped-along : (ps ns : List Part) (u v w : Worker B) (was mid : List ℕ)
+  pub stopped-along : (ps ns : List Part) (u v w : Worker B) (was mid : Post)
       (kept : Option (HeldStanding B)) → HasGathered ps u v was mid → HasStoppedIn ns v w kept
       → HasStoppedIn (ps ++ ns) u w kept
   stopped-along ps ns u v w was mid kept one more parts at =

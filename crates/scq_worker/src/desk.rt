@@ -2,7 +2,7 @@
 ghost use Rattle.std.specs.Prelude.{◌≡◌, ◌≤◌, ◌+◌, [], length, None, IfErr, OnOk, All};
 ghost use Rattle.scq_block.specs.Exports.{bytes_of};
 ghost use Rattle.scq_files.specs.Exports.{IsNew, ids_of, all_given, WereRead};
-ghost use Rattle.scq_worker.specs.Bells.{HasRung};
+ghost use Rattle.scq_worker.specs.Bells.{but_wakes, HasRung};
 ghost use Rattle.scq_worker.specs.Opening.{NoneIsOpen};
 ghost use Rattle.scq_worker.specs.Passing.{parts_in};
 ghost use Rattle.scq_worker.specs.Reading.{HasGathered, HasStoppedIn, IsSameWorker};
@@ -39,14 +39,14 @@ pub fn produce<S: Source, G: Gate, T, W: Bell<T>>(
     requires room { All (λ b. job.now.size + 24 ≤ length b.bytes.items) queue.now.given }
     requires fresh { IsToBegin queue.now desk.old.worker }
     requires unread { All IsNew desk.old.files.items }
-    requires bell { W.fits bell.now (W.kept stand.old) job.now.workers }
+    requires bell { W.fits bell.now (but_wakes (W.seen stand.old)) job.now.workers }
     ensures same { ids_of desk.new.files.items ≡ ids_of desk.old.files.items }
     ensures produced { HasProducedAt queue.now job.now S.Source desk.new }
     ensures number { desk.new.worker.worker.pass.number ≡ desk.old.worker.worker.pass.number }
-    ensures bell { W.kept stand.new ≡ W.kept stand.old }
+    ensures bell { but_wakes (W.seen stand.new) ≡ but_wakes (W.seen stand.old) }
     ensures rung { desk.new.worker.worker.pass.spent ≡ None
-        → HasRung desk.old.worker.worker.number job.now.workers desk.new.worker.worker.pass
-        (W.wakes stand.old) (W.wakes stand.new) }
+        → HasRung (W.seen stand.old).worker job.now.workers desk.new.worker.worker.pass
+        (W.seen stand.old).wakes (W.seen stand.new).wakes }
 {
     match pass_all_on(desk, alloc, job, queue, gate, bell, stand) {
         Ok(()) => desk.worker.worker.retire(job, queue, bell, stand),
@@ -71,19 +71,19 @@ fn pass_all_on<S: Source, G: Gate, T, W: Bell<T>>(
     requires room { All (λ b. job.now.size + 24 ≤ length b.bytes.items) queue.now.given }
     requires fresh { IsToBegin queue.now desk.old.worker }
     requires unread { All IsNew desk.old.files.items }
-    requires bell { W.fits bell.now (W.kept stand.old) job.now.workers }
+    requires bell { W.fits bell.now (but_wakes (W.seen stand.old)) job.now.workers }
     ensures files { WereRead job.now.topics job.now.longest S.Source desk.old.files.items
         desk.new.files.items }
     ensures gathered { OnOk result (HasGathered queue.now job.now
         (parts_in job.now.size (all_given desk.new.files.items)) desk.old.worker.worker
-        desk.new.worker.worker (W.wakes stand.old) (W.wakes stand.new)) }
+        desk.new.worker.worker (W.seen stand.old) (W.seen stand.new)) }
     ensures closed { OnOk result (NoneIsOpen desk.new.worker.worker.opens.items) }
     ensures stopped { IfErr result (λ l. HasStoppedIn queue.now job.now
         (parts_in job.now.size (all_given desk.new.files.items)) desk.old.worker.worker
         desk.new.worker.worker l.held) }
     ensures kept { desk.new.worker.kept ≡ desk.old.worker.kept }
-    ensures still { IsSameWorker desk.old.worker.worker desk.new.worker.worker (W.kept stand.old)
-        (W.kept stand.new) }
+    ensures still { IsSameWorker desk.old.worker.worker desk.new.worker.worker (W.seen stand.old)
+        (W.seen stand.new) }
 {
     let with = Calls {
         alloc,

@@ -9,6 +9,7 @@ ghost use Rattle.scq_worker.specs.Exports.{parts_of_load, IsLoad, AreOpen, IsOpe
 ghost use Rattle.scq_worker.specs.Exports.{open_on, takes_behind, KeepsCalling, HasGathered};
 ghost use Rattle.scq_worker.specs.Exports.{HasPassedOn, HasStoppedBehind, HasStoppedIn};
 ghost use Rattle.scq_worker.specs.Exports.{IsSameWorker, HasLeftAt, HasTakenAll, KeepsItsOwn};
+ghost use Rattle.scq_worker.specs.Exports.{but_wakes};
 
 use crate::bell::Bell;
 use crate::worker::{Load, Worker};
@@ -81,20 +82,20 @@ impl<B: BufferMut> Worker<B> {
         requires topic { topic ≤ length job.now.topics }
         requires load { IsLoad job.now.size job.now.longest job.now.most topic load }
         requires room { All (λ b. job.now.size + 24 ≤ length (B.contents b)) queue.now.given }
-        requires bell { W.fits bell.now (W.kept stand.old) job.now.workers }
+        requires bell { W.fits bell.now (but_wakes (W.seen stand.old)) job.now.workers }
         ensures goes { OnOk result (KeepsCalling queue.now job.now self.old self.new
-            (W.wakes stand.old) (W.wakes stand.new)) }
+            (W.seen stand.old) (W.seen stand.new)) }
         ensures passed { OnOk result
             (HasPassedOn job.now (parts_of_load job.now.size load.entry) self.old self.new) }
         ensures left { IfErr result (λ l.
             HasStoppedBehind queue.now job.now self.old self.new l.held) }
-        ensures still { IsSameWorker self.old self.new (W.kept stand.old) (W.kept stand.new) }
+        ensures still { IsSameWorker self.old self.new (W.seen stand.old) (W.seen stand.new) }
         ensures opens { self.new.opens ≡ self.old.opens }
     {
         match queue.lend(&mut self.pass) {
             Ok(held) => {
                 self.send_in(job, queue, topic, load, held)?;
-                bell.after_send(stand, self.number, job.workers);
+                bell.after_send(stand, &self.pass, job.workers);
                 gate.at(self.number, Point::AfterSend);
                 self.take_behind(alloc, job, queue, gate, topic)?;
                 Ok(())
@@ -135,15 +136,15 @@ impl<B: BufferMut> Worker<B> {
         requires stays { self.old.pass.retired ≡ None }
         requires topic { topic ≤ length job.now.topics }
         requires room { All (λ b. job.now.size + 24 ≤ length (B.contents b)) queue.now.given }
-        requires bell { W.fits bell.now (W.kept stand.old) job.now.workers }
+        requires bell { W.fits bell.now (but_wakes (W.seen stand.old)) job.now.workers }
         requires opens { AreOpen job.now.most (length job.now.topics + 1) self.old.opens.items }
         ensures gathered { OnOk result (HasGathered queue.now job.now [] self.old self.new
-            (W.wakes stand.old) (W.wakes stand.new)) }
+            (W.seen stand.old) (W.seen stand.new)) }
         ensures closed { OnOk result ((t : ℕ) → open_on t self.new.opens.items
             ≡ if t == topic then [] else open_on t self.old.opens.items) }
         ensures left { IfErr result (λ l.
             HasStoppedIn queue.now job.now [] self.old self.new l.held) }
-        ensures still { IsSameWorker self.old self.new (W.kept stand.old) (W.kept stand.new) }
+        ensures still { IsSameWorker self.old self.new (W.seen stand.old) (W.seen stand.new) }
     {
         if !self.has_open(topic) {
             return Ok(());
@@ -169,14 +170,14 @@ impl<B: BufferMut> Worker<B> {
         requires suits { Suits queue.now (length job.now.topics) self.old.pass }
         requires stays { self.old.pass.retired ≡ None }
         requires room { All (λ b. job.now.size + 24 ≤ length (B.contents b)) queue.now.given }
-        requires bell { W.fits bell.now (W.kept stand.old) job.now.workers }
+        requires bell { W.fits bell.now (but_wakes (W.seen stand.old)) job.now.workers }
         requires opens { AreOpen job.now.most (length job.now.topics + 1) self.old.opens.items }
         ensures gathered { OnOk result (HasGathered queue.now job.now [] self.old self.new
-            (W.wakes stand.old) (W.wakes stand.new)) }
+            (W.seen stand.old) (W.seen stand.new)) }
         ensures closed { OnOk result (NoneIsOpen self.new.opens.items) }
         ensures left { IfErr result (λ l.
             HasStoppedIn queue.now job.now [] self.old self.new l.held) }
-        ensures still { IsSameWorker self.old self.new (W.kept stand.old) (W.kept stand.new) }
+        ensures still { IsSameWorker self.old self.new (W.seen stand.old) (W.seen stand.new) }
     {
         'topics: for topic in 0..job.topics.len() + 1 {
             self.pass_open(alloc, job, queue, gate, bell, stand, topic)?;
@@ -243,14 +244,14 @@ impl<B: BufferMut> Worker<B> {
         requires short { length message.now.payload ≤ job.now.longest }
         requires numbered { IsNumbered part (the_parts_of job.now.size message.now.payload) }
         requires room { All (λ b. job.now.size + 24 ≤ length (B.contents b)) queue.now.given }
-        requires bell { W.fits bell.now (W.kept stand.old) job.now.workers }
+        requires bell { W.fits bell.now (but_wakes (W.seen stand.old)) job.now.workers }
         requires opens { AreOpen job.now.most (length job.now.topics + 1) self.old.opens.items }
         ensures gathered { OnOk result (HasGathered queue.now job.now
             (part_of job.now.size message.now part ∷ []) self.old self.new
-            (W.wakes stand.old) (W.wakes stand.new)) }
+            (W.seen stand.old) (W.seen stand.new)) }
         ensures left { IfErr result (λ l. HasStoppedIn queue.now job.now
             (part_of job.now.size message.now part ∷ []) self.old self.new l.held) }
-        ensures still { IsSameWorker self.old self.new (W.kept stand.old) (W.kept stand.new) }
+        ensures still { IsSameWorker self.old self.new (W.seen stand.old) (W.seen stand.new) }
     {
         if self.gather(alloc, job, message, part) {
             return Ok(());
@@ -281,14 +282,14 @@ impl<B: BufferMut> Worker<B> {
         requires topic { message.now.topic ≤ length job.now.topics }
         requires short { length message.now.payload ≤ job.now.longest }
         requires room { All (λ b. job.now.size + 24 ≤ length (B.contents b)) queue.now.given }
-        requires bell { W.fits bell.now (W.kept stand.old) job.now.workers }
+        requires bell { W.fits bell.now (but_wakes (W.seen stand.old)) job.now.workers }
         requires opens { AreOpen job.now.most (length job.now.topics + 1) self.old.opens.items }
         ensures gathered { OnOk result (HasGathered queue.now job.now
             (all_parts job.now.size message.now) self.old self.new
-            (W.wakes stand.old) (W.wakes stand.new)) }
+            (W.seen stand.old) (W.seen stand.new)) }
         ensures left { IfErr result (λ l. HasStoppedIn queue.now job.now
             (all_parts job.now.size message.now) self.old self.new l.held) }
-        ensures still { IsSameWorker self.old self.new (W.kept stand.old) (W.kept stand.new) }
+        ensures still { IsSameWorker self.old self.new (W.seen stand.old) (W.seen stand.new) }
     {
         let parts = parts_of(message, job.size);
         'parts: for before in 0..parts {

@@ -26,6 +26,7 @@ impl<'a, G: Gate, T, W: Bell<T>> Handler<Calls<'a, G, W>, T> for Worker<Frame> {
     ghost use Rattle.std.proofs.Common.{sym, subst};
     ghost use Rattle.std.proofs.lemmas.Grind.{flat_map-append};
     ghost use Rattle.scq_frames.specs.Parts.{all_parts};
+    ghost use Rattle.scq_worker.specs.Bells.{but_wakes, same-worker};
     ghost use Rattle.scq_worker.specs.Opening.{AreOpen, NoneIsOpen};
     ghost use Rattle.scq_worker.specs.Passing.{parts_in};
     ghost use Rattle.scq_worker.specs.Reading.{HasGathered, gathered-along, gathered-nothing};
@@ -37,19 +38,19 @@ impl<'a, G: Gate, T, W: Bell<T>> Handler<Calls<'a, G, W>, T> for Worker<Frame> {
     ghost ready = { λ c t w. Suits c.queue.now (length c.job.now.topics) w.pass
         × (w.pass.retired ≡ None)
         × All (λ b. c.job.now.size + 24 ≤ length b.bytes.items) c.queue.now.given
-        × W.fits c.bell.now (W.kept t) c.job.now.workers
+        × W.fits c.bell.now (but_wakes (W.seen t)) c.job.now.workers
         × AreOpen c.job.now.most (length c.job.now.topics + 1) w.opens.items };
 
     ghost takes = { λ c m. (m.topic ≤ length c.job.now.topics)
         × (length m.payload ≤ c.job.now.longest) };
 
     ghost handled = { λ c ms t old s new.
-        HasGathered c.queue.now c.job.now (parts_in c.job.now.size ms) old new (W.wakes t)
-        (W.wakes s) × IsSameWorker old new (W.kept t) (W.kept s) };
+        HasGathered c.queue.now c.job.now (parts_in c.job.now.size ms) old new (W.seen t)
+        (W.seen s) × IsSameWorker old new (W.seen t) (W.seen s) };
 
     ghost stopped = { λ c ms t old s new stop.
         HasStoppedIn c.queue.now c.job.now (parts_in c.job.now.size ms) old new stop.held
-        × IsSameWorker old new (W.kept t) (W.kept s) };
+        × IsSameWorker old new (W.seen t) (W.seen s) };
 
     ghost wanted = { λ w. w.starved };
 
@@ -81,8 +82,8 @@ impl<'a, G: Gate, T, W: Bell<T>> Handler<Calls<'a, G, W>, T> for Worker<Frame> {
     }
 
     ghost none_handled = { λ c t w ready. (
-      gathered-nothing c.queue.now c.job.now w (W.wakes t) ready.0 ready.1 ready.4,
-      still-same w (W.kept t),
+      gathered-nothing c.queue.now c.job.now w (W.seen t) ready.0 ready.1 ready.4,
+      still-same w (W.seen t),
     ) };
 
     ghost stays_ready = { λ c ms t s old new ready its. (
@@ -95,11 +96,12 @@ impl<'a, G: Gate, T, W: Bell<T>> Handler<Calls<'a, G, W>, T> for Worker<Frame> {
 
     ghost more_handled = { λ c ms ns t s u old mid new one more.
         let parts = parts_in c.job.now.size in (
-          subst (λ l. HasGathered c.queue.now c.job.now l old new (W.wakes t) (W.wakes u))
+          subst (λ l. HasGathered c.queue.now c.job.now l old new (W.seen t) (W.seen u))
               (sym (flat_map-append (all_parts c.job.now.size) ms ns))
               (gathered-along c.queue.now c.job.now (parts ms) (parts ns) old mid new
-              (W.wakes t) (W.wakes s) (W.wakes u) one.1.number one.0 more.0),
-          still-along old mid new (W.kept t) (W.kept s) (W.kept u) one.1 more.1,
+              (W.seen t) (W.seen s) (W.seen u) (same-worker (W.seen t) (W.seen s) one.1.bell)
+              one.0 more.0),
+          still-along old mid new (W.seen t) (W.seen s) (W.seen u) one.1 more.1,
         ) };
 
     ghost then_stopped = { λ c ms ns t s u old mid new stop one more.
@@ -107,7 +109,7 @@ impl<'a, G: Gate, T, W: Bell<T>> Handler<Calls<'a, G, W>, T> for Worker<Frame> {
           subst (λ l. HasStoppedIn c.queue.now c.job.now l old new stop.held)
               (sym (flat_map-append (all_parts c.job.now.size) ms ns))
               (stopped-along c.queue.now c.job.now (parts ms) (parts ns) old mid new
-              (W.wakes t) (W.wakes s) stop.held one.0 more.0),
-          still-along old mid new (W.kept t) (W.kept s) (W.kept u) one.1 more.1,
+              (W.seen t) (W.seen s) stop.held one.0 more.0),
+          still-along old mid new (W.seen t) (W.seen s) (W.seen u) one.1 more.1,
         ) };
 }

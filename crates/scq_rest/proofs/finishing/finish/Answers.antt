@@ -1,10 +1,12 @@
-use Rattle.std.proofs.Common.{◌≡◌, ◌+◌, ◌∙◌, ap, sym, subst, arith, length}
+use Rattle.std.proofs.Common.{None, ◌≡◌, ◌+◌, ◌∙◌, ap, sym, subst, arith, length}
 use Rattle.scq_block.specs.Exports.{bytes_of}
 use Rattle.scq_queue.specs.Exports.{PassStanding}
 use Rattle.scq_passes.specs.Exports.{IsReturn}
 use Rattle.scq_rest.specs.Exports.{HasSweptTold, HasWaited}
 use Rattle.scq_worker.specs.Exports.{IsToSweepAt, takes_behind}
 use Rattle.scq_worker.specs.declared.worker.Worker.{Worker}
+use Rattle.scq_desk.proofs.Passes.{none-or}
+use Rattle.scq_passes.proofs.Kept.{taken-sends}
 use Rattle.scq_worker.proofs.Produced.{sweep-suits, swept-out, late-out}
 use Rattle.scq_rest.proofs.Waited.{waited-told, waited-spent}
 use Rattle.scq_rest.proofs.finishing.finish.Goals as goal
@@ -35,7 +37,7 @@ returns-in-Ok-clause-run g c =
     let end = c.in-Ok.ensures in
     swept-out c.args.queue.now c.args.job.now g.S.Source c.args.desk.now.files.items c.args.desk.now.worker.worker
     c.sweep_and_rest.new.taker c.args.desk.now.worker.kept (sweeps g (goal.at.returns-in-Ok-clause-run g c).In-None)
-    c.len.result c.len.ensures.value end.taken end.out.past end.made
+    c.len-topics.result c.len-topics.ensures.value end.taken end.out.past end.made
 
 pub returns-in-Ok-clause-waited : goal.returns-in-Ok-clause-waited
 returns-in-Ok-clause-waited g c =
@@ -46,8 +48,18 @@ returns-in-Ok-clause-waited g c =
     let all : end.swept.0 ≡ rests = omega (arith, end.swept.1, c.requires.stand.1) in
     waited-told c.args.queue.now c.args.job.now g.S.Source c.args.desk.now.files.items c.args.desk.now.worker.worker
     c.sweep_and_rest.new.taker c.args.desk.now.worker.kept (sweeps g (goal.at.returns-in-Ok-clause-waited g c).In-None) bytes_of
-    c.args.stand.now.rests rests c.len.result c.len.ensures.value end.taken
-    (subst (λ n. HasSweptTold bytes_of c.args.queue.now IsReturn (c.len.result + 1) n was now) all end.swept.2) end.out.told end.out.vain
+    c.args.stand.now.rests rests c.len-topics.result c.len-topics.ensures.value end.taken
+    (subst (λ n. HasSweptTold bytes_of c.args.queue.now IsReturn (c.len-topics.result + 1) n was now) all end.swept.2) end.out.told end.out.vain
+
+-- it sends nothing from then on
+pub returns-in-Ok-clause-unsent : goal.returns-in-Ok-clause-unsent
+returns-in-Ok-clause-unsent g c awake =
+    (sym c.in-None.ensures, taken-sends c.args.desk.now.worker.worker.pass c.sweep_and_rest.new.taker.pass c.in-Ok.ensures.taken)
+
+pub returns-in-Err-clause-unsent : goal.returns-in-Err-clause-unsent
+returns-in-Err-clause-unsent g c awake =
+    let left = c.in-Err.ensures.left 0 in
+    absurd (none-or c.sweep_and_rest.new.taker.pass.spent left.spent.0 left.spent.1 (subst (λ (w : Worker _). w.pass.spent ≡ None) c.keep.ensures.same awake))
 
 pub returns-in-Ok-clause-number : goal.returns-in-Ok-clause-number
 returns-in-Ok-clause-number g c =

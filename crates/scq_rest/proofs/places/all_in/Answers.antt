@@ -1,14 +1,27 @@
 use Rattle.std.proofs.Common.{arith, ◌≡◌, ◌∙◌, ap, sym, subst, List, ◌++◌, length, map, take, drop}
 use Rattle.std.specs.List.{All, AllZip}
 use Rattle.std.proofs.lemmas.List.{length-map}
-use Rattle.scq_rest.specs.Exports.{task, HasBegun, HasDone, given_to, HasWork, IsUntouched}
+use Rattle.std.specs.Prelude.{sum_by}
+use Rattle.scq_rest.specs.Exports.{task, HasBegun, HasDone, given_to, here, HasWork, IsUntouched}
 use Rattle.scq_rest.specs.declared.places.Runner.{Runner}
 use Rattle.scq_rest.specs.declared.threads.Work.{Work}
 use Rattle.scq_files.proofs.Lists.{written-back}
 use Rattle.scq_rest.proofs.places.all_in.Goals as goal
 
 pub finish-requires-clause-begun : goal.finish-requires-clause-begun
-finish-requires-clause-begun g c κs within = c.produce.ensures.begun
+finish-requires-clause-begun g c κs within = c.produce.ensures.begun.begun
+
+-- the first is awaited, and each of the others that the caller runs
+pub produce_all-requires-clause-awaited : goal.produce_all-requires-clause-awaited
+produce_all-requires-clause-awaited g c κs within =
+    omega (
+      arith,
+      c.begin_all.ensures.awaited,
+      c.produce.ensures.awaited,
+      c.len.ensures,
+      c.args.given.ok.0,
+      ap (sum_by here) c.as_mut_slice.ensures.value,
+    )
 
 pub begin_all-requires-clause-ready : goal.begin_all-requires-clause-ready
 begin_all-requires-clause-ready g c κs within = c.requires.begins.0
@@ -70,4 +83,4 @@ returns g c =
     written-back n third (take n (second ++ drop (length second) first)) longer in
     let given : map given_to third ≡ c.args.given.items =
     c.finish_all.ensures.given ∙ ap (map given_to) same ∙ c.produce_all.ensures.given ∙ ap (map given_to) is ∙ c.begin_all.ensures.given in
-    (c.finish.ensures c.args.first c.produce.ensures, subst (λ l. AllZip R l c.end_all.new.ends.items) (ap (map given_to) all ∙ given) c.end_all.ensures)
+    (c.finish.ensures c.args.first c.produce.ensures.begun, subst (λ l. AllZip R l c.end_all.new.ends.items) (ap (map given_to) all ∙ given) c.end_all.ensures)

@@ -2,7 +2,9 @@ use Rattle.std.proofs.Common.{◌≡◌, ◌∙◌, sym, ap, subst, arith, List,
 use Rattle.std.specs.List.{All}
 use Rattle.std.proofs.lemmas.List.{reverse-reverse, map-append}
 use Rattle.std.proofs.lemmas.List.Elements.{All-nil, All-push, All-head, All-tail}
-use Rattle.scq_rest.specs.Exports.{task, IsGiven, given_to, HasWork, IsUntouched}
+use Rattle.std.specs.Prelude.{sum_by}
+use Rattle.std.proofs.lemmas.List.Sums.{sum_by-append}
+use Rattle.scq_rest.specs.Exports.{task, IsGiven, given_to, here, HasWork, IsUntouched}
 use Rattle.scq_rest.specs.declared.places.Runner.{Runner}
 use Rattle.scq_rest.specs.declared.threads.Work.{Work}
 use Rattle.scq_passes.proofs.Parting.{turned}
@@ -20,6 +22,8 @@ starts-init g c =
     HasWork IsUntouched c.args.queue.now c.args.job.now c.args.crew.now g.S.Source in
     record {
       given = ap (λ (ps : List (Runner S)). map given_to ps ++ reverse c.reverse.new.self.items) none ∙ back;
+      awaited = omega (arith, c.reverse.ensures.len, ap (λ (ps : List (Runner S)). sum_by here ps) none);
+      many = omega (arith, c.reverse.ensures.len, c.requires.awaited);
       rest = subst (All Fresh) (sym back) c.requires.given;
       flags = omega (arith, c.reverse.ensures.len, c.requires.flags);
       room = omega (arith, c.reverse.ensures.len, c.requires.room, ap length none, c.args.places.now.ok.0);
@@ -34,6 +38,9 @@ begin-requires-clause-given g c κs within =
     let rest = c.pop.new.self.items in
     let one = c.in-Some.work in
     All-head Fresh one (reverse rest) (subst (All Fresh) (turned c.starts.given.items rest one c.in-Some.ensures.items) c.starts.invariant.rest)
+
+pub begin-requires-clause-awaited : goal.begin-requires-clause-awaited
+begin-requires-clause-awaited g c κs within = omega (arith, c.starts.invariant.many, c.in-Some.ensures.cases)
 
 pub starts-preserved : goal.starts-preserved
 starts-preserved g c =
@@ -53,6 +60,15 @@ starts-preserved g c =
           ∙ append_assoc (map given_to places) (given_to place ∷ []) (reverse rest)
           ∙ ap (λ w. map given_to places ++ w ∷ reverse rest) c.begin.ensures.given
           ∙ ap (λ l. map given_to places ++ l) (sym (turned c.starts.given.items rest one c.in-Some.ensures.items)) ∙ inv.given;
+      awaited = omega (
+        arith,
+        inv.awaited,
+        c.in-Some.ensures.cases,
+        c.begin.ensures.awaited,
+        ap (sum_by here) c.push_reserved.ensures.items,
+        sum_by-append here places (place ∷ []),
+      );
+      many = omega (arith, inv.many, c.in-Some.ensures.cases, c.begin.ensures.awaited);
       rest = All-tail Fresh one (reverse rest) (subst (All Fresh) (turned c.starts.given.items rest one c.in-Some.ensures.items) inv.rest);
       flags = omega (arith, inv.flags, c.in-Some.ensures.cases);
       room = omega (arith, inv.room, c.in-Some.ensures.cases, c.push_reserved.ensures.len, c.push_reserved.ensures.capacity);

@@ -23,6 +23,7 @@ ends-init g c =
       ended = λ more so. subst (λ es. AllZip R (map given_to all) (es ++ more)) (sym none) (subst (λ ps. AllZip R (map given_to ps) more) back so);
       stands = subst (All Held) (sym back) c.requires.stands;
       room = omega (arith, c.reverse.ensures.len, c.requires.room, ap length none, c.args.ends.now.ok.0);
+      none = c.requires.none;
     }
 
 pub end-requires-clause-stands : goal.end-requires-clause-stands
@@ -47,9 +48,10 @@ ends-preserved g c =
     record {
       ended = λ more so. subst (λ es. AllZip R (map given_to c.args.places.items) (es ++ more)) (sym c.push_reserved.ensures.items)
           (zipped-next R given_to (map given_to c.args.places.items) c.ends.places.items rest place c.ends.ends.items c.end.result inv.ended
-          c.in-Some.ensures.items c.end.ensures more so);
+          c.in-Some.ensures.items c.end.ensures.done more so);
       stands = All-tail Held place (reverse rest) (subst (All Held) (turned c.ends.places.items rest place c.in-Some.ensures.items) inv.stands);
       room = omega (arith, inv.room, c.in-Some.ensures.cases, c.push_reserved.ensures.len, c.push_reserved.ensures.capacity);
+      none = c.end.ensures.none;
     }
 
 pub returns : goal.returns

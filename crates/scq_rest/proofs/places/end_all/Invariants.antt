@@ -1,4 +1,4 @@
-use Rattle.std.proofs.Common.{◌+◌, ◌≤◌, ◌++◌, map, List}
+use Rattle.std.proofs.Common.{◌≡◌, ◌+◌, ◌≤◌, ◌++◌, map, List}
 use Rattle.std.specs.Prelude.{vec_len, vec_capacity, reverse}
 use Rattle.std.specs.List.{All, AllZip}
 use Rattle.scq_rest.specs.Exports.{task, HasDone, given_to, HasWork}
@@ -13,6 +13,7 @@ invariant-ends g l = record {
   stands : All (HasWork HasDone l.queue l.job l.crew
       g.S.Source) (reverse l.places.items);
   room : vec_len l.ends + vec_len l.places ≤ vec_capacity l.ends;
+  none : l.awaited ≡ 0;
 }
 
 abbrev pub decreases-ends : goal.decreases-ends

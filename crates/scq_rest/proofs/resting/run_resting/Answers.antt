@@ -120,7 +120,8 @@ returns-clause-settled g c =
     let behind = takes_behind c.args.job.now.most in
     let xs = c.pair-first.result ∷ c.pair-first.new.given.items in
     let ys = c.run_all-first.result.0 ∷ c.run_all-first.result.1.items in
+    let new = subst (All (IsFirst crew)) c.pair-first.ensures.stands (new-of crew c.args.job.now.workers c.args.stands.items c.requires.stands) in
     let all = subst (AreAll crew) c.pair-first.ensures.stands (all-of crew c.args.job.now.workers c.args.stands.items c.requires.stands c.requires.workers.1) in
     subst (λ (ps : List Post). AreSettled crew topics behind ps (map (λ (d : Desk (Seated Frame) S). d.worker.worker.pass) c.take_apart.new.desks.items)) (sym c.take_apart.ensures.stands)
     (subst (λ (ds : List (Desk (Seated Frame) S)). AreSettled crew topics behind (map stand_of ys) (map (λ (d : Desk (Seated Frame) S). d.worker.worker.pass) ds))
-    (sym c.take_apart.ensures.desks) (settled t xs ys c.run_all-first.ensures all))
+    (sym c.take_apart.ensures.desks) (settled t xs ys c.run_all-first.ensures all new c.requires.workers.1))

@@ -7,7 +7,7 @@ pub produce-requires-clause-given : goal.produce-requires-clause-given
 produce-requires-clause-given g c κs within = c.requires.begins.given
 
 pub finish-requires-clause-begun : goal.finish-requires-clause-begun
-finish-requires-clause-begun g c κs within = c.produce.ensures.begun
+finish-requires-clause-begun g c κs within = c.produce.ensures.begun.begun
 
 pub returns : goal.returns
-returns g c = c.finish.ensures c.args.given c.produce.ensures
+returns g c = c.finish.ensures c.args.given c.produce.ensures.begun

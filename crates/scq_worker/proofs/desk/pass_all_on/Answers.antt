@@ -4,7 +4,7 @@ use Rattle.std.proofs.lemmas.List.{append-nil}
 use Rattle.scq_frames.specs.Exports.{Part}
 use Rattle.scq_queue.specs.Exports.{PassStanding}
 use Rattle.scq_files.specs.Exports.{IsNew, ids_of, all_given, WereRead}
-use Rattle.scq_worker.specs.Exports.{parts_in, HasGathered, gathered-along, HasStoppedIn, still-along, stopped-along}
+use Rattle.scq_worker.specs.Exports.{same-worker, parts_in, HasGathered, gathered-along, HasStoppedIn, still-along, stopped-along}
 use Rattle.scq_files.specs.declared.own_file.OwnFile.{OwnFile}
 use Rattle.scq_files.proofs.Lists.{written-back}
 use Rattle.scq_files.proofs.Results.{err-of}
@@ -93,12 +93,12 @@ returns-in_err-pass_all_open-clause-stopped g c =
     err-of _ c.from_residual-in_err-pass_all_open.result c.in_err-pass_all_open.field-0.0 (search rules)
     (subst (λ (fs : List (OwnFile _)). HasStoppedIn q job (parts_in job.size (all_given fs)) start now held) (sym (whole g at))
     (subst (λ (l : List Part). HasStoppedIn q job l start now held) (append-nil parts)
-    (stopped-along q job parts [] start c.read_files.new.handler now (g.W.Bell.wakes c.args.stand.now) (g.W.Bell.wakes c.read_files.new.beside) held
+    (stopped-along q job parts [] start c.read_files.new.handler now (g.W.Bell.seen c.args.stand.now) (g.W.Bell.seen c.read_files.new.beside) held
     c.in_ok-read_files.ensures.handled.0 c.in_err-pass_all_open.ensures.left)))
 
 pub returns-in_err-pass_all_open-clause-still : goal.returns-in_err-pass_all_open-clause-still
 returns-in_err-pass_all_open-clause-still g c =
-    let kept = g.W.Bell.kept in
+    let kept = g.W.Bell.seen in
     still-along c.args.desk.now.worker.worker c.read_files.new.handler c.pass_all_open.new.self (kept c.args.stand.now) (kept c.read_files.new.beside)
     (kept c.pass_all_open.new.stand) c.in_ok-read_files.ensures.handled.1 c.pass_all_open.ensures.still
 
@@ -113,17 +113,18 @@ returns-clause-gathered g c =
     let job = c.args.job.now in
     let start = c.args.desk.now.worker.worker in
     let now = c.pass_all_open.new.self in
-    let was = g.W.Bell.wakes c.args.stand.now in
-    let is = g.W.Bell.wakes c.pass_all_open.new.stand in
+    let was = g.W.Bell.seen c.args.stand.now in
+    let is = g.W.Bell.seen c.pass_all_open.new.stand in
     let parts = parts_in job.size (all_given c.read_files.new.files) in
     let read = c.in_ok-read_files.ensures.handled in
     subst (λ (fs : List (OwnFile _)). HasGathered q job (parts_in job.size (all_given fs)) start now was is) (sym (whole g at))
     (subst (λ (l : List Part). HasGathered q job l start now was is) (append-nil parts)
-    (gathered-along q job parts [] start c.read_files.new.handler now was (g.W.Bell.wakes c.read_files.new.beside) is read.1.number read.0
+    (gathered-along q job parts [] start c.read_files.new.handler now was (g.W.Bell.seen c.read_files.new.beside) is
+    (same-worker was (g.W.Bell.seen c.read_files.new.beside) read.1.bell) read.0
     c.in_ok-pass_all_open.ensures.gathered))
 
 pub returns-clause-still : goal.returns-clause-still
 returns-clause-still g c =
-    let kept = g.W.Bell.kept in
+    let kept = g.W.Bell.seen in
     still-along c.args.desk.now.worker.worker c.read_files.new.handler c.pass_all_open.new.self (kept c.args.stand.now) (kept c.read_files.new.beside)
     (kept c.pass_all_open.new.stand) c.in_ok-read_files.ensures.handled.1 c.pass_all_open.ensures.still

@@ -1,6 +1,6 @@
 use Rattle.std.proofs.Common.{◌∙◌, ap, sym, subst, []}
 use Rattle.scq_queue.specs.Exports.{PassStanding}
-use Rattle.scq_worker.specs.Exports.{IsWorking}
+use Rattle.scq_worker.specs.Exports.{same-worker, but_wakes, IsWorking}
 use Rattle.scq_worker.specs.declared.worker.Worker.{Worker}
 use Rattle.scq_worker.proofs.Gathered.{gathered-none}
 use Rattle.scq_desk.proofs.Passes.{none-or}
@@ -19,7 +19,7 @@ begun g c =
     worker.starved fresh.pass fresh.members.0 fresh.members.1
 
 -- it still fits its bell
-fits-at : (g : _) (c : After-pass_all_on g) → g.W.Bell.fits c.args.bell.now (g.W.Bell.kept c.pass_all_on.new.stand) c.args.job.now.workers
+fits-at : (g : _) (c : After-pass_all_on g) → g.W.Bell.fits c.args.bell.now (but_wakes (g.W.Bell.seen c.pass_all_on.new.stand)) c.args.job.now.workers
 fits-at g c = subst (λ k. g.W.Bell.fits c.args.bell.now k c.args.job.now.workers) (sym c.pass_all_on.ensures.still.bell) c.requires.bell
 
 pub retire-requires-clause-pass : goal.retire-requires-clause-pass
@@ -54,6 +54,8 @@ returns-in-Ok g c =
     let now = c.retire.new.self in
     let start = c.args.desk.now.worker.worker in
     let work = its.gathered.work [] (begun g at) in
+    let first = g.W.Bell.seen c.args.stand.now in
+    let mid = g.W.Bell.seen c.pass_all_on.new.stand in
     record {
       same = all.files.same;
       produced = produced-awake q job.topics job.size job.most job.longest g.S.Source desk.files.items was.pass now.pass was.members now.members
@@ -67,9 +69,9 @@ returns-in-Ok g c =
           c.retire.ensures.same.1 (all.kept ∙ c.requires.fresh.kept);
       number = ap (λ (p : PassStanding _). p.number) c.retire.ensures.pass ∙ all.still.pass;
       bell = c.retire.ensures.bell ∙ all.still.bell;
-      rung = λ awake. rung-retired start.number job.workers q start.pass.number was.number start.pass was.pass now.pass
-          (g.W.Bell.wakes c.args.stand.now) (g.W.Bell.wakes c.pass_all_on.new.stand) (g.W.Bell.wakes c.retire.new.stand)
-          c.requires.fresh.pass its.gathered.goes.rung c.retire.ensures.pass all.still.number c.retire.ensures.rung;
+      rung = λ awake. rung-retired first.worker job.workers q start.pass.number mid.worker start.pass was.pass now.pass
+          first.wakes mid.wakes (g.W.Bell.seen c.retire.new.stand).wakes
+          c.requires.fresh.pass its.gathered.goes.rung c.retire.ensures.pass (same-worker first mid all.still.bell) c.retire.ensures.rung;
     }
 
 -- at a ticket past the limit nothing is said of whom it woke

@@ -1,6 +1,8 @@
 use Rattle.std.proofs.Common.{◌∙◌, ap}
 use Rattle.scq_park.specs.Exports.{Post}
 use Rattle.scq_files.specs.Exports.{ids_of}
+use Rattle.scq_rest.specs.Exports.{task}
+use Rattle.scq_rest.proofs.Wakes.{rung-on}
 use Rattle.scq_rest.proofs.threads.Work.finish.Goals as goal
 
 pub finish-requires-clause-produced : goal.finish-requires-clause-produced
@@ -17,4 +19,9 @@ returns g c given one = record {
   number = c.finish.ensures.number ∙ one.number;
   crew = c.finish.ensures.stand.0 ∙ ap (λ (p : Post). p.crew) one.stand;
   worker = c.finish.ensures.stand.1 ∙ ap (λ (p : Post). p.worker) one.stand;
+  rung = λ awake.
+      let its = c.finish.ensures.unsent awake in
+      let t = task c.args.queue.now c.args.job.now c.args.crew.now g.S.Source in
+      rung-on given.stand.worker t.workers c.args.self.now.desk.worker.worker.pass c.finish.new.desk.worker.worker.pass given.stand.wakes
+      c.args.self.now.stand.wakes c.finish.new.stand.wakes its.1 c.finish.ensures.wakes (one.rung its.0);
 }

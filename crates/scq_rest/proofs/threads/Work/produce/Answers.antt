@@ -17,8 +17,8 @@ produce-requires-clause-unread g c κs within = c.requires.given.unread
 pub produce-requires-clause-bell : goal.produce-requires-clause-bell
 produce-requires-clause-bell g c κs within = (ap (λ (p : Post). p.crew) c.requires.given.stand, c.requires.ready.crew, c.requires.ready.some)
 
-pub returns : goal.returns
-returns g c = record {
+pub returns-clause-begun : goal.returns-clause-begun
+returns-clause-begun g c = record {
   begun = record {
     produced = c.produce.ensures.produced;
     stand = ap (λ (p : Post). p.crew) c.produce.ensures.bell ∙ ap (λ (p : Post). p.crew) c.requires.given.stand;
@@ -27,4 +27,5 @@ returns g c = record {
   files = c.produce.ensures.same;
   number = c.produce.ensures.number;
   stand = c.produce.ensures.bell;
+  rung = c.produce.ensures.rung;
 }

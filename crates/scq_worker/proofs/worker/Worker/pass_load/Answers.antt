@@ -57,6 +57,18 @@ sent-at g c =
     lent-and-sent g.B.Buffer.contents c.args.topic (Sends (parts_of_load c.args.job.now.size c.args.load)) said.0 said.1 p c.lend.new.pass
     c.send_in.new.self.pass c.in-Ok.held within c.in-Ok.ensures.lent.lent said.2 said.3
 
+-- so its last call is a send
+pub after_send-requires-clause-sent : goal.after_send-requires-clause-sent
+after_send-requires-clause-sent g c =
+    let said = c.in_ok-send_in-in-Ok.ensures.sent in
+    record {
+      before = c.lend.new.pass.calls;
+      topic = c.args.topic;
+      place = said.0;
+      bytes = said.1;
+      last = ap (λ (x : PassStanding _). x.calls) said.2;
+    }
+
 -- the take behind the send met Spent
 pub returns-in_err-take_behind-in-Ok-clause-left : goal.returns-in_err-take_behind-in-Ok-clause-left
 returns-in_err-take_behind-in-Ok-clause-left g c =
@@ -73,7 +85,7 @@ returns-in_err-take_behind-in-Ok-clause-left g c =
 
 -- it is the same worker still
 still-behind : (g : _) (c : After-take_behind g) → c.take_behind.new.self.pass.number ≡ c.send_in.new.self.pass.number
-    → IsSameWorker c.args.self.now c.take_behind.new.self (g.W.Bell.kept c.args.stand.now) (g.W.Bell.kept c.after_send.new.stand)
+    → IsSameWorker c.args.self.now c.take_behind.new.self (g.W.Bell.seen c.args.stand.now) (g.W.Bell.seen c.after_send.new.stand)
 still-behind g c number =
     let same = c.in_ok-send_in-in-Ok.ensures.same in
     let own = c.take_behind.ensures.kept in
@@ -125,8 +137,8 @@ returns-in_ok-take_behind-in-Ok-clause-goes g c =
     let p = c.args.self.now.pass in
     let q = c.send_in.new.self in
     let r = c.take_behind.new.self.pass in
-    let was = g.W.Bell.wakes c.args.stand.now in
-    let is = g.W.Bell.wakes c.after_send.new.stand in
+    let was = g.W.Bell.seen c.args.stand.now in
+    let is = g.W.Bell.seen c.after_send.new.stand in
     let sent = sent-at g (goal.at.returns-in_ok-take_behind-in-Ok-clause-goes g c).After-take_behind in
     let its = c.in_ok-take_behind-in-Ok.ensures.took in
     record {
@@ -134,8 +146,7 @@ returns-in_ok-take_behind-in-Ok-clause-goes g c =
       stays = ap (λ (x : PassStanding _). x.retired) its.taken.pass ∙ ap (λ (x : PassStanding _). x.retired) sent.pass ∙ c.requires.stays;
       vain = vain-behind (topics + 1) (takes_behind job.most) c.args.topic (Sends b) p q.pass r sent its.vain
           (ap (λ (x : PassStanding _). x.fulls) its.taken.pass) (taken-sends q.pass r its.taken);
-      rung = subst (λ n. RingsOn n job.workers p r was is) c.in_ok-send_in-in-Ok.ensures.same.2
-          (rung-sent q.number job.workers c.args.topic b p q.pass r was is sent its.taken c.after_send.ensures.rung);
+      rung = rung-sent was.worker job.workers c.args.topic b p q.pass r was.wakes is.wakes sent its.taken c.after_send.ensures.rung;
     }
 
 pub returns-in_ok-take_behind-in-Ok-clause-still : goal.returns-in_ok-take_behind-in-Ok-clause-still
@@ -189,7 +200,7 @@ helped : (g : _) (c : goal.In_ok-help-in-Err-Full g) → HasTaken c.lend.new.pas
 helped g c = subst (λ (q : PassStanding _). HasTaken q c.help.new.self.pass) c.answer_directly.ensures.same.0 c.in_ok-help-in-Err-Full.ensures.took.taken
 
 still-helped : (g : _) (c : After-help g) → c.help.new.self.pass.number ≡ c.lend.new.pass.number
-    → IsSameWorker c.args.self.now c.help.new.self (g.W.Bell.kept c.args.stand.now) (g.W.Bell.kept c.args.stand.now)
+    → IsSameWorker c.args.self.now c.help.new.self (g.W.Bell.seen c.args.stand.now) (g.W.Bell.seen c.args.stand.now)
 still-helped g c number =
     let its = c.answer_directly.ensures in
     let own = c.help.ensures.kept in
@@ -231,7 +242,7 @@ returns-in_ok-help-in-Err-Full-clause-goes g c =
     let p = c.args.self.now.pass in
     let q = c.lend.new.pass in
     let r = c.help.new.self.pass in
-    let was = g.W.Bell.wakes c.args.stand.now in
+    let was = g.W.Bell.seen c.args.stand.now in
     let full = full-at g (goal.at.returns-in_ok-help-in-Err-Full-clause-goes g c).After-answer_directly in
     let taken = helped g c in
     let took : TookInVain (topics + 1) q r =
@@ -241,7 +252,7 @@ returns-in_ok-help-in-Err-Full-clause-goes g c =
       stays = ap (λ (x : PassStanding _). x.retired) taken.pass ∙ ap (λ (x : PassStanding _). x.retired) full.pass ∙ c.requires.stays;
       vain = vain-helped (topics + 1) (takes_behind job.most) head p q r full took (ap (λ (x : PassStanding _). x.fulls) taken.pass)
           (taken-sends q r taken);
-      rung = rung-helped c.args.self.now.number job.workers head p q r was was full taken refl;
+      rung = rung-helped was.worker job.workers head p q r was.wakes was.wakes full taken refl;
     }
 
 pub returns-in_ok-help-in-Err-Full-clause-still : goal.returns-in_ok-help-in-Err-Full-clause-still

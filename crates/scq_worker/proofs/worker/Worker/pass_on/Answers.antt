@@ -5,7 +5,7 @@ use Rattle.std.proofs.lemmas.List.{length-append}
 use Rattle.std.proofs.lemmas.List.FromFn.{length-map-range_with_len, map-range_with_len_more}
 use Rattle.scq_frames.specs.declared.message.Message.{Message}
 use Rattle.scq_frames.specs.Exports.{Part, part_of, parts_of, all_parts}
-use Rattle.scq_worker.specs.Exports.{HasGathered, gathered-along, gathered-nothing, still-along, still-same, stopped-along}
+use Rattle.scq_worker.specs.Exports.{same-worker, HasGathered, gathered-along, gathered-nothing, still-along, still-same, stopped-along}
 use Rattle.scq_files.proofs.Results.{err-of}
 use Rattle.scq_worker.proofs.Going.{stopped-within}
 use Rattle.scq_worker.proofs.worker.Worker.pass_on.Goals as goal
@@ -28,9 +28,9 @@ within size before m low =
 
 pub parts-init : goal.parts-init
 parts-init g c = record {
-  gathered = gathered-nothing c.args.queue.now c.args.job.now c.args.self.now (g.W.Bell.wakes c.args.stand.now) c.requires.suits c.requires.stays
+  gathered = gathered-nothing c.args.queue.now c.args.job.now c.args.self.now (g.W.Bell.seen c.args.stand.now) c.requires.suits c.requires.stays
       c.requires.opens;
-  still = still-same c.args.self.now (g.W.Bell.kept c.args.stand.now);
+  still = still-same c.args.self.now (g.W.Bell.seen c.args.stand.now);
 }
 
 pub parts-preserved : goal.parts-preserved
@@ -42,13 +42,13 @@ parts-preserved g c =
     let start = c.args.self.now in
     let old = c.parts.self in
     let now = c.pass_part.new.self in
-    let wakes = g.W.Bell.wakes in
-    let kept = g.W.Bell.kept in
+    let wakes = g.W.Bell.seen in
+    let kept = g.W.Bell.seen in
     record {
       gathered = subst (λ (l : List Part). HasGathered q job l start now (wakes c.args.stand.now) (wakes c.pass_part.new.stand))
           (grown job.size c.parts.before m)
           (gathered-along q job (first job.size m c.parts.before) (part_of job.size m (c.parts.before + 1) ∷ []) start old now
-          (wakes c.args.stand.now) (wakes c.parts.stand) (wakes c.pass_part.new.stand) inv.still.number inv.gathered
+          (wakes c.args.stand.now) (wakes c.parts.stand) (wakes c.pass_part.new.stand) (same-worker (wakes c.args.stand.now) (wakes c.parts.stand) inv.still.bell) inv.gathered
           c.in_ok-pass_part.ensures.gathered);
       still = still-along start old now (kept c.args.stand.now) (kept c.parts.stand) (kept c.pass_part.new.stand) inv.still c.pass_part.ensures.still;
     }
@@ -71,11 +71,11 @@ returns-in_err-pass_part-clause-left g c =
     let few : c.parts.before + 1 ≤ parts_of job.size m.payload = omega arith in
     err-of _ c.from_residual.result c.in_err-pass_part.field-0.0 (search rules)
     (stopped-within q job (front ++ one) (all_parts job.size m) start now held (within job.size c.parts.before m few)
-    (stopped-along q job front one start c.parts.self now (g.W.Bell.wakes c.args.stand.now) (g.W.Bell.wakes c.parts.stand) held
+    (stopped-along q job front one start c.parts.self now (g.W.Bell.seen c.args.stand.now) (g.W.Bell.seen c.parts.stand) held
     c.parts.invariant.gathered c.in_err-pass_part.ensures.left))
 
 pub returns-in_err-pass_part-clause-still : goal.returns-in_err-pass_part-clause-still
 returns-in_err-pass_part-clause-still g c =
-    let kept = g.W.Bell.kept in
+    let kept = g.W.Bell.seen in
     still-along c.args.self.now c.parts.self c.pass_part.new.self (kept c.args.stand.now) (kept c.parts.stand) (kept c.pass_part.new.stand)
     c.parts.invariant.still c.pass_part.ensures.still

@@ -8,6 +8,6 @@ use Rattle.scq_worker.proofs.worker.Worker.pass_on.Given as goal
 abbrev pub invariant-parts : goal.invariant-parts
 invariant-parts g l = record {
   gathered : HasGathered l.queue l.job (map (part_of l.job.size l.message) (range_with_len 1 l.before)) l.fn.self l.self
-      (g.W.Bell.wakes l.fn.stand) (g.W.Bell.wakes l.stand);
-  still : IsSameWorker l.fn.self l.self (g.W.Bell.kept l.fn.stand) (g.W.Bell.kept l.stand);
+      (g.W.Bell.seen l.fn.stand) (g.W.Bell.seen l.stand);
+  still : IsSameWorker l.fn.self l.self (g.W.Bell.seen l.fn.stand) (g.W.Bell.seen l.stand);
 }

@@ -12,11 +12,11 @@ use Rattle.scq_worker.proofs.worker.Worker.pass_open.Goals.{After-replace-batch}
 -- nothing is open
 pub returns-then-not-has_open-clause-gathered : goal.returns-then-not-has_open-clause-gathered
 returns-then-not-has_open-clause-gathered g c =
-    gathered-nothing c.args.queue.now c.args.job.now c.args.self.now (g.W.Bell.wakes c.args.stand.now) c.requires.suits c.requires.stays
+    gathered-nothing c.args.queue.now c.args.job.now c.args.self.now (g.W.Bell.seen c.args.stand.now) c.requires.suits c.requires.stays
     c.requires.opens
 
 pub returns-then-not-has_open-clause-still : goal.returns-then-not-has_open-clause-still
-returns-then-not-has_open-clause-still g c = still-same c.args.self.now (g.W.Bell.kept c.args.stand.now)
+returns-then-not-has_open-clause-still g c = still-same c.args.self.now (g.W.Bell.seen c.args.stand.now)
 
 -- something is open
 some-at : (g : _) (c : After-replace-batch g)

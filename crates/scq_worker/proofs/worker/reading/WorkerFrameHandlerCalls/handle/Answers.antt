@@ -11,8 +11,8 @@ returns-clause-handled g c =
     let m = c.args.message.now in
     let its = c.pass_on.ensures in
     told-gathered c.args.with.now.queue.now job c.pass_on.result (all_parts job.size m) (parts_in job.size (m ∷ [])) c.args.self.now c.pass_on.new.self
-    (g.W.Bell.wakes c.args.beside.now) (g.W.Bell.wakes c.pass_on.new.stand)
-    (g.W.Bell.kept c.args.beside.now) (g.W.Bell.kept c.pass_on.new.stand) (sym (append-nil (all_parts job.size m))) its.gathered its.still
+    (g.W.Bell.seen c.args.beside.now) (g.W.Bell.seen c.pass_on.new.stand)
+    (g.W.Bell.seen c.args.beside.now) (g.W.Bell.seen c.pass_on.new.stand) (sym (append-nil (all_parts job.size m))) its.gathered its.still
 
 pub returns-clause-stopped : goal.returns-clause-stopped
 returns-clause-stopped g c =
@@ -20,4 +20,4 @@ returns-clause-stopped g c =
     let m = c.args.message.now in
     let its = c.pass_on.ensures in
     told-stopped c.args.with.now.queue.now job (λ l. l.held) c.pass_on.result (all_parts job.size m) (parts_in job.size (m ∷ [])) c.args.self.now c.pass_on.new.self
-    (g.W.Bell.kept c.args.beside.now) (g.W.Bell.kept c.pass_on.new.stand) (sym (append-nil (all_parts job.size m))) its.left its.still
+    (g.W.Bell.seen c.args.beside.now) (g.W.Bell.seen c.pass_on.new.stand) (sym (append-nil (all_parts job.size m))) its.left its.still
