@@ -1,0 +1,16 @@
+pub mod Values
+pub mod Ops
+pub mod Sorting
+pub mod Greedy
+pub mod OneThread
+pub mod FreshOrders
+pub mod EmptyOrders
+pub mod TurnOrders
+pub mod RightOrders
+pub mod AgreeValues
+pub mod QueueValues
+pub mod Collecting
+pub mod Members
+pub mod Parts
+pub mod OrdersOfRight
+pub mod RightHasOrders
