@@ -4,9 +4,16 @@
  * of its own over these buffers. A thread makes its calls with a port of its own: it is lent a
  * buffer, writes it where it lies and sends it on a topic; or it takes one from a topic, reads it
  * and gives it back. No lend, take, send or give-back takes a lock or waits for another thread's;
- * they are lock-free, with a bound (docs/QUEUE.md of the sources). Only scq_open and scq_open_over
- * take memory. What the library does is proved: docs/PROMISES.md of the sources has the promise of
- * each call. What stands whole in this file is tested.
+ * they are lock-free, with a bound (docs/QUEUE.md of the sources). Only openings take memory
+ * (tested).
+ *
+ * What the library's calls do is proved, and docs/PROMISES.md of the sources has the clauses. What
+ * is said of the calling port holds of it at each call. What is said of a topic, of the stock and
+ * of other ports holds at each call of a run of the queue that the call names, in which other
+ * ports' calls need not stand, and, where scq_end tells that a port was the last, of one run behind
+ * its calls and a record of each other port's. Tests alone hold what ends in "(tested)", all that
+ * is said of bytes, of addresses and of what a thread sees of another's work, and what stands whole
+ * in this file.
  *
  * The library passes numbers of buffers from port to port. The bytes are the caller's: the library
  * follows no pointer to them, and reads and writes none. Where the bytes of a number lie is worked
@@ -22,10 +29,10 @@
  *    copied; but it may be moved to another place, if no call is made with it meanwhile and the old
  *    place is set to SCQ_NONE or not used again. scq_close makes it SCQ_NONE; one that isn't closed
  *    keeps its queue, and what it holds, until the process ends.
- * 2. Every pointer that is handed in is non-null, aligned, and points to memory of its type that
- *    may be written where it isn't const; what two pointers of one call point to lies apart. `n`
- *    ports begin at `ports`, `n` counts at `counts`, and `n` slots at `out` or `held` of a call of
- *    several; also where n is 0, none is null.
+ * 2. Every pointer that is handed in, unless it says that it may be null, is non-null, aligned, and
+ *    points to memory of its type that may be written where it isn't const; what two pointers of
+ *    one call point to lies apart. `n` ports begin at `ports`, `n` counts at `counts`, and `n`
+ *    slots at `out` or `held` of a call of several; also where n is 0, none is null.
  * 3. One call at a time is made with a port, by whichever thread has it, also where a signal
  *    handler makes one, which neither opens nor closes any. Calls with different ports may meet in
  *    any way. A call that has begun is let end: no thread is cancelled asynchronously in it, and no
@@ -85,9 +92,15 @@ typedef struct scq_memory {
     unsigned char *base;
     size_t stride; /* not less than `len` */
     size_t len;
-    void *block; /* what scq_open took, which begins with the number of ports that are open; null
-                    where the memory is the caller's */
+    void *block; /* what this file took for the queue, or null. In what is handed to scq_open_over
+                    it is whatever it is */
 } scq_memory;
+
+/* What a block begins with. */
+struct scq_block {
+    uint32_t open;    /* how many ports are open */
+    uint32_t holders; /* of how many buffers the holder stands behind this: see SCQ_ASAN */
+};
 
 /* What a thread makes its calls with. */
 typedef struct scq_port {
@@ -116,6 +129,7 @@ typedef struct scq_held {
     size_t len;        /* how many they are: the queue's `size` */
     uint64_t place;    /* scq_take: the place at which it was sent; scq_lend: 0 */
     uint32_t index;    /* its number, below 2^order, by which it is sent and given back */
+    uint32_t begun;    /* for scq_pack: 0 where the first message begins the packing */
 } scq_held;
 
 /* What a port did so far. */
@@ -130,7 +144,7 @@ typedef struct scq_ended {
     uint32_t last; /* 1 where the queue closed with this port, as its last; else 0 */
 } scq_ended;
 
-/* The answers. The last is this file's own, and no version of the library answers it. */
+/* The answers. The last two are of the headers, and no version of the library answers them. */
 enum {
     SCQ_OK = 0,
     SCQ_EMPTY = 1,       /* nothing was on the topic */
@@ -149,6 +163,7 @@ enum {
     SCQ_BAD_HOLD = 14,   /* what a port may hold isn't from 1 to 2^order */
     SCQ_IS_OPEN = 15,    /* one of the ports is open */
     SCQ_RETIRED = 16,    /* the port has retired, or all ports have */
+    SCQ_ENDED = 30,      /* there is nothing, and nothing comes any more: scq_bell.h */
     SCQ_BAD_VERSION = 31 /* the library is of another version than this header */
 };
 
@@ -163,7 +178,7 @@ enum {
 #define SCQ_CACHE_LINE 64
 
 /* What scq_version answers, of the library that this file is of. */
-#define SCQ_VERSION 2
+#define SCQ_VERSION 3
 
 /* The text of an answer, which is there as long as the program. */
 static inline const char *scq_text(uint32_t answer) {
@@ -185,10 +200,95 @@ static inline const char *scq_text(uint32_t answer) {
     case SCQ_BAD_HOLD: return "what a port may hold isn't from 1 to 2^order";
     case SCQ_IS_OPEN: return "one of the ports is open";
     case SCQ_RETIRED: return "retired";
+    case SCQ_ENDED: return "nothing comes any more";
     case SCQ_BAD_VERSION: return "the library is of another version than the header";
     default: return "no answer of this library";
     }
 }
+
+/* The address sanitizer, where this file is compiled with it, is told of the bytes that no port
+ * holds, and of those between buffers: who touches them is reported. For that, who holds a buffer
+ * stands in the block, behind its head; what scq_open_over opens has a block too then. All files
+ * that touch the buffers of a queue are compiled with it, or none. Where base and stride aren't
+ * multiples of 8 nothing is told, as it can't be told. Without it nothing of this is in a
+ * program. */
+
+#if defined(__SANITIZE_ADDRESS__)
+#define SCQ_ASAN
+#elif defined(__has_feature)
+#if __has_feature(address_sanitizer)
+#define SCQ_ASAN
+#endif
+#endif
+
+#ifdef SCQ_ASAN
+void __asan_poison_memory_region(const volatile void *address, size_t size);
+void __asan_unpoison_memory_region(const volatile void *address, size_t size);
+
+/* How long the head of a block is, with the holders of so many buffers. */
+
+static inline size_t scq_head(size_t buffers) {
+    return sizeof(struct scq_block) + buffers * sizeof(uintptr_t);
+}
+
+/* Where the holder of a buffer stands: the number of its port's address, or one more where that
+ * lets go of it. Null where none stands there. */
+
+static inline uintptr_t *scq_holder(const scq_port *port, uint32_t index) {
+    struct scq_block *const block = SCQ_TO(struct scq_block *, port->memory.block);
+    if (port->at == SCQ_NULL || block == SCQ_NULL || index >= block->holders) return SCQ_NULL;
+    return SCQ_TO(uintptr_t *, SCQ_TO(void *, block + 1)) + index;
+}
+
+/* Where the one stands there, the other does from here on. Answers whether it did. */
+
+static inline int scq_change_holder(const scq_port *port, uint32_t index, uintptr_t one,
+                                    uintptr_t other) {
+    uintptr_t *const holder = scq_holder(port, index);
+    return holder != SCQ_NULL &&
+           __atomic_compare_exchange_n(holder, &one, other, 0, __ATOMIC_RELAXED, __ATOMIC_RELAXED);
+}
+
+/* A port holds a buffer from here on; it is about to let go of it, if it holds it; and the call
+ * that was to do so was answered. */
+
+static inline void scq_hold(const scq_port *port, uint32_t index) {
+    uintptr_t *const holder = scq_holder(port, index);
+    if (holder == SCQ_NULL) return;
+    __atomic_store_n(holder, SCQ_ADDRESS(port->at), __ATOMIC_RELAXED);
+    __asan_unpoison_memory_region(port->memory.base + port->memory.stride * index,
+                                  port->memory.len);
+}
+static inline void scq_let_go(const scq_port *port, uint32_t index) {
+    const uintptr_t own = SCQ_ADDRESS(port->at);
+    if (!scq_change_holder(port, index, own, own + 1)) return;
+    __asan_poison_memory_region(port->memory.base + port->memory.stride * index, port->memory.len);
+}
+static inline void scq_has_let_go(const scq_port *port, uint32_t answer, uint32_t index) {
+    const uintptr_t own = SCQ_ADDRESS(port->at);
+    if (scq_change_holder(port, index, own + 1, answer == SCQ_OK ? 0 : own) && answer != SCQ_OK)
+        scq_hold(port, index);
+}
+
+/* A queue begins, of which no buffer is held, in this memory; and has ended. */
+
+static inline void scq_begin_over(const scq_memory *memory, size_t buffers, size_t ports) {
+    struct scq_block *const block = SCQ_TO(struct scq_block *, memory->block);
+    block->open = SCQ_TO(uint32_t, ports);
+    block->holders = SCQ_TO(uint32_t, buffers);
+    __asan_poison_memory_region(memory->base, buffers * memory->stride);
+}
+static inline void scq_end_over(const scq_memory *memory) {
+    const struct scq_block *const block = SCQ_TO(struct scq_block *, memory->block);
+    if (block == SCQ_NULL) return;
+    __asan_unpoison_memory_region(memory->base, block->holders * memory->stride);
+}
+#else
+static inline size_t scq_head(size_t buffers) {
+    (void)buffers;
+    return sizeof(struct scq_block);
+}
+#endif
 
 /* The version of the library: SCQ_VERSION, where this file is of it. scq_open and scq_open_over
  * compare the two before anything else. */
@@ -196,7 +296,7 @@ uint32_t scq_version(void);
 
 /* Makes a queue of 2^order buffers, with `topics` topics, and opens `n` ports, each of which may
  * hold up to `hold` buffers at a time. Each topic, and the stock of free buffers, counts its puts
- * and its gets by tickets up to `limit`; SCQ_MAX_LIMIT is the plain choice. A port takes some 1,470
+ * and its gets by tickets up to `limit`; SCQ_MAX_LIMIT is the plain choice. A port takes some 1,860
  * bytes, and 16 for each buffer of the queue.
  *
  * The buffers lie where *memory says, in memory of the caller's: huge pages, a pool, a mapping. It
@@ -204,13 +304,13 @@ uint32_t scq_version(void);
  * for the bytes alone: a queue is of one process.
  *
  * Asks: that each of the n ports is SCQ_NONE or open; that 2^order times `stride` bytes may be
- * written at `base`; that `block` is null.
+ * written at `base`.
  * Tested: that the library is of this file's version; each of the numbers, `len` and `stride` among
  * them; that no port is open.
  * Answers: SCQ_OK; SCQ_BAD_VERSION, and the library was asked for its version alone;
  * SCQ_BAD_TOPICS, SCQ_BAD_ORDER, SCQ_BAD_PORTS, SCQ_BAD_LIMIT, SCQ_BAD_SIZE, SCQ_BAD_HOLD;
- * SCQ_IS_OPEN; SCQ_NO_MEMORY where an allocation was refused. Where it isn't SCQ_OK no port is
- * changed, and nothing is left of the queue. */
+ * SCQ_IS_OPEN; SCQ_NO_MEMORY where an allocation was refused (tested). Where it isn't SCQ_OK no
+ * port is changed, and nothing is left of the queue (tested). */
 SCQ_ANSWERED uint32_t scq_open_over(uint32_t order, uint32_t topics, uint32_t hold, uint64_t limit,
                                     const scq_memory *memory, scq_port *ports, size_t n);
 
@@ -224,21 +324,25 @@ static inline SCQ_ANSWERED uint32_t scq_open(uint32_t order, uint32_t topics, ui
                                              size_t n) {
     const size_t line = SCQ_CACHE_LINE;
     scq_memory memory = {SCQ_NULL, 0, size, SCQ_NULL};
-    size_t buffers;
+    size_t buffers, head;
     uint32_t answer;
     if (scq_version() != SCQ_VERSION) return SCQ_BAD_VERSION;
     if (order < 1 || order > SCQ_MAX_ORDER) return SCQ_BAD_ORDER;
     if (size < 1) return SCQ_BAD_SIZE;
     buffers = SCQ_TO(size_t, 1) << order;
-    if (memory.len > (SIZE_MAX - 2 * line) / buffers - line) return SCQ_NO_MEMORY;
+    head = scq_head(buffers);
+    if (memory.len > (SIZE_MAX - head - line) / buffers - line) return SCQ_NO_MEMORY;
     memory.stride = (memory.len + line - 1) / line * line;
-    memory.block = calloc(1, sizeof(uint32_t) + line - 1 + buffers * memory.stride);
+    memory.block = calloc(1, head + line - 1 + buffers * memory.stride);
     if (memory.block == SCQ_NULL) return SCQ_NO_MEMORY;
-    *SCQ_TO(uint32_t *, memory.block) = SCQ_TO(uint32_t, n);
-    memory.base = SCQ_TO(unsigned char *, memory.block) + sizeof(uint32_t);
+    SCQ_TO(struct scq_block *, memory.block)->open = SCQ_TO(uint32_t, n);
+    memory.base = SCQ_TO(unsigned char *, memory.block) + head;
     memory.base += (line - SCQ_ADDRESS(memory.base) % line) % line;
     answer = scq_open_over(order, topics, hold, limit, &memory, ports, n);
     if (answer != SCQ_OK) free(memory.block);
+#ifdef SCQ_ASAN
+    if (answer == SCQ_OK) scq_begin_over(&memory, buffers, n);
+#endif
     return answer;
 }
 
@@ -248,10 +352,57 @@ static inline SCQ_ANSWERED uint32_t scq_open_over_checked(uint32_t order, uint32
                                                           uint32_t hold, uint64_t limit,
                                                           const scq_memory *memory, scq_port *ports,
                                                           size_t n) {
+    scq_memory own;
+    uint32_t answer;
+#ifdef SCQ_ASAN
+    const size_t buffers = SCQ_TO(size_t, 1) << (order > SCQ_MAX_ORDER ? 0 : order);
+    const int is_told = SCQ_ADDRESS(memory->base) % 8 == 0 && memory->stride % 8 == 0;
+#endif
     if (scq_version() != SCQ_VERSION) return SCQ_BAD_VERSION;
-    return scq_open_over(order, topics, hold, limit, memory, ports, n);
+    own.base = memory->base;
+    own.stride = memory->stride;
+    own.len = memory->len;
+    own.block = SCQ_NULL;
+#ifdef SCQ_ASAN
+    if (is_told && (own.block = calloc(1, scq_head(buffers))) == SCQ_NULL) return SCQ_NO_MEMORY;
+#endif
+    answer = scq_open_over(order, topics, hold, limit, &own, ports, n);
+#ifdef SCQ_ASAN
+    if (is_told && answer != SCQ_OK) free(own.block);
+    if (is_told && answer == SCQ_OK) scq_begin_over(&own, buffers, n);
+#endif
+    return answer;
 }
 #define scq_open_over scq_open_over_checked
+
+/* What a queue is made of, by names. What is 0 or null stands for what is said there. */
+typedef struct scq_options {
+    uint32_t order;           /* 2^order buffers; 0 for 6, which makes 64 */
+    uint32_t topics;          /* 0 for 1 */
+    uint32_t size;            /* the bytes of a buffer; 0 for 64 */
+    uint32_t hold;            /* how many a port may hold at a time; 0 for 2 */
+    uint64_t limit;           /* of tickets; 0 for SCQ_MAX_LIMIT */
+    const scq_memory *memory; /* where the buffers lie, and `size` isn't looked at; null where it
+                                 is to be taken */
+} scq_options;
+
+/* Makes a queue as scq_open, or where there is memory as scq_open_over, by options, or by none.
+ *
+ * Answers: as these. */
+static inline SCQ_ANSWERED uint32_t scq_open_with(const scq_options *options, scq_port *ports,
+                                                  size_t n) {
+    scq_options made;
+    memset(&made, 0, sizeof made);
+    if (options != SCQ_NULL) made = *options;
+    if (made.order == 0) made.order = 6;
+    if (made.topics == 0) made.topics = 1;
+    if (made.size == 0) made.size = 64;
+    if (made.hold == 0) made.hold = 2;
+    if (made.limit == 0) made.limit = SCQ_MAX_LIMIT;
+    if (made.memory == SCQ_NULL)
+        return scq_open(made.order, made.topics, made.size, made.hold, made.limit, ports, n);
+    return scq_open_over(made.order, made.topics, made.hold, made.limit, made.memory, ports, n);
+}
 
 /* For tools that watch threads, which don't see into the library. ThreadSanitizer, where this file
  * is compiled with it, is told that what a thread did with a buffer before it let go of it comes
@@ -291,7 +442,7 @@ static inline void scq_tell_after(void *address) {
 #endif
 }
 
-#if defined(SCQ_TSAN) || defined(SCQ_VALGRIND)
+#if defined(SCQ_TSAN) || defined(SCQ_VALGRIND) || defined(SCQ_ASAN)
 #ifdef SCQ_VALGRIND
 #define SCQ_ASIDE(call)                                                                            \
     VALGRIND_DISABLE_ERROR_REPORTING;                                                              \
@@ -325,11 +476,28 @@ static inline void scq_tell_got(const scq_port *port, uint32_t answer, uint32_t 
     if (answer != SCQ_OK) return;
     scq_tell_after(port->memory.base + index);
     scq_tell_after(port->memory.base);
+#ifdef SCQ_ASAN
+    scq_hold(port, index);
+#endif
 }
 
 static inline void scq_tell_lets_go(const scq_port *port, uint32_t index) {
     if (port->at == SCQ_NULL || index >> SCQ_MAX_ORDER != 0) return;
     scq_tell_before(port->memory.base + index);
+#ifdef SCQ_ASAN
+    scq_let_go(port, index);
+#endif
+}
+
+/* What the call was answered. */
+
+static inline void scq_tell_gone(const scq_port *port, uint32_t answer, uint32_t index) {
+#ifdef SCQ_ASAN
+    scq_has_let_go(port, answer, index);
+#endif
+    (void)port;
+    (void)answer;
+    (void)index;
 }
 
 static inline SCQ_ANSWERED uint32_t scq_lend_index_told(scq_port *port, scq_held *out) {
@@ -349,9 +517,11 @@ static inline SCQ_ANSWERED uint32_t scq_take_index_told(scq_port *port, uint32_t
 
 static inline SCQ_ANSWERED uint32_t scq_send_told(scq_port *port, uint32_t index, uint32_t topic,
                                                   uint64_t *place) {
+    uint64_t unasked;
     uint32_t answer;
     scq_tell_lets_go(port, index);
-    SCQ_ASIDE(answer = scq_send(port, index, topic, place));
+    SCQ_ASIDE(answer = scq_send(port, index, topic, place == SCQ_NULL ? &unasked : place));
+    scq_tell_gone(port, answer, index);
     return answer;
 }
 
@@ -359,6 +529,7 @@ static inline uint32_t scq_give_back_told(scq_port *port, uint32_t index) {
     uint32_t answer;
     scq_tell_lets_go(port, index);
     SCQ_ASIDE(answer = scq_give_back(port, index));
+    scq_tell_gone(port, answer, index);
     return answer;
 }
 
@@ -370,6 +541,12 @@ static inline void scq_tell_all_got(const scq_port *port, const scq_held *held, 
 static inline void scq_tell_lets_all_go(const scq_port *port, const scq_held *held, size_t n) {
     size_t k;
     for (k = 0; k < n; k++) scq_tell_lets_go(port, held[k].index);
+}
+
+static inline void scq_tell_all_gone(const scq_port *port, const scq_held *held, size_t done,
+                                     size_t n) {
+    size_t k;
+    for (k = 0; k < n; k++) scq_tell_gone(port, k < done ? SCQ_OK : SCQ_NOT_HELD, held[k].index);
 }
 
 static inline SCQ_ANSWERED uint32_t scq_lend_index_many_told(scq_port *port, scq_held *out,
@@ -394,6 +571,7 @@ static inline SCQ_ANSWERED uint32_t scq_send_many_told(scq_port *port, scq_held 
     uint32_t answer;
     scq_tell_lets_all_go(port, held, n);
     SCQ_ASIDE(answer = scq_send_many(port, held, n, topic, done));
+    scq_tell_all_gone(port, held, *done, n);
     return answer;
 }
 
@@ -402,19 +580,27 @@ static inline uint32_t scq_give_back_many_told(scq_port *port, const scq_held *h
     uint32_t answer;
     scq_tell_lets_all_go(port, held, n);
     SCQ_ASIDE(answer = scq_give_back_many(port, held, n, done));
+    scq_tell_all_gone(port, held, *done, n);
     return answer;
 }
 
 static inline uint32_t scq_end_told(scq_port *port, scq_ended *out, scq_counts *counts, size_t n) {
     uint32_t answer;
-    scq_tell_lets_go(port, 0);
+#ifdef SCQ_ASAN
+    uint32_t index;
+    for (index = 0; scq_holder(port, index) != SCQ_NULL; index++) scq_let_go(port, index);
+#endif
+    if (port->at != SCQ_NULL) scq_tell_before(port->memory.base);
     SCQ_ASIDE(answer = scq_end(port, out, counts, n));
+#ifdef SCQ_ASAN
+    if (answer == SCQ_OK && out->last == 1) scq_end_over(&port->memory);
+#endif
     return answer;
 }
 
 static inline uint32_t scq_retire_told(scq_port *port) {
     uint32_t answer;
-    scq_tell_lets_go(port, 0);
+    if (port->at != SCQ_NULL) scq_tell_before(port->memory.base);
     SCQ_ASIDE(answer = scq_retire(port));
     return answer;
 }
@@ -452,8 +638,20 @@ static inline SCQ_ANSWERED uint32_t scq_count_told(scq_port *port, uint32_t topi
 #define scq_capacity scq_capacity_told
 #define scq_count scq_count_told
 #undef SCQ_ASIDE
+#else
+
+SCQ_ANSWERED uint32_t scq_send(scq_port *port, uint32_t index, uint32_t topic, uint64_t *place);
+
+static inline SCQ_ANSWERED uint32_t scq_send_placed(scq_port *port, uint32_t index, uint32_t topic,
+                                                    uint64_t *place) {
+    uint64_t unasked;
+    return scq_send(port, index, topic, place == SCQ_NULL ? &unasked : place);
+}
+
+#define scq_send scq_send_placed
 #endif
 #undef SCQ_TSAN
+#undef SCQ_ASAN
 
 /* The calls that scq_lend, scq_take, scq_lend_many and scq_take_many are made of, with the same
  * answers: they write the index and the place of a buffer to `out`, and not where it lies. */
@@ -474,17 +672,20 @@ static inline void scq_locate(const scq_port *port, uint32_t answer, scq_held *o
     }
 }
 
-/* Lends a buffer that nobody holds: writes to `out` where it lies, with whatever bytes its last
- * user left. What that thread did before it gave the buffer back is seen.
+/* Lends a buffer of the stock of free ones, which nobody holds (tested; that this port doesn't is
+ * proved): writes to `out` where it lies, with whatever bytes its last user left. What that thread
+ * did before it gave the buffer back is seen.
  *
  * Tested: that the port is open, and holds fewer buffers than it may.
- * Answers: SCQ_OK; SCQ_CLOSED; SCQ_NO_ROOM; SCQ_FULL where no buffer was free, and out->place is
- * the head of the stock: each buffer that was given back at a place below it has been lent, or is
- * being lent; SCQ_SPENT, and out->place is the ticket. Where it isn't SCQ_OK, out->at is null and
- * out->len 0. */
+ * Answers: SCQ_OK; SCQ_CLOSED; SCQ_NO_ROOM; SCQ_FULL where, at a moment of the call, each buffer
+ * that was given back had been lent, or a lend under way may still get it; out->place is a number
+ * that the head of the stock has reached: each buffer that was given back at a place below it has
+ * been lent, or is being lent; SCQ_SPENT, and out->place is the ticket. Where it isn't SCQ_OK,
+ * out->at is null and out->len 0. */
 static inline SCQ_ANSWERED uint32_t scq_lend(scq_port *port, scq_held *out) {
     const uint32_t answer = scq_lend_index(port, out);
     scq_locate(port, answer, out);
+    out->begun = 0;
     return answer;
 }
 
@@ -492,18 +693,22 @@ static inline SCQ_ANSWERED uint32_t scq_lend(scq_port *port, scq_held *out) {
  * Its bytes are those that were sent, and what its sender did before the send is seen.
  *
  * Tested: that the port is open, the topic, and that the port holds fewer buffers than it may.
- * Answers: SCQ_OK; SCQ_CLOSED; SCQ_NO_TOPIC; SCQ_NO_ROOM; SCQ_EMPTY where nothing was on the topic,
- * and out->place is its head: each buffer that was sent at a place below it has been taken, or is
- * being taken; SCQ_SPENT, and out->place is the ticket. Where it isn't SCQ_OK, out->at is null and
- * out->len 0. */
+ * Answers: SCQ_OK; SCQ_CLOSED; SCQ_NO_TOPIC; SCQ_NO_ROOM; SCQ_EMPTY where, at a moment of the call,
+ * each buffer that was sent had been taken, or a take under way may still get it; out->place is a
+ * number that the topic's head has reached: each buffer that was sent at a place below it has been
+ * taken, or is being taken; SCQ_SPENT, and out->place is the ticket. Where it isn't SCQ_OK, out->at
+ * is null and out->len 0. */
 static inline SCQ_ANSWERED uint32_t scq_take(scq_port *port, uint32_t topic, scq_held *out) {
     const uint32_t answer = scq_take_index(port, topic, out);
     scq_locate(port, answer, out);
+    out->begun = 1;
     return answer;
 }
 
-/* Sends the buffer of this index on a topic, and writes to `place` at which place. Places rise in
- * the order of sends that follow one another; no two buffers of a topic have the same.
+/* Sends the buffer of this index on a topic, and writes to `place` at which place, if it isn't
+ * null. Places of one topic rise in the order of sends that follow one another: of one port's at
+ * each call, of all where scq_end tells of the last; then no two buffers of a topic have had the
+ * same. Those of different topics can't be compared. (The exported call wants a `place`.)
  *
  * Tested: that the port is open, the topic, that the port hasn't retired, and that it holds a
  * buffer of this index.
@@ -535,7 +740,10 @@ static inline SCQ_ANSWERED uint32_t scq_lend_many(scq_port *port, scq_held *out,
                                                   size_t *done) {
     const uint32_t answer = scq_lend_index_many(port, out, n, done);
     size_t k;
-    for (k = 0; k < *done; k++) scq_locate(port, SCQ_OK, &out[k]);
+    for (k = 0; k < *done; k++) {
+        scq_locate(port, SCQ_OK, &out[k]);
+        out[k].begun = 0;
+    }
     return answer;
 }
 
@@ -547,7 +755,10 @@ static inline SCQ_ANSWERED uint32_t scq_take_many(scq_port *port, uint32_t topic
                                                   size_t n, size_t *done) {
     const uint32_t answer = scq_take_index_many(port, topic, out, n, done);
     size_t k;
-    for (k = 0; k < *done; k++) scq_locate(port, SCQ_OK, &out[k]);
+    for (k = 0; k < *done; k++) {
+        scq_locate(port, SCQ_OK, &out[k]);
+        out[k].begun = 1;
+    }
     return answer;
 }
 
@@ -572,8 +783,9 @@ uint32_t scq_give_back_many(scq_port *port, const scq_held *held, size_t n, size
 uint32_t scq_retire(scq_port *port);
 
 /* Whether all ports of the queue have retired, this one among them. Then a topic that is found
- * empty afterwards has ended: ask first, and then take. Once a port is answered that all have, it
- * always is. That a yes is right is proved; that it comes once all have is tested.
+ * empty afterwards has ended (tested): ask first, and then take. Once a port is answered that all
+ * have, it always is. A yes says that this port has retired; that each other one had by then, and
+ * that a yes comes once all have, is tested.
  *
  * Tested: that the port is open.
  * Answers: SCQ_RETIRED where all have; SCQ_OK where some hadn't, as far as the call read;
@@ -610,29 +822,32 @@ uint32_t scq_spent(scq_port *port, uint64_t *ticket);
 
 /* Closes the port, and tells whether it was the queue's last. It retires, and gives back what it
  * holds; where its tickets have run out, what can't be given back stays with the queue, which lends
- * it to nobody. The last port of a queue frees what the library took, with what stands on the
- * topics, and it is told so: that it is told, and that all is freed, is tested; what it is told is
- * proved. Then all calls that were made with all ports of the queue, but those that a test or a
- * kept ticket refused, stand in one run of the proved machine, with their answers: each buffer that
- * was taken was sent on that topic at that place, no place of a topic was sent at or taken at
- * twice, what was sent less what was taken is what was left, and the calls of each topic, and those
- * of the free buffers, but for those answered SCQ_SPENT, stand in one order in which every answer
- * is a plain queue's. Where it was the last, there stands in `counts` what each port of the queue
- * did, in the order in which they were opened: of the first `n` of them. port->memory is left as it
- * was.
+ * it to nobody (tested). The last port of a queue frees what the library took, with what stands on
+ * the topics, and is told so: just one port is, and all others had closed by then (tested). Proved
+ * of the port that is told so: its calls, and those of a record for each other port, but for those
+ * that a test or a kept ticket refused, stand in one run of the machine, with their answers: each
+ * buffer that was taken was sent on that topic at that place, no place of a topic was sent at or
+ * taken at twice, what was sent less what was taken is what was left, and the calls of each topic,
+ * and those of the free buffers, but for those answered SCQ_SPENT, stand in one order in which
+ * every answer is a plain queue's. That these records are the other ports' calls is tested. Then
+ * `counts` has what each port of the queue did, in the order in which they were opened: of the
+ * first `n` of them. port->memory is left as it was.
  *
  * Tested: that the port is open.
  * Answers: SCQ_OK; SCQ_CLOSED. */
 uint32_t scq_end(scq_port *port, scq_ended *out, scq_counts *counts, size_t n);
 
 /* What is left to be done with a port that scq_end closed: sets it to SCQ_NONE, and frees what
- * scq_open took, where it was the queue's last. */
+ * scq_open took, where it was the queue's last. The count goes down by a step that releases and
+ * acquires, which is enough on every processor: what a thread did with the bytes comes before its
+ * step, and so before the last one, behind which they are freed. The count is set where no port is
+ * open yet, and who gets a port of another thread gets it by what orders memory. */
 static inline void scq_free(scq_port *port) {
-    void *const block = port->memory.block;
+    struct scq_block *const block = SCQ_TO(struct scq_block *, port->memory.block);
     *port = SCQ_NONE;
     if (block == SCQ_NULL) return;
     scq_tell_before(block);
-    if (__atomic_sub_fetch(SCQ_TO(uint32_t *, block), 1, __ATOMIC_ACQ_REL) != 0) return;
+    if (__atomic_sub_fetch(&block->open, 1, __ATOMIC_ACQ_REL) != 0) return;
     scq_tell_after(block);
     free(block);
 }
@@ -653,9 +868,11 @@ static inline uint32_t scq_close(scq_port *port) {
  * lowest first, how many bytes the messages take; then of each message its length, likewise in four
  * bytes, and its bytes. These functions make no call, and touch no byte but those of the buffer.
  *
- * Begins the packing: there are no messages in the buffer. */
-static inline void scq_pack_begin(const scq_held *held) {
+ * Begins the packing: there are no messages in the buffer. In one that was lent the first message
+ * begins it too; to one that was taken messages are added. */
+static inline void scq_pack_begin(scq_held *held) {
     if (held->len >= 4) memset(held->at, 0, 4);
+    held->begun = 1;
 }
 
 /* The number in four bytes, and the four bytes of a number. */
@@ -676,9 +893,10 @@ static inline void scq_pack_set_number(unsigned char *at, uint32_t number) {
  * stood in the buffer. Answers null, and leaves the buffer as it was, where there is no room for it
  * behind the messages that are in it. A buffer has room for its `len` less 4, where each message
  * takes its own length and 4. */
-static inline SCQ_ANSWERED unsigned char *scq_pack_room(const scq_held *held, size_t len) {
+static inline SCQ_ANSWERED unsigned char *scq_pack_room(scq_held *held, size_t len) {
     size_t used, room;
     if (held->len < 4) return SCQ_NULL;
+    if (held->begun == 0) scq_pack_begin(held);
     used = scq_pack_number(held->at);
     room = held->len - 4 < UINT32_MAX ? held->len - 4 : UINT32_MAX;
     if (used > room || room - used < 4 || room - used - 4 < len) return SCQ_NULL;
@@ -689,7 +907,7 @@ static inline SCQ_ANSWERED unsigned char *scq_pack_room(const scq_held *held, si
 
 /* The same with the message's bytes, which lie elsewhere. Answers whether it was appended: 1 or
  * 0. */
-static inline SCQ_ANSWERED int scq_pack(const scq_held *held, const void *bytes, size_t len) {
+static inline SCQ_ANSWERED int scq_pack(scq_held *held, const void *bytes, size_t len) {
     unsigned char *const at = scq_pack_room(held, len);
     if (at == SCQ_NULL) return 0;
     if (len != 0) memcpy(at, bytes, len);

@@ -69,6 +69,7 @@ enum class Answer : std::uint32_t {
     BadHold = SCQ_BAD_HOLD,
     IsOpen = SCQ_IS_OPEN,
     Retired = SCQ_RETIRED,
+    Ended = SCQ_ENDED,
     BadVersion = SCQ_BAD_VERSION
 };
 
@@ -96,8 +97,56 @@ struct Sent {
     explicit operator bool() const noexcept { return answer == Answer::Ok; }
 };
 
-// For this file alone.
+// For this file and scq_bell.hpp alone.
 namespace detail {
+
+// What is told of what is done with a port or a handle that is tied to a bell: see scq_bell.hpp.
+class Tie {
+  public:
+    virtual void keep() noexcept = 0; // there is one reference more, or less
+    virtual void let_go() noexcept = 0;
+    virtual bool has_ended(std::uint32_t line) noexcept = 0;
+    virtual void ring(std::uint32_t line) noexcept = 0;
+    virtual std::uint32_t retire(scq_port *port) noexcept = 0;
+    virtual std::uint32_t end(scq_port *port, scq_ended *ended, scq_counts *counts,
+                              std::size_t count) noexcept = 0; // of a port
+    virtual void end_handle() noexcept = 0;                    // of a Ring
+
+  protected:
+    ~Tie() = default;
+};
+
+// A reference to one, or to none.
+class TieRef {
+  public:
+    TieRef() noexcept = default;
+    explicit TieRef(Tie *tie) noexcept : tie_(tie) {
+        if (tie_ != nullptr) tie_->keep();
+    }
+    TieRef(TieRef &&other) noexcept : tie_(other.tie_) { other.tie_ = nullptr; }
+    TieRef &operator=(TieRef other) noexcept {
+        std::swap(tie_, other.tie_);
+        return *this;
+    }
+    ~TieRef() {
+        if (tie_ != nullptr) tie_->let_go();
+    }
+
+    Tie *get() const noexcept { return tie_; }
+    explicit operator bool() const noexcept { return tie_ != nullptr; }
+    bool has_ended(std::uint32_t line) const noexcept {
+        return tie_ != nullptr && tie_->has_ended(line);
+    }
+    void ring(std::uint32_t line, std::size_t times = 1) const noexcept {
+        for (std::size_t k = 0; tie_ != nullptr && k < times; k++) tie_->ring(line);
+    }
+
+  private:
+    Tie *tie_ = nullptr;
+};
+
+// The line of a bell for those who wait for a free buffer.
+constexpr std::uint32_t FreeLine = 17;
 
 // The library's handle of a port, which stays where it is while the port and the guards of its
 // buffers are moved, and lasts as long as one of them. Between two of them lies a line of the
@@ -127,10 +176,52 @@ class Shared {
     bool is_none() const noexcept { return cell_ == nullptr; }
     bool is_open() const noexcept { return cell_ != nullptr && cell_->port.at != nullptr; }
     scq_port *port() const noexcept { return &cell_->port; }
+    TieRef &tie() const noexcept { return cell_->tie; }
+
+    // The calls that a bell is told of.
+    std::uint32_t send(std::uint32_t index, std::uint32_t topic,
+                       std::uint64_t *place) const noexcept {
+        if (tie().has_ended(topic) && is_open()) return SCQ_ENDED;
+        const std::uint32_t answer = scq_send(port(), index, topic, place);
+        if (answer == SCQ_OK) tie().ring(topic);
+        return answer;
+    }
+    std::uint32_t give_back(std::uint32_t index) const noexcept {
+        const std::uint32_t answer = scq_give_back(port(), index);
+        if (answer == SCQ_OK) tie().ring(FreeLine);
+        return answer;
+    }
+    std::uint32_t send_many(scq_held *held, std::size_t count, std::uint32_t topic,
+                            std::size_t *done) const noexcept {
+        *done = 0;
+        if (tie().has_ended(topic) && is_open()) return SCQ_ENDED;
+        const std::uint32_t answer = scq_send_many(port(), held, count, topic, done);
+        tie().ring(topic, *done);
+        return answer;
+    }
+    std::uint32_t give_back_many(const scq_held *held, std::size_t count,
+                                 std::size_t *done) const noexcept {
+        const std::uint32_t answer = scq_give_back_many(port(), held, count, done);
+        tie().ring(FreeLine, *done);
+        return answer;
+    }
+    std::uint32_t retire() const noexcept {
+        return tie() ? tie().get()->retire(port()) : scq_retire(port());
+    }
+    std::uint32_t end(scq_ended *ended, scq_counts *counts, std::size_t count) const noexcept {
+        const std::uint32_t answer = tie() ? tie().get()->end(port(), ended, counts, count)
+                                           : scq_end(port(), ended, counts, count);
+        if (answer == SCQ_OK) {
+            scq_free(port());
+            tie() = TieRef();
+        }
+        return answer;
+    }
 
   private:
     struct Cell {
         scq_port port = SCQ_NONE;
+        TieRef tie;
         std::size_t users = 1;
         unsigned char apart[SCQ_CACHE_LINE];
     };
@@ -220,16 +311,13 @@ class Held {
     // there. `pack` answers whether there was room, `pack_room` where a message of `size` bytes is
     // to be written, or null.
     void pack_begin() noexcept {
-        const scq_held held = here();
-        scq_pack_begin(&held);
+        if (*this) scq_pack_begin(&held_);
     }
     SCQ_NODISCARD bool pack(const void *message, std::size_t size) noexcept {
-        const scq_held held = here();
-        return scq_pack(&held, message, size) != 0;
+        return *this && scq_pack(&held_, message, size) != 0;
     }
     SCQ_NODISCARD unsigned char *pack_room(std::size_t size) noexcept {
-        const scq_held held = here();
-        return scq_pack_room(&held, size);
+        return *this ? scq_pack_room(&held_, size) : nullptr;
     }
     Messages messages() const noexcept { return Messages(here()); }
 
@@ -241,8 +329,7 @@ class Held {
     SCQ_NODISCARD Sent send(std::uint32_t topic) noexcept {
         std::uint64_t place = 0;
         if (shared_.is_none()) return Sent{none(), place};
-        const Answer answer =
-            static_cast<Answer>(scq_send(shared_.port(), held_.index, topic, &place));
+        const Answer answer = static_cast<Answer>(shared_.send(held_.index, topic, &place));
         if (answer == Answer::Ok) let_go();
         return Sent{answer, place};
     }
@@ -251,7 +338,7 @@ class Held {
     // NotHeld, or Closed if that is why.
     Answer give_back() noexcept {
         if (shared_.is_none()) return none();
-        const Answer answer = static_cast<Answer>(scq_give_back(shared_.port(), held_.index));
+        const Answer answer = static_cast<Answer>(shared_.give_back(held_.index));
         if (answer == Answer::Ok) let_go();
         return answer;
     }
@@ -275,6 +362,9 @@ class Held {
     }
     ~Held() { end_here(); }
 
+    // Whether its port is tied to a bell.
+    bool is_tied() const noexcept { return !shared_.is_none() && shared_.tie(); }
+
   private:
     // The buffer, or one without bytes.
     scq_held here() const noexcept {
@@ -295,7 +385,7 @@ class Held {
 
     // (What is refused here stays with the port.)
     void end_here() noexcept {
-        if (!shared_.is_none()) scq_give_back(shared_.port(), held_.index);
+        if (!shared_.is_none()) shared_.give_back(held_.index);
     }
 
     detail::Shared shared_;
@@ -357,7 +447,7 @@ class Port {
     // Lends a buffer that nobody holds: there is none where the answer is Full, Spent, NoRoom or
     // Closed.
     SCQ_NODISCARD Lent lend() noexcept {
-        scq_held held = {nullptr, 0, 0, 0};
+        scq_held held = {nullptr, 0, 0, 0, 0};
         Answer answer = Answer::Closed;
         if (!shared_.is_none()) answer = static_cast<Answer>(scq_lend(shared_.port(), &held));
         return Lent(shared_, answer, held);
@@ -366,7 +456,7 @@ class Port {
     // Takes a buffer off a topic: there is none where the answer is Empty, Spent, NoTopic, NoRoom
     // or Closed.
     SCQ_NODISCARD Taken take(std::uint32_t topic) noexcept {
-        scq_held held = {nullptr, 0, 0, 0};
+        scq_held held = {nullptr, 0, 0, 0, 0};
         Answer answer = Answer::Closed;
         if (!shared_.is_none()) {
             answer = static_cast<Answer>(scq_take(shared_.port(), topic, &held));
@@ -391,7 +481,7 @@ class Port {
     // Sends no more: Ok or Closed. It still lends, takes and gives back.
     Answer retire() noexcept {
         if (shared_.is_none()) return Answer::Closed;
-        return static_cast<Answer>(scq_retire(shared_.port()));
+        return static_cast<Answer>(shared_.retire());
     }
 
     // Retired where all ports of the queue have, or Ok where some hadn't, as far as the call read;
@@ -417,7 +507,9 @@ class Port {
     // Closes the port before its end: Ok or Closed.
     Answer close() noexcept {
         if (shared_.is_none()) return Answer::Closed;
-        return static_cast<Answer>(scq_close(shared_.port()));
+        scq_ended ended;
+        scq_counts none;
+        return static_cast<Answer>(shared_.end(&ended, &none, 0));
     }
 
     // The same, and whether it was the queue's last port; where it was, what each port did is
@@ -426,16 +518,14 @@ class Port {
     Answer close(bool &last, scq_counts *counts, std::size_t count) noexcept {
         if (shared_.is_none()) return Answer::Closed;
         scq_ended ended;
-        const Answer answer = static_cast<Answer>(scq_end(shared_.port(), &ended, counts, count));
-        if (answer == Answer::Ok) {
-            last = ended.last == 1;
-            scq_free(shared_.port());
-        }
+        const Answer answer = static_cast<Answer>(shared_.end(&ended, counts, count));
+        if (answer == Answer::Ok) last = ended.last == 1;
         return answer;
     }
 
   private:
     friend struct Queue;
+    friend class Bell;
     template <std::size_t most> friend class Batch;
 
     detail::Shared shared_;
@@ -516,8 +606,7 @@ template <std::size_t most> class Batch {
     SCQ_NODISCARD Several send(std::uint32_t topic) noexcept {
         Several sent{Answer::Closed, 0};
         if (shared_.is_none()) return sent;
-        sent.answer =
-            static_cast<Answer>(scq_send_many(shared_.port(), held_, size_, topic, &sent.done));
+        sent.answer = static_cast<Answer>(shared_.send_many(held_, size_, topic, &sent.done));
         let_go(sent.done);
         return sent;
     }
@@ -526,8 +615,7 @@ template <std::size_t most> class Batch {
     Several give_back() noexcept {
         Several given{Answer::Closed, 0};
         if (shared_.is_none()) return given;
-        given.answer =
-            static_cast<Answer>(scq_give_back_many(shared_.port(), held_, size_, &given.done));
+        given.answer = static_cast<Answer>(shared_.give_back_many(held_, size_, &given.done));
         let_go(given.done);
         return given;
     }
@@ -664,7 +752,9 @@ template <class T> class Ring {
         }
     };
 
-    // A share in a core.
+    // A share in a core. One more needs no order: who copies a share has one, so that none was the
+    // last. One less releases and acquires, which is enough on every processor: what its thread did
+    // with the core comes before that step, and so before the last one, behind which it is deleted.
     class Share {
       public:
         Share() noexcept = default;
@@ -694,21 +784,70 @@ template <class T> class Ring {
     // A thread's end of the ring, or none. One thread at a time uses it. Where it ends it goes back
     // to the stock.
     class Handle {
+        class Room;
+
+        // What a thread works with: a port of the stock, to which it goes back; and its bell.
+        struct Worker {
+            Share share;
+            scq_port port = SCQ_NONE;
+            detail::TieRef tie;
+
+            Worker() noexcept = default;
+            Worker(Worker &&other) noexcept
+                : share(std::move(other.share)), port(other.port), tie(std::move(other.tie)) {
+                other.port = SCQ_NONE;
+            }
+            Worker &operator=(Worker &&other) noexcept {
+                share = std::move(other.share);
+                port = other.port;
+                other.port = SCQ_NONE;
+                tie = std::move(other.tie);
+                return *this;
+            }
+            ~Worker() { end(); }
+
+            Slot *slots() const noexcept {
+                return share.get() != nullptr ? share.get()->slots : nullptr;
+            }
+
+            void end() noexcept {
+                if (share.get() == nullptr) return;
+                {
+                    Core &core = *share.get();
+                    const std::lock_guard<std::mutex> hold(core.lock);
+                    core.stock[core.in_stock++] = port;
+                    port = SCQ_NONE;
+                }
+                if (tie) tie.get()->end_handle();
+                tie = detail::TieRef();
+                share = Share();
+            }
+        };
+
         // A slot that the port holds; where it ends, so does the value in it, and the buffer is
-        // given back.
+        // given back. What is done with the value may move the handle, or replace it: then the
+        // outermost room keeps what the handle worked with.
         class Room {
           public:
-            Room(scq_port &port, Slot *slots) noexcept : port_(port), slots_(slots) {}
+            explicit Room(Handle &handle) noexcept
+                : handle_(&handle), worker_(&handle.worker_), slots_(worker_->slots()),
+                  outer_(handle.rooms_) {
+                handle.rooms_ = this;
+            }
             Room(const Room &) = delete;
             Room &operator=(const Room &) = delete;
             ~Room() {
-                if (!is_held_) return;
-                slot().end();
-                scq_give_back(&port_, held_.index);
+                if (handle_ != nullptr) handle_->rooms_ = outer_;
+                if (is_held_) {
+                    slot().end();
+                    if (scq_give_back(&worker_->port, held_.index) == SCQ_OK)
+                        worker_->tie.ring(detail::FreeLine);
+                }
+                if (handle_ == nullptr && outer_ == nullptr) worker_->~Worker();
             }
 
-            Answer lend() noexcept { return got(scq_lend(&port_, &held_)); }
-            Answer take() noexcept { return got(scq_take(&port_, 0, &held_)); }
+            Answer lend() noexcept { return got(scq_lend(&worker_->port, &held_)); }
+            Answer take() noexcept { return got(scq_take(&worker_->port, 0, &held_)); }
 
             template <class... Args> void make(Args &&...args) {
                 ::new (static_cast<void *>(slot().bytes)) T(std::forward<Args>(args)...);
@@ -716,13 +855,33 @@ template <class T> class Ring {
             }
 
             Answer send() noexcept {
-                std::uint64_t place;
-                const Answer answer = static_cast<Answer>(scq_send(&port_, held_.index, 0, &place));
-                if (answer == Answer::Ok) is_held_ = false;
+                const Answer answer =
+                    static_cast<Answer>(scq_send(&worker_->port, held_.index, 0, nullptr));
+                if (answer != Answer::Ok) return answer;
+                is_held_ = false;
+                worker_->tie.ring(0);
                 return answer;
             }
 
             T &value() noexcept { return *slot().value(); }
+
+            // The handle is elsewhere now, or none: the rooms from this one outwards follow.
+            void follow(Handle &handle) noexcept {
+                for (Room *room = this; room != nullptr; room = room->outer_) {
+                    room->handle_ = &handle;
+                    room->worker_ = &handle.worker_;
+                }
+            }
+            void keep(Worker &&worker) noexcept {
+                Room *last = this;
+                while (last->outer_ != nullptr) last = last->outer_;
+                Worker *const kept =
+                    ::new (static_cast<void *>(last->own_)) Worker(std::move(worker));
+                for (Room *room = this; room != nullptr; room = room->outer_) {
+                    room->handle_ = nullptr;
+                    room->worker_ = kept;
+                }
+            }
 
           private:
             Slot &slot() noexcept { return slots_[held_.index]; }
@@ -731,9 +890,12 @@ template <class T> class Ring {
                 return static_cast<Answer>(answer);
             }
 
-            scq_port &port_;
+            Handle *handle_;
+            Worker *worker_;
             Slot *slots_;
-            scq_held held_ = {nullptr, 0, 0, 0};
+            Room *outer_;
+            alignas(Worker) unsigned char own_[sizeof(Worker)];
+            scq_held held_ = {nullptr, 0, 0, 0, 0};
             bool is_held_ = false;
         };
 
@@ -742,31 +904,28 @@ template <class T> class Ring {
         Handle() noexcept = default;
         Handle(const Handle &) = delete;
         Handle &operator=(const Handle &) = delete;
-        Handle(Handle &&other) noexcept : share_(std::move(other.share_)), port_(other.port_) {
-            other.port_ = SCQ_NONE;
-        }
+        Handle(Handle &&other) noexcept { move_from(other); }
         Handle &operator=(Handle &&other) noexcept {
             if (this != &other) {
-                return_to_stock();
-                share_ = std::move(other.share_);
-                port_ = other.port_;
-                other.port_ = SCQ_NONE;
+                end_here();
+                move_from(other);
             }
             return *this;
         }
-        ~Handle() { return_to_stock(); }
+        ~Handle() { end_here(); }
 
         // Whether there is one.
-        explicit operator bool() const noexcept { return share_.get() != nullptr; }
+        explicit operator bool() const noexcept { return worker_.share.get() != nullptr; }
 
-        // Puts the value at the end: Ok; Full; Spent where tickets have run out at the limit;
-        // Closed. Where it isn't Ok the value is there as it was. (Where it is Spent, it may have
-        // been moved and moved back.)
+        // Puts the value at the end: Ok; Full; Spent where tickets have run out at the limit; Ended
+        // where it is tied to a bell, and nobody is to push any more; Closed. Where it isn't Ok the
+        // value is there as it was. (Where it is Spent, it may have been moved and moved back.)
         SCQ_NODISCARD Answer push(T &&value) noexcept(is_nothrow_pushed) {
             static_assert(std::is_move_assignable<T>::value ||
                               std::is_nothrow_move_constructible<T>::value,
                           "a value that is refused can be moved back");
-            Room room(port_, slots());
+            if (worker_.tie.has_ended(0)) return Answer::Ended;
+            Room room(*this);
             Answer answer = room.lend();
             if (answer != Answer::Ok) return answer;
             room.make(std::move(value));
@@ -785,7 +944,8 @@ template <class T> class Ring {
         template <class... Args>
         SCQ_NODISCARD Answer
         emplace(Args &&...args) noexcept(std::is_nothrow_constructible<T, Args &&...>::value) {
-            Room room(port_, slots());
+            if (worker_.tie.has_ended(0)) return Answer::Ended;
+            Room room(*this);
             const Answer answer = room.lend();
             if (answer != Answer::Ok) return answer;
             room.make(std::forward<Args>(args)...);
@@ -795,7 +955,7 @@ template <class T> class Ring {
         // Takes the first value off, and hands it to `use`: Ok; Empty; Spent; Closed. The value
         // ends with the call, also where `use` throws.
         template <class Use> SCQ_NODISCARD Answer consume_one(Use &&use) {
-            Room room(port_, slots());
+            Room room(*this);
             const Answer answer = room.take();
             if (answer == Answer::Ok) use(std::move(room.value()));
             return answer;
@@ -803,7 +963,7 @@ template <class T> class Ring {
 
         // The same, moved to `to`. Where the assignment throws the value is lost.
         SCQ_NODISCARD Answer pop(T &to) noexcept(std::is_nothrow_move_assignable<T>::value) {
-            Room room(port_, slots());
+            Room room(*this);
             const Answer answer = room.take();
             if (answer == Answer::Ok) to = std::move(room.value());
             return answer;
@@ -813,17 +973,18 @@ template <class T> class Ring {
         // The same: none where it is Empty, Spent or Closed.
         SCQ_NODISCARD std::optional<T>
         pop() noexcept(std::is_nothrow_move_constructible<T>::value) {
-            Room room(port_, slots());
+            Room room(*this);
             if (room.take() != Answer::Ok) return std::nullopt;
             return std::optional<T>(std::move(room.value()));
         }
 #endif
 
         // How many values there is room for.
-        std::size_t capacity() const noexcept { return *this ? share_.get()->capacity : 0; }
+        std::size_t capacity() const noexcept { return *this ? worker_.share.get()->capacity : 0; }
 
       private:
         friend class Ring;
+        friend class Bell;
 
         static constexpr bool is_nothrow_restored =
             std::is_move_assignable<T>::value ? std::is_nothrow_move_assignable<T>::value
@@ -835,18 +996,25 @@ template <class T> class Ring {
             Core &core = *share.get();
             const std::lock_guard<std::mutex> hold(core.lock);
             if (core.in_stock == 0) return;
-            share_ = share;
-            port_ = core.stock[--core.in_stock];
+            worker_.share = share;
+            worker_.port = core.stock[--core.in_stock];
             core.stock[core.in_stock] = SCQ_NONE;
         }
 
-        void return_to_stock() noexcept {
-            if (!*this) return;
-            Core &core = *share_.get();
-            const std::lock_guard<std::mutex> hold(core.lock);
-            core.stock[core.in_stock++] = port_;
-            port_ = SCQ_NONE;
+        void move_from(Handle &other) noexcept {
+            worker_ = std::move(other.worker_);
+            rooms_ = other.rooms_;
+            other.rooms_ = nullptr;
+            if (rooms_ != nullptr) rooms_->follow(*this);
         }
+
+        void end_here() noexcept {
+            if (rooms_ != nullptr) rooms_->keep(std::move(worker_));
+            rooms_ = nullptr;
+            worker_.end();
+        }
+
+        bool is_tied() const noexcept { return worker_.tie.get() != nullptr; }
 
         static void restore(T &value, T &from, std::true_type) noexcept(is_nothrow_restored) {
             value = std::move(from);
@@ -856,10 +1024,8 @@ template <class T> class Ring {
             ::new (static_cast<void *>(&value)) T(std::move(from));
         }
 
-        Slot *slots() const noexcept { return *this ? share_.get()->slots : nullptr; }
-
-        Share share_;
-        scq_port port_ = SCQ_NONE;
+        Worker worker_;
+        Room *rooms_ = nullptr; // the innermost
     };
 
     // No ring: it has no handles.

@@ -1,7 +1,7 @@
 """Sends a message and takes it, by the shared object alone: neither header nor compiler is needed. So any language can that opens a shared
 object by name, as dlopen does.
 
-    python3 hello.py [libscq.so.2]
+    python3 hello.py [libscq.so.3]
 
 The calls and what a caller has to uphold stand in scq(3).
 """
@@ -9,7 +9,7 @@ The calls and what a caller has to uphold stand in scq(3).
 import ctypes
 import sys
 
-VERSION = 2
+VERSION = 3
 OK = 0
 MAX_LIMIT = 1 << 60
 ORDER, SIZE = 6, 64

@@ -74,8 +74,13 @@ fn installed() -> Option<PathBuf> {
     Some(PathBuf::from(folder.trim_end())).filter(|folder| folder.is_absolute())
 }
 
-/// Where the archive for this target stands in the crate.
+/// Where the archive for this target stands in the crate. All that it has are of 64 bits, with the
+/// lower byte first.
 fn packed() -> PathBuf {
+    let form = of_cargo("CARGO_CFG_TARGET_POINTER_WIDTH") + &of_cargo("CARGO_CFG_TARGET_ENDIAN");
+    if form != "64little" {
+        refuse(&format!("the crate has no library for {}", of_cargo("TARGET")));
+    }
     let target = of_cargo("CARGO_CFG_TARGET_ARCH") + "-" + &of_cargo("CARGO_CFG_TARGET_OS");
     Path::new(&of_cargo("CARGO_MANIFEST_DIR")).join("lib").join(target)
 }

@@ -42,7 +42,7 @@ static void *send_by_queue(void *port) {
         must(scq_bell_send(&bell, port, held.index, 0, &place) == SCQ_OK, "send");
         if (number % 100 == 0) usleep(1000);
     }
-    scq_bell_finish(&bell, SCQ_LINE(0));
+    scq_bell_finish(&bell, scq_line(0));
     return NULL;
 }
 
@@ -90,8 +90,8 @@ int main(void) {
         struct epoll_event came;
         uint64_t number;
         /* Armed first, and then looked: so what is sent behind the look rings the eventfd. */
-        scq_bell_arm(&bell, &watch, SCQ_LINE(0));
-        queue_is_open = (scq_bell_ended(&bell) & SCQ_LINE(0)) == 0;
+        scq_bell_arm(&bell, &watch, scq_line(0));
+        queue_is_open = !scq_bell_have_ended(&bell, scq_line(0));
         sum += take_all(&ports[1]);
         if (!queue_is_open && !socket_is_open) break;
         must(epoll_wait(poll, &came, 1, -1) == 1, "epoll_wait");

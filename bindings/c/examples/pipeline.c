@@ -36,7 +36,7 @@ static void *read_lines(void *port) {
         must(scq_bell_send(&bell, port, held.index, RAW, &place));
     }
     must(scq_bell_give_back(&bell, port, held.index));
-    scq_bell_finish(&bell, SCQ_LINE(RAW));
+    scq_bell_finish(&bell, scq_line(RAW));
     return NULL;
 }
 
@@ -51,7 +51,7 @@ static void *work(void *port) {
     }
     if (answer != SCQ_ENDED) must(answer);
     if (__atomic_sub_fetch(&working, 1, __ATOMIC_SEQ_CST) == 0)
-        scq_bell_finish(&bell, SCQ_LINE(DONE));
+        scq_bell_finish(&bell, scq_line(DONE));
     return NULL;
 }
 

@@ -34,7 +34,7 @@ static const uint64_t most = SCQ_MAX_LIMIT;
 /* A port that was never opened, or was closed. */
 static void closed_ones(scq_port *port) {
     unsigned char byte = 7;
-    scq_held held = {&byte, 1, 77, 0};
+    scq_held held = {&byte, 1, 77, 0, 0};
     scq_counts counts = {7, 7, 7};
     uint64_t number = 77;
     CHECK(lend(port, &held) == SCQ_CLOSED && held.at == NULL && held.len == 0);
@@ -165,7 +165,7 @@ static void several(void) {
 /* What a port is answered to each call that needs a ticket, once it has drawn one at or past the
  * limit. */
 static void spent_ones(scq_port *port, uint64_t limit, const scq_held *held, uint32_t count) {
-    scq_held out = {NULL, 0, 0, 0};
+    scq_held out = {NULL, 0, 0, 0, 0};
     uint64_t ticket = 0, number = 0;
     CHECK(spent(port, &ticket) == SCQ_SPENT && ticket >= limit);
     CHECK(take(port, 0, &out) == SCQ_SPENT && out.place == ticket && out.at == NULL);

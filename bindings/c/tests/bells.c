@@ -19,6 +19,7 @@ static void pause_here(void);
 #define __atomic_exchange_n(...) (pause_here(), __atomic_exchange_n(__VA_ARGS__))
 #define __atomic_store_n(...) (pause_here(), __atomic_store_n(__VA_ARGS__))
 #define __atomic_or_fetch(...) (pause_here(), __atomic_or_fetch(__VA_ARGS__))
+#define __atomic_compare_exchange_n(...) (pause_here(), __atomic_compare_exchange_n(__VA_ARGS__))
 static inline uint32_t paused_lend(scq_port *port, scq_held *out) {
     pause_here();
     return scq_lend(port, out);
@@ -118,10 +119,10 @@ static void post(void *flag) { CHECK(sem_post(flag) == 0); }
 /* Takes by a watch, which posts what the thread waits for. */
 static uint32_t take_watched(scq_watch *watch, uint32_t own, scq_held *held) {
     for (;;) {
-        scq_bell_arm(&bell, watch, SCQ_LINE(own));
-        const uint32_t ended = scq_bell_ended(&bell) & SCQ_LINE(own);
+        scq_bell_arm(&bell, watch, scq_line(own));
+        const int has_ended = scq_bell_have_ended(&bell, scq_line(own));
         const uint32_t answer = scq_take(&ports[own], own, held);
-        if (answer != SCQ_EMPTY || ended != 0) {
+        if (answer != SCQ_EMPTY || has_ended) {
             if (!scq_bell_disarm(&bell, watch)) CHECK(sem_wait(watch->with) == 0);
             return answer == SCQ_EMPTY ? (uint32_t)SCQ_ENDED : answer;
         }
@@ -146,11 +147,16 @@ static void *hands_on(void *handed_over) {
         if (answer == SCQ_ENDED) return NULL;
         CHECK(answer == SCQ_OK);
         if (__atomic_add_fetch(&handed, 1, __ATOMIC_RELAXED) >= hands) {
-            scq_bell_finish(&bell, SCQ_ALL_LINES);
+            scq_bell_finish(&bell, scq_all_lines());
             CHECK(scq_bell_give_back(&bell, &ports[own], held.index) == SCQ_OK);
             return NULL;
         }
-        CHECK(scq_bell_send(&bell, &ports[own], held.index, (own + 1) % threads, &place) == SCQ_OK);
+        const uint32_t sent =
+            scq_bell_send(&bell, &ports[own], held.index, (own + 1) % threads, &place);
+        if (sent == SCQ_ENDED)
+            CHECK(scq_bell_give_back(&bell, &ports[own], held.index) == SCQ_OK);
+        else
+            CHECK(sent == SCQ_OK);
     }
 }
 
@@ -170,7 +176,7 @@ static void ring_of_threads(void) {
     run_all(runs, threads);
     CHECK(handed >= hands);
     for (uint32_t i = 0; i < threads; i++) CHECK(scq_bell_close(&bell, &ports[i]) == SCQ_OK);
-    for (uint32_t i = 0; i < SCQ_LINES; i++) CHECK(bell.waiting[i] == 0);
+    for (uint32_t i = 0; i < SCQ_LINES; i++) CHECK(bell.line[i].inside == 0);
     scq_bell_free(&bell);
 }
 
@@ -204,7 +210,7 @@ static void *sends(void *handed_over) {
     CHECK(scq_bell_close(&bell, port) == SCQ_OK);
 #ifndef RETIRES
     if (__atomic_sub_fetch(&senders_left, 1, __ATOMIC_SEQ_CST) == 0)
-        scq_bell_finish(&bell, SCQ_LINE(topics) - 1);
+        scq_bell_finish(&bell, scq_topics(topics));
 #endif
     return NULL;
 }
@@ -213,13 +219,13 @@ static void *takes(void *handed_over) {
     const uint32_t own = *(const uint32_t *)handed_over, role = (own - senders) % 3;
     scq_port *port = &ports[own];
     uint64_t state = seed * 1000 + own + 1, number;
-    scq_held held = {NULL, 0, 0, 0};
+    scq_held held = {NULL, 0, 0, 0, 0};
 #ifdef RETIRES
     CHECK(scq_bell_retire(&bell, port) == SCQ_OK);
 #endif
     for (;;) {
         uint32_t answer, topic = own % topics;
-        const uint32_t lines = SCQ_LINE(topics) - 1;
+        const scq_lines lines = scq_topics(topics);
         const uint64_t most = role == 2 ? next(&state) % 100000 : SCQ_FOREVER;
         if (role == 1) /* the first taker waits for all topics */
             answer = scq_bell_take(&bell, port, topic, most, &held);
@@ -249,7 +255,7 @@ static void senders_and_takers(void) {
     for (uint32_t i = 0; i < senders + threads; i++) runs[i] = i < senders ? sends : takes;
     run_all(runs, senders + threads);
     for (uint64_t i = 0; i < hands; i++) CHECK(came[i] == 1);
-    for (uint32_t i = 0; i < SCQ_LINES; i++) CHECK(bell.waiting[i] == 0);
+    for (uint32_t i = 0; i < SCQ_LINES; i++) CHECK(bell.line[i].inside == 0);
     scq_bell_free(&bell);
     free(came);
 }
@@ -265,7 +271,8 @@ static uint64_t rounds, taken_of_all;
 /* Waits for the lines of its number: both topics, or one. */
 static void *takes_one(void *handed_over) {
     const uint32_t own = *(const uint32_t *)handed_over;
-    const uint32_t lines = own == 2 ? SCQ_LINE(ONE) | SCQ_LINE(OTHER) : SCQ_LINE(own);
+    const scq_lines lines =
+        own == 2 ? scq_lines_both(scq_line(ONE), scq_line(OTHER)) : scq_line(own);
     uint32_t topic;
     scq_held held;
     for (uint64_t i = 0; i < rounds; i++) {
@@ -303,7 +310,7 @@ static void *sends_one(void *handed_over) {
         send_on(&ports[own], ONE);
         send_on(&ports[own], OTHER);
         wait_for(3 * i + 3);
-        const uint32_t both = SCQ_LINE(ONE) | SCQ_LINE(OTHER);
+        const scq_lines both = scq_lines_both(scq_line(ONE), scq_line(OTHER));
         CHECK(scq_bell_take_any(&bell, &ports[own], both, 0, &left, &held) == SCQ_OK);
         CHECK(scq_bell_give_back(&bell, &ports[own], held.index) == SCQ_OK);
     }

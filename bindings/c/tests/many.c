@@ -10,7 +10,7 @@ static const uint64_t most = SCQ_MAX_LIMIT;
 enum { SLOTS = 8 };
 
 /* Slots that no call has written. */
-static const scq_held untouched = {NULL, 77, 77, 77};
+static const scq_held untouched = {NULL, 77, 77, 77, 77};
 
 static void clear(scq_held held[SLOTS]) {
     for (int i = 0; i < SLOTS; i++) held[i] = untouched;

@@ -45,12 +45,16 @@ static void pass_all(scq_port *from, scq_port *to, size_t len) {
 static void lines(void) {
     for (uint32_t size = 1; size <= 200; size++) {
         scq_port ports[2] = {SCQ_NONE, SCQ_NONE};
+        scq_held held[BUFFERS];
         CHECK(scq_open(ORDER, 1, size, BUFFERS, SCQ_MAX_LIMIT, ports, 2) == SCQ_OK);
         CHECK((uintptr_t)ports[0].memory.base % SCQ_CACHE_LINE == 0 &&
               ports[0].memory.stride % SCQ_CACHE_LINE == 0);
         CHECK(ports[0].memory.stride >= size && ports[0].memory.stride < size + SCQ_CACHE_LINE);
-        for (size_t at = 0; at < BUFFERS * ports[0].memory.stride; at++)
-            CHECK(ports[0].memory.base[at] == 0);
+        lend_all(&ports[0], held, size);
+        for (uint32_t i = 0; i < BUFFERS; i++) {
+            for (size_t at = 0; at < size; at++) CHECK(held[i].at[at] == 0);
+            CHECK(scq_give_back(&ports[0], held[i].index) == SCQ_OK);
+        }
         pass_all(&ports[0], &ports[1], size);
         CHECK(scq_close(&ports[0]) == SCQ_OK && scq_close(&ports[1]) == SCQ_OK &&
               ports[1].memory.block == NULL);

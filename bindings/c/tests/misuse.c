@@ -1,11 +1,13 @@
 /* Calls that a user makes wrongly, or that meet what is merely unlucky: of each the answer is
- * clear, or the rule at the head of scq.h that makes it the caller's. Those that are answered are
- * made here, one after the other; a line says what became of each.
+ * clear, or the rule at the head of scq.h or scq_bell.h that makes it the caller's. Those that are
+ * answered are made here, one after the other; a line says what became of each. Those of C++ are in
+ * misuse.cpp.
  *
  *     misuse [CASE]
  */
 #define _GNU_SOURCE
 #include "scq.h"
+#include "scq_bell.h"
 
 #include "check.h"
 
@@ -333,17 +335,177 @@ static void signal_other_port(void) {
     } while (ticks == 0 ||
              (now.tv_sec - from.tv_sec) * 1000 + (now.tv_nsec - from.tv_nsec) / 1000000 < 100);
     CHECK(setitimer(ITIMER_REAL, &off, NULL) == 0);
+    action.sa_handler = SIG_IGN; /* also where one is on its way */
+    CHECK(sigaction(SIGALRM, &action, NULL) == 0);
     CHECK(wrong_ticks == 0);
     close_both();
 }
 
 static void header_of_other_version(void) { CHECK(scq_version() == SCQ_VERSION); }
 
+/* -- what is handed over
+ * ------------------------------------------------------------------------------------------ */
+
+static void send_null_place(void) {
+    open_plain();
+    lend_one();
+    CHECK(scq_send(&p[0], h.index, 0, NULL) == SCQ_OK);
+    CHECK(scq_take(&p[1], 0, &g) == SCQ_OK && scq_give_back(&p[1], g.index) == SCQ_OK);
+    close_both();
+}
+
+/* What stood in a buffer isn't sent again. */
+static void pack_without_begin(void) {
+    const unsigned char *at;
+    size_t len, next = 0;
+    open_n(1, 1, 64, 1, 2);
+    for (int i = 0; i < 4; i++) {
+        lend_one();
+        CHECK(scq_pack(&h, "new", 4) == 1 && scq_pack(&h, "one", 4) == 1);
+        send_one();
+        CHECK(scq_take(&p[1], 0, &g) == SCQ_OK);
+        for (next = 0, len = 0; scq_unpack(&g, &next, &at, &len);) CHECK(len == 4);
+        CHECK(next == 4 + 2 * 8 && scq_give_back(&p[1], g.index) == SCQ_OK);
+    }
+    close_both();
+}
+
+static void memory_block_unset(void) {
+    static unsigned char bytes[4 * 64];
+    scq_memory memory;
+    memset(&memory, 0xA5, sizeof memory); /* what stands on a stack */
+    memory.base = bytes;
+    memory.stride = memory.len = 64;
+    CHECK(scq_open_over(2, 1, 1, SCQ_MAX_LIMIT, &memory, p, 2) == SCQ_OK);
+    close_both();
+}
+
+/* The third number of an opening is its size or what a port may hold: names tell them apart. */
+static void size_for_hold(void) {
+    CHECK(scq_open_with(&(scq_options){.order = 2, .size = 100, .hold = 3}, p, 2) == SCQ_OK);
+    CHECK(scq_lend(&p[0], &h) == SCQ_OK && h.len == 100 && scq_lend(&p[0], &g) == SCQ_OK);
+    CHECK(scq_lend(&p[0], &g) == SCQ_OK && scq_lend(&p[0], &g) == SCQ_NO_ROOM);
+    CHECK(scq_close(&p[0]) == SCQ_OK && scq_close(&p[1]) == SCQ_OK);
+    CHECK(scq_open_with(NULL, p, 2) == SCQ_OK);
+    CHECK(scq_lend(&p[0], &h) == SCQ_OK && h.len == 64);
+    CHECK(scq_give_back(&p[0], h.index) == SCQ_OK);
+    close_both();
+}
+
+/* -- a bell
+ * ------------------------------------------------------------------------------------------ */
+
+static scq_bell bell;
+
+static void open_rung(void) {
+    open_plain();
+    CHECK(scq_bell_init(&bell) == SCQ_OK);
+}
+
+static void close_rung(void) {
+    CHECK(scq_bell_close(&bell, &p[0]) == SCQ_OK && scq_bell_close(&bell, &p[1]) == SCQ_OK);
+    CHECK(scq_bell_close(&bell, &p[0]) == SCQ_CLOSED);
+    scq_bell_free(&bell);
+}
+
+static void bell_send_on_ended(void) {
+    open_rung();
+    scq_bell_finish(&bell, scq_line(0));
+    CHECK(scq_bell_lend(&bell, &p[0], 0, &h) == SCQ_OK);
+    CHECK(scq_bell_send(&bell, &p[0], h.index, 0, NULL) == SCQ_ENDED);
+    /* The port holds it still, and another topic hasn't ended. */
+    CHECK(scq_bell_send(&bell, &p[0], h.index, 1, NULL) == SCQ_OK);
+    close_rung();
+}
+
+static void bell_time_over_and_ended(void) {
+    open_rung();
+    CHECK(scq_bell_take(&bell, &p[0], 0, 1000, &h) == SCQ_EMPTY);
+    scq_bell_finish(&bell, scq_all_lines());
+    CHECK(scq_bell_take(&bell, &p[0], 0, 1000, &h) == SCQ_ENDED);
+    for (int i = 0; i < 2; i++) CHECK(scq_bell_lend(&bell, &p[0], 1000, &h) == SCQ_OK);
+    CHECK(scq_bell_lend(&bell, &p[0], SCQ_FOREVER, &h) == SCQ_NO_ROOM);
+    for (int i = 0; i < 2; i++) CHECK(scq_bell_lend(&bell, &p[1], 1000, &h) == SCQ_OK);
+    CHECK(scq_give_back(&p[1], h.index) == SCQ_OK && scq_lend(&p[1], &h) == SCQ_OK);
+    close_rung();
+}
+
+static void bell_no_lines(void) {
+    uint32_t topic = 77;
+    open_rung();
+    CHECK(scq_bell_take_any(&bell, &p[0], scq_topics(0), SCQ_FOREVER, &topic, &h) == SCQ_NO_TOPIC);
+    CHECK(scq_bell_take_any(&bell, &p[0], scq_line(40), SCQ_FOREVER, &topic, &h) == SCQ_NO_TOPIC);
+    CHECK(topic == 77 && h.at == NULL);
+    close_rung();
+}
+
+static void bell_topic_past(void) {
+    uint32_t topic;
+    open_rung();
+    CHECK(scq_bell_take(&bell, &p[0], 2, SCQ_FOREVER, &h) == SCQ_NO_TOPIC);
+    CHECK(scq_bell_take(&bell, &p[0], UINT32_MAX, SCQ_FOREVER, &h) == SCQ_NO_TOPIC);
+    CHECK(scq_bell_take_any(&bell, &p[0], scq_topics(3), SCQ_FOREVER, &topic, &h) == SCQ_NO_TOPIC);
+    lend_one();
+    CHECK(scq_bell_send(&bell, &p[0], h.index, SCQ_FREE, NULL) == SCQ_NO_TOPIC);
+    CHECK(scq_bell_send(&bell, &p[0], h.index, UINT32_MAX, NULL) == SCQ_NO_TOPIC);
+    close_rung();
+}
+
+static void bell_ring_no_line(void) {
+    open_rung();
+    scq_bell_ring(&bell, SCQ_LINES);
+    scq_bell_ring(&bell, UINT32_MAX);
+    close_rung();
+}
+
+static void bell_ring_for_nothing(void) {
+    open_rung();
+    for (int i = 0; i < 3; i++) scq_bell_ring(&bell, 0);
+    CHECK(scq_bell_take(&bell, &p[0], 0, 1000, &h) == SCQ_EMPTY);
+    close_rung();
+}
+
+static void bell_on_closed_port(void) {
+    open_rung();
+    CHECK(scq_bell_take(&bell, &p[2], 0, SCQ_FOREVER, &h) == SCQ_CLOSED);
+    CHECK(scq_bell_lend(&bell, &p[2], SCQ_FOREVER, &h) == SCQ_CLOSED);
+    CHECK(scq_bell_send(&bell, &p[2], 0, 0, NULL) == SCQ_CLOSED);
+    CHECK(scq_bell_give_back(&bell, &p[2], 0) == SCQ_CLOSED);
+    CHECK(scq_bell_retire(&bell, &p[2]) == SCQ_CLOSED);
+    close_rung();
+}
+
+static void bell_finish_twice(void) {
+    open_rung();
+    scq_bell_finish(&bell, scq_line(0));
+    scq_bell_finish(&bell, scq_lines_both(scq_line(0), scq_line(1)));
+    CHECK(scq_bell_take(&bell, &p[0], 1, SCQ_FOREVER, &h) == SCQ_ENDED);
+    close_rung();
+}
+
+static void count_up(void *times) { ++*(int *)times; }
+
+static void bell_arm_twice(void) {
+    int times = 0;
+    scq_watch watch = {count_up, &times, 0, NULL};
+    open_rung();
+    scq_bell_watch(&bell, &watch);
+    scq_bell_arm(&bell, &watch, scq_line(0));
+    scq_bell_arm(&bell, &watch, scq_line(1));
+    scq_bell_ring(&bell, 0);
+    CHECK(times == 0);
+    scq_bell_ring(&bell, 1);
+    scq_bell_ring(&bell, 1);
+    CHECK(times == 1 && scq_bell_disarm(&bell, &watch) == 0);
+    CHECK(bell.line[0].inside == 0 && bell.line[1].inside == 0);
+    close_rung();
+}
+
 /* -- the table
  * -------------------------------------------------------------------------------------- */
 
 /* What is done where it isn't answered here. */
-enum { ANSWERED = 0, COMPILER = 100 };
+enum { ANSWERED = 0, COMPILER = 100, OF_BELL = 200 };
 
 #define A(name)                                                                                    \
     { #name, ANSWERED, name }
@@ -352,14 +514,13 @@ enum { ANSWERED = 0, COMPILER = 100 };
 
 static const struct {
     const char *name;
-    unsigned rule; /* of those at the head of scq.h */
+    unsigned rule; /* of those at the head of scq.h, or from OF_BELL on of scq_bell.h */
     void (*run)(void);
 } cases[] = {
     RULE(2, lend_null_port),
     RULE(2, lend_null_out),
     RULE(2, take_null_out),
-    RULE(2, send_null_place),
-    RULE(2, send_null_place_caught),
+    A(send_null_place),
     RULE(2, open_null_ports),
     RULE(2, open_null_zero),
     RULE(2, close_null),
@@ -411,8 +572,33 @@ static const struct {
     A(moved_port),
     A(closed_with_messages),
     A(header_of_other_version),
+    A(pack_without_begin),
+    A(memory_block_unset),
+    A(size_for_hold),
+    A(bell_send_on_ended),
+    A(bell_time_over_and_ended),
+    A(bell_no_lines),
+    A(bell_topic_past),
+    A(bell_ring_no_line),
+    A(bell_ring_for_nothing),
+    A(bell_on_closed_port),
+    A(bell_finish_twice),
+    A(bell_arm_twice),
+    RULE(OF_BELL + 1, bell_not_made),
+    RULE(OF_BELL + 1, bell_moved),
+    RULE(OF_BELL + 1, bell_freed_while_one_waits),
+    RULE(OF_BELL + 1, bell_of_two_queues),
+    RULE(OF_BELL + 1, bell_in_child),
+    RULE(OF_BELL + 2, send_that_rings_nobody),
+    RULE(OF_BELL + 2, close_that_rings_nobody),
+    RULE(OF_BELL + 3, bell_cancelled_in_wait),
+    RULE(OF_BELL + 3, bell_waits_in_handler),
+    RULE(OF_BELL + 3, bell_killed_before_ring),
     /* dropped.c */
     RULE(COMPILER, ignored_answers),
+    /* numbers.c */
+    RULE(COMPILER, bell_finish_number),
+    RULE(COMPILER, bell_take_any_number),
 };
 
 int main(int count, char **words) {
@@ -428,8 +614,9 @@ int main(int count, char **words) {
             warned++;
             printf("%s: the compiler warns\n", cases[i].name);
         } else {
+            const unsigned rule = cases[i].rule;
             callers++;
-            printf("%s: rule %u\n", cases[i].name, cases[i].rule);
+            printf("%s: %srule %u\n", cases[i].name, rule > OF_BELL ? "bell " : "", rule % OF_BELL);
         }
     }
     printf("%zu misuses: %zu answered, %zu named as the caller's, %zu that the compiler sees\n",

@@ -33,7 +33,7 @@ static unsigned byte_of(struct source *from) {
 }
 
 static scq_held buffer_of(size_t len) {
-    scq_held held = {NULL, 0, 0, 0};
+    scq_held held = {NULL, 0, 0, 0, 0};
     held.at = malloc(len > 0 ? len : 1);
     held.len = len;
     CHECK(held.at != NULL);
@@ -118,7 +118,7 @@ int LLVMFuzzerTestOneInput(const unsigned char *bytes, size_t count) {
 
 #ifndef FUZZ
 static void edges(void) {
-    scq_held held = {NULL, 0, 0, 0};
+    scq_held held = {NULL, 0, 0, 0, 0};
     size_t next = 0, len = 0;
     const unsigned char *at = NULL;
     /* A buffer that was refused. */

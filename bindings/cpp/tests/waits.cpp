@@ -28,7 +28,7 @@ static void answers() {
     CHECK(bell && scq::Queue::open(setup, ports) == scq::Answer::Ok);
     CHECK(bell.take(ports[0], 3).answer() == scq::Answer::NoTopic);
     CHECK(bell.take(ports[0], SCQ_FREE).answer() == scq::Answer::NoTopic);
-    CHECK(bell.take_any(ports[0], 0, topic).answer() == scq::Answer::NoTopic);
+    CHECK(bell.take_any(ports[0], scq::Lines(), topic).answer() == scq::Answer::NoTopic);
     CHECK(bell.take_any(ports[0], scq::line(0) | scq::line(SCQ_FREE), topic).answer() ==
           scq::Answer::NoTopic);
     CHECK(bell.take_for(ports[0], 0, milliseconds(-5)).answer() == scq::Answer::Empty);
@@ -91,14 +91,14 @@ static void hand_over(std::uint64_t messages) {
                 std::memcpy(lent.data(), &number, sizeof number);
                 CHECK(lent.send(static_cast<std::uint32_t>(number % TOPICS)));
             }
-            if (--senders == 0) bell.finish(scq::line(TOPICS) - 1);
+            if (--senders == 0) bell.finish(scq::topics(TOPICS));
         });
     }
     for (std::uint32_t i = SENDERS; i < SENDERS + TAKERS; i++) {
         threads.emplace_back([&, i] {
             for (;;) {
                 std::uint32_t topic = i % TOPICS;
-                const std::uint32_t lines = scq::line(TOPICS) - 1;
+                const scq::Lines lines = scq::topics(TOPICS);
                 scq::Rung<scq::Taken> taken =
                     i % 3 == 0   ? bell.take(ports[i], topic)
                     : i % 3 == 1 ? bell.take_any(ports[i], lines, topic)
@@ -155,7 +155,7 @@ static void ring_of_values(std::uint64_t messages) {
             for (scq::Answer answer = scq::Answer::Ok; answer == scq::Answer::Ok;) {
                 try {
                     answer = bell.pop(handle, number);
-                    CHECK(answer == scq::Answer::Ok || answer == scq::Answer::Empty);
+                    CHECK(answer == scq::Answer::Ok || answer == scq::Answer::Ended);
                     if (answer == scq::Answer::Ok) popped++;
                 } catch (const std::runtime_error &) {
                     threw++;
@@ -167,14 +167,24 @@ static void ring_of_values(std::uint64_t messages) {
     CHECK(popped + threw == messages && threw == (messages + 992) / 1000);
     auto handle = ring.handle();
     Number number(1);
-    CHECK(bell.push(handle, number) == scq::Answer::Ok);
-    CHECK(bell.push(handle, number, 0) == scq::Answer::Ok);
-    CHECK(bell.push(handle, number, 1000000) == scq::Answer::Full);
-    bell.finish(scq::line(SCQ_FREE));
-    CHECK(bell.push(handle, number) == scq::Answer::Full);
+    CHECK(handle.push(number) == scq::Answer::Ok && handle.push(number) == scq::Answer::Ok);
+    CHECK(bell.push(handle, number, 1000000) == scq::Answer::Ended);
+    // The time is over, it has ended, the tickets are spent: three answers.
+    CHECK(bell.push(handle, number) == scq::Answer::Ended);
     CHECK(bell.pop(handle, number, 1000) == scq::Answer::Ok);
     CHECK(bell.pop(handle, number) == scq::Answer::Ok);
-    CHECK(bell.pop(handle, number) == scq::Answer::Empty);
+    CHECK(bell.pop(handle, number) == scq::Answer::Ended);
+    scq::Bell other;
+    scq::Ring<Number> spent;
+    CHECK(spent.open(1, 1, 16) == scq::Answer::Ok);
+    auto only = spent.handle();
+    CHECK(other.pop(only, number, 1000) == scq::Answer::Empty);
+    scq::Answer answer = scq::Answer::Ok;
+    while (answer == scq::Answer::Ok) {
+        answer = other.push(only, number);
+        if (answer == scq::Answer::Ok) answer = other.pop(only, number);
+    }
+    CHECK(answer == scq::Answer::Spent && other.pop(only, number) == scq::Answer::Spent);
 }
 
 int main(int count, char **words) {

@@ -1,6 +1,6 @@
 //! Owned work between threads, as with two `ArrayQueue<Box<T>>`: makers push jobs, workers pop them
 //! and push results, which are summed. A stage has ended once those before it have, and it finds
-//! nothing.
+//! nothing. (`channels.rs` does the same with threads that sleep, and counts nobody.)
 //!
 //!     cargo run --release --example boxes
 use scq::{Handle, OpenError, Ring};

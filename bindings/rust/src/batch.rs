@@ -1,4 +1,6 @@
 //! Several buffers in the hands of a port.
+use crate::bell::Bell;
+use crate::lines::{Lines, FREE};
 use crate::port::Port;
 use crate::{sys, told};
 use std::error::Error;
@@ -18,6 +20,8 @@ pub enum Stopped {
     NoTopic,
     /// The port has retired.
     Retired,
+    /// The topic was [finished](crate::Bell::finish), in a send by that bell.
+    Ended,
     /// Tickets have run out at the limit: [`Port::spent`] has the ticket.
     Spent,
 }
@@ -30,6 +34,7 @@ impl fmt::Display for Stopped {
             Stopped::NoRoom => "the port holds as many buffers as it may",
             Stopped::NoTopic => "there are not so many topics",
             Stopped::Retired => "the port has retired",
+            Stopped::Ended => "the topic was finished",
             Stopped::Spent => "tickets have run out at the queue's limit",
         })
     }
@@ -56,6 +61,7 @@ impl Several {
             sys::NO_ROOM => Some(Stopped::NoRoom),
             sys::NO_TOPIC => Some(Stopped::NoTopic),
             sys::RETIRED => Some(Stopped::Retired),
+            sys::ENDED => Some(Stopped::Ended),
             sys::SPENT => Some(Stopped::Spent),
             answer => unreachable!("a call of several answered {}", answer),
         };
@@ -98,6 +104,8 @@ impl Several {
 /// ```
 pub struct Batch<'p, const N: usize> {
     port: &'p Port,
+    /// What is rung where a buffer goes.
+    bell: Option<&'p Bell>,
     held: [sys::scq_held; N],
     len: usize,
 }
@@ -105,7 +113,15 @@ pub struct Batch<'p, const N: usize> {
 impl<'p, const N: usize> Batch<'p, N> {
     /// One without buffers.
     pub fn new(port: &'p Port) -> Batch<'p, N> {
-        Batch { port, held: [sys::scq_held::NONE; N], len: 0 }
+        Batch { port, bell: None, held: [sys::scq_held::NONE; N], len: 0 }
+    }
+
+    /// One without buffers, which rings by this bell, once for each buffer that it sends or gives
+    /// back.
+    pub fn by(bell: &'p Bell, port: &'p Port) -> Batch<'p, N> {
+        let mut batch = Batch::new(port);
+        batch.bell = Some(bell);
+        batch
     }
 
     /// How many buffers there are.
@@ -140,18 +156,22 @@ impl<'p, const N: usize> Batch<'p, N> {
     /// Sends all buffers on a topic, in their order. Those that were sent are gone from the batch;
     /// the others stay, in their order.
     ///
-    /// Stopped as [`Lent::send`](crate::Lent::send) is refused.
+    /// Stopped as [`Lent::send`](crate::Lent::send) is refused, and where it rings as a
+    /// [`Rung`](crate::Rung)'s is.
     pub fn send(&mut self, topic: u32) -> Several {
+        if topic < FREE && self.bell.map_or(false, |bell| bell.has_ended(Lines::of(topic))) {
+            return Several::of(0, sys::ENDED);
+        }
         self.release();
         let (done, answer) = self.port.send_many(&mut self.held[..self.len], topic);
-        self.went(done, answer)
+        self.went(done, answer, topic)
     }
 
     /// Gives all buffers back. Where tickets have run out some stay.
     pub fn give_back(&mut self) -> Several {
         self.release();
         let (done, answer) = self.port.give_back_many(&self.held[..self.len]);
-        self.went(done, answer)
+        self.went(done, answer, FREE)
     }
 
     /// The bytes of the buffers, in their order.
@@ -191,8 +211,11 @@ impl<'p, const N: usize> Batch<'p, N> {
         Several::of(done, answer)
     }
 
-    // The first of them went.
-    fn went(&mut self, done: usize, answer: u32) -> Several {
+    // The first of them went, to a line.
+    fn went(&mut self, done: usize, answer: u32, line: u32) -> Several {
+        if let Some(bell) = self.bell {
+            (0..done).for_each(|_| bell.ring_line(line));
+        }
         self.held[..self.len].rotate_left(done);
         self.len -= done;
         Several::of(done, answer)

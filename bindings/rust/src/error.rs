@@ -20,6 +20,8 @@ pub enum OpenError {
     Size,
     /// `hold` is out of range.
     Hold,
+    /// The capacity of a channel isn't from 1 to 4,096.
+    Capacity,
     /// The library that was linked is of another version than this crate.
     Version {
         /// The library's.
@@ -39,6 +41,7 @@ impl fmt::Display for OpenError {
             OpenError::Hold => {
                 f.write_str("what a port may hold isn't from 1 to the number of buffers")
             }
+            OpenError::Capacity => f.write_str("the capacity isn't from 1 to 4,096"),
             OpenError::Version { found } => write!(f, "libscq.a is of version {found}"),
         }
     }
@@ -116,6 +119,8 @@ pub enum SendRefusal {
     NoTopic,
     /// The port has retired.
     Retired,
+    /// The topic was [finished](crate::Bell::finish), in a send by that bell.
+    Ended,
     /// Tickets have run out at the limit.
     Spent {
         /// The ticket at or past the limit, which the port keeps.
@@ -128,6 +133,7 @@ impl fmt::Display for SendRefusal {
         f.write_str(match self {
             SendRefusal::NoTopic => NO_TOPIC,
             SendRefusal::Retired => "the port has retired",
+            SendRefusal::Ended => "the topic was finished",
             SendRefusal::Spent { .. } => SPENT,
         })
     }
@@ -151,7 +157,8 @@ impl fmt::Display for Spent {
 impl Error for Spent {}
 
 /// A buffer was refused, and comes back as it was: a [`Lent`](crate::Lent) or a
-/// [`Taken`](crate::Taken), or one that owns its port, and why.
+/// [`Taken`](crate::Taken), or one that owns its port, and why; or a value, by
+/// [`Bell::push`](crate::Bell::push).
 ///
 /// `?` gives the buffer back, as dropping it does, and hands on why it was refused: into that error
 /// itself, and into a `Box<dyn Error>`. With another error use `map_err(|refused| refused.why)`.
@@ -172,8 +179,9 @@ impl Error for Spent {}
 /// lent.send(0)?;
 /// # Ok::<(), Box<dyn std::error::Error>>(())
 /// ```
+#[derive(Clone, Copy, PartialEq, Eq)]
 pub struct Refused<G, E> {
-    /// The buffer.
+    /// The buffer, or the value.
     pub held: G,
     /// Why it was refused.
     pub why: E,

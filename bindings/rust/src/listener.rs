@@ -1,5 +1,6 @@
 //! Who sleeps by a bell: a thread that parks, or a task.
 use crate::bell::{Bell, Sleeper};
+use crate::lines::Lines;
 use std::fmt;
 use std::future::Future;
 use std::pin::Pin;
@@ -9,11 +10,13 @@ use std::task::{Context, Poll, Wake, Waker};
 use std::thread::{self, Thread};
 use std::time::{Duration, Instant};
 
-/// A place on the list of those who sleep by a bell: a future, which is ready when it is rung for one of
-/// its topics. It holds no port, so a task of any thread may await it.
+/// A place on the list of those who sleep by a bell: a future, which is ready when it is rung for
+/// one of its lines. It holds no port, so a task of any thread may await it.
 ///
-/// Whoever asked for it looks once more, and awaits it where that finds nothing; when it is ready he looks
-/// again. Dropped before it is ready, it leaves a ring that came for it to the next sleeper.
+/// Whoever asked for it looks once more, and awaits it where that finds nothing; when it is ready
+/// he looks again. Dropped before it is ready, it leaves a ring that came for it to the next
+/// sleeper. Where it is forgotten (`std::mem::forget`) before it was awaited, it keeps no ring from
+/// another; forgotten after that, it keeps one.
 ///
 /// ```
 /// # use scq::{Bell, Port, TakeError};
@@ -36,15 +39,15 @@ use std::time::{Duration, Instant};
 pub struct Listener<'b> {
     bell: &'b Bell,
     number: u64,
-    lines: u32,
+    lines: Lines,
     /// Whether it may be on the list yet: it isn't once it was seen that it was rung.
     is_on_list: bool,
 }
 
 impl<'b> Listener<'b> {
-    /// The place with this number, which stands on the bell's list.
-    pub(crate) fn new(bell: &'b Bell, number: u64, lines: u32) -> Listener<'b> {
-        Listener { bell, number, lines, is_on_list: true }
+    /// The place with this number, which stands on the bell's list where it is for a line.
+    pub(crate) fn new(bell: &'b Bell, number: u64, lines: Lines) -> Listener<'b> {
+        Listener { bell, number, lines, is_on_list: !lines.is_empty() }
     }
 
     /// Leaves the list, with what stands there; or there is nothing, where it was rung.
@@ -71,14 +74,10 @@ impl<'b> Listener<'b> {
         !self.is_on_list
     }
 
-    /// Sleeps until it is rung or the moment comes. Answers whether it was rung.
-    pub(crate) fn sleep(mut self, until: Option<Instant>) -> bool {
-        let signal =
-            Arc::new(Signal { thread: thread::current(), is_rung: AtomicBool::new(false) });
-        if self.is_rung(signal.clone().into()) {
-            return true;
-        }
-        while !signal.is_rung.load(SeqCst) {
+    /// Sleeps until it is rung, by this signal of the thread, or the moment comes. Answers whether
+    /// it was rung.
+    pub(crate) fn sleep(mut self, signal: &Signal, until: Option<Instant>) -> bool {
+        while !signal.is_rung.swap(false, SeqCst) {
             match until.map(|until| until.saturating_duration_since(Instant::now())) {
                 None => thread::park(),
                 Some(Duration::ZERO) => return self.leave().is_none(),
@@ -95,9 +94,10 @@ impl Future for Listener<'_> {
 
     fn poll(mut self: Pin<&mut Self>, context: &mut Context<'_>) -> Poll<()> {
         if !self.is_on_list || self.is_rung(context.waker().clone()) {
-            // Of several topics he may leave one out that was rung.
-            let lines = if self.lines.count_ones() > 1 { self.lines } else { 0 };
-            self.bell.pass(lines);
+            // Of several lines he may leave one out that was rung.
+            if self.lines.count() > 1 {
+                self.bell.pass(self.lines);
+            }
             return Poll::Ready(());
         }
         Poll::Pending
@@ -119,9 +119,16 @@ impl fmt::Debug for Listener<'_> {
 }
 
 /// What wakes a thread that parks.
-struct Signal {
+pub(crate) struct Signal {
     thread: Thread,
     is_rung: AtomicBool,
+}
+
+impl Signal {
+    /// One for this thread.
+    pub(crate) fn new() -> Arc<Signal> {
+        Arc::new(Signal { thread: thread::current(), is_rung: AtomicBool::new(false) })
+    }
 }
 
 impl Wake for Signal {

@@ -11,9 +11,11 @@ use std::sync::atomic::{AtomicUsize, Ordering};
 /// write neighbouring buffers don't write in one.
 const LINE: usize = 64;
 
-/// What stands before the buffers: how many ports are open, and how the whole was taken.
+/// What stands before the buffers: how many ports are open, how many of them may take, and how the
+/// whole was taken.
 struct Front {
     ports: AtomicUsize,
+    takers: AtomicUsize,
     layout: Layout,
 }
 
@@ -45,7 +47,8 @@ pub(crate) fn take(order: u32, size: u32, ports: usize) -> Result<sys::scq_memor
     // SAFETY: the front has room and is aligned, and with what lies before the first line there are
     // bytes enough for the buffers.
     let base = unsafe {
-        block.cast::<Front>().write(Front { ports: AtomicUsize::new(ports), layout });
+        let (ports, takers) = (AtomicUsize::new(ports), AtomicUsize::new(ports));
+        block.cast::<Front>().write(Front { ports, takers, layout });
         let behind = block.add(mem::size_of::<Front>());
         behind.add(behind.align_offset(LINE))
     };
@@ -63,6 +66,26 @@ pub(crate) unsafe fn free(memory: sys::scq_memory) {
         let layout = (*memory.block.cast::<Front>()).layout;
         dealloc(memory.block, layout);
     }
+}
+
+/// One port less may take. Answers whether none may any more.
+///
+/// # Safety
+///
+/// It was taken by `take`, for as many ports as call this at most once each, and the port is open.
+pub(crate) unsafe fn stop_taking(memory: sys::scq_memory) -> bool {
+    // SAFETY: the front is there until the last port leaves.
+    unsafe { (*memory.block.cast::<Front>()).takers.fetch_sub(1, Ordering::SeqCst) == 1 }
+}
+
+/// Whether a port may take.
+///
+/// # Safety
+///
+/// It was taken by `take`, and the port that asks is open.
+pub(crate) unsafe fn is_any_taking(memory: sys::scq_memory) -> bool {
+    // SAFETY: the front is there until the last port leaves.
+    unsafe { (*memory.block.cast::<Front>()).takers.load(Ordering::SeqCst) != 0 }
 }
 
 /// One port less is open; the last frees the memory.

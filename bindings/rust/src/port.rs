@@ -2,7 +2,7 @@
 use crate::error::{LendError, SendRefusal, Spent, TakeError};
 use crate::held::{Held, Lent, OwnedLent, OwnedTaken, Taken};
 use crate::{memory, sys, told};
-use std::cell::UnsafeCell;
+use std::cell::{Cell, UnsafeCell};
 use std::fmt;
 use std::ops::Deref;
 use std::ptr::NonNull;
@@ -42,9 +42,10 @@ pub struct Counts {
 /// drop(port);
 /// println!("{}", lent.len());
 /// ```
-#[repr(transparent)]
 pub struct Port {
     handle: UnsafeCell<sys::scq_port>,
+    /// Whether it counts among those that may take.
+    may_take: Cell<bool>,
 }
 
 // SAFETY: the library's handle may go from thread to thread, which is proved of it; and a port is
@@ -52,9 +53,9 @@ pub struct Port {
 unsafe impl Send for Port {}
 
 impl Port {
-    /// A port that isn't open.
-    pub(crate) fn none() -> Port {
-        Port { handle: UnsafeCell::new(sys::scq_port::NONE) }
+    /// The port of a handle that was opened.
+    pub(crate) fn new(handle: sys::scq_port) -> Port {
+        Port { handle: UnsafeCell::new(handle), may_take: Cell::new(true) }
     }
 
     /// The handle. A port isn't `Sync`, and no call comes back into this crate, so one call at a
@@ -68,6 +69,29 @@ impl Port {
     fn memory(&self) -> sys::scq_memory {
         // SAFETY: no call is made with the handle meanwhile.
         unsafe { (*self.handle()).memory }
+    }
+
+    /// Whether it wasn't closed.
+    pub(crate) fn is_open(&self) -> bool {
+        !self.memory().base.is_null()
+    }
+
+    /// Says that the port takes no more: it sends, or is about to close. Answers whether it was the
+    /// last of its queue that might. (Those of a ring have no queue where that is counted.)
+    pub(crate) fn stop_taking(&self) -> bool {
+        let memory = self.memory();
+        // SAFETY: the memory was taken for the queue's ports, of which this one is open, and this
+        // is said once.
+        !memory.block.is_null()
+            && self.may_take.replace(false)
+            && unsafe { memory::stop_taking(memory) }
+    }
+
+    /// Whether a port of the queue may take.
+    pub(crate) fn is_any_taking(&self) -> bool {
+        let memory = self.memory();
+        // SAFETY: as for `stop_taking`.
+        memory.block.is_null() || unsafe { memory::is_any_taking(memory) }
     }
 
     /// Is lent the number of a buffer that nobody holds.
@@ -131,7 +155,8 @@ impl Port {
     /// Is lent the numbers of buffers, one for each slot: how many came, and the last answer.
     pub(crate) fn lend_many(&self, into: &mut [sys::scq_held]) -> (usize, u32) {
         let mut done = 0;
-        // SAFETY: one call at a time is made with the handle; the slots and `done` are apart from it.
+        // SAFETY: one call at a time is made with the handle; the slots and `done` are apart from
+        // it.
         let answer = unsafe {
             sys::scq_lend_index_many(self.handle(), into.as_mut_ptr(), into.len(), &mut done)
         };
@@ -291,10 +316,10 @@ impl Port {
         }
     }
 
-    /// About how many buffers stand on a topic, if there is such a topic. It is a hint, for a gauge or
-    /// to share out work, and never above [`capacity`](Port::capacity): others send and take meanwhile,
-    /// and places that were drawn and not used count too. Only [`take`](Port::take) tells whether a topic
-    /// is empty.
+    /// About how many buffers stand on a topic, if there is such a topic. It is a hint, for a gauge
+    /// or to share out work, and never above [`capacity`](Port::capacity): others send and take
+    /// meanwhile, and places that were drawn and not used count too. Only [`take`](Port::take)
+    /// tells whether a topic is empty.
     ///
     /// ```
     /// let port = scq::Queue::new(scq::Setup::default(), 1)?.into_ports().remove(0);
@@ -336,27 +361,32 @@ impl Port {
 }
 
 impl Port {
-    /// Closes the port, as dropping it does, and says whether it was the queue's last (that a last one
-    /// hears so is tested). Where it says so, there stands in `counts` what each port of the queue did,
-    /// in the order in which they were opened, as far as there is room.
+    /// Closes the port, as dropping it does, and says whether it was the queue's last (that a last
+    /// one hears so is tested). Where it says so, there stands in `counts` what each port of the
+    /// queue did, in the order in which they were opened, as far as there is room.
     pub fn end(mut self, counts: &mut [Counts]) -> bool {
         self.close(counts)
     }
 
-    fn close(&mut self, counts: &mut [Counts]) -> bool {
-        let memory = self.handle.get_mut().memory;
-        if !memory.base.is_null() {
-            // It may hold buffers, which it gives back.
-            told::release(memory.base);
+    /// Closes the port, where it is open: as `end`.
+    pub(crate) fn close(&mut self, counts: &mut [Counts]) -> bool {
+        if !self.is_open() {
+            return false;
         }
+        self.stop_taking();
+        let memory = self.memory();
+        // It may hold buffers, which it gives back.
+        told::release(memory.base);
         let mut ended = sys::scq_ended { last: 0 };
         // SAFETY: nothing borrows the port, and `ended` and `counts` are apart from it; a `Counts`
-        // lies as an `scq_counts`. Where the port isn't open, as in a queue that wasn't made, the
-        // call answers so.
-        let answer = unsafe {
+        // lies as an `scq_counts`.
+        match unsafe {
             sys::scq_end(self.handle(), &mut ended, counts.as_mut_ptr().cast(), counts.len())
-        };
-        if answer == sys::OK && !memory.block.is_null() {
+        } {
+            sys::OK => *self.handle.get_mut() = sys::scq_port::NONE,
+            answer => unreachable!("scq_end answered {}", answer),
+        }
+        if !memory.block.is_null() {
             // SAFETY: the port was opened over this memory, and its buffers are in nobody's hands.
             unsafe { memory::leave(memory) };
         }

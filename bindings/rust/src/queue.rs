@@ -108,15 +108,18 @@ pub(crate) unsafe fn open_over(
     if !(1..=Setup::MAX_PORTS).contains(&ports) {
         return Err(OpenError::Ports);
     }
-    let mut all = Vec::new();
+    let (mut handles, mut all) = (Vec::new(), Vec::new());
+    handles.try_reserve_exact(ports).map_err(|_| OpenError::NoMemory)?;
     all.try_reserve_exact(ports).map_err(|_| OpenError::NoMemory)?;
-    all.resize_with(ports, Port::none);
+    handles.resize_with(ports, || sys::scq_port::NONE);
     let Setup { order, topics, hold, limit, .. } = setup;
-    let first = all.as_mut_ptr().cast();
-    // SAFETY: a `Port` is an `scq_port` by its layout, all begin as SCQ_NONE, and there are so many
-    // of them.
-    match unsafe { sys::scq_open_over(order, topics, hold, limit, memory, first, all.len()) } {
-        sys::OK => Ok(all),
+    let (first, n) = (handles.as_mut_ptr(), handles.len());
+    // SAFETY: all begin as SCQ_NONE, and there are so many of them.
+    match unsafe { sys::scq_open_over(order, topics, hold, limit, memory, first, n) } {
+        sys::OK => {
+            all.extend(handles.into_iter().map(Port::new));
+            Ok(all)
+        }
         sys::NO_MEMORY => Err(OpenError::NoMemory),
         sys::BAD_ORDER => Err(OpenError::Order),
         sys::BAD_TOPICS => Err(OpenError::Topics),

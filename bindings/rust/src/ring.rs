@@ -1,5 +1,5 @@
 //! Rings: bounded queues of values of any type.
-use crate::error::OpenError;
+use crate::error::{OpenError, Spent};
 use crate::port::Port;
 use crate::queue::{open_over, Setup};
 use crate::{sys, told};
@@ -26,6 +26,9 @@ use std::sync::{Arc, Mutex, PoisonError};
 /// assert_eq!(handle.pop(), None);
 /// # Ok::<(), scq::OpenError>(())
 /// ```
+///
+/// Nobody waits: who wants to does so by a [`Bell`](crate::Bell), or makes a channel of a ring by
+/// [`bounded`](crate::bounded).
 ///
 /// A value lies in an array, at the number of a buffer that a port of the library holds; a clone is
 /// of the same ring. What still stands in it is dropped, each value once, with the last of the
@@ -235,7 +238,12 @@ impl<T> Handle<T> {
     /// Whether tickets have run out for this handle: each push gives its value back, and each pop
     /// answers that there is none.
     pub fn is_spent(&self) -> bool {
-        self.port().spent().is_some()
+        self.spent().is_some()
+    }
+
+    /// The ticket at or past the limit that it has drawn, where it has.
+    pub(crate) fn spent(&self) -> Option<Spent> {
+        self.port().spent().map(|ticket| Spent { ticket })
     }
 
     /// How many values there is room for.

@@ -1,7 +1,8 @@
 //! Buffers that ring where they go.
-use crate::bell::{Bell, FREE};
+use crate::bell::Bell;
 use crate::error::{Refused, SendRefusal, Spent};
 use crate::held::{Lent, OwnedLent, OwnedTaken, Taken};
+use crate::lines::{Lines, FREE};
 use std::fmt;
 use std::ops::{Deref, DerefMut};
 
@@ -29,8 +30,8 @@ macro_rules! guards {
 
 guards!(Lent<'_>, Taken<'_>, OwnedLent, OwnedTaken);
 
-/// A [`Lent`] or a [`Taken`] that rings: where it is sent for the topic, and where it is given back or
-/// dropped for a buffer.
+/// A [`Lent`] or a [`Taken`] that rings: where it is sent for the topic, and where it is given back
+/// or dropped for a buffer.
 #[must_use = "a buffer that is dropped is given back"]
 pub struct Rung<'b, G: Guard> {
     bell: &'b Bell,
@@ -68,8 +69,11 @@ impl<'b, G: Guard> Rung<'b, G> {
     ///
     /// # Errors
     ///
-    /// As [`Lent::send`].
+    /// As [`Lent::send`], and [`SendRefusal::Ended`] where the topic was [finished](Bell::finish).
     pub fn send(self, topic: u32) -> Result<u64, Refused<Rung<'b, G>, SendRefusal>> {
+        if topic < FREE && self.bell.has_ended(Lines::of(topic)) {
+            return Err(Refused { held: self, why: SendRefusal::Ended });
+        }
         self.end(|guard| guard.send_on(topic), topic)
     }
 

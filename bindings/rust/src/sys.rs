@@ -110,7 +110,7 @@ extern "C" {
 }
 
 /// The version of the library that this crate is written for.
-pub const VERSION: u32 = 2;
+pub const VERSION: u32 = 3;
 
 pub const OK: u32 = 0;
 pub const EMPTY: u32 = 1;
@@ -129,4 +129,5 @@ pub const BAD_SIZE: u32 = 13;
 pub const BAD_HOLD: u32 = 14;
 pub const IS_OPEN: u32 = 15;
 pub const RETIRED: u32 = 16;
+pub const ENDED: u32 = 30;
 pub const BAD_VERSION: u32 = 31;

@@ -1,5 +1,8 @@
 //! Waiting by a bell: threads and tasks.
-use scq::{Bell, Listener, Port, Queue, Ring, Rung, Setup, TakeError, WaitError};
+use scq::{
+    Bell, Listener, Port, Queue, Refused, Ring, Rung, SendRefusal, Setup, Spent, TakeError,
+    WaitError,
+};
 use std::future::Future;
 use std::pin::Pin;
 use std::sync::atomic::{AtomicU32, AtomicUsize, Ordering::SeqCst};
@@ -27,7 +30,8 @@ fn waits_end() {
         let refused = bell.take(&ports[0], topic).map(drop).unwrap_err();
         assert_eq!(refused, WaitError::Refused(TakeError::NoTopic));
     }
-    assert!(matches!(bell.take_any(&ports[0], &[]).unwrap_err(), WaitError::Ended));
+    let refused = bell.take_any(&ports[0], &[]).map(drop).unwrap_err();
+    assert_eq!(refused, WaitError::Refused(TakeError::NoTopic));
     let from = Instant::now();
     assert_eq!(bell.take_for(&ports[0], 1, soon()).map(drop).unwrap_err(), WaitError::TimedOut);
     assert!(from.elapsed() >= soon());
@@ -35,6 +39,7 @@ fn waits_end() {
     let other = Rung::by(&bell, ports[0].lend().unwrap());
     assert_eq!(bell.lend_for(&ports[1], soon()).map(drop).unwrap_err(), WaitError::TimedOut);
     let refused = one.send(2).unwrap_err();
+    assert_eq!(refused.why, SendRefusal::NoTopic);
     refused.held.send(1).unwrap();
     bell.finish(&[1]);
     assert!(bell.is_finished(&[1]) && !bell.is_finished(&[0, 1]));
@@ -198,8 +203,9 @@ fn listeners_are_rung_once_each() {
     assert!(is_ready(&mut first, &waker) && !is_ready(&mut second, &waker));
     bell.ring(0);
     assert!(is_ready(&mut second, &waker));
-    // One that was rung and isn't awaited leaves it to the next.
-    let third = bell.listen(&[3]);
+    // One that was rung and is dropped leaves it to the next.
+    let mut third = bell.listen(&[3]);
+    assert!(!is_ready(&mut third, &waker));
     let mut fourth = bell.listen(&[3]);
     bell.ring(3);
     assert!(!is_ready(&mut fourth, &waker));
@@ -264,8 +270,8 @@ fn tasks_wait() {
     assert_eq!(sums, (0..MESSAGES).map(|number| number as u8 as u64).sum());
 }
 
-/// One that waits for two topics is rung for the second and takes from the first: what is on the second
-/// is left to the next sleeper.
+/// One that waits for two topics is rung for the second and takes from the first: what is on the
+/// second is left to the next sleeper.
 #[test]
 fn what_is_left_is_passed_on() {
     let bell = Bell::new();
@@ -310,7 +316,7 @@ fn threads_wait_for_a_ring() {
             .map(|_| {
                 scope.spawn(|| {
                     let handle = ring.handle().unwrap();
-                    std::iter::from_fn(|| bell.pop(&handle)).map(|number| *number).sum::<u64>()
+                    std::iter::from_fn(|| bell.pop(&handle).ok()).map(|number| *number).sum::<u64>()
                 })
             })
             .collect();
@@ -318,14 +324,26 @@ fn threads_wait_for_a_ring() {
     });
     assert_eq!(sum, 20_000 * 19_999 / 2);
     let handle = ring.handle().unwrap();
-    assert_eq!(bell.pop(&handle), None);
-    assert!(bell.push(&handle, Box::new(1)).is_ok() && bell.push(&handle, Box::new(2)).is_ok());
-    let most = Duration::from_millis(20);
-    assert_eq!(bell.push_for(&handle, Box::new(3), most), Err(Box::new(3)));
-    assert_eq!(bell.pop_for(&handle, most), Some(Box::new(1)));
+    assert_eq!(bell.pop(&handle), Err(WaitError::Ended));
+    let refused = |held, why| Err(Refused { held: Box::new(held), why });
+    assert_eq!(bell.push(&handle, Box::new(1)), refused(1, WaitError::Ended));
+}
+
+/// Where the time is over, nothing comes any more, or tickets have run out, each is said.
+#[test]
+fn a_wait_for_a_ring_says_why_it_ended() {
+    let (bell, ring) = (Bell::new(), Ring::new(1, 1).unwrap());
+    let handle = ring.handle().unwrap();
+    let refused = |held, why| Err(Refused { held, why });
+    assert_eq!(bell.pop_for(&handle, soon()), Err(WaitError::TimedOut));
+    assert_eq!((bell.push(&handle, 1), bell.push(&handle, 2)), (Ok(()), Ok(())));
+    assert_eq!(bell.push_for(&handle, 3, soon()), refused(3, WaitError::TimedOut));
     bell.finish_lending();
-    assert_eq!(bell.push(&handle, Box::new(3)), Ok(()));
-    assert_eq!(bell.push(&handle, Box::new(4)), Err(Box::new(4)));
+    assert_eq!(bell.push(&handle, 3), refused(3, WaitError::Ended));
+    assert_eq!((bell.pop(&handle), bell.push(&handle, 3)), (Ok(1), Ok(())));
+    bell.finish(&[0]);
+    assert_eq!((bell.pop(&handle), bell.push(&handle, 4)), (Ok(2), refused(4, WaitError::Ended)));
+    assert_eq!((bell.pop(&handle), bell.pop(&handle)), (Ok(3), Err(WaitError::Ended)));
 }
 
 /// Where tickets have run out nobody waits for ever.
@@ -336,7 +354,9 @@ fn a_ring_whose_tickets_have_run_out_ends_a_wait() {
     while !handle.is_spent() {
         let _ = bell.push(&handle, 1).map(|()| bell.pop(&handle));
     }
-    assert_eq!((bell.push(&handle, 2), bell.pop(&handle)), (Err(2), None));
+    let why = WaitError::Refused(Spent { ticket: 16 });
+    assert_eq!(bell.push(&handle, 2), Err(Refused { held: 2, why }));
+    assert_eq!(bell.pop(&handle), Err(why));
 }
 
 /// The last port that retires ends all topics.
