@@ -120,20 +120,20 @@ spent_by() {
     done
 }
 
-# A program of dist/, to the variable of its name, and libscq.a, or what ARCHIVE names, to `archive`; or what dist/make
-# makes in a copy where that is of other sources.
-program() { shipped "$1" "$1"; }
-archive() { shipped libscq.a archive "${ARCHIVE-}"; }
+# A program of dist/, to the variable of its name, and libscq.a, or what ARCHIVE names, to `archive`; or a file of dist/,
+# or what is named, to a variable. It is what dist/make makes in a copy where that of dist/ is of other sources.
+program() { shipped "x86_64-linux/$1" "$1"; }
+archive() { shipped x86_64-linux/libscq.a archive "${ARCHIVE-}"; }
 shipped() {
-    local file=dist/x86_64-linux/$1 path=${3:-$top/dist/x86_64-linux/$1}
+    local file=dist/$1 path=${3:-$top/dist/$1}
     if [ -z "${3-}" ] && "$top/dist/make" --fresh 2>&1 | grep -q "^dist/make: $file "; then
         copied "$folder/tree"
-        "$folder/tree/dist/make" >"$folder/made" 2>&1 || stop "$1 can't be made: $(tail -n 1 "$folder/made")"
+        "$folder/tree/dist/make" >"$folder/made" 2>&1 || stop "${1##*/} can't be made: $(tail -n 1 "$folder/made")"
         path=$folder/tree/$file
     fi
     [ -f "$path" ] || stop "no file $path"
     printf -v "$2" %s "$(readlink -f "$path")"
-    echo "$1 is ${!2#"$top"/}, $(sum_of_file "${!2}" | cut -c 1-12)"
+    echo "${1##*/} is ${!2#"$top"/}, $(sum_of_file "${!2}" | cut -c 1-12)"
 }
 
 # Copies the repository as it stands, but what git ignores.

@@ -189,32 +189,65 @@ prove() {
     done
 }
 
-# Builds a proved program or static library. A program is run, with no words, since only so rt leaves it in
-# out/. Its status is the program's own, so what counts is that rt came to run it.
+# Copies what was built of a crate, here or for a target, to where it is looked for. Never written into: whoever runs it keeps what he has.
+put_out() {
+    local crate=$1 place=${2:+$2/}$(file_of "$1") made
+    made=$top/crates/$crate/out/$place
+    mkdir -p "$(dirname "$made")"
+    cp "$(made_of "$crate")/$place" "$made.new" && mv "$made.new" "$made" || fail "can't write in $(dirname "$made")"
+}
+
+# Builds a proved program or static library, and a static library also for these targets. A program is run, with no
+# words, since only so rt leaves it in out/. Its status is the program's own, so what counts is that rt came to run it.
 build_one() {
-    local crate=$1 verb=lib made
+    local crate=$1 verb=lib target words=()
+    shift
     [ ! -e "$top/crates/$crate/src/main.rt" ] || verb=run
     say "building $crate, $(so_far) so far"
     make_room "$crate"
     start "$crate" env -C "$rooms/$crate/crates/$crate" rt "$verb" --jobs "$(side_by_side)"
     wait "${running[$crate]}" || grep -q "^rt: running out/$crate;" "$rooms/$crate.log" ||
         report_end "$crate" "$(grep -q '^logic=proved' "$rooms/$crate.log" && echo built || echo proved)"
+    put_out "$crate"
+    for target; do
+        say "building $crate for $target, $(so_far) so far"
+        { echo "== $crate" && cat "$rooms/$crate.log"; } >>"$log"
+        mkdir -p "$(made_of "$crate")/$target"
+        mapfile -t words < <(words_for "$crate" "$target")
+        start "$crate" env -C "$rooms/$crate/crates/$crate" "${words[@]}"
+        wait "${running[$crate]}" || report_end "$crate" "built for $target"
+        put_out "$crate" "$target"
+    done
     end "$crate"
-    made=$top/crates/$crate/out/$(file_of "$crate")
-    mkdir -p "$(dirname "$made")"
-    # Never written into: whoever runs it keeps what he has.
-    cp "$(made_of "$crate")/$(file_of "$crate")" "$made.new" && mv "$made.new" "$made" || fail "can't write in $(dirname "$made")"
+}
+
+# The command by which a static library is built for another target, a word on a line. rt builds for its own target alone, so this has the
+# words of rt, and the target. The libraries below are of no target; of the crate what is checked already is taken.
+words_for() {
+    local crate=$1 target=$2 of under
+    printf '%s\n' "$kit_folder/bin/rattle" build --crate-name "$crate" src/lib.rt --extern "std=$kit_folder/rlibs/std.rlib"
+    # shellcheck disable=SC2013
+    for under in $(sed -n "s/^$crate [^:]*://p" "$top/crates.txt"); do
+        of=$rooms/$crate/crates/$under/out/rlib
+        [ -d "$of" ] || of=$kit_folder/rlibs
+        printf '%s\n' --extern "$under=$of/$under.rlib"
+    done
+    printf '%s\n' -L "dependency=$kit_folder/rlibs"
+    for under in ${below[$crate]}; do printf '%s\n' -L "dependency=$rooms/$crate/crates/$under/out/rlib"; done
+    printf '%s\n' --antt-project "$kit_folder/rattle/logic/antt-project.json" --logic-built "$kit_folder/logic_built" \
+        --jobs "$(side_by_side)" --links "$crate=" --crate-type staticlib --target "$target" --toolchain "$kit_folder/toolchain" \
+        --backend llvm --incremental out/incremental -o "out/$target/$(file_of "$crate")"
 }
 
 # The name of what a crate is built to.
 file_of() { [ -e "$top/crates/$1/src/main.rt" ] && echo "$1" || echo "lib$1.a"; }
 
-# Proves these crates and builds what they are: of a program out/NAME, of a static library out/libNAME.a. `kit`
-# is the kit's line.
+# Proves these crates and builds what they are: of a program out/NAME, of a static library out/libNAME.a, and out/TARGET/libNAME.a for each target
+# that stands behind it, as NAME@TARGET@TARGET; then `kit_folder` is the kit's folder. `kit` is the kit's line.
 build() {
     local crate minutes crates by_chain libraries=() processors packing=()
     local -A below=() sums=() running=()
-    mapfile -t crates < <(crates_of "$@")
+    mapfile -t crates < <(crates_of "${@%%@*}")
     mkdir -p "$rooms" "$kept" 2>/dev/null || fail "can't write in $work, and the program has to be built"
     trap stop EXIT
     trap 'exit 130' INT
@@ -224,9 +257,10 @@ build() {
     processors=$(nproc)
     plan
     say "proving ${#crates[@]} crates, about $minutes minutes on $processors processors where nothing of them is kept"
-    for crate in "${by_chain[@]}"; do [[ " $* " = *" $crate "* ]] || libraries+=("$crate"); done
+    for crate in "${by_chain[@]}"; do [[ " ${*%%@*} " = *" $crate "* ]] || libraries+=("$crate"); done
     prove "${libraries[@]}"
-    for crate; do build_one "$crate"; done
+    # shellcheck disable=SC2086
+    for crate; do build_one ${crate//@/ }; done
     wait
     trap - EXIT INT TERM HUP
     rm -rf "$rooms"

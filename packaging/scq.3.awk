@@ -1,6 +1,7 @@
-# Makes the manual page scq(3) of the header and of its own frame, so that what stands in the header stands on the page:
+# Makes the manual page scq(3), or scq_bell(3), of the header and of its own frame, so that what stands in the header stands on the page:
 #
 #     awk -f scq.3.awk scq.h scq.3
+#     awk -f scq.3.awk scq_bell.h scq_bell.3
 #
 # The frame's lines @HEAD@, @SYNOPSIS@, @TYPES@, @CALLS@ and @ANSWERS@ are filled by the header's first comment, its declarations with their
 # comments, its structs, and its enumeration. Of an inline function the head is taken, and not the body.
@@ -81,8 +82,10 @@ FNR == NR && /^\/\* / {
 FNR == NR && /^enum/ { in_enum = 1; comment = ""; next }
 FNR == NR && /^typedef struct/ { in_type = 1; types = types escaped($0) "\n"; next }
 # A name may be defined in several ways, for several compilers: the page has the first.
-FNR == NR && /^#define SCQ_[A-Z_]+ / {
-    if ($2 !~ /_H$/ && !($2 in defined)) { defined[$2]; line_of[++lines] = $2; text_of[$2] = escaped($0) }
+FNR == NR && /^#define SCQ_[A-Z_]+(\([a-z, ]+\))? / {
+    match($2, /^[A-Z_]+/)
+    name = substr($2, 1, RLENGTH)
+    if (name !~ /_H$/ && !(name in defined)) { defined[name]; line_of[++lines] = name; text_of[name] = escaped($0) }
     comment = ""
     next
 }

@@ -1,4 +1,4 @@
-// Records four threads' calls on one queue, which is named to the compiler (queue.hpp):
+// Records the calls of four threads, or of RECORDED_THREADS, on one queue, which is named to the compiler (queue.hpp):
 //
 //     recorded FOLDER CALLS [counter]
 //
@@ -10,7 +10,10 @@
 #include <string>
 #include <thread>
 
-constexpr uint32_t ORDER = 6, THREADS = 4;
+#ifndef RECORDED_THREADS
+#define RECORDED_THREADS 4
+#endif
+constexpr uint32_t ORDER = 6, THREADS = RECORDED_THREADS;
 
 static void run(Port &port, scq_seat &seat, uint64_t calls) {
     uint64_t value;
