@@ -3,13 +3,18 @@
 # one that this kit makes of these sources, which is proved and built first where it isn't there yet, over what is kept, with lines on standard
 # error that say why and how far it is. A second start waits for the first. Where the program can't be built, the status is 125.
 # `self` is the launcher, whose name is the program's.
-name=$(basename "$self")
-top=$(dirname "$self")
+name=${self##*/}
+top=${self%/*}
+top=${top:-/}
 out=$top/crates/$crate/out
 program=$out/$crate
 # Four lines: the kit, which file rt was, the sum of what the program was made of, and the program's own sum.
 record=$out/$name.record
 shipped=x86_64-linux/$name
+# To sum all sources takes a tenth of a second. So the last check that found the program of dist/ to be of these is noted here, as note_seen says.
+# dist/make takes it away, and sums them in any case.
+checked=$top/dist/.$name.checked
+printf -v started '%(%s)T' -1
 
 say() { echo "$name: $1" >&2; }
 
@@ -24,7 +29,66 @@ is_command() {
     return 1
 }
 
-# Whether the program of dist/ can be taken. If not, `reason` says why. No file is written, and rt isn't asked.
+read_crates() {
+    mapfile -t crates < <(crates_of "$crate")
+    [ ${#crates[@]} -gt 0 ] || fail "no crates.txt beside this file names $crate"
+}
+
+read_sources() {
+    read_crates
+    sources=$(sources_of "${crates[@]}")
+}
+
+# The names of all that tells whether the program of dist/ is of these crates' sources: folders too, in which a file may be new.
+names_of() {
+    cd "$top/crates" && printf '%s\0' ../crates.txt ../dist/RECORD "../dist/$shipped" "$@" &&
+        { find "${@/%//src}" "${@/%//specs}" "${@/%//proofs}" -print0 2>/dev/null || true; }
+}
+
+# Of each of the names in a file: when it was last changed in any way, which nobody can set, its size, number and name.
+seen_of() {
+    cd "$top/crates" && xargs -0 stat -Lc '%.9Z %s %i %n' <"$1" && echo whole
+}
+
+# Whether all is as it was when it was checked.
+is_as_checked() { [ -s "$checked" ] && seen_of "$checked.names" 2>/dev/null | cmp -s - "$checked"; }
+
+# Notes what there is to see, before it is summed, to be kept by keep_note if the sums are right.
+note_seen() {
+    [ -w "$top/dist" ] || return
+    (names_of "${crates[@]}") >"$checked.$$.names" && (seen_of "$checked.$$.names") >"$checked.$$"
+} 2>/dev/null
+
+# Who writes a file later gives it a later time. So that none can come twice, the file system's has to be this machine's, and the last of them of
+# more than two seconds ago.
+keep_note() {
+    local newest
+    newest=$(awk '$1 + 0 > newest { newest = $1 + 0 } END { printf "%d", newest }' "$checked.$$")
+    case $(stat -fc %T "$top/dist") in
+        ext* | xfs | btrfs | f2fs | zfs | tmpfs | overlayfs)
+            [ "$newest" -ge $((started - 2)) ] || { mv "$checked.$$.names" "$checked.names" && mv "$checked.$$" "$checked"; }
+            ;;
+    esac
+} 2>/dev/null
+
+# Whether the program of dist/ is of these sources, and whole. If not, `reason` says why.
+is_right() {
+    local noted=
+    read_crates
+    ! note_seen || noted=yes
+    read_sources
+    if [ "$(sum_with "$(recorded kit)" "$sources")" != "$(recorded sources "$shipped")" ]; then
+        reason="dist/$shipped was made of other sources"
+    elif [ "$(sum_of_file "$top/dist/$shipped")" != "$(recorded sum "$shipped")" ]; then
+        reason="dist/$shipped isn't what dist/RECORD says"
+    elif [ -n "$noted" ]; then
+        keep_note
+    fi
+    rm -f "$checked.$$" "$checked.$$.names" 2>/dev/null
+    [ -z "$reason" ]
+}
+
+# Whether the program of dist/ can be taken. If not, `reason` says why. No file is written but `checked`, and rt isn't asked.
 is_shipped() {
     local machine file=$top/dist/$shipped said status
     reason=
@@ -34,11 +98,7 @@ is_shipped() {
         reason="dist/ has no program for $machine"
     elif [ ! -e "$file" ] || [ ! -e "$top/dist/RECORD" ]; then
         reason="dist/$shipped or dist/RECORD isn't there"
-    elif [ "$(sum_with "$(recorded kit)" "$sources")" != "$(recorded sources "$shipped")" ]; then
-        reason="dist/$shipped was made of other sources"
-    elif [ "$(sum_of_file "$file")" != "$(recorded sum "$shipped")" ]; then
-        reason="dist/$shipped isn't what dist/RECORD says"
-    else
+    elif is_as_checked || is_right; then
         # It may be for another C library, may not be marked as a program, or lie where none may be started.
         said=$("$file" 2>&1 </dev/null)
         status=$?
@@ -76,17 +136,16 @@ is_command "${1-}" || {
     exit 2
 }
 . "$top/dist/sources.bash" || exit 125
-mapfile -t crates < <(crates_of "$crate")
-[ ${#crates[@]} -gt 0 ] || fail "no crates.txt beside this file names $crate"
-sources=$(sources_of "${crates[@]}")
+sources=
 ! is_shipped || exec "$top/dist/$shipped" "$@"
+[ -n "$sources" ] || read_sources
 if ! is_built; then
     [ -z "$reason" ] || say "$reason"
     [ -n "$rt_file" ] || fail "the command rt isn't on the PATH, and the program has to be built"
     . "$top/dist/build.bash"
     take_turn
     # It may have been built meanwhile.
-    sources=$(sources_of "${crates[@]}")
+    read_sources
     is_built || {
         build "$crate"
         printf '%s\n' "$kit" "$rt_file" "$sum" "$(sum_of_file "$program")" >"$record"

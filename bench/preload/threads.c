@@ -1,5 +1,6 @@
 // Keeps the threads of a program each to a processor of its own, the last PIN ones, where there are so many. Refuses
-// start number N, from 0, where bit N of REFUSE is set, and tells it by a byte on descriptor 9.
+// start number N, from 0, where bit N of REFUSE is set, and tells it by a byte on descriptor 9. Takes 16 times PLACE
+// bytes off the heap before the program does, so that all that it allocates lies as much further.
 #define _GNU_SOURCE
 #include <dlfcn.h>
 #include <errno.h>
@@ -10,6 +11,7 @@
 
 static cpu_set_t all;
 static int count;
+void *taken;
 
 static void keep(pthread_t thread, int number) {
     cpu_set_t one;
@@ -23,7 +25,8 @@ static void keep(pthread_t thread, int number) {
 }
 
 __attribute__((constructor)) static void begin(void) {
-    const char *pin = getenv("PIN");
+    const char *pin = getenv("PIN"), *place = getenv("PLACE");
+    if (place) taken = malloc(24 + 16 * strtoul(place, NULL, 10));
     sched_getaffinity(0, sizeof all, &all);
     if (pin && atoi(pin) <= CPU_COUNT(&all)) count = atoi(pin);
     keep(pthread_self(), 0);

@@ -1,16 +1,19 @@
 # shellcheck shell=bash disable=SC2034,SC2154
 # What bench/rings, bench/queue, bench/c and bench/peers have in common: programs that make calls on a queue (calls.cpp,
-# or a driver that takes the same words), run in turn, nine times, at orders 6 and 12, each thread on a processor of
-# its own; medians count. A pair is lend, send, take and give_back, in the first three with no byte written. The loops
+# or a driver that takes the same words), run in turn, at orders 6 and 12, each thread on a processor of its own. Which
+# words share a line of the cache depends on where malloc lays them, so each round has another of the eight places that
+# there are in two lines: preload/threads.c takes as much off the heap before the program has taken any. Medians over
+# places and rounds count. A pair is lend, send, take and give_back, in the first three with no byte written. The loops
 # that are timed are functions that aren't inlined, and take the queue by reference. What one thread saw is compared.
 #
 # From the environment: PAIRS, how many pairs of calls one thread makes in a run (4000000; other runs in
-# proportion); LIMIT, in how many seconds a run has to end (50).
+# proportion); LIMIT, in how many seconds a run has to end (50); UNDER, a command that runs are started by, as
+# `chrt --fifo 30` where other work on the machine is to wait meanwhile.
 kept_in "$@"
 preload threads
 # shellcheck source=over.bash
 . "$bench/queues/over.bash"
-turns=$(rounds 9)
+turns=$(rounds 8)
 pairs=$(many "${PAIRS:-4000000}")
 limit=${LIMIT:-50}
 # Of each mode, how many calls each thread makes, the roles of the threads, and its title.
@@ -53,10 +56,13 @@ run_once() {
     local each=${each_of[$mode]} roles=${roles_of[$mode]}
     # Who stops a thread has a processor too.
     [ "$mode" = stop ] && it=3 || it=${#roles}
-    timeout "$limit" env LD_PRELOAD=./threads.so PIN="$it" "./$program" "$roles" "$order" "$each" >answer || status=$?
+    # Rounds that are fewer than the places are spread over them.
+    # shellcheck disable=SC2086
+    timeout "$limit" ${UNDER-} env LD_PRELOAD=./threads.so PIN="$it" PLACE=$((round * 3 % 8)) \
+        "./$program" "$roles" "$order" "$each" >answer || status=$?
     read -ra figures <answer || true
     case $status-$mode in
-        0-busy | 0-calm) for it in 50.0 99.1 999.2; do note "$key.${it%.*}" "${figures[${it#*.}]}"; done ;;
+        0-busy | 0-calm) for it in 50.0 99.1 999.2 send.3 take.4; do note "$key.${it%.*}" "${figures[${it#*.}]}"; done ;;
         0-stop) for it in held.0 longest.1; do note "$key.${it%.*}" "${figures[${it#*.}]}"; done ;;
         0-*)
             [[ $roles != pg* ]] || each=$((each / 2))

@@ -10,8 +10,8 @@
 //
 // MANY is how many each thread makes. Ends with 1 where what was got isn't what was put. Prints the nanoseconds that
 // all took, and the sum of the values that were got; for t and c the nanoseconds which 50, 99 and 99.9 percent of the
-// pairs took at most; for s in how many stops the other was held up for more than 20 ms, and its longest wait in
-// milliseconds.
+// pairs took at most, and 99.9 percent of the puts and of the gets; for s in how many stops the other was held up for
+// more than 20 ms, and its longest wait in milliseconds.
 #include "loops.hpp"
 #include QUEUE
 #include <algorithm>
@@ -27,6 +27,11 @@ using Clock = std::chrono::steady_clock;
 using Work = std::function<void(size_t number, Port &port, Seen &mine)>;
 
 static uint64_t nanos_since(Clock::time_point start) { return (Clock::now() - start) / 1ns; }
+
+// What a pair took of the processor's clock, and of it the put and the get.
+struct Took {
+    uint64_t pair, put, get;
+};
 
 struct Run {
     const std::string roles;
@@ -94,7 +99,7 @@ struct Run {
 
     // Ends when the first thread is through: what that one keeps, where messages go packed, others would wait for.
     bool times(bool pauses) {
-        std::vector<std::vector<uint32_t>> times(ports.size());
+        std::vector<std::vector<Took>> times(ports.size());
         std::atomic<bool> is_over{false};
         const auto until_over = [&](auto call) {
             bool is_done;
@@ -112,20 +117,25 @@ struct Run {
                     __builtin_ia32_pause();
                 const uint64_t start = __builtin_ia32_rdtsc();
                 if (!until_over([&] { return mine.put(port); })) break;
+                const uint64_t sent = __builtin_ia32_rdtsc();
                 if (!until_over([&] { return mine.get(port); })) break;
-                last = __builtin_ia32_rdtsc() - start;
-                times[number].push_back(uint32_t(std::min(last, uint64_t(UINT32_MAX))));
+                const uint64_t taken = __builtin_ia32_rdtsc();
+                last = taken - start;
+                times[number].push_back({last, sent - start, taken - sent});
             }
             is_over = true;
         });
         const double nanos = double(nanos_since(begun)) / double(__builtin_ia32_rdtsc() - first);
-        std::vector<uint32_t> all;
-        for (const auto &its : times) all.insert(all.end(), its.begin(), its.end());
-        for (const double part : {0.5, 0.99, 0.999}) {
+        const auto print = [&](double part, uint64_t Took::*of) {
+            std::vector<uint64_t> all;
+            for (const auto &its : times)
+                for (const Took &one : its) all.push_back(one.*of);
             const auto at = all.begin() + long(part * double(all.size()));
             std::nth_element(all.begin(), at, all.end());
-            std::printf("%zu ", uint64_t(*at * nanos));
-        }
+            std::printf("%zu ", uint64_t(double(*at) * nanos));
+        };
+        for (const double part : {0.5, 0.99, 0.999}) print(part, &Took::pair);
+        print(0.999, &Took::put), print(0.999, &Took::get);
         return is_complete();
     }
 
