@@ -1,7 +1,7 @@
 """Reads how a program's library for aarch64 accesses memory, off its instructions and a run of them under qemu-aarch64.
 
     accesses.py PROGRAM FROM TO judge LOG SEEN    judges what `qemu-aarch64 -singlestep -d nochain,exec,cpu -dfilter FROM+SIZE` wrote to LOG, and
-                                                  writes to SEEN which atomic instructions would be found there, were they plain
+                                                  writes to SEEN which atomic instructions would be found OFTEN there, were they plain
     accesses.py PROGRAM FROM TO plant K SEEN      makes the Kth ldar, or stlr, of these a plain load or store of PROGRAM
 
 The library's code stands from FROM to TO, in hexadecimal. A word is shared if an atomic instruction accesses it. From then on each access to it is to be by an instruction that is sequentially consistent: ldar, stlr, a loop of ldaxr and stlxr, or one of those that do it all at once, with acquire
@@ -18,6 +18,7 @@ ORDERED = re.compile(r"(ldar|stlr|ldaxr|stlxr|ldaxp|stlxp)[bh]?$|(cas|swp|ldadd|
 WEAKER = re.compile(r"(ldxr|stxr|ldxp|stxp|ldapu?r|ldlar|stllr)s?[bhw]?$|(cas|casp|swp|ldadd|ldclr|ldset|ldeor|ld[su]max|ld[su]min)[al]?[bh]?$|"
                     r"st(add|clr|set|eor|[su]max|[su]min)l?[bh]?$")
 PLAIN = re.compile(r"(ld|st)(u?r|p|np|\d)s?[bhw]?w?$|ldp?sw$|ldursw$|ldr?sw$")
+OFTEN = 100
 WIDTHS = {"w": 4, "x": 8, "b": 1, "h": 2, "s": 4, "d": 8, "q": 16, "v": 16}
 
 
@@ -103,7 +104,7 @@ def runs(log):
 
 def judge(program, start, end, log, seen):
     accesses, wrong = read(program, start, end)
-    ran, shared, plain, between, found, count = set(), {}, {}, {}, set(), 0
+    ran, shared, plain, between, found, count = set(), {}, {}, {}, {}, 0
     for at, registers in runs(log):
         count += 1
         access = accesses.get(at)
@@ -114,7 +115,9 @@ def judge(program, start, end, log, seen):
         for byte in range(place, place + access.width):
             if access.is_ordered:
                 # What comes between accesses of others would be found.
-                found |= between.setdefault(byte, set()) - {at}
+                for it in between.get(byte, set()) - {at}:
+                    found[it] = found.get(it, 0) + 1
+                between[byte] = between.get(byte, set()) & {at}
                 if shared.get(byte, at) != at:
                     between[byte].add(at)
                 shared[byte] = at
@@ -130,7 +133,7 @@ def judge(program, start, end, log, seen):
     print(f"{count} instructions were run; of {len(accesses)} that load or store {len(ran)}, of which {atomic} are atomic; {len(found)} of these had "
           "been found, were they plain")
     with open(seen, "w", encoding="ascii") as file:
-        file.writelines(f"{at}\n" for at in sorted(found))
+        file.writelines(f"{at}\n" for at in sorted(found) if found[at] >= OFTEN)
     for it in sorted(set(wrong))[:20]:
         print(it)
     if not shared:
