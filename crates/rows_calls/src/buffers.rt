@@ -5,7 +5,7 @@ ghost use Rattle.std.specs.Prelude.{◌≡◌, length};
 use crate::row::Row;
 use scq_block::{Block, Frame};
 use scq_queue::HeapBuffer;
-use scq_word::{Buffer, BufferMut, Bytes};
+use scq_word::{BufferMut, BufferRef, Bytes};
 
 /// What generic code knows of a buffer after a write through the loan.
 fn fill<B: BufferMut>(buffer: &mut B, from: &[u8])

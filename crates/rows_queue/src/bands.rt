@@ -5,7 +5,7 @@ ghost use Rattle.scq_band.specs.Exports.{lifted_of};
 use anyhow::{Context, Result, anyhow, ensure};
 use scq_band::{Band, BandClosed, Seat};
 use scq_queue::HeapBuffer;
-use scq_word::{Buffer, BufferMut, Setup};
+use scq_word::{BufferMut, BufferRef, Setup};
 use std::alloc::Global;
 
 /// A buffer of one byte.

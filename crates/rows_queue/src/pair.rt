@@ -77,6 +77,8 @@ fn run<B: BufferMut + Drop>(
     mut taker: Vec<Held<B>>,
     way: Way,
 ) -> Option<(Answers, Closed<B>)>
+where
+    B::Place: Drop,
     requires setup { (queue.setup.rings ≡ 2) × (queue.setup.seats ≡ 2) }
     requires passes { passes.items ≡ first_passes queue 2 }
     requires sender { (sender.items ≡ []) × (1 ≤ vec_capacity sender) }

@@ -1,6 +1,6 @@
 //! Replies of calls, as rows say them.
 use scq_queue::{Closed, Counts, HeapBuffer, LendRefusal, TakeRefusal};
-use scq_word::Buffer;
+use scq_word::BufferRef;
 use std::alloc::AllocError;
 
 /// What a call is answered: the index that was lent, the place of a send or a take, the head of a

@@ -27,7 +27,7 @@ use Rattle.scq_law.proofs.Progress.ProgressLaws.{has_progress}
 use Rattle.scq_law.proofs.Progress.WholeCalls.{delayed_by_ends}
 use Rattle.scq_law.proofs.Progress.AloneCalls.{ends_alone}
 use Rattle.scq_band.specs.declared.numbers.Numbers.{Numbers}
-use Rattle.scq_band.specs.declared.slot.Slot.{Slot}
+use Rattle.scq_band.specs.Slots.{SlotStanding}
 use Rattle.scq_band.specs.Exports.{LiesIn, opening_of, Seen, Caller, Member, Sight, known_state, ShowsRun, ShowsWords, Has, Owns, awake, Identity}
 use Rattle.scq_band.specs.Exports.{caller_of, identity_of, full_slot, IsBrought, OutOrHome, IsMemberOf, AreMembersOf, HeadsKnown, GatesKnown, HasAll}
 use Rattle.scq_band.specs.Exports.{all_seen, indices_of, IsOneRun, EachGetHasItsPut, NoneIsPutTwice, NoneIsGotTwice, EachPutPassedIsGot, IsBalance}
@@ -141,7 +141,7 @@ length_images : {A C : Type 0} (f : A → C) (xs : List A) → length (map f xs)
 length_images f [] = refl
 length_images f (x ∷ xs) = ap suc (length_images f xs)
 
-module _ {B : Type 0} (contents : B → List ℕ) (IsSame : B → B → Type 0) (given : List B) (c : Setup) (s : State (Slot B) Known) (id : ℕ) (v : Known)
+module _ {B : Type 0} (contents : B → List ℕ) (IsSame : B → B → Type 0) (given : List B) (c : Setup) (s : State (SlotStanding B) Known) (id : ℕ) (v : Known)
     (seats : List (Standing B)) (gone : ℕ → Option ℕ)
     (run : List (ℕ × Step)) (sh : Shown (LiesIn contents IsSame given) (opening_of contents given) c gone run s) (here : get_elem? s.views id ≡ some v)
     (has : HasAll contents c.rings seats v) (count : length seats ≡ c.seats) (many : length given ≡ n_of c.order) where
@@ -340,14 +340,14 @@ module _ {B : Type 0} (contents : B → List ℕ) (IsSame : B → B → Type 0) 
       }
 
   -- the slot of each index has the buffer that was given for it
-  pub closed_slot : (items : List (Slot B)) → ((k : ℕ) (y : Slot B) → get_elem? s.homes k ≡ some (some y) → get_elem? items k ≡ some y) → (i : ℕ) (w : List ℕ)
+  pub closed_slot : (items : List (SlotStanding B)) → ((k : ℕ) (y : SlotStanding B) → get_elem? s.homes k ≡ some (some y) → get_elem? items k ≡ some y) → (i : ℕ) (w : List ℕ)
       → (h : Has (LiesIn contents IsSame given) s.homes i w) → slice_get items i ≡ Some (full_slot h.lies.buffer)
   closed_slot items home i w h =
       read_some items i h.value (home i h.value h.here) ∙ ap (λ (o : Option B). Some (record { buffer = o })) h.lies.laid
 
 -- what a closed band's words and slots say, beside the seats
 pub record IsShownClosed {B : Type 0} (contents : B → List ℕ) (IsSame : B → B → Type 0) (given : List B) (c : Setup) (seats : List (Standing B))
-    (xs : List Member) (ws : List ℕ) (items : List (Slot B)) : Type 0 where
+    (xs : List Member) (ws : List ℕ) (items : List (SlotStanding B)) : Type 0 where
   pub words : (m : Cells) × ShowsWords c ws m × HasIndices c m
   pub laid : (i : ℕ) → i < n_of c.order → (b : B) × (slice_get items i ≡ Some (full_slot b))
   pub gets : EachGetHasItsPut c (opening_of contents given) (all_calls seats)
@@ -370,15 +370,15 @@ pub record IsShownClosed {B : Type 0} (contents : B → List ℕ) (IsSame : B �
 
 module _ {B : Type 0} where
   -- the buffers are those in the slots
-  buffer_at : (buffers : List B) (items : List (Slot B)) → map full_slot buffers ≡ items → (i : ℕ) (b : B) → slice_get items i ≡ Some (full_slot b)
+  buffer_at : (buffers : List B) (items : List (SlotStanding B)) → map full_slot buffers ≡ items → (i : ℕ) (b : B) → slice_get items i ≡ Some (full_slot b)
       → slice_get buffers i ≡ Some b
   buffer_at buffers items are i b here =
-      let back = map_back full_slot buffers i (full_slot b) (ap (λ (l : List (Slot B)). slice_get l i) are ∙ here) in
-      let inner : Some back.0 ≡ Some b = ap (λ (t : Slot B). t.buffer) back.2 in
+      let back = map_back full_slot buffers i (full_slot b) (ap (λ (l : List (SlotStanding B)). slice_get l i) are ∙ here) in
+      let inner : Some back.0 ≡ Some b = ap (λ (t : SlotStanding B). t.buffer) back.2 in
       back.1 ∙ inner
 
   pub ends : (contents : B → List ℕ) (IsSame : B → B → Type 0) (given : List B) (c : Setup) (id : ℕ) (w : Sight) (seats : List (Standing B)) (ws : List ℕ)
-      (items : List (Slot B)) → Final (OfView (ShowsRun (LiesIn contents IsSame given) (opening_of contents given) c) id w) ws items
+      (items : List (SlotStanding B)) → Final (OfView (ShowsRun (LiesIn contents IsSame given) (opening_of contents given) c) id w) ws items
       → HasAll contents c.rings seats w.known → w.seen ≡ all_seen seats
       → length seats ≡ c.seats → length given ≡ n_of c.order → IsShownClosed contents IsSame given c seats w.known.seats ws items
   unfolding closed_run
@@ -448,7 +448,7 @@ module _ {B : Type 0} where
 
   -- the same, of a band as contracts see it
   pub ended : (contents : B → List ℕ) (IsSame : B → B → Type 0) (table : TableId) (key : Key B) (band : Identity B) (id : ℕ) (v : Sight)
-      (seats : List (Standing B)) (ws : List ℕ) (items : List (Slot B)) → identity_of table key ≡ band
+      (seats : List (Standing B)) (ws : List ℕ) (items : List (SlotStanding B)) → identity_of table key ≡ band
       → Final (OfView (ShowsRun (LiesIn contents IsSame key.given.value.items) (opening_of contents key.given.value.items) key.setup) id v) ws items
       → HasAll contents key.setup.rings seats v.known → v.seen ≡ all_seen seats → length seats ≡ band.setup.seats
       → length key.given.value.items ≡ n_of key.setup.order

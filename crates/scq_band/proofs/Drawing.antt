@@ -11,7 +11,7 @@ use Rattle.scq_core.specs.declared.step.Step.TheVariants.{E1, E1Again}
 use Rattle.scq_core.specs.Exports.{ring_slots, holds_index, turn_at, goes_on, spends, tail_of}
 use Rattle.scq_band.specs.declared.numbers.Numbers.{Numbers}
 use Rattle.scq_band.specs.declared.ring.Ring.{Ring}
-use Rattle.scq_band.specs.declared.slot.Slot.{Slot}
+use Rattle.scq_band.specs.Slots.{SlotStanding}
 use Rattle.scq_band.specs.Exports.{ring_of_word, MayTurn, Turned, my, my_phase, front_index, front_bytes, drawing, draw_turn, IsAlone, IsLooking}
 use Rattle.scq_band.specs.Exports.{IsToDraw, goes_to, spent_at, put_index, content_of, least_of, IsRing}
 use Rattle.scq_band.specs.Known.{Known}
@@ -19,7 +19,7 @@ use Rattle.scq_band.proofs.Layouts.{ring_of_word-at}
 use Rattle.scq_band.proofs.Outcomes.{goes_as, turned_as, alone_at, may_go}
 
 -- the turn of the draw
-pub draws_turn : {B : Type 0} (contents : B → List ℕ) (c : Setup) (word : ℕ) (me : Me (Slot B) Known) (r i : ℕ) (w : List ℕ) → ring_of_word c word ≡ r
+pub draws_turn : {B : Type 0} (contents : B → List ℕ) (c : Setup) (word : ℕ) (me : Me (SlotStanding B) Known) (r i : ℕ) (w : List ℕ) → ring_of_word c word ≡ r
     → front_index me.1 ≡ i → front_bytes contents me.1 ≡ w
     → IsToDraw r i w (my_phase me.0) → draw_turn contents c word me ≡ AtE1 r i w (least_of (my_phase me.0))
 draws_turn contents c word me r i w ring index content (inl idle) =
@@ -74,7 +74,7 @@ pub looks_as : (v : Known) (r i : ℕ) (w : List ℕ) (t l : ℕ) → my_phase v
 looks_as v r i w t l is = subst (λ (p : Phase). p ≡ AtE2 r (put_index p) (content_of p) t (least_of p)) (sym is) refl
 
 -- the turn of a draw from a ring's Tail, with the slots that stood when the call began
-pub turn_of_draw : {B : Type 0} {c : Setup} {ring : Ring} {slots : List (ℕ × Slot B)} {i : ℕ} (contents : B → List ℕ) (me : Me (Slot B) Known)
+pub turn_of_draw : {B : Type 0} {c : Setup} {ring : Ring} {slots : List (ℕ × SlotStanding B)} {i : ℕ} (contents : B → List ℕ) (me : Me (SlotStanding B) Known)
     → IsRing c ring → me.1 ≡ slots → front_index slots ≡ i
     → IsToDraw ring.number i (front_bytes contents slots) (my_phase me.0)
     → draw_turn contents c ring.tail me ≡ AtE1 ring.number i (front_bytes contents slots) (least_of (my_phase me.0))

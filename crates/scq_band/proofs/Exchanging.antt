@@ -7,7 +7,7 @@ use Rattle.scq_law.specs.Exports.{times}
 use Rattle.scq_band.specs.Exports.{Seen, changed, my, front_index, in_hand, with_buffer, IsAsGiven, in_order, buffer_in, hand_of, standing_from}
 use Rattle.scq_band.specs.Exports.{AllGiven, IsKept, IsRotation}
 use Rattle.scq_band.specs.declared.numbers.Numbers.{Numbers}
-use Rattle.scq_band.specs.declared.slot.Slot.{Slot}
+use Rattle.scq_band.specs.Slots.{SlotStanding}
 use Rattle.scq_band.specs.declared.rule.Key.{Key}
 use Rattle.scq_band.specs.Known.{Known}
 use Rattle.scq_band.specs.Standing.{Standing}
@@ -15,7 +15,7 @@ use Rattle.scq_band.proofs.Slots.{fronted, held_times, times-rotated, length-rot
 
 module _ {B : Type 0} (IsSame : B → B → Type 0) where
   -- after a turn
-  pub kept_turned : (key : Key B) (me : Me (Slot B) Known) (v : Known) (ms : List (ℕ × Slot B)) (indices later : List ℕ) (room room' : ℕ)
+  pub kept_turned : (key : Key B) (me : Me (SlotStanding B) Known) (v : Known) (ms : List (ℕ × SlotStanding B)) (indices later : List ℕ) (room room' : ℕ)
       (numbers : List Numbers) (spent : Option ℕ)
       → IsKept IsSame key me indices room numbers spent → v ≡ me.0 → IsRotation me.1 ms → later ≡ in_order ms → room' ≡ room
       → IsKept IsSame key (v, ms) later room' numbers spent
@@ -40,7 +40,7 @@ module _ {B : Type 0} (IsSame : B → B → Type 0) where
       })
 
   -- after an exchange of the buffer in the first slot
-  pub kept_exchanged : (key : Key B) (v : Known) (i : ℕ) (x y : Slot B) (others : List (ℕ × Slot B)) (indices : List ℕ)
+  pub kept_exchanged : (key : Key B) (v : Known) (i : ℕ) (x y : SlotStanding B) (others : List (ℕ × SlotStanding B)) (indices : List ℕ)
       (room : ℕ) (numbers : List Numbers) (spent : Option ℕ)
       → IsKept IsSame key (v, (i, x) ∷ others) indices room numbers spent → ((b : B) → y.buffer ≡ Some b → IsAsGiven IsSame key.given.value.items i b)
       → IsKept IsSame key (v, (i, y) ∷ others) indices room numbers spent
@@ -62,7 +62,7 @@ module _ {B : Type 0} (IsSame : B → B → Type 0) where
       }
 
   -- an index in the hand is among those that the seat keeps
-  pub held : (key : Key B) (me : Me (Slot B) Known) (indices : List ℕ) (room : ℕ) (numbers : List Numbers) (spent : Option ℕ) (i : ℕ) (o : Option B)
+  pub held : (key : Key B) (me : Me (SlotStanding B) Known) (indices : List ℕ) (room : ℕ) (numbers : List Numbers) (spent : Option ℕ) (i : ℕ) (o : Option B)
       → IsKept IsSame key me indices room numbers spent → in_hand (hand_of me.1 (my me.0).part.hand) i ≡ Some o → 0 < times i indices
   held key me indices room numbers spent i o kept is =
       let some = (held_times me.1 (my me.0).part.hand i o is).0 in
@@ -70,15 +70,15 @@ module _ {B : Type 0} (IsSame : B → B → Type 0) where
       omega arith
 
   -- the slot of an index in the hand, once it was turned to the front
-  pub record Brought (me : Me (Slot B) Known) (given : List B) (ms : List (ℕ × Slot B)) (i : ℕ) (o : Option B) : Type 0 where
-    pub slot : Slot B
-    pub others : List (ℕ × Slot B)
+  pub record Brought (me : Me (SlotStanding B) Known) (given : List B) (ms : List (ℕ × SlotStanding B)) (i : ℕ) (o : Option B) : Type 0 where
+    pub slot : SlotStanding B
+    pub others : List (ℕ × SlotStanding B)
     pub is : ms ≡ (i, slot) ∷ others
     pub has : slot.buffer ≡ o
     pub same : (j : ℕ) → buffer_in ms j ≡ buffer_in me.1 j
     pub given_so : (b : B) → slot.buffer ≡ Some b → IsAsGiven IsSame given i b
 
-  pub brought : (key : Key B) (me : Me (Slot B) Known) (ms : List (ℕ × Slot B)) (indices : List ℕ) (room : ℕ) (numbers : List Numbers)
+  pub brought : (key : Key B) (me : Me (SlotStanding B) Known) (ms : List (ℕ × SlotStanding B)) (indices : List ℕ) (room : ℕ) (numbers : List Numbers)
       (spent : Option ℕ) (i : ℕ)
       (o : Option B)
       → IsKept IsSame key me indices room numbers spent → IsRotation me.1 ms → front_index ms ≡ i → in_hand (hand_of me.1 (my me.0).part.hand) i ≡ Some o
@@ -94,29 +94,29 @@ module _ {B : Type 0} (IsSame : B → B → Type 0) where
         slot = front.slot;
         others = front.others;
         is = front.is;
-        has = sym alone ∙ ap (λ (l : List (ℕ × Slot B)). buffer_in l i) (sym front.is) ∙ same i ∙ (held_times me.1 (my me.0).part.hand i o is).1;
+        has = sym alone ∙ ap (λ (l : List (ℕ × SlotStanding B)). buffer_in l i) (sym front.is) ∙ same i ∙ (held_times me.1 (my me.0).part.hand i o is).1;
         same = same;
         given_so =
-            (subst (λ (l : List (ℕ × Slot B)). AllGiven IsSame key.given.value.items l) front.is
+            (subst (λ (l : List (ℕ × SlotStanding B)). AllGiven IsSame key.given.value.items l) front.is
             (given-rotated IsSame key.given.value.items me.1 ms turned kept.given)).0;
       }
 
   -- after a turn, and an exchange of the buffer in the first slot
-  pub kept_lent : (key : Key B) (me me' : Me (Slot B) Known) (v : Known) (ms : List (ℕ × Slot B)) (indices later : List ℕ) (room room' : ℕ)
-      (numbers : List Numbers) (spent : Option ℕ) (i : ℕ) (o : Option B) (y : Slot B)
+  pub kept_lent : (key : Key B) (me me' : Me (SlotStanding B) Known) (v : Known) (ms : List (ℕ × SlotStanding B)) (indices later : List ℕ) (room room' : ℕ)
+      (numbers : List Numbers) (spent : Option ℕ) (i : ℕ) (o : Option B) (y : SlotStanding B)
       → IsKept IsSame key me indices room numbers spent → v ≡ me.0 → IsRotation me.1 ms → later ≡ in_order ms → room' ≡ room
       → Brought me key.given.value.items ms i o → ((b : B) → y.buffer ≡ Some b → IsAsGiven IsSame key.given.value.items i b) → me' ≡ (v, (i, y) ∷ rest ms)
       → IsKept IsSame key me' later room' numbers spent
   kept_lent key me me' v ms indices later room room' numbers spent i o y kept same turned order space b new now =
       let turned_so = kept_turned key me v ms indices later room room' numbers spent kept same turned order space in
-      let front = subst (λ (l : List (ℕ × Slot B)). IsKept IsSame key (v, l) later room' numbers spent) b.is turned_so in
+      let front = subst (λ (l : List (ℕ × SlotStanding B)). IsKept IsSame key (v, l) later room' numbers spent) b.is turned_so in
       let others : rest ms ≡ b.others = ap rest b.is in
-      subst (λ (m : Me (Slot B) Known). IsKept IsSame key m later room' numbers spent) (sym (now ∙ ap (λ (l : List (ℕ × Slot B)). (v, (i, y) ∷ l)) others))
+      subst (λ (m : Me (SlotStanding B) Known). IsKept IsSame key m later room' numbers spent) (sym (now ∙ ap (λ (l : List (ℕ × SlotStanding B)). (v, (i, y) ∷ l)) others))
       (kept_exchanged key v i b.slot y b.others later room' numbers spent front new)
 
 module _ {B : Type 0} where
   -- what contracts see of a seat in whose hand alone something changed
-  pub hand_changed : (fs gs : Seen) (table later : TableId) (key : Key B) (me : Me (Slot B) Known) (slots : List (ℕ × Slot B))
+  pub hand_changed : (fs gs : Seen) (table later : TableId) (key : Key B) (me : Me (SlotStanding B) Known) (slots : List (ℕ × SlotStanding B))
       (hand : List (ℕ × Option B)) (s : Standing B)
       → standing_from fs table key me ≡ s → gs ≡ fs → later ≡ table → hand_of slots (my me.0).part.hand ≡ hand
       → standing_from gs later key (me.0, slots) ≡ record s { hand = hand }
@@ -126,23 +126,23 @@ module _ {B : Type 0} where
       ∙ ap (λ (h : List (ℕ × Option B)). record (standing_from fs table key me) { hand = h }) changed
       ∙ ap (λ (z : Standing B). record z { hand = hand }) is
 
-  abbrev first_slot : Slot B → List (ℕ × Slot B) → Slot B
+  abbrev first_slot : SlotStanding B → List (ℕ × SlotStanding B) → SlotStanding B
   first_slot d [] = d
   first_slot d (x ∷ xs) = x.1
 
   -- the slot in front is one
-  pub same_slot : (i : ℕ) (s t : Slot B) (os rs ms : List (ℕ × Slot B)) → ms ≡ (i, s) ∷ os → ms ≡ (i, t) ∷ rs → s ≡ t
+  pub same_slot : (i : ℕ) (s t : SlotStanding B) (os rs ms : List (ℕ × SlotStanding B)) → ms ≡ (i, s) ∷ os → ms ≡ (i, t) ∷ rs → s ≡ t
   same_slot i s t os rs ms one other = ap (first_slot s) (sym one ∙ other)
 
   -- what contracts see of a seat after an exchange of the buffer of an index
-  pub lent_standing : (IsSame : B → B → Type 0) (fs gs : Seen) (table later : TableId) (key : Key B) (me me' : Me (Slot B) Known) (v : Known)
-      (ms : List (ℕ × Slot B))
-      (given : List B) (i : ℕ) (o : Option B) (y : Slot B) (s : Standing B)
+  pub lent_standing : (IsSame : B → B → Type 0) (fs gs : Seen) (table later : TableId) (key : Key B) (me me' : Me (SlotStanding B) Known) (v : Known)
+      (ms : List (ℕ × SlotStanding B))
+      (given : List B) (i : ℕ) (o : Option B) (y : SlotStanding B) (s : Standing B)
       → standing_from fs table key me ≡ s → gs ≡ fs → later ≡ table → v ≡ me.0 → Brought IsSame me given ms i o → me' ≡ (v, (i, y) ∷ rest ms)
       → standing_from gs later key me' ≡ record s { hand = with_buffer i y.buffer s.hand }
   lent_standing IsSame fs gs table later key me me' v ms given i o y s is seen same view b now =
       let others : rest ms ≡ b.others = ap rest b.is in
       let changed : hand_of ((i, y) ∷ b.others) (my me.0).part.hand ≡ with_buffer i y.buffer s.hand =
       exchanged_hand me.1 ms b.others i b.slot y b.same b.is (my me.0).part.hand ∙ ap (λ (z : Standing B). with_buffer i y.buffer z.hand) is in
-      ap (standing_from gs later key) (now ∙ ap (λ (u : Known). (u, (i, y) ∷ rest ms)) view ∙ ap (λ (l : List (ℕ × Slot B)). (me.0, (i, y) ∷ l)) others)
+      ap (standing_from gs later key) (now ∙ ap (λ (u : Known). (u, (i, y) ∷ rest ms)) view ∙ ap (λ (l : List (ℕ × SlotStanding B)). (me.0, (i, y) ∷ l)) others)
       ∙ hand_changed fs gs table later key me ((i, y) ∷ b.others) (with_buffer i y.buffer s.hand) s is seen same changed

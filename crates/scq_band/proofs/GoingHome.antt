@@ -9,7 +9,7 @@ use Rattle.std.proofs.lemmas.List.Sums.{sum_by-cons}
 use Rattle.std.proofs.lemmas.List.Sorted.{IsPermutation-sym, Contains-permutation, sum_by-IsPermutation}
 use Rattle.atomic_table.specs.Table.{Me, rest}
 use Rattle.scq_law.specs.Exports.{times}
-use Rattle.scq_band.specs.declared.slot.Slot.{Slot}
+use Rattle.scq_band.specs.Slots.{SlotStanding}
 use Rattle.scq_band.specs.Exports.{LiesIn, my, front_index, front_bytes, IsAsGiven, in_order, indices_of, at_home, full_slot, MayBring, times_lifted}
 use Rattle.scq_band.specs.Exports.{IsLaidBack, AreHome, WentHome, AllOutGiven, MayLeave}
 use Rattle.scq_band.specs.Known.{Known}
@@ -68,8 +68,8 @@ home_none v alone =
 
 module _ {B : Type 0} where
   -- the slot that stands first is that of the last index
-  first_slot : (slots : List (ℕ × Slot B)) (others : List ℕ) (i : ℕ) → others ++ i ∷ [] ≡ in_order slots
-      → (slot : Slot B) × (slots ≡ (i, slot) ∷ rest slots) × (others ≡ in_order (rest slots))
+  first_slot : (slots : List (ℕ × SlotStanding B)) (others : List ℕ) (i : ℕ) → others ++ i ∷ [] ≡ in_order slots
+      → (slot : SlotStanding B) × (slots ≡ (i, slot) ∷ rest slots) × (others ≡ in_order (rest slots))
   first_slot [] [] i e = absurd (cc)
   first_slot [] (x ∷ others) i e = absurd (cc)
   first_slot (x ∷ xs) others i e =
@@ -77,9 +77,9 @@ module _ {B : Type 0} where
       (x.1, ap (λ (j : ℕ). (j, x.1) ∷ xs) (sym both.1), both.0)
 
   -- that of an index that was taken off the hand stands first, and its buffer is among those that are out where it is lifted
-  pub stands_first : (IsSame : B → B → Type 0) (buffers : List B) (me : Me (Slot B) Known) (hand others : List ℕ) (i : ℕ) (out : List (ℕ × B))
+  pub stands_first : (IsSame : B → B → Type 0) (buffers : List B) (me : Me (SlotStanding B) Known) (hand others : List ℕ) (i : ℕ) (out : List (ℕ × B))
       → hand ≡ others ++ i ∷ [] → MayLeave IsSame buffers me hand out
-      → (slot : Slot B) × (me.1 ≡ (i, slot) ∷ rest me.1) × (IsTrue (is_none slot.buffer) → 0 < times i (indices_of out))
+      → (slot : SlotStanding B) × (me.1 ≡ (i, slot) ∷ rest me.1) × (IsTrue (is_none slot.buffer) → 0 < times i (indices_of out))
   stands_first IsSame buffers me hand others i out took may =
       let first = first_slot me.1 others i (sym took ∙ may.order) in (
         first.0,
@@ -91,7 +91,7 @@ module _ {B : Type 0} where
             omega arith,
       )
 
-  pub went_none : (contents : B → List ℕ) (IsSame : B → B → Type 0) (buffers : List B) (me : Me (Slot B) Known) (indices : List ℕ)
+  pub went_none : (contents : B → List ℕ) (IsSame : B → B → Type 0) (buffers : List B) (me : Me (SlotStanding B) Known) (indices : List ℕ)
       (out : List (ℕ × B)) → MayLeave IsSame buffers me indices out → WentHome contents me out me out
   went_none contents IsSame buffers me indices out may =
       record {
@@ -101,7 +101,7 @@ module _ {B : Type 0} where
       }
 
   -- more have gone home
-  pub went_more : (contents : B → List ℕ) (me mid next : Me (Slot B) Known) (out more left : List (ℕ × B)) → WentHome contents me out mid more
+  pub went_more : (contents : B → List ℕ) (me mid next : Me (SlotStanding B) Known) (out more left : List (ℕ × B)) → WentHome contents me out mid more
       → WentHome contents mid more next left → WentHome contents me out next left
   went_more contents me mid next out more left first second =
       let a = first.gone in
@@ -140,16 +140,16 @@ module _ {B : Type 0} where
       }
 
   -- after the first slot has gone home
-  pub record Leaves (contents : B → List ℕ) (IsSame : B → B → Type 0) (buffers : List B) (me : Me (Slot B) Known) (others : List ℕ) (i : ℕ)
-      (out : List (ℕ × B)) (later : List (ℕ × Slot B)) (left : List (ℕ × B)) : Type 0 where
+  pub record Leaves (contents : B → List ℕ) (IsSame : B → B → Type 0) (buffers : List B) (me : Me (SlotStanding B) Known) (others : List ℕ) (i : ℕ)
+      (out : List (ℕ × B)) (later : List (ℕ × SlotStanding B)) (left : List (ℕ × B)) : Type 0 where
     pub bring : MayBring (LiesIn contents IsSame buffers) (front_bytes contents later) (me.0, later)
     pub may : MayLeave IsSame buffers (at_home ((front_index later, front_bytes contents later) ∷ []) me.0, rest later) others left
     pub out_less : (j : ℕ) → times j (indices_of left) + times_lifted j me.1 ≡ times j (indices_of out) + times_lifted j (rest later)
     pub are : AreHome contents ((front_index later, front_bytes contents later) ∷ []) me.1 (rest later) out left
 
-  module _ (contents : B → List ℕ) (IsSame : B → B → Type 0) (buffers : List B) (v : Known) (others : List ℕ) (i : ℕ) (b : B) (xs : List (ℕ × Slot B)) where
+  module _ (contents : B → List ℕ) (IsSame : B → B → Type 0) (buffers : List B) (v : Known) (others : List ℕ) (i : ℕ) (b : B) (xs : List (ℕ × SlotStanding B)) where
     -- the slot has its buffer, and those that are left are these
-    leaves_with : (slot : Slot B) (out left : List (ℕ × B)) → MayLeave IsSame buffers (v, (i, slot) ∷ xs) (others ++ i ∷ []) out → IsAsGiven IsSame buffers i b
+    leaves_with : (slot : SlotStanding B) (out left : List (ℕ × B)) → MayLeave IsSame buffers (v, (i, slot) ∷ xs) (others ++ i ∷ []) out → IsAsGiven IsSame buffers i b
         → AllOutGiven IsSame buffers left
         → ((j : ℕ) → times j (indices_of left) + times_lifted j ((i, slot) ∷ xs) ≡ times j (indices_of out) + times_lifted j xs)
         → ((x : B) → slot ≡ full_slot x → b ≡ x) → ((o : ℕ × B) → Contains out o → Contains left o ⊎ ((i, b) ≡ o))
@@ -198,8 +198,8 @@ module _ {B : Type 0} where
                     λ j x has.
                     elim (contained_cases (i, slot) (j, full_slot x) xs has) [
                       | inl first ↦
-                          let index : i ≡ j = ap (λ (p : ℕ × Slot B). p.0) first in
-                          let bytes = ap contents (same x (ap (λ (p : ℕ × Slot B). p.1) first)) in
+                          let index : i ≡ j = ap (λ (p : ℕ × SlotStanding B). p.0) first in
+                          let bytes = ap contents (same x (ap (λ (p : ℕ × SlotStanding B). p.1) first)) in
                           inr (0, omega arith, ap (λ (k : ℕ). (k, contents b)) index ∙ ap (λ (w : List ℕ). (j, w)) bytes)
                       | inr there ↦ inl there
                     ];
@@ -221,36 +221,36 @@ module _ {B : Type 0} where
         )
 
   -- the first slot goes home
-  pub leaves : (contents : B → List ℕ) (IsSame : B → B → Type 0) (buffers : List B) (me : Me (Slot B) Known) (hand others : List ℕ) (i : ℕ)
-      (out : List (ℕ × B)) (later : List (ℕ × Slot B)) (left : List (ℕ × B)) → hand ≡ others ++ i ∷ [] → MayLeave IsSame buffers me hand out
+  pub leaves : (contents : B → List ℕ) (IsSame : B → B → Type 0) (buffers : List B) (me : Me (SlotStanding B) Known) (hand others : List ℕ) (i : ℕ)
+      (out : List (ℕ × B)) (later : List (ℕ × SlotStanding B)) (left : List (ℕ × B)) → hand ≡ others ++ i ∷ [] → MayLeave IsSame buffers me hand out
       → IsLaidBack i me.1 out later left → Leaves contents IsSame buffers me others i out later left
   leaves contents IsSame buffers me hand others i out later left took held l =
       let may = subst (λ (indices : List ℕ). MayLeave IsSame buffers me indices out) took held in
-      subst (λ (ys : List (ℕ × Slot B)). Leaves contents IsSame buffers me others i out ys left) (sym l.laid)
+      subst (λ (ys : List (ℕ × SlotStanding B)). Leaves contents IsSame buffers me others i out ys left) (sym l.laid)
       (elim l.was [
         | inl was ↦
-            let full : Slot B = record { buffer = Some l.buffer } in
-            let mine = subst (λ (ys : List (ℕ × Slot B)). MayLeave IsSame buffers (me.0, ys) (others ++ i ∷ []) out) was.0 may in
+            let full : SlotStanding B = record { buffer = Some l.buffer } in
+            let mine = subst (λ (ys : List (ℕ × SlotStanding B)). MayLeave IsSame buffers (me.0, ys) (others ++ i ∷ []) out) was.0 may in
             let there = leaves_with contents IsSame buffers me.0 others i l.buffer l.others full out left mine (mine.given.0 l.buffer refl)
             (subst (λ (o : List (ℕ × B)). AllOutGiven IsSame buffers o) (sym was.1) mine.out_given)
             (λ j. let same : times j (indices_of left) ≡ times j (indices_of out) = ap (λ (o : List (ℕ × B)). times j (indices_of o)) was.1 in omega arith)
-            (λ x same. some_same l.buffer x (ap (λ (t : Slot B). t.buffer) same))
+            (λ x same. some_same l.buffer x (ap (λ (t : SlotStanding B). t.buffer) same))
             (λ o has. inl (subst (λ (os : List (ℕ × B)). Contains os o) (sym was.1) has)) in
-            subst (λ (ys : List (ℕ × Slot B)). Leaves contents IsSame buffers (me.0, ys) others i out ((i, full) ∷ l.others) left) (sym was.0) there
+            subst (λ (ys : List (ℕ × SlotStanding B)). Leaves contents IsSame buffers (me.0, ys) others i out ((i, full) ∷ l.others) left) (sym was.0) there
         | inr was ↦
-            let full : Slot B = record { buffer = Some l.buffer } in
-            let empty : Slot B = record { buffer = None } in
-            let mine = subst (λ (ys : List (ℕ × Slot B)). MayLeave IsSame buffers (me.0, ys) (others ++ i ∷ []) out) was.0 may in
+            let full : SlotStanding B = record { buffer = Some l.buffer } in
+            let empty : SlotStanding B = record { buffer = None } in
+            let mine = subst (λ (ys : List (ℕ × SlotStanding B)). MayLeave IsSame buffers (me.0, ys) (others ++ i ∷ []) out) was.0 may in
             let both = left_given contents IsSame buffers me.0 others i l.buffer l.others out left was.1 mine.out_given in
             let there = leaves_with contents IsSame buffers me.0 others i l.buffer l.others empty out left mine both.0 both.1
             (λ j. let same = times-permuted j out ((i, l.buffer) ∷ left) was.1 in omega arith)
-            (λ x same. absurd (none_some x (ap (λ (t : Slot B). t.buffer) same)))
+            (λ x same. absurd (none_some x (ap (λ (t : SlotStanding B). t.buffer) same)))
             (λ o has.
             elim (contained_cases (i, l.buffer) o left (Contains-permutation out ((i, l.buffer) ∷ left) o was.1 has)) [
               | inl it ↦ inr it
               | inr still ↦ inl still
             ]) in
-            subst (λ (ys : List (ℕ × Slot B)). Leaves contents IsSame buffers (me.0, ys) others i out ((i, full) ∷ l.others) left) (sym was.0) there
+            subst (λ (ys : List (ℕ × SlotStanding B)). Leaves contents IsSame buffers (me.0, ys) others i out ((i, full) ∷ l.others) left) (sym was.0) there
       ])
     where
       some_same : (a b : B) → Some a ≡ Some b → a ≡ b
@@ -260,7 +260,7 @@ module _ {B : Type 0} where
       none_some a e = cc
 
 module _ {B : Type 0} where
-  pub in_order_none : (slots : List (ℕ × Slot B)) → [] ≡ in_order slots → slots ≡ []
+  pub in_order_none : (slots : List (ℕ × SlotStanding B)) → [] ≡ in_order slots → slots ≡ []
   in_order_none [] e = refl
   in_order_none (x ∷ xs) e = absurd (never (in_order xs) x.0 e)
     where
@@ -269,14 +269,14 @@ module _ {B : Type 0} where
       never (y ∷ ys) a e = cc
 
   -- a slot is emptied, and has its buffer again
-  pub laid_back : (i : ℕ) (slots mid later : List (ℕ × Slot B)) (result : Slot B) (b : B) (out left : List (ℕ × B)) → slots ≡ (i, result) ∷ rest slots
+  pub laid_back : (i : ℕ) (slots mid later : List (ℕ × SlotStanding B)) (result : SlotStanding B) (b : B) (out left : List (ℕ × B)) → slots ≡ (i, result) ∷ rest slots
       → mid ≡ (i, record { buffer = None }) ∷ rest slots → later ≡ (i, record { buffer = Some b }) ∷ rest mid
       → ((result.buffer ≡ Some b) × (left ≡ out)) ⊎ ((result.buffer ≡ None) × IsPermutation out ((i, b) ∷ left)) → IsLaidBack i slots out later left
   laid_back i slots mid later result b out left at_first emptied filled was =
       record {
         buffer = b;
         others = rest slots;
-        laid = filled ∙ ap (λ (ys : List (ℕ × Slot B)). (i, record { buffer = Some b }) ∷ rest ys) emptied;
+        laid = filled ∙ ap (λ (ys : List (ℕ × SlotStanding B)). (i, record { buffer = Some b }) ∷ rest ys) emptied;
         was =
             elim was [
               | inl full ↦ inl (at_first ∙ ap (λ (o : Option B). (i, record { buffer = o }) ∷ rest slots) full.0, full.1)
@@ -285,13 +285,13 @@ module _ {B : Type 0} where
       }
 
   -- the seat after its first slot has gone home
-  pub record GoneOn (contents : B → List ℕ) (IsSame : B → B → Type 0) (buffers : List B) (me : Me (Slot B) Known) (others : List ℕ) (out : List (ℕ × B))
-      (next : Me (Slot B) Known) (left : List (ℕ × B)) : Type 0 where
+  pub record GoneOn (contents : B → List ℕ) (IsSame : B → B → Type 0) (buffers : List B) (me : Me (SlotStanding B) Known) (others : List ℕ) (out : List (ℕ × B))
+      (next : Me (SlotStanding B) Known) (left : List (ℕ × B)) : Type 0 where
     pub may : MayLeave IsSame buffers next others left
     pub went : WentHome contents me out next left
     pub less : (j : ℕ) → times j (indices_of left) + times_lifted j me.1 ≡ times j (indices_of out) + times_lifted j next.1
 
-  pub goes_on : (contents : B → List ℕ) (IsSame : B → B → Type 0) (buffers : List B) (me laid next : Me (Slot B) Known) (others : List ℕ) (i : ℕ)
+  pub goes_on : (contents : B → List ℕ) (IsSame : B → B → Type 0) (buffers : List B) (me laid next : Me (SlotStanding B) Known) (others : List ℕ) (i : ℕ)
       (out left : List (ℕ × B)) → Leaves contents IsSame buffers me others i out laid.1 left → laid.0 ≡ me.0
       → next ≡ (at_home ((front_index laid.1, front_bytes contents laid.1) ∷ []) laid.0, rest laid.1) → GoneOn contents IsSame buffers me others out next left
   goes_on contents IsSame buffers me laid next others i out left l view gone =
@@ -299,10 +299,10 @@ module _ {B : Type 0} where
       let here : GoneOn contents IsSame buffers me others out (at_home front me.0, rest laid.1) left =
       record { may = l.may; went = record { gone = front; view = refl; are = l.are }; less = l.out_less } in
       let there : (at_home front me.0, rest laid.1) ≡ next = ap (λ (v : Known). (at_home front v, rest laid.1)) (sym view) ∙ sym gone in
-      subst (λ (n : Me (Slot B) Known). GoneOn contents IsSame buffers me others out n left) there here
+      subst (λ (n : Me (SlotStanding B) Known). GoneOn contents IsSame buffers me others out n left) there here
 
   -- no index is left
-  pub none_left : (IsSame : B → B → Type 0) (buffers : List B) (me : Me (Slot B) Known) (indices : List ℕ) (out : List (ℕ × B))
+  pub none_left : (IsSame : B → B → Type 0) (buffers : List B) (me : Me (SlotStanding B) Known) (indices : List ℕ) (out : List (ℕ × B))
       → MayLeave IsSame buffers me indices out → length indices ≡ 0 → me.1 ≡ []
   none_left IsSame buffers me indices out may none = in_order_none me.1 (sym (no_items indices none) ∙ may.order)
     where

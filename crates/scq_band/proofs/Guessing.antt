@@ -16,7 +16,7 @@ use Rattle.scq_core.specs.declared.phase.Phase.TheVariants.{AtE2, AtE4}
 use Rattle.scq_core.specs.declared.step.Step.TheVariants.{E2, E4}
 use Rattle.scq_core.specs.Exports.{location_of}
 use Rattle.scq_band.specs.declared.rule.Key.{Key}
-use Rattle.scq_band.specs.declared.slot.Slot.{Slot}
+use Rattle.scq_band.specs.Slots.{SlotStanding}
 use Rattle.scq_band.specs.Exports.{LiesIn, opening_of, GoesOn}
 use Rattle.scq_band.specs.Exports.{at, Sight, Went, known_me, ShowsRun, Fronts, Turned, my_phase, IsAlone, goes_to}
 use Rattle.scq_band.specs.Guesses.{Guesses, CarriesGuess, Guessed}
@@ -27,7 +27,7 @@ use Rattle.scq_band.proofs.Placing.{hit, hit_slots}
 use Rattle.scq_band.proofs.RunShown.{moves, went_on}
 
 -- what an exchange from a guess tells of the seat that made it
-abbrev pub TellsOfGuess : {B : Type 0} → (B → List ℕ) → (B → B → Type 0) → Key B → ℕ → Me (Slot B) Sight → Me (Slot B) Sight → ℕ → Me (Slot B) Sight → Type 0
+abbrev pub TellsOfGuess : {B : Type 0} → (B → List ℕ) → (B → B → Type 0) → Key B → ℕ → Me (SlotStanding B) Sight → Me (SlotStanding B) Sight → ℕ → Me (SlotStanding B) Sight → Type 0
 TellsOfGuess contents IsSame key guess first me x later =
     Guessed (LiesIn contents IsSame key.given.value.items) key.setup (my_phase first.0.known) guess (known_me me) x (known_me later)
     × Went key.setup (opening_of contents key.given.value.items) me.0 later.0

@@ -15,7 +15,7 @@ use Rattle.scq_core.specs.declared.phase.Phase.TheVariants.{Idle}
 use Rattle.scq_core.specs.declared.step.Step.{Step}
 use Rattle.scq_law.specs.Exports.{times, IsRecordAfter}
 use Rattle.scq_band.specs.declared.numbers.Numbers.{Numbers}
-use Rattle.scq_band.specs.declared.slot.Slot.{Slot}
+use Rattle.scq_band.specs.Slots.{SlotStanding}
 use Rattle.scq_band.specs.declared.rule.Key.{Key}
 use Rattle.scq_band.specs.Exports.{known_of, changed, finishes, sees, passes, drew, empties, RisesInHead, Member, at, IsLocation, Sight, StandsAfter}
 use Rattle.scq_band.specs.Exports.{Went, Looked, retired_ones, WasShownRun, HasFound, Seen, Caller, EndsWith, IsCallInRun, WasEmptyInRun}
@@ -111,7 +111,7 @@ max_above a b =
 
 module _ {B : Type 0} (IsSame : B → B → Type 0) where
   -- after a put of the first index
-  pub kept_put : (key : Key B) (me' : Me (Slot B) Known) (v : Known) (i : ℕ) (x : Slot B) (others : List (ℕ × Slot B)) (later popped : List ℕ) (room room' : ℕ)
+  pub kept_put : (key : Key B) (me' : Me (SlotStanding B) Known) (v : Known) (i : ℕ) (x : SlotStanding B) (others : List (ℕ × SlotStanding B)) (later popped : List ℕ) (room room' : ℕ)
       (numbers numbers' : List Numbers) (spent : Option ℕ) (r p : ℕ) (w : List ℕ)
       → IsKept IsSame key (v, (i, x) ∷ others) later room numbers spent → popped ≡ in_order others → room' ≡ room
       → numbers' ≡ changed (finishes p) r v.numbers → p < 2 ^ 60 → me' ≡ (put_at r i p w v, others)
@@ -121,7 +121,7 @@ module _ {B : Type 0} (IsSame : B → B → Type 0) where
       λ j. ap (times j) kept.order ∙ times-append j (in_order others) (i ∷ []) ∙ ap (λ n. n + times j (i ∷ [])) (ap (times j) (sym order)) in
       let one : times i (i ∷ []) ≡ 1 = rw (eq-eqb i i refl) refl in
       let hand = (my v).part.hand in
-      subst (λ (m : Me (Slot B) Known). IsKept IsSame key m popped room' numbers' spent) (sym now) (
+      subst (λ (m : Me (SlotStanding B) Known). IsKept IsSame key m popped room' numbers' spent) (sym now) (
       record {
         alone = record { seats = refl; out = kept.alone.out };
         idle = refl;
@@ -163,14 +163,14 @@ module _ {B : Type 0} (IsSame : B → B → Type 0) where
       })
 
   -- after a call that left the hand as it was
-  pub kept_still : (key : Key B) (me' : Me (Slot B) Known) (v u : Known) (ms : List (ℕ × Slot B)) (later : List ℕ) (room room' : ℕ)
+  pub kept_still : (key : Key B) (me' : Me (SlotStanding B) Known) (v u : Known) (ms : List (ℕ × SlotStanding B)) (later : List ℕ) (room room' : ℕ)
       (numbers numbers' : List Numbers)
       (spent spent' : Option ℕ)
       → IsKept IsSame key (v, ms) later room numbers spent → room' ≡ room → IsAlone u → (my u).part.phase ≡ Idle → (my u).part.hand ≡ (my v).part.hand
       → numbers' ≡ u.numbers → length numbers' ≡ length numbers → AreSmall numbers' → spent' ≡ (my u).part.spent → me' ≡ (u, ms)
       → IsKept IsSame key me' later room' numbers' spent'
   kept_still key me' v u ms later room room' numbers numbers' spent spent' kept space alone idle hand new long small keeps now =
-      subst (λ (m : Me (Slot B) Known). IsKept IsSame key m later room' numbers' spent') (sym now) (
+      subst (λ (m : Me (SlotStanding B) Known). IsKept IsSame key m later room' numbers' spent') (sym now) (
       record {
         alone = alone;
         idle = idle;
@@ -189,9 +189,9 @@ module _ {B : Type 0} (IsSame : B → B → Type 0) where
 
 module _ {B : Type 0} where
   -- what contracts see of a seat after a put
-  pub put_standing : (contents : B → List ℕ) (IsSame : B → B → Type 0) (fs gs : Seen) (table later : TableId) (key : Key B) (me me' : Me (Slot B) Known)
+  pub put_standing : (contents : B → List ℕ) (IsSame : B → B → Type 0) (fs gs : Seen) (table later : TableId) (key : Key B) (me me' : Me (SlotStanding B) Known)
       (v : Known)
-      (ms : List (ℕ × Slot B)) (given : List B) (i : ℕ) (buffer : B) (s : Standing B) (r p : ℕ)
+      (ms : List (ℕ × SlotStanding B)) (given : List B) (i : ℕ) (buffer : B) (s : Standing B) (r p : ℕ)
       → standing_from fs table key me ≡ s → later ≡ table → v ≡ me.0 → in_hand s.hand i ≡ Some (Some buffer) → Brought IsSame me given ms i (Some buffer)
       → me'.0 ≡ put_at r i p (front_bytes contents ms) v → me'.1 ≡ rest ms
       → standing_from gs later key me' ≡ having_seen gs (seat_after_put r i p (bytes_in_hand contents s.hand i) s)
@@ -202,37 +202,37 @@ module _ {B : Type 0} where
       let w = bytes_in_hand contents s.hand i in
       let now : me' ≡ (put_at r i p w me.0, b.others) =
       ap (λ (u : Known). (u, me'.1)) (put ∙ ap (λ (l : List ℕ). put_at r i p l v) bytes ∙ ap (put_at r i p w) view)
-      ∙ ap (λ (l : List (ℕ × Slot B)). (put_at r i p w me.0, l)) (home ∙ others) in
+      ∙ ap (λ (l : List (ℕ × SlotStanding B)). (put_at r i p w me.0, l)) (home ∙ others) in
       ap (standing_from gs later key) now ∙ ap (λ t. standing_from gs t key (put_at r i p w me.0, b.others)) same
       ∙ ap (λ (h : List (ℕ × Option B)). record (having_seen gs (seat_after_put r i p w (standing_from fs table key me))) { hand = h })
       (put_hand me.1 ms b.others i b.slot b.same b.is (my me.0).part.hand)
       ∙ ap (λ (t : Standing B). having_seen gs (seat_after_put r i p w t)) is
 
-  pub turned_hand : (slots ms : List (ℕ × Slot B)) → ((j : ℕ) → buffer_in ms j ≡ buffer_in slots j) → (hand : List ℕ) → hand_of ms hand ≡ hand_of slots hand
+  pub turned_hand : (slots ms : List (ℕ × SlotStanding B)) → ((j : ℕ) → buffer_in ms j ≡ buffer_in slots j) → (hand : List ℕ) → hand_of ms hand ≡ hand_of slots hand
   turned_hand slots ms same [] = refl
   turned_hand slots ms same (j ∷ js) =
       ap (λ (o : Option B). (j, o) ∷ hand_of ms js) (same j) ∙ ap (λ (l : List (ℕ × Option B)). (j, buffer_in slots j) ∷ l) (turned_hand slots ms same js)
 
   -- what contracts see of a seat whose put drew a ticket at or past the limit
-  pub spent_standing : (fs gs : Seen) (table later : TableId) (key : Key B) (me me' : Me (Slot B) Known) (v : Known)
-      (ms : List (ℕ × Slot B)) (s : Standing B) (r t : ℕ)
+  pub spent_standing : (fs gs : Seen) (table later : TableId) (key : Key B) (me me' : Me (SlotStanding B) Known) (v : Known)
+      (ms : List (ℕ × SlotStanding B)) (s : Standing B) (r t : ℕ)
       → standing_from fs table key me ≡ s → later ≡ table → v ≡ me.0 → ((j : ℕ) → buffer_in ms j ≡ buffer_in me.1 j)
       → me'.0 ≡ spent_at r t true v → me'.1 ≡ ms
       → standing_from gs later key me' ≡ having_seen gs (seat_after_spent_put r t s)
   spent_standing fs gs table later key me me' v ms s r t is same view buffers spent slots =
       let now : me' ≡ (spent_at r t true me.0, ms) = ap (λ (u : Known). (u, me'.1)) (spent ∙ ap (spent_at r t true) view)
-      ∙ ap (λ (l : List (ℕ × Slot B)). (spent_at r t true me.0, l)) slots in
+      ∙ ap (λ (l : List (ℕ × SlotStanding B)). (spent_at r t true me.0, l)) slots in
       ap (standing_from gs later key) now ∙ ap (λ z. standing_from gs z key (spent_at r t true me.0, ms)) same
       ∙ ap (λ (h : List (ℕ × Option B)). record (having_seen gs (seat_after_spent_put r t (standing_from fs table key me))) { hand = h })
       (turned_hand me.1 ms buffers (my me.0).part.hand)
       ∙ ap (λ (z : Standing B). having_seen gs (seat_after_spent_put r t z)) is
 
   -- the slot in front has the buffer that its index was given
-  pub seen : (contents : B → List ℕ) (IsSame : B → B → Type 0) (me : Me (Slot B) Known) (ms : List (ℕ × Slot B)) (given all : List B) (i : ℕ) (buffer : B)
+  pub seen : (contents : B → List ℕ) (IsSame : B → B → Type 0) (me : Me (SlotStanding B) Known) (ms : List (ℕ × SlotStanding B)) (given all : List B) (i : ℕ) (buffer : B)
       → Brought IsSame me given ms i (Some buffer) → given ≡ all → Fronts (LiesIn contents IsSame all) i (front_bytes contents ms) ms
   seen contents IsSame me ms given all i buffer b same =
       let it = b.given_so buffer b.has in
-      subst (λ (l : List (ℕ × Slot B)). Fronts (LiesIn contents IsSame all) i (front_bytes contents l) l) (sym b.is) (
+      subst (λ (l : List (ℕ × SlotStanding B)). Fronts (LiesIn contents IsSame all) i (front_bytes contents l) l) (sym b.is) (
         refl,
         record {
           first = it.first;
@@ -246,7 +246,7 @@ module _ {B : Type 0} where
 
 module _ {B : Type 0} (contents : B → List ℕ) (IsSame : B → B → Type 0) where
   -- after a get
-  pub kept_got : (key : Key B) (me me' : Me (Slot B) Known) (indices later : List ℕ) (room room' : ℕ) (numbers numbers' : List Numbers) (spent : Option ℕ)
+  pub kept_got : (key : Key B) (me me' : Me (SlotStanding B) Known) (indices later : List ℕ) (room room' : ℕ) (numbers numbers' : List Numbers) (spent : Option ℕ)
       (r h i : ℕ)
       → IsKept IsSame key me indices room numbers spent → HasGotAfter (LiesIn contents IsSame key.given.value.items) key.setup r h i me me'
       → later ≡ indices ++ i ∷ [] → room' ≡ room → numbers' ≡ changed (λ x. sees h (passes (h + 1) x)) r numbers
@@ -292,7 +292,7 @@ module _ {B : Type 0} (contents : B → List ℕ) (IsSame : B → B → Type 0) 
         small = subst AreSmall (sym new) (small_changed (λ x. sees h (passes (h + 1) x)) r numbers (λ y small. (small.0, let up = max_above y.seen h in omega (arith, small, up))) kept.small);
         spent = kept.spent ∙ ap (λ (u : Known). (my u).part.spent) (sym view);
         given =
-            subst (λ (l : List (ℕ × Slot B)). AllGiven IsSame key.given.value.items l) (sym come) (
+            subst (λ (l : List (ℕ × SlotStanding B)). AllGiven IsSame key.given.value.items l) (sym come) (
               (λ b is.
                   let lies = got.slots.lies in
                   let same : lies.buffer ≡ b = cc in
@@ -302,7 +302,7 @@ module _ {B : Type 0} (contents : B → List ℕ) (IsSame : B → B → Type 0) 
       }
 
   -- an index that is not in the hand
-  in_hand-none : (slots : List (ℕ × Slot B)) (hand : List ℕ) (i : ℕ) → times i hand ≡ 0 → in_hand (hand_of slots hand) i ≡ None
+  in_hand-none : (slots : List (ℕ × SlotStanding B)) (hand : List ℕ) (i : ℕ) → times i hand ≡ 0 → in_hand (hand_of slots hand) i ≡ None
   in_hand-none slots [] i none = refl
   in_hand-none slots (x ∷ xs) i none =
       elim (cases_eq x i) [
@@ -313,7 +313,7 @@ module _ {B : Type 0} (contents : B → List ℕ) (IsSame : B → B → Type 0) 
       ]
 
   -- a slot that comes leaves every other index its buffer
-  come_hand : (slots : List (ℕ × Slot B)) (i : ℕ) (x : Slot B) (hand : List ℕ) → times i hand ≡ 0
+  come_hand : (slots : List (ℕ × SlotStanding B)) (i : ℕ) (x : SlotStanding B) (hand : List ℕ) → times i hand ≡ 0
       → hand_of ((i, x) ∷ slots) (hand ++ i ∷ []) ≡ hand_of slots hand ++ (i, x.buffer) ∷ []
   come_hand slots i x [] none = rw (eq-eqb i i refl) refl
   come_hand slots i x (j ∷ js) none =
@@ -326,7 +326,7 @@ module _ {B : Type 0} (contents : B → List ℕ) (IsSame : B → B → Type 0) 
       ]
 
   -- what contracts see of a seat after a get
-  pub got_standing : (fs gs : Seen) (table later : TableId) (key : Key B) (me me' : Me (Slot B) Known) (s : Standing B) (r h i : ℕ)
+  pub got_standing : (fs gs : Seen) (table later : TableId) (key : Key B) (me me' : Me (SlotStanding B) Known) (s : Standing B) (r h i : ℕ)
       → standing_from fs table key me ≡ s → later ≡ table → HasGotAfter (LiesIn contents IsSame key.given.value.items) key.setup r h i me me'
       → SeatHasTaken contents IsSame r h i s (standing_from gs later key me')
   got_standing fs gs table later key me me' s r h i is same gets =
@@ -348,7 +348,7 @@ module _ {B : Type 0} (contents : B → List ℕ) (IsSame : B → B → Type 0) 
         given = record { first = lies.first; was = lies.was; same = lies.same };
         seat =
             ap (standing_from gs later key) (ap (λ (u : Known). (u, me'.1)) got.view
-            ∙ ap (λ (l : List (ℕ × Slot B)). (got_at r h i w (drew_head r h me.0), l)) got.slots.come)
+            ∙ ap (λ (l : List (ℕ × SlotStanding B)). (got_at r h i w (drew_head r h me.0), l)) got.slots.come)
             ∙ ap (λ t. standing_from gs t key (got_at r h i w (drew_head r h me.0), (i, x) ∷ me.1)) same
             ∙ ap (λ (l : List (ℕ × Option B)). record (standing_from gs table key (got_at r h i w (drew_head r h me.0), (i, x) ∷ me.1)) { hand = l })
             (come_hand me.1 i x hand none ∙ ap (λ (o : Option B). hand_of me.1 hand ++ (i, o) ∷ []) lies.laid)
@@ -406,7 +406,7 @@ if_drawn P None holds = tt
 if_drawn P (Some t) holds = holds t refl
 
 module _ {B : Type 0} (IsSame : B → B → Type 0) where
-  pub kept_none : (key : Key B) (me me' : Me (Slot B) Known) (indices : List ℕ) (room : ℕ) (numbers numbers' : List Numbers) (spent : Option ℕ) (r : ℕ)
+  pub kept_none : (key : Key B) (me me' : Me (SlotStanding B) Known) (indices : List ℕ) (room : ℕ) (numbers numbers' : List Numbers) (spent : Option ℕ) (r : ℕ)
       (drawn : Option ℕ)
       → IsKept IsSame key me indices room numbers spent → me'.0 ≡ none_at r drawn me.0 → me'.1 ≡ me.1
       → numbers' ≡ changed (λ x. empties (drew drawn x)) r numbers
@@ -416,18 +416,18 @@ module _ {B : Type 0} (IsSame : B → B → Type 0) where
       kept_still IsSame key me' me.0 (none_at r drawn me.0) me.1 indices room room numbers numbers' spent spent kept refl
       (record { seats = refl; out = kept.alone.out }) refl refl (new ∙ ap (changed f r) kept.numbers) (ap length new ∙ length-set numbers r _)
       (subst AreSmall (sym new) (small_changed f r numbers (none_small drawn) kept.small)) kept.spent
-      (ap (λ (u : Known). (u, me'.1)) none ∙ ap (λ (l : List (ℕ × Slot B)). (none_at r drawn me.0, l)) same)
+      (ap (λ (u : Known). (u, me'.1)) none ∙ ap (λ (l : List (ℕ × SlotStanding B)). (none_at r drawn me.0, l)) same)
 
-  pub none_standing : (fs gs : Seen) (table later : TableId) (key : Key B) (me me' : Me (Slot B) Known) (s : Standing B) (r : ℕ) (drawn : Option ℕ)
+  pub none_standing : (fs gs : Seen) (table later : TableId) (key : Key B) (me me' : Me (SlotStanding B) Known) (s : Standing B) (r : ℕ) (drawn : Option ℕ)
       → standing_from fs table key me ≡ s → later ≡ table → me'.0 ≡ none_at r drawn me.0 → me'.1 ≡ me.1
       → standing_from gs later key me' ≡ having_seen gs (seat_after_nothing r drawn s)
   none_standing fs gs table later key me me' s r drawn is same none slots =
-      ap (standing_from gs later key) (ap (λ (u : Known). (u, me'.1)) none ∙ ap (λ (l : List (ℕ × Slot B)). (none_at r drawn me.0, l)) slots)
+      ap (standing_from gs later key) (ap (λ (u : Known). (u, me'.1)) none ∙ ap (λ (l : List (ℕ × SlotStanding B)). (none_at r drawn me.0, l)) slots)
       ∙ ap (λ t. standing_from gs t key (none_at r drawn me.0, me.1)) same ∙ ap (λ (z : Standing B). having_seen gs (seat_after_nothing r drawn z)) is
 
 module _ {B : Type 0} (IsSame : B → B → Type 0) where
   -- after a get that drew a ticket at or past the limit
-  pub kept_spent_get : (key : Key B) (c : Setup) (me me' : Me (Slot B) Known) (indices : List ℕ) (room : ℕ) (numbers numbers' : List Numbers) (spent : Option ℕ)
+  pub kept_spent_get : (key : Key B) (c : Setup) (me me' : Me (SlotStanding B) Known) (indices : List ℕ) (room : ℕ) (numbers numbers' : List Numbers) (spent : Option ℕ)
       (r t : ℕ) → IsKept IsSame key me indices room numbers spent → HasSpentGet c r t me me' → numbers' ≡ changed (passes (t + 1)) r numbers
       → IsKept IsSame key me' indices room numbers' (Some t)
   kept_spent_get key c me me' indices room numbers numbers' spent r t kept drew new =
@@ -435,13 +435,13 @@ module _ {B : Type 0} (IsSame : B → B → Type 0) where
       kept_still IsSame key me' me.0 (drawn_spent r t me.0) me.1 indices room room numbers numbers' spent (Some t) kept refl
       (record { seats = refl; out = kept.alone.out }) refl refl (new ∙ ap (changed f r) kept.numbers) (ap length new ∙ length-set numbers r _)
       (subst AreSmall (sym new) (small_changed f r numbers (λ x small. small) kept.small)) refl
-      (ap (λ (u : Known). (u, me'.1)) drew.view ∙ ap (λ (l : List (ℕ × Slot B)). (drawn_spent r t me.0, l)) drew.slots)
+      (ap (λ (u : Known). (u, me'.1)) drew.view ∙ ap (λ (l : List (ℕ × SlotStanding B)). (drawn_spent r t me.0, l)) drew.slots)
 
-  pub spent_get_standing : (fs gs : Seen) (table later : TableId) (key : Key B) (c : Setup) (me me' : Me (Slot B) Known) (s : Standing B) (r t : ℕ)
+  pub spent_get_standing : (fs gs : Seen) (table later : TableId) (key : Key B) (c : Setup) (me me' : Me (SlotStanding B) Known) (s : Standing B) (r t : ℕ)
       → standing_from fs table key me ≡ s → later ≡ table → HasSpentGet c r t me me'
       → standing_from gs later key me' ≡ having_seen gs (seat_after_spent_get r t s)
   spent_get_standing fs gs table later key c me me' s r t is same drew =
-      ap (standing_from gs later key) (ap (λ (u : Known). (u, me'.1)) drew.view ∙ ap (λ (l : List (ℕ × Slot B)). (drawn_spent r t me.0, l)) drew.slots)
+      ap (standing_from gs later key) (ap (λ (u : Known). (u, me'.1)) drew.view ∙ ap (λ (l : List (ℕ × SlotStanding B)). (drawn_spent r t me.0, l)) drew.slots)
       ∙ ap (λ z. standing_from gs z key (drawn_spent r t me.0, me.1)) same ∙ ap (λ (z : Standing B). having_seen gs (seat_after_spent_get r t z)) is
 
 -- a seat that rests after a run, with the part that its view has
@@ -458,7 +458,7 @@ rests_after c opening run x number stands rests same =
 
 module _ {B : Type 0} where
   -- a call in the run, as contracts see it
-  pub call_in_run : (opening : List (List ℕ)) (table later : TableId) (key : Key B) (me me' : Me (Slot B) Sight) → Went key.setup opening me.0 me'.0
+  pub call_in_run : (opening : List (List ℕ)) (table later : TableId) (key : Key B) (me me' : Me (SlotStanding B) Sight) → Went key.setup opening me.0 me'.0
       → (my me.0.known).part.phase ≡ Idle → (my me'.0.known).part.phase ≡ Idle → (my me'.0.known).number ≡ (my me.0.known).number
       → IsCallInRun key.setup opening (caller_of (standing_of table key me)) (caller_of (standing_of later key me'))
   call_in_run opening table later key me me' went rested rests same =
@@ -483,7 +483,7 @@ module _ {B : Type 0} where
 
   -- the same, of the seat and the band as contracts see them
   pub call_seen : (contents : B → List ℕ) (table later shared_table : TableId) (key shared : Key B) (self : Identity B) (s : Standing B)
-      (me me' : Me (Slot B) Sight) → standing_of table key me ≡ s → s.band ≡ self → identity_of shared_table shared ≡ self
+      (me me' : Me (SlotStanding B) Sight) → standing_of table key me ≡ s → s.band ≡ self → identity_of shared_table shared ≡ self
       → Went shared.setup (opening_of contents shared.given.value.items) me.0 me'.0 → (my me.0.known).part.phase ≡ Idle
       → {v : Known} → me'.0.known ≡ v → (my v).part.phase ≡ Idle → (my v).number ≡ (my me.0.known).number
       → IsCallInRun self.setup (opening_of contents self.given) (caller_of s) (caller_of (standing_of later key me'))
@@ -499,7 +499,7 @@ module _ {B : Type 0} where
 
   -- a get that found nothing, in the run
   pub empty_seen : (contents : B → List ℕ) (table later shared_table : TableId) (key shared : Key B) (self : Identity B) (s : Standing B)
-      (me me' : Me (Slot B) Sight) (r head : ℕ) → standing_of table key me ≡ s → s.band ≡ self → identity_of shared_table shared ≡ self
+      (me me' : Me (SlotStanding B) Sight) (r head : ℕ) → standing_of table key me ≡ s → s.band ≡ self → identity_of shared_table shared ≡ self
       → Went shared.setup (opening_of contents shared.given.value.items) me.0 me'.0
       → (my me.0.known).part.phase ≡ Idle → (my me'.0.known).part.phase ≡ Idle → (my me'.0.known).number ≡ (my me.0.known).number
       → r < length me'.0.known.numbers → head ≡ (known_of me'.0.known.numbers r).head
@@ -529,7 +529,7 @@ module _ {B : Type 0} where
 
   -- a reading of the gate in the run
   pub reading_seen : (contents : B → List ℕ) (table later shared_table : TableId) (key shared : Key B) (self : Identity B) (s : Standing B)
-      (me me' : Me (Slot B) Sight) (found : ℕ) → standing_of table key me ≡ s → s.band ≡ self → identity_of shared_table shared ≡ self
+      (me me' : Me (SlotStanding B) Sight) (found : ℕ) → standing_of table key me ≡ s → s.band ≡ self → identity_of shared_table shared ≡ self
       → IsAlone me.0.known → (my me.0.known).part.phase ≡ Idle → me'.0.known ≡ looked found me.0.known
       → Looked shared.setup (opening_of contents shared.given.value.items) me.0 me'.0 found
       → IsReadingInRun self.setup (opening_of contents self.given) s.retired (caller_of s) (caller_of (standing_of later key me')) found
@@ -575,7 +575,7 @@ module _ {B : Type 0} where
 
 module _ {B : Type 0} where
   -- the run that was shown to a seat is a moment of the seat's
-  moment_of : (opening : List (List ℕ)) (table later : TableId) (key : Key B) (me me' : Me (Slot B) Sight) → IsAlone me.0.known
+  moment_of : (opening : List (List ℕ)) (table later : TableId) (key : Key B) (me me' : Me (SlotStanding B) Sight) → IsAlone me.0.known
       → (my me.0.known).part.phase ≡ Idle → me'.0.known ≡ me.0.known → WasShownRun key.setup opening me.0 me'.0
       → IsMomentInRun key.setup opening (caller_of (standing_of table key me)) (caller_of (standing_of later key me'))
   moment_of opening table later key me me' alone rests same its =
@@ -596,7 +596,7 @@ module _ {B : Type 0} where
 
   -- the same, as contracts see the seat and the band
   pub moment_seen : (contents : B → List ℕ) (table later shared_table : TableId) (key shared : Key B) (self : Identity B) (s : Standing B)
-      (me me' : Me (Slot B) Sight) → standing_of table key me ≡ s → s.band ≡ self → identity_of shared_table shared ≡ self
+      (me me' : Me (SlotStanding B) Sight) → standing_of table key me ≡ s → s.band ≡ self → identity_of shared_table shared ≡ self
       → IsAlone me.0.known → (my me.0.known).part.phase ≡ Idle → me'.0.known ≡ me.0.known
       → WasShownRun shared.setup (opening_of contents shared.given.value.items) me.0 me'.0
       → IsMomentInRun self.setup (opening_of contents self.given) (caller_of s) (caller_of (standing_of later key me'))
@@ -611,7 +611,7 @@ module _ {B : Type 0} where
 
   -- and what was found there
   pub found_seen : (contents : B → List ℕ) (table later shared_table : TableId) (key shared : Key B) (self : Identity B) (s : Standing B)
-      (me me' : Me (Slot B) Sight) (word n : ℕ) → standing_of table key me ≡ s → s.band ≡ self → identity_of shared_table shared ≡ self
+      (me me' : Me (SlotStanding B) Sight) (word n : ℕ) → standing_of table key me ≡ s → s.band ≡ self → identity_of shared_table shared ≡ self
       → IsAlone me.0.known → (my me.0.known).part.phase ≡ Idle → me'.0.known ≡ me.0.known
       → HasFound shared.setup (opening_of contents shared.given.value.items) word n me.0 me'.0
       → (l : Location) → IsLocation self.setup l → word ≡ at self.setup l

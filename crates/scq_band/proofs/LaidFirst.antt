@@ -9,7 +9,7 @@ use Rattle.scq_core.specs.declared.phase.Phase.TheVariants.{Idle}
 use Rattle.scq_core.specs.Exports.{holds_index}
 use Rattle.scq_law.specs.Exports.{times}
 use Rattle.scq_band.specs.declared.numbers.Numbers.{Numbers}
-use Rattle.scq_band.specs.declared.slot.Slot.{Slot}
+use Rattle.scq_band.specs.Slots.{SlotStanding}
 use Rattle.scq_band.specs.declared.rule.Key.{Key}
 use Rattle.scq_band.specs.Exports.{LiesIn, opening_of, known_of, changed, finishes, IsCallInRun, Sight, Went, known_in, known_me, my, front_index}
 use Rattle.scq_band.specs.Exports.{front_bytes, put_at, spent_at, HasPut, HasSpentPut, Fronts, Identity, in_hand, bytes_in_hand, with_buffer}
@@ -24,14 +24,14 @@ use Rattle.scq_band.proofs.Putting.{laid_there, laid_brought, lifted_again}
 
 module _ {B : Type 0} where
   -- the ring of a call is one of those that the seat knows of
-  pub ring_there : {table : TableId} {s : Standing B} {self : Identity B} {r : ℕ} (key : Key B) (me : Me (Slot B) Sight) (numbers : List Numbers)
+  pub ring_there : {table : TableId} {s : Standing B} {self : Identity B} {r : ℕ} (key : Key B) (me : Me (SlotStanding B) Sight) (numbers : List Numbers)
       → standing_of table key me ≡ s → s.band ≡ self → length numbers ≡ key.setup.rings → r < self.setup.rings → r < length numbers
   ring_there {self = self} key me numbers is own many low =
       let same : key.setup.rings ≡ self.setup.rings = ap (λ (t : Standing B). t.band.setup.rings) is ∙ ap (λ (b : Identity B). b.setup.rings) own in
       omega (arith, many, low, same)
 
   -- the seat's band is the one that the call is made of
-  pub one_band : {table shared_table : TableId} {s : Standing B} {self : Identity B} (key shared : Key B) (me : Me (Slot B) Sight) → standing_of table key me ≡ s
+  pub one_band : {table shared_table : TableId} {s : Standing B} {self : Identity B} (key shared : Key B) (me : Me (SlotStanding B) Sight) → standing_of table key me ≡ s
       → s.band ≡ self → identity_of shared_table shared ≡ self → identity_of table key ≡ identity_of shared_table shared
   one_band key shared me is own shared_is = ap (λ (t : Standing B). t.band) is ∙ own ∙ sym shared_is
 
@@ -44,7 +44,7 @@ known_so P ns numbers r n same is low all =
 module _ {B : Type 0} (IsSame : B → B → Type 0) where
   -- the slot of an index that is in the hand, once it was turned to the front
   pub came_first : {key : Key B} {table : TableId} {hand : List ℕ} {room : ℕ} {numbers : List Numbers} {spent : Option ℕ} {i : ℕ} {o : Option B}
-      {s : Standing B} (me : Me (Slot B) Sight) (ms : List (ℕ × Slot B)) → IsKept IsSame key (known_me me) hand room numbers spent
+      {s : Standing B} (me : Me (SlotStanding B) Sight) (ms : List (ℕ × SlotStanding B)) → IsKept IsSame key (known_me me) hand room numbers spent
       → standing_of table key me ≡ s → IsRotation me.1 ms → front_index ms ≡ i → in_hand s.hand i ≡ Some o
       → Brought IsSame (known_me me) key.given.value.items ms i o
   came_first {key} {table} {hand} {room} {numbers} {spent} {i} {o} {s} me ms kept is turned first has =
@@ -52,25 +52,25 @@ module _ {B : Type 0} (IsSame : B → B → Type 0) where
 
   -- and before
   pub held_there : {key : Key B} {table : TableId} {hand : List ℕ} {room : ℕ} {numbers : List Numbers} {spent : Option ℕ} {o : Option B}
-      {s : Standing B} (i : ℕ) (me : Me (Slot B) Sight) → IsKept IsSame key (known_me me) hand room numbers spent → standing_of table key me ≡ s
+      {s : Standing B} (i : ℕ) (me : Me (SlotStanding B) Sight) → IsKept IsSame key (known_me me) hand room numbers spent → standing_of table key me ≡ s
       → in_hand s.hand i ≡ Some o → 0 < times i hand
   held_there {key} {table} {hand} {room} {numbers} {spent} {o} {s} i me kept is has =
       held IsSame key (known_me me) hand room numbers spent i o kept (ap (λ (t : Standing B). in_hand t.hand i) is ∙ has)
 
   -- a seat that keeps no ticket has none for its callers
   pub keeps_none : {key : Key B} {table : TableId} {hand : List ℕ} {room : ℕ} {numbers : List Numbers} {spent : Option ℕ} {s : Standing B} {t : ℕ}
-      (me : Me (Slot B) Sight) → IsKept IsSame key (known_me me) hand room numbers spent → standing_of table key me ≡ s → spent ≡ None → s.spent ≡ Some t
+      (me : Me (SlotStanding B) Sight) → IsKept IsSame key (known_me me) hand room numbers spent → standing_of table key me ≡ s → spent ≡ None → s.spent ≡ Some t
       → {A : Type 0} → A
   keeps_none {t = t} me kept is none has =
       let never : ◌≡◌ {A = Option ℕ} None (Some t) = sym none ∙ kept.spent ∙ ap (λ (u : Standing B). u.spent) is ∙ has in
       absurd (cc)
 
   -- it is the slot of the index, with what the hand has of it
-  pub front_slot : {me : Me (Slot B) Known} {given : List B} {ms : List (ℕ × Slot B)} {i : ℕ} {o : Option B} → Brought IsSame me given ms i o
-      → (slot : Slot B) × (ms ≡ (i, slot) ∷ rest ms) × (slot.buffer ≡ o)
-  front_slot {i = i} b = (b.slot, b.is ∙ ap (λ (os : List (ℕ × Slot B)). (i, b.slot) ∷ os) (sym (ap rest b.is)), b.has)
+  pub front_slot : {me : Me (SlotStanding B) Known} {given : List B} {ms : List (ℕ × SlotStanding B)} {i : ℕ} {o : Option B} → Brought IsSame me given ms i o
+      → (slot : SlotStanding B) × (ms ≡ (i, slot) ∷ rest ms) × (slot.buffer ≡ o)
+  front_slot {i = i} b = (b.slot, b.is ∙ ap (λ (os : List (ℕ × SlotStanding B)). (i, b.slot) ∷ os) (sym (ap rest b.is)), b.has)
 
-  pub record LaidFirst (key : Key B) (table : TableId) (me : Me (Slot B) Sight) (hand : List ℕ) (room : ℕ) (numbers : List Numbers) (spent : Option ℕ)
+  pub record LaidFirst (key : Key B) (table : TableId) (me : Me (SlotStanding B) Sight) (hand : List ℕ) (room : ℕ) (numbers : List Numbers) (spent : Option ℕ)
       (i : ℕ) (buffer : B) (s : Standing B) : Type 0 where
     pub kept : IsKept IsSame key (known_me me) hand room numbers spent
     pub front : Brought IsSame (known_me me) key.given.value.items me.1 i (Some buffer)
@@ -79,7 +79,7 @@ module _ {B : Type 0} (IsSame : B → B → Type 0) where
 
   -- it is so once the slot was turned to the front
   pub turned_first : {key : Key B} {table later : TableId} {hand hand' : List ℕ} {room room' : ℕ} {numbers : List Numbers} {spent : Option ℕ} {i : ℕ}
-      {buffer : B} {s : Standing B} (me me' : Me (Slot B) Sight) → IsKept IsSame key (known_me me) hand room numbers spent → standing_of table key me ≡ s
+      {buffer : B} {s : Standing B} (me me' : Me (SlotStanding B) Sight) → IsKept IsSame key (known_me me) hand room numbers spent → standing_of table key me ≡ s
       → later ≡ table → me'.0 ≡ me.0 → IsRotation me.1 me'.1 → front_index me'.1 ≡ i → hand' ≡ in_order me'.1 → room' ≡ room
       → in_hand s.hand i ≡ Some (Some buffer) → LaidFirst key later me' hand' room' numbers spent i buffer s
   turned_first {key} {table} {later} {hand} {hand'} {room} {room'} {numbers} {spent} {i} {buffer} {s} me me' kept is same view turned first order space has =
@@ -95,7 +95,7 @@ module _ {B : Type 0} (IsSame : B → B → Type 0) where
 
   -- what the seat keeps, and is, once the buffer in that slot was exchanged
   pub lent_first : {key : Key B} {table mid later : TableId} {hand hand' : List ℕ} {room room' : ℕ} {numbers : List Numbers} {spent : Option ℕ} {i : ℕ}
-      {o : Option B} {s : Standing B} (me one me' : Me (Slot B) Sight) (y : Slot B) → IsKept IsSame key (known_me me) hand room numbers spent
+      {o : Option B} {s : Standing B} (me one me' : Me (SlotStanding B) Sight) (y : SlotStanding B) → IsKept IsSame key (known_me me) hand room numbers spent
       → standing_of table key me ≡ s → mid ≡ table → later ≡ mid → one.0 ≡ me.0 → IsRotation me.1 one.1 → front_index one.1 ≡ i → hand' ≡ in_order one.1
       → room' ≡ room → in_hand s.hand i ≡ Some o → ((b : B) → y.buffer ≡ Some b → IsAsGiven IsSame s.band.given i b) → me' ≡ (one.0, (i, y) ∷ rest one.1)
       → IsKept IsSame key (known_me me') hand' room' numbers spent
@@ -110,25 +110,25 @@ module _ {B : Type 0} (IsSame : B → B → Type 0) where
         kept_lent IsSame key (known_me me) (known_me me') one.0.known one.1 hand hand' room room' numbers spent i o y kept (ap known_in view) turned order
             space b as_given known,
         lent_standing IsSame me.0.seen me'.0.seen table later key (known_me me) (known_me me') one.0.known one.1 key.given.value.items i o y s is
-            (ap (λ (m : Me (Slot B) Sight). m.0.seen) laid ∙ ap (λ (v : Sight). v.seen) view) (again ∙ same) (ap known_in view) b known,
+            (ap (λ (m : Me (SlotStanding B) Sight). m.0.seen) laid ∙ ap (λ (v : Sight). v.seen) view) (again ∙ same) (ap known_in view) b known,
       )
 
   -- it is so too once a buffer was laid in the slot, which had none
   pub laid_first : {key : Key B} {table mid later : TableId} {hand hand' : List ℕ} {room room' : ℕ} {numbers : List Numbers} {spent : Option ℕ} {i : ℕ}
-      {buffer : B} {s : Standing B} (me one me' : Me (Slot B) Sight) → IsKept IsSame key (known_me me) hand room numbers spent → standing_of table key me ≡ s
+      {buffer : B} {s : Standing B} (me one me' : Me (SlotStanding B) Sight) → IsKept IsSame key (known_me me) hand room numbers spent → standing_of table key me ≡ s
       → mid ≡ table → later ≡ mid → one.0 ≡ me.0 → IsRotation me.1 one.1 → front_index one.1 ≡ i → hand' ≡ in_order one.1 → room' ≡ room
       → in_hand s.hand i ≡ Some None → IsAsGiven IsSame s.band.given i buffer → me' ≡ (one.0, (i, record { buffer = Some buffer }) ∷ rest one.1)
       → LaidFirst key later me' hand' room' numbers spent i buffer (record s { hand = with_buffer i (Some buffer) s.hand })
   laid_first {key} {table} {mid} {later} {hand} {hand'} {room} {room'} {numbers} {spent} {i} {buffer} {s} me one me' kept is same again view turned first
       order space has given laid =
-      let y : Slot B = record { buffer = Some buffer } in
+      let y : SlotStanding B = record { buffer = Some buffer } in
       let lent = lent_first me one me' y kept is same again view turned first order space has
       (λ x its. let it : buffer ≡ x = cc in subst (λ (z : B). IsAsGiven IsSame s.band.given i z) it given) laid in
       let its : key.given.value.items ≡ s.band.given = ap (λ (t : Standing B). t.band.given) is in
       record {
         kept = lent.0;
         front =
-            laid_brought IsSame key.given.value.items (known_me me') (rest one.1) i buffer (ap (λ (m : Me (Slot B) Sight). m.1) laid)
+            laid_brought IsSame key.given.value.items (known_me me') (rest one.1) i buffer (ap (λ (m : Me (SlotStanding B) Sight). m.1) laid)
             (subst (λ (bs : List B). IsAsGiven IsSame bs i buffer) (sym its) given);
         stands = lent.1;
         there = laid_there s.hand i None (Some buffer) has;
@@ -136,7 +136,7 @@ module _ {B : Type 0} (IsSame : B → B → Type 0) where
 
   -- what the seat keeps, and is, where a put drew a ticket at or past the limit and the slots were turned
   pub refused_first : {key : Key B} {table later : TableId} {hand hand' : List ℕ} {room room' : ℕ} {numbers : List Numbers} {spent : Option ℕ} {i : ℕ}
-      {o : Option B} {s : Standing B} (me one me' : Me (Slot B) Sight) (r t : ℕ) → IsKept IsSame key (known_me me) hand room numbers spent
+      {o : Option B} {s : Standing B} (me one me' : Me (SlotStanding B) Sight) (r t : ℕ) → IsKept IsSame key (known_me me) hand room numbers spent
       → standing_of table key me ≡ s → later ≡ table → one.0 ≡ me.0 → IsRotation me.1 one.1 → front_index one.1 ≡ i → hand' ≡ in_order one.1
       → room' ≡ room → in_hand s.hand i ≡ Some o → me'.0.known ≡ spent_at r t true one.0.known → me'.1 ≡ one.1
       → IsKept IsSame key (known_me me') hand' room' numbers (Some t)
@@ -148,13 +148,13 @@ module _ {B : Type 0} (IsSame : B → B → Type 0) where
       let so = kept_turned IsSame key (known_me me) one.0.known one.1 hand hand' room room' numbers spent kept (ap known_in view) turned order space in (
         kept_still IsSame key (known_me me') one.0.known u one.1 hand' room' room' numbers numbers spent (Some t) so refl
             (record { seats = refl; out = so.alone.out }) refl refl so.numbers refl so.small refl
-            (ap (λ (k : Known). (k, me'.1)) drew ∙ ap (λ (l : List (ℕ × Slot B)). (u, l)) slots),
+            (ap (λ (k : Known). (k, me'.1)) drew ∙ ap (λ (l : List (ℕ × SlotStanding B)). (u, l)) slots),
         spent_standing me.0.seen me'.0.seen table later key (known_me me) (known_me me') one.0.known one.1 s r t is same (ap known_in view) b.same drew slots,
       )
 
   -- the same, where a buffer had been laid and was lifted again
   pub refused_laid : {key : Key B} {table last : TableId} {hand hand' : List ℕ} {room room' : ℕ} {numbers : List Numbers} {spent : Option ℕ}
-      {i : ℕ} {buffer : B} {s : Standing B} (me one laid drawn me' : Me (Slot B) Sight) (c : Setup) (r t : ℕ)
+      {i : ℕ} {buffer : B} {s : Standing B} (me one laid drawn me' : Me (SlotStanding B) Sight) (c : Setup) (r t : ℕ)
       → IsKept IsSame key (known_me me) hand room numbers spent → standing_of table key me ≡ s → last ≡ table → one.0 ≡ me.0 → IsRotation me.1 one.1
       → front_index one.1 ≡ i → hand' ≡ in_order one.1 → room' ≡ room → in_hand s.hand i ≡ Some None
       → laid ≡ (one.0, (i, record { buffer = Some buffer }) ∷ rest one.1) → HasSpentPut c r t (known_me laid) (known_me drawn)
@@ -163,14 +163,14 @@ module _ {B : Type 0} (IsSame : B → B → Type 0) where
       × (standing_of last key me' ≡ having_seen me'.0.seen (seat_after_spent_put r t s))
   refused_laid {key} {i = i} {buffer = buffer} me one laid drawn me' c r t kept is same view turned first order space has as_laid refused lifted =
       let b = came_first me one.1 kept is turned first has in
-      let front = ap (λ (m : Me (Slot B) Sight). m.1) as_laid in
-      let again = ap (λ (os : List (ℕ × Slot B)). (i, record { buffer = None }) ∷ os) (ap rest (refused.slots ∙ front))
+      let front = ap (λ (m : Me (SlotStanding B) Sight). m.1) as_laid in
+      let again = ap (λ (os : List (ℕ × SlotStanding B)). (i, record { buffer = None }) ∷ os) (ap rest (refused.slots ∙ front))
       ∙ lifted_again IsSame (known_me me) key.given.value.items one.1 i b in
       refused_first me one me' r t kept is same view turned first order space has
-      (ap (λ (m : Me (Slot B) Sight). m.0.known) lifted ∙ refused.view ∙ ap (λ (m : Me (Slot B) Sight). spent_at r t true m.0.known) as_laid)
-      (ap (λ (m : Me (Slot B) Sight). m.1) lifted ∙ again)
+      (ap (λ (m : Me (SlotStanding B) Sight). m.0.known) lifted ∙ refused.view ∙ ap (λ (m : Me (SlotStanding B) Sight). spent_at r t true m.0.known) as_laid)
+      (ap (λ (m : Me (SlotStanding B) Sight). m.1) lifted ∙ again)
 
-module _ {B : Type 0} {IsSame : B → B → Type 0} {key : Key B} {table : TableId} {me : Me (Slot B) Sight} {hand : List ℕ} {room : ℕ}
+module _ {B : Type 0} {IsSame : B → B → Type 0} {key : Key B} {table : TableId} {me : Me (SlotStanding B) Sight} {hand : List ℕ} {room : ℕ}
     {numbers : List Numbers} {spent : Option ℕ} {i : ℕ} {buffer : B} {s : Standing B}
     (laid : LaidFirst IsSame key table me hand room numbers spent i buffer s) where
   -- the seat is idle, and has the index
@@ -188,7 +188,7 @@ module _ {B : Type 0} {IsSame : B → B → Type 0} {key : Key B} {table : Table
   pub laid_some : 0 < length hand
   laid_some = some_in_order me.1 i laid.front.slot laid.front.others laid.front.is hand laid.kept.order
 
-module _ {B : Type 0} (contents : B → List ℕ) {IsSame : B → B → Type 0} {key : Key B} {table : TableId} {me : Me (Slot B) Sight} {hand : List ℕ} {room : ℕ}
+module _ {B : Type 0} (contents : B → List ℕ) {IsSame : B → B → Type 0} {key : Key B} {table : TableId} {me : Me (SlotStanding B) Sight} {hand : List ℕ} {room : ℕ}
     {numbers : List Numbers} {spent : Option ℕ} {i : ℕ} {buffer : B} {s : Standing B}
     (laid : LaidFirst IsSame key table me hand room numbers spent i buffer s) where
   -- the slot in front has its buffer
@@ -199,12 +199,12 @@ module _ {B : Type 0} (contents : B → List ℕ) {IsSame : B → B → Type 0} 
       (ap (λ (b : Identity B). b.given) (one_band key shared me laid.stands own shared_is))
 
   -- the place is above what the seat knew of Tail
-  pub laid_above : {c : Setup} {n r p : ℕ} (me' : Me (Slot B) Sight) → HasPut contents c n i p (known_me me) (known_me me') → n ≡ r → r < length numbers
+  pub laid_above : {c : Setup} {n r p : ℕ} (me' : Me (SlotStanding B) Sight) → HasPut contents c n i p (known_me me) (known_me me') → n ≡ r → r < length numbers
       → (known_of numbers r).seen < p
   laid_above {c} {n} {r} {p} me' put is low =
       known_so (λ x. x.seen < p) numbers me.0.known.numbers r n laid.kept.numbers is low put.above
 
-  pub laid_place : {shared_table : TableId} {self : Identity B} {n r p : ℕ} (shared : Key B) (me' : Me (Slot B) Sight)
+  pub laid_place : {shared_table : TableId} {self : Identity B} {n r p : ℕ} (shared : Key B) (me' : Me (SlotStanding B) Sight)
       → HasPut contents shared.setup n i p (known_me me) (known_me me') → n ≡ r → r < length numbers → identity_of shared_table shared ≡ self
       → (p < self.setup.limit) × ((known_of s.numbers r).seen < p)
   laid_place {r = r} {p = p} shared me' put is low shared_is = (
@@ -214,28 +214,28 @@ module _ {B : Type 0} (contents : B → List ℕ) {IsSame : B → B → Type 0} 
   )
 
   -- what the seat keeps, and is, once the index was put
-  pub laid_kept : {c : Setup} {n r p : ℕ} {popped : List ℕ} {room' : ℕ} {numbers' : List Numbers} (me' : Me (Slot B) Sight)
+  pub laid_kept : {c : Setup} {n r p : ℕ} {popped : List ℕ} {room' : ℕ} {numbers' : List Numbers} (me' : Me (SlotStanding B) Sight)
       → HasPut contents c n i p (known_me me) (known_me me') → n ≡ r
       → ((others : List ℕ) (j : ℕ) → hand ≡ others ++ j ∷ [] → popped ≡ others) → room' ≡ room → numbers' ≡ changed (finishes p) r numbers
       → IsKept IsSame key (known_me me') popped room' numbers' spent
   laid_kept {c} {n} {r} {p} {popped} {room'} {numbers'} me' put is pops space new =
       let f = laid.front in
       let w = front_bytes contents me.1 in
-      let kept = subst (λ (l : List (ℕ × Slot B)). IsKept IsSame key (me.0.known, l) hand room numbers spent) f.is laid.kept in
+      let kept = subst (λ (l : List (ℕ × SlotStanding B)). IsKept IsSame key (me.0.known, l) hand room numbers spent) f.is laid.kept in
       let small : p < 2 ^ 60 = let low = put.low in let limit = c.limit_in_range in omega (arith, low, limit) in
       kept_put IsSame key (known_me me') me.0.known i f.slot f.others hand popped room room' numbers numbers' spent r p w kept
       (pops (in_order f.others) i (laid.kept.order ∙ ap in_order f.is)) space (new ∙ ap (changed (finishes p) r) laid.kept.numbers) small
       (ap (λ (u : Known). (u, me'.1)) (put.view ∙ ap (λ q. put_at q i p w me.0.known) is)
-      ∙ ap (λ (l : List (ℕ × Slot B)). (put_at r i p w me.0.known, l)) (put.slots ∙ ap rest f.is))
+      ∙ ap (λ (l : List (ℕ × SlotStanding B)). (put_at r i p w me.0.known, l)) (put.slots ∙ ap rest f.is))
 
-  pub laid_put : {c : Setup} {n r p : ℕ} {later : TableId} (me' : Me (Slot B) Sight) → HasPut contents c n i p (known_me me) (known_me me') → n ≡ r
+  pub laid_put : {c : Setup} {n r p : ℕ} {later : TableId} (me' : Me (SlotStanding B) Sight) → HasPut contents c n i p (known_me me) (known_me me') → n ≡ r
       → later ≡ table → standing_of later key me' ≡ having_seen me'.0.seen (seat_after_put r i p (bytes_in_hand contents s.hand i) s)
   laid_put {c} {n} {r} {p} {later} me' put is same =
       put_standing contents IsSame me.0.seen me'.0.seen table later key (known_me me) (known_me me') me.0.known me.1 key.given.value.items i buffer s r p
       laid.stands same refl laid.there laid.front (put.view ∙ ap (λ q. put_at q i p (front_bytes contents me.1) me.0.known) is) put.slots
 
   -- the call is one of the run
-  pub laid_call : {shared_table : TableId} {self : Identity B} (later : TableId) (shared : Key B) (me' : Me (Slot B) Sight) → s.band ≡ self
+  pub laid_call : {shared_table : TableId} {self : Identity B} (later : TableId) (shared : Key B) (me' : Me (SlotStanding B) Sight) → s.band ≡ self
       → identity_of shared_table shared ≡ self → Went shared.setup (opening_of contents shared.given.value.items) me.0 me'.0
       → {v : Known} → me'.0.known ≡ v → (my v).part.phase ≡ Idle → (my v).number ≡ (my me.0.known).number
       → IsCallInRun self.setup (opening_of contents self.given) (caller_of s) (caller_of (standing_of later key me'))

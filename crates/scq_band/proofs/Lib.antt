@@ -36,6 +36,7 @@ pub mod ClosedCounts
 pub mod LeftBuffers
 pub mod OutBuffers
 pub mod GoingHome
+pub mod Holes
 pub mod SeatsHome
 pub mod Gathering
 pub mod Unloading

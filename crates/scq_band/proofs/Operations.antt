@@ -11,18 +11,18 @@ use Rattle.scq_core.specs.declared.phase.Phase.{Phase}
 use Rattle.scq_core.specs.declared.phase.Phase.TheVariants.{AtE1, AtE2, AtE3, AtE4, AtE5, AtE6, AtD1, AtD2, AtD3, AtD4, AtD5, AtD6, AtD7, AtD8, AtD9, AtD10}
 use Rattle.scq_core.specs.Exports.{Cells, read, ring_slots, cycle, reset_level, passed, location_of, writes, WordsFit}
 use Rattle.scq_band.specs.declared.rule.Key.{Key}
-use Rattle.scq_band.specs.declared.slot.Slot.{Slot}
+use Rattle.scq_band.specs.Slots.{SlotStanding}
 use Rattle.scq_band.specs.Exports.{LiesIn, opening_of, Sight, Went, known_me, Carries, Turned, my_phase, OnlyReads, IsDraw, Exchanges, IsReset}
 use Rattle.scq_band.specs.Exports.{IsTakingTurn, IsCountDown}
 use Rattle.scq_band.specs.Known.{Known}
 
 -- what a step tells of the seat that made it, where its turn is this, or the seat's phase
-abbrev pub Tells : {B : Type 0} → (B → List ℕ) → (B → B → Type 0) → Key B → Phase → Me (Slot B) Sight → ℕ → Me (Slot B) Sight → Type 0
+abbrev pub Tells : {B : Type 0} → (B → List ℕ) → (B → B → Type 0) → Key B → Phase → Me (SlotStanding B) Sight → ℕ → Me (SlotStanding B) Sight → Type 0
 Tells contents IsSame key t me x later =
     Turned (LiesIn contents IsSame key.given.value.items) key.setup t (known_me me) x (known_me later)
     × Went key.setup (opening_of contents key.given.value.items) me.0 later.0
 
-abbrev pub TellsOfPhase : {B : Type 0} → (B → List ℕ) → (B → B → Type 0) → Key B → Me (Slot B) Sight → Me (Slot B) Sight → ℕ → Me (Slot B) Sight → Type 0
+abbrev pub TellsOfPhase : {B : Type 0} → (B → List ℕ) → (B → B → Type 0) → Key B → Me (SlotStanding B) Sight → Me (SlotStanding B) Sight → ℕ → Me (SlotStanding B) Sight → Type 0
 TellsOfPhase contents IsSame key first me x later = Tells contents IsSame key (my_phase first.0.known) me x later
 
 -- a turn that only reads writes what it found

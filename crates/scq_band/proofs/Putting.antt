@@ -4,7 +4,7 @@ use Rattle.std.specs.Prelude.{Some, None, Option}
 use Rattle.std.proofs.lemmas.Bool.{cases_eq}
 use Rattle.atomic_table.specs.Table.{Me, rest}
 use Rattle.scq_band.specs.Exports.{Seen, in_hand, laid_bytes, bytes_in_hand, with_buffer, without_index, having_seen, seat_after_put, IsAsGiven}
-use Rattle.scq_band.specs.declared.slot.Slot.{Slot}
+use Rattle.scq_band.specs.Slots.{SlotStanding}
 use Rattle.scq_band.specs.Known.{Known}
 use Rattle.scq_band.specs.Standing.{Standing}
 use Rattle.scq_band.proofs.Exchanging.{Brought}
@@ -41,7 +41,7 @@ module _ {B : Type 0} where
       ∙ ap (λ (h : List (ℕ × Option B)). having_seen gs (record (seat_after_put r i p (contents b) s) { hand = h })) (laid_gone s.hand i (Some b))
 
   -- the slot in which the buffer is laid stands first
-  pub laid_brought : (IsSame : B → B → Type 0) (given : List B) (me : Me (Slot B) Known) (others : List (ℕ × Slot B)) (i : ℕ) (b : B)
+  pub laid_brought : (IsSame : B → B → Type 0) (given : List B) (me : Me (SlotStanding B) Known) (others : List (ℕ × SlotStanding B)) (i : ℕ) (b : B)
       → me.1 ≡ (i, record { buffer = Some b }) ∷ others → IsAsGiven IsSame given i b → Brought IsSame me given me.1 i (Some b)
   laid_brought IsSame given me others i b is same =
       record {
@@ -54,8 +54,8 @@ module _ {B : Type 0} where
       }
 
   -- lifted again, it leaves the slots as they were
-  pub lifted_again : (IsSame : B → B → Type 0) (me : Me (Slot B) Known) (given : List B) (ms : List (ℕ × Slot B)) (i : ℕ) → Brought IsSame me given ms i None
+  pub lifted_again : (IsSame : B → B → Type 0) (me : Me (SlotStanding B) Known) (given : List B) (ms : List (ℕ × SlotStanding B)) (i : ℕ) → Brought IsSame me given ms i None
       → (i, record { buffer = None }) ∷ rest ms ≡ ms
   lifted_again IsSame me given ms i b =
-      ap (λ (l : List (ℕ × Slot B)). (i, record { buffer = None }) ∷ l) (ap rest b.is)
+      ap (λ (l : List (ℕ × SlotStanding B)). (i, record { buffer = None }) ∷ l) (ap rest b.is)
       ∙ ap (λ (o : Option B). (i, record { buffer = o }) ∷ b.others) (sym b.has) ∙ sym b.is

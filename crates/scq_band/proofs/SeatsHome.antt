@@ -8,10 +8,10 @@ use Rattle.atomic_table.specs.Table.{Me}
 use Rattle.scq_law.specs.Exports.{times}
 use Rattle.scq_band.specs.Exports.{Seen, raised_by, larger, Member, lower_gate, both_of, my, in_order, buffer_in, hand_of, standing_from, AllGiven}
 use Rattle.scq_band.specs.Exports.{IsKept, indices_of, lifted_of, full_slot, times_lifted, WentHome, OutOrHome, AllOutGiven, MayLeave, IsMemberOf}
-use Rattle.scq_band.specs.Exports.{AreMembersOf, HeadsKnown, GatesKnown, HasAll}
+use Rattle.scq_band.specs.Exports.{AreHoles, AreMembersOf, HeadsKnown, GatesKnown, HasAll}
 use Rattle.scq_band.specs.declared.numbers.Numbers.{Numbers}
 use Rattle.scq_band.specs.declared.rule.Key.{Key}
-use Rattle.scq_band.specs.declared.slot.Slot.{Slot}
+use Rattle.scq_band.specs.Slots.{SlotStanding}
 use Rattle.scq_band.specs.Known.{Known}
 use Rattle.scq_band.specs.Standing.{Standing}
 use Rattle.scq_band.proofs.GoingHome.{times-append, contains_behind, contained_cases, contains_none}
@@ -45,7 +45,7 @@ same_if false n l m k e left right = left ∙ e
 
 module _ {B : Type 0} where
   -- the order of the slots changes nothing of how often an index stands
-  times-in_order : (slots : List (ℕ × Slot B)) (i : ℕ) → times i (in_order slots) ≡ times i (indices_of slots)
+  times-in_order : (slots : List (ℕ × SlotStanding B)) (i : ℕ) → times i (in_order slots) ≡ times i (indices_of slots)
   times-in_order [] i = refl
   times-in_order (x ∷ xs) i =
       let rest = times-in_order xs i in
@@ -53,7 +53,7 @@ module _ {B : Type 0} where
       omega arith
 
   -- the slot in which the buffer of an index lies
-  slot_of_buffer : (slots : List (ℕ × Slot B)) (i : ℕ) (b : B) → buffer_in slots i ≡ Some b → Contains slots (i, full_slot b)
+  slot_of_buffer : (slots : List (ℕ × SlotStanding B)) (i : ℕ) (b : B) → buffer_in slots i ≡ Some b → Contains slots (i, full_slot b)
   slot_of_buffer [] i b is = absurd (cc)
   slot_of_buffer (x ∷ xs) i b is =
       elim (cases_eq x.0 i) [
@@ -66,7 +66,7 @@ module _ {B : Type 0} where
       ]
 
   -- a buffer that contracts see in a hand lies in a slot
-  slot_of_hand : (slots : List (ℕ × Slot B)) (hand : List ℕ) (i : ℕ) (b : B) → Contains (hand_of slots hand) (i, Some b) → Contains slots (i, full_slot b)
+  slot_of_hand : (slots : List (ℕ × SlotStanding B)) (hand : List ℕ) (i : ℕ) (b : B) → Contains (hand_of slots hand) (i, Some b) → Contains slots (i, full_slot b)
   slot_of_hand slots hand i b has =
       let image = contained_image (λ (j : ℕ). (j, buffer_in slots j)) hand (i, Some b) has in
       let index : image.0 ≡ i = ap (λ (p : ℕ × Option B). p.0) image.1 in
@@ -74,12 +74,12 @@ module _ {B : Type 0} where
       slot_of_buffer slots i b (ap (buffer_in slots) (sym index) ∙ buffer)
 
   -- the indices of a hand that contracts see
-  indices-hand_of : (slots : List (ℕ × Slot B)) (hand : List ℕ) → indices_of (hand_of slots hand) ≡ hand
+  indices-hand_of : (slots : List (ℕ × SlotStanding B)) (hand : List ℕ) → indices_of (hand_of slots hand) ≡ hand
   indices-hand_of slots [] = refl
   indices-hand_of slots (i ∷ hand) = ap (λ (l : List ℕ). i ∷ l) (indices-hand_of slots hand)
 
   -- how often an index of a hand is lifted
-  lifted-hand_of : (slots : List (ℕ × Slot B)) (hand : List ℕ) (i : ℕ)
+  lifted-hand_of : (slots : List (ℕ × SlotStanding B)) (hand : List ℕ) (i : ℕ)
       → times i (lifted_of (hand_of slots hand)) ≡ (if is_none (buffer_in slots i) then times i hand else 0)
   lifted-hand_of slots [] i = elim (cases_Bool (is_none (buffer_in slots i))) [ inl t ↦ rw t refl | inr f ↦ rw f refl ]
   lifted-hand_of slots (j ∷ hand) i =
@@ -101,14 +101,14 @@ module _ {B : Type 0} where
             ]
       ]
 
-  lifted_few : (slots : List (ℕ × Slot B)) (i : ℕ) → times_lifted i slots ≤ times i (indices_of slots)
+  lifted_few : (slots : List (ℕ × SlotStanding B)) (i : ℕ) → times_lifted i slots ≤ times i (indices_of slots)
   lifted_few [] i = omega arith
   lifted_few (x ∷ xs) i =
       let rest = lifted_few xs i in
       elim (cases_Bool (is_none x.1.buffer)) [ inl t ↦ rw t (omega (arith, rest)) | inr f ↦ rw f (omega (arith, rest)) ]
 
   -- how often an index is lifted, where each stands once
-  lifted_slots : (slots : List (ℕ × Slot B)) (i : ℕ) → times i (indices_of slots) ≤ 1
+  lifted_slots : (slots : List (ℕ × SlotStanding B)) (i : ℕ) → times i (indices_of slots) ≤ 1
       → times_lifted i slots ≡ (if is_none (buffer_in slots i) then times i (indices_of slots) else 0)
   lifted_slots [] i once = refl
   lifted_slots (x ∷ xs) i once =
@@ -133,7 +133,7 @@ module _ {B : Type 0} where
             ]
       ]
 
-  module _ (IsSame : B → B → Type 0) (key : Key B) (me : Me (Slot B) Known) (indices : List ℕ) (room : ℕ) (known : List Numbers) (spent : Option ℕ)
+  module _ (IsSame : B → B → Type 0) (key : Key B) (me : Me (SlotStanding B) Known) (indices : List ℕ) (room : ℕ) (known : List Numbers) (spent : Option ℕ)
       (kept : IsKept IsSame key me indices room known spent) where
     -- the indices of the slots are those of the hand
     times-hand : (i : ℕ) → times i (indices_of me.1) ≡ times i (my me.0).part.hand
@@ -146,6 +146,12 @@ module _ {B : Type 0} where
         let once : times i (indices_of me.1) ≤ 1 = let one = kept.once i in omega (arith, order, one) in
         lifted-hand_of me.1 (my me.0).part.hand i ∙ ap (λ (n : ℕ). if is_none (buffer_in me.1 i) then n else 0) (sym hand)
         ∙ sym (lifted_slots me.1 i once)
+
+    -- where each buffer of its hand is lifted its slots are holes
+    pub are_holes : ((i : ℕ) → times i (lifted_of (hand_of me.1 (my me.0).part.hand)) ≡ times i (indices_of (hand_of me.1 (my me.0).part.hand)))
+        → AreHoles me.1
+    are_holes lifted i =
+        sym (lifted_as i) ∙ lifted i ∙ ap (times i) (indices-hand_of me.1 (my me.0).part.hand) ∙ sym (times-hand i)
 
     -- the seat may go home
     pub may_leave : (buffers : List B) (out : List (ℕ × B)) → buffers ≡ key.given.value.items → AllOutGiven IsSame buffers out
@@ -166,7 +172,7 @@ module _ {B : Type 0} where
           lifted = λ i. let same = lifted_as i in let few = lifted i in omega (arith, same, few);
         }
 
-    module _ (contents : B → List ℕ) (out left : List (ℕ × B)) (next : Me (Slot B) Known) (went : WentHome contents me out next left) where
+    module _ (contents : B → List ℕ) (out left : List (ℕ × B)) (next : Me (SlotStanding B) Known) (went : WentHome contents me out next left) where
       -- the view that it leaves is of one seat, which has brought home just these
       pub leaves_alone : next.0.seats ≡ my next.0 ∷ []
       leaves_alone = ap (λ (v : Known). v.seats) went.view ∙ ap (λ (v : Known). my v ∷ []) (sym went.view)
@@ -190,7 +196,7 @@ module _ {B : Type 0} where
                 let part : times i (my next.0).part.hand ≡ times i (my me.0).part.hand = ap (λ (v : Known). times i (my v).part.hand) went.view in
                 let hand = times-hand i in
                 let all : indices_of went.gone ≡ indices_of me.1 =
-                sym (append-nil (indices_of went.gone)) ∙ ap (λ (ys : List (ℕ × Slot B)). indices_of went.gone ++ indices_of ys) (sym none)
+                sym (append-nil (indices_of went.gone)) ∙ ap (λ (ys : List (ℕ × SlotStanding B)). indices_of went.gone ++ indices_of ys) (sym none)
                 ∙ went.are.indices in
                 let same = ap (times i) all in
                 let there = contains_times went.gone i (omega (arith, part, hand, same, some)) in
@@ -198,7 +204,7 @@ module _ {B : Type 0} where
             laid =
                 λ i b has.
                 elim (went.are.laid i b (slot_of_hand me.1 (my me.0).part.hand i b has)) [
-                  | inl still ↦ absurd (contains_none (i, full_slot b) (subst (λ (ys : List (ℕ × Slot B)). Contains ys (i, full_slot b)) none still))
+                  | inl still ↦ absurd (contains_none (i, full_slot b) (subst (λ (ys : List (ℕ × SlotStanding B)). Contains ys (i, full_slot b)) none still))
                   | inr gone ↦ subst (λ (h : List (ℕ × List ℕ)). Contains h (i, contents b)) (sym has_brought) gone
                 ];
           }

@@ -3,7 +3,8 @@ use denote.RattleType.{RattleType}
 use denote.Enum.Enum.{Enum}
 use denote.Enum.Declared.{shape}
 use denote.Param.Send.{IsSend, sendable, recorded_send, enum_send, view_send}
-use denote.Param.SendFields.{declared_send}
+use denote.Param.SendFields.{as_row_send, declared_send}
+use denote.Struct.Field.{row_field}
 use Rattle.scq_word.specs.declared.buffer.Buffer.{Ghosts}
 use denote.Builtin.{u32, u64}
 use Rattle.std.proofs.Crossing as crossing
@@ -17,6 +18,7 @@ use Rattle.std.specs.contracts.snapshot.Snapshot as snapshot
 use Rattle.std.specs.contracts.option.Option as option
 use Rattle.atomic_table.proofs.shared.Seat.TheSendSync as token
 use Rattle.scq_band.specs.contracts.slot.Slot as slot
+use Rattle.scq_band.specs.contracts.slot.Slot.TheInside as slot_inside
 use Rattle.scq_band.specs.contracts.numbers.Numbers as numbers
 use Rattle.scq_band.specs.contracts.seat.Seat as seat
 use Rattle.scq_band.specs.contracts.seat.Seat.TheInside as inside
@@ -32,8 +34,8 @@ option_sent B sends =
     let T = option.the_type B in
     recorded_send (Enum (shape T)) T.D T.to T.to_one (enum_send (shape T) (tt, ((sends, tt), tt)))
 
-slot_sent : (B : RattleType) → IsSend B → IsSend (slot.the_row B)
-slot_sent B sends = declared_send (slot.the_type B) (option_sent B sends, tt)
+pub slot_sent : (B P : RattleType) (buffer : Ghosts B.Denot P.Denot) → IsSend P → IsSend (slot.the_row B P buffer)
+slot_sent B P buffer sends = view_send (slot_inside.the_row B P buffer) _ _ _ _ (declared_send (slot_inside.the_type B P buffer) (as_row_send (row_field P) sends, tt))
 
 -- a number may
 pub u32_sent : IsSend u32
@@ -50,10 +52,10 @@ pub vec_sent : (T : RattleType) → IsSend T → IsSend (vec.the_row T alloc.the
 vec_sent T sends = heaped.the_send T alloc.the_row ghosts sends heap.the_send crossing.frees
 
 -- what a seat keeps, and the seat
-inside_sent : (B : RattleType) (buffer : Ghosts B.Denot) → IsSend B → IsSend (inside.the_row B buffer)
-inside_sent B buffer sends =
-    declared_send (inside.the_type B buffer) (
-      token.the_send (slot.the_row B) view.the_row (slot_sent B sends),
+inside_sent : (B P : RattleType) (buffer : Ghosts B.Denot P.Denot) → IsSend P → IsSend (inside.the_row B P buffer)
+inside_sent B P buffer sends =
+    declared_send (inside.the_type B P buffer) (
+      token.the_send (slot.the_row B P buffer) view.the_row (slot_sent B P buffer sends),
       (
         snapshot_sent (key.the_row B),
         (
@@ -63,5 +65,5 @@ inside_sent B buffer sends =
       ),
     )
 
-pub seat_sent : (B : RattleType) (buffer : Ghosts B.Denot) → IsSend B → IsSend (seat.the_row B buffer)
-seat_sent B buffer sends = view_send (inside.the_row B buffer) _ _ _ _ (inside_sent B buffer sends)
+pub seat_sent : (B P : RattleType) (buffer : Ghosts B.Denot P.Denot) → IsSend P → IsSend (seat.the_row B P buffer)
+seat_sent B P buffer sends = view_send (inside.the_row B P buffer) _ _ _ _ (inside_sent B P buffer sends)

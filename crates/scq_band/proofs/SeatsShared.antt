@@ -3,8 +3,8 @@ use denote.RattleType.{RattleType}
 use denote.Enum.Enum.{Enum}
 use denote.Enum.Declared.{shape}
 use denote.Builtin.{u32, u64, usize}
-use denote.Param.Send.{IsSend, IsSync, sendable, recorded_send, recorded_sync, enum_send, enum_sync, view_sync, part_keyless}
-use denote.Param.SendFields.{declared_send, declared_sync}
+use denote.Param.Send.{IsSend, IsSync, sendable, recorded_sync, enum_sync, view_sync, part_keyless}
+use denote.Param.SendFields.{declared_sync}
 use Rattle.scq_word.specs.declared.buffer.Buffer.{Ghosts}
 use Rattle.scq_word.specs.contracts.setup.Setup as setup
 use Rattle.std.proofs.Crossing as crossing
@@ -25,6 +25,7 @@ use Rattle.scq_band.specs.contracts.rule.Rule as rule
 use Rattle.scq_band.specs.contracts.rule.RuleTableRuleSlotViewKey.TheImpl as rules
 use Rattle.scq_band.specs.contracts.slot.Slot as slot
 use Rattle.scq_band.specs.contracts.view.View as view
+use Rattle.scq_band.proofs.SeatsSent.{slot_sent}
 use Rattle.scq_band.specs.contracts.numbers.Numbers as numbers
 use Rattle.scq_band.specs.contracts.ring.Ring as ring
 use Rattle.scq_band.specs.contracts.seat.Seat as seat
@@ -44,18 +45,10 @@ usize_sync = search sendable
 pub vec_sync : (T : RattleType) → IsSync T → IsSync (vec.the_row T alloc.the_row ghosts)
 vec_sync T shares = heaped.the_sync T alloc.the_row ghosts shares heap.the_sync
 
-option_send : (B : RattleType) → IsSend B → IsSend (option.the_row B)
-option_send B sends =
-    let T = option.the_type B in
-    recorded_send (Enum (shape T)) T.D T.to T.to_one (enum_send (shape T) (tt, ((sends, tt), tt)))
-
 option_sync : (B : RattleType) → IsSync B → IsSync (option.the_row B)
 option_sync B shares =
     let T = option.the_type B in
     recorded_sync (Enum (shape T)) T.D T.to T.to_one (enum_sync (shape T) (tt, ((shares, tt), tt)))
-
-slot_send : (B : RattleType) → IsSend B → IsSend (slot.the_row B)
-slot_send B sends = declared_send (slot.the_type B) (option_send B sends, tt)
 
 numbers_sync : IsSync numbers.the_row
 numbers_sync = declared_sync numbers.the_type (u64_sync, (u64_sync, (u64_sync, tt)))
@@ -67,11 +60,11 @@ snapshot_sync Y = search (sendable, crossing.crosses)
 token_sync : (S V : RattleType) → IsSend S → IsSync (token_type.the_row S V)
 token_sync S V sends = record { shared = λ d b o ν q. part_keyless (token_type.the_row S V) (token.the_send S V sends) q d b o }
 
-pub seat_sync : (B : RattleType) (buffer : Ghosts B.Denot) → IsSend B → IsSync (seat.the_row B buffer)
-seat_sync B buffer sends =
-    view_sync (seat_inside.the_row B buffer) _ _ _ _
-    (declared_sync (seat_inside.the_type B buffer) (
-      token_sync (slot.the_row B) view.the_row (slot_send B sends),
+pub seat_sync : (B P : RattleType) (buffer : Ghosts B.Denot P.Denot) → IsSend P → IsSync (seat.the_row B P buffer)
+seat_sync B P buffer sends =
+    view_sync (seat_inside.the_row B P buffer) _ _ _ _
+    (declared_sync (seat_inside.the_type B P buffer) (
+      token_sync (slot.the_row B P buffer) view.the_row (slot_sent B P buffer sends),
       (
         snapshot_sync (key.the_row B),
         (
@@ -87,30 +80,30 @@ setup_sync = search (sendable, crossing.crosses) depth 20
 ring_sync : IsSync ring.the_row
 ring_sync = search (sendable, crossing.crosses) depth 20
 
-abbrev table_row : (B : RattleType) → Ghosts B.Denot → RattleType
-table_row B buffer =
-    table.the_row (slot.the_row B) view.the_row (key.the_row B) rule.the_row alloc.the_row (rules.ghosts B buffer rules.no_dict) ghosts
+abbrev table_row : (B P : RattleType) → Ghosts B.Denot P.Denot → RattleType
+table_row B P buffer =
+    table.the_row (slot.the_row B P buffer) view.the_row (key.the_row B) rule.the_row alloc.the_row (rules.ghosts B P buffer rules.no_dict) ghosts
 
-table_sync : (B : RattleType) (buffer : Ghosts B.Denot) → IsSend B → IsSync (table_row B buffer)
-table_sync B buffer sends =
-    declared_sync (table.the_type (slot.the_row B) view.the_row (key.the_row B) rule.the_row alloc.the_row (rules.ghosts B buffer rules.no_dict) ghosts) (
-      words.the_sync (slot.the_row B) view.the_row (key.the_row B) rule.the_row (rules.ghosts B buffer rules.no_dict) (slot_send B sends),
+table_sync : (B P : RattleType) (buffer : Ghosts B.Denot P.Denot) → IsSend P → IsSync (table_row B P buffer)
+table_sync B P buffer sends =
+    declared_sync (table.the_type (slot.the_row B P buffer) view.the_row (key.the_row B) rule.the_row alloc.the_row (rules.ghosts B P buffer rules.no_dict) ghosts) (
+      words.the_sync (slot.the_row B P buffer) view.the_row (key.the_row B) rule.the_row (rules.ghosts B P buffer rules.no_dict) (slot_sent B P buffer sends),
       (
         usize_sync,
         (
           usize_sync,
           (
             lease.the_sync u64 alloc.the_row ghosts heap.the_send crossing.frees,
-            (lease.the_sync (slot.the_row B) alloc.the_row ghosts heap.the_send crossing.frees, (heap.the_sync, tt)),
+            (lease.the_sync (slot.the_row B P buffer) alloc.the_row ghosts heap.the_send crossing.frees, (heap.the_sync, tt)),
           ),
         ),
       ),
     )
 
-pub band_sync : (B : RattleType) (buffer : Ghosts B.Denot) → IsSend B → IsSync B → IsSync (band.the_row B buffer)
-band_sync B buffer sends shares =
-    view_sync (band_inside.the_row B buffer) _ _ _ _
-    (declared_sync (band_inside.the_type B buffer) (
-      table_sync B buffer sends,
+pub band_sync : (B P : RattleType) (buffer : Ghosts B.Denot P.Denot) → IsSend P → IsSync B → IsSync (band.the_row B P buffer)
+band_sync B P buffer sends shares =
+    view_sync (band_inside.the_row B P buffer) _ _ _ _
+    (declared_sync (band_inside.the_type B P buffer) (
+      table_sync B P buffer sends,
       (setup_sync, (vec_sync ring.the_row ring_sync, (vec_sync B shares, (vec_sync u64 u64_sync, tt)))),
     ))

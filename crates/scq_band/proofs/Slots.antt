@@ -7,7 +7,7 @@ use Rattle.std.proofs.lemmas.List.{length-append, append_assoc, append-nil}
 use Rattle.atomic_table.specs.Table.{turned}
 use Rattle.scq_core.specs.Exports.{hand_without, holds_index}
 use Rattle.scq_law.specs.Exports.{times}
-use Rattle.scq_band.specs.declared.slot.Slot.{Slot}
+use Rattle.scq_band.specs.Slots.{SlotStanding}
 use Rattle.scq_band.specs.Exports.{front_index, in_hand, without_index, with_buffer, in_order, buffer_in, hand_of, AllGiven, IsRotation}
 
 pub times-append : (i : ℕ) (xs ys : List ℕ) → times i (xs ++ ys) ≡ times i xs + times i ys
@@ -194,10 +194,10 @@ module _ {S : Type 0} where
   fronted i (x ∷ xs) there first = record { slot = x.1; others = xs; is = ap (λ k. (k, x.1) ∷ xs) first }
 
 module _ {B : Type 0} where
-  buffer_left : (j : ℕ) (xs ys : List (ℕ × Slot B)) → times j (in_order ys) ≡ 0 → buffer_in (xs ++ ys) j ≡ buffer_in xs j
+  buffer_left : (j : ℕ) (xs ys : List (ℕ × SlotStanding B)) → times j (in_order ys) ≡ 0 → buffer_in (xs ++ ys) j ≡ buffer_in xs j
   buffer_left j [] ys none = nothing ys none
     where
-      nothing : (ys : List (ℕ × Slot B)) → times j (in_order ys) ≡ 0 → buffer_in ys j ≡ None
+      nothing : (ys : List (ℕ × SlotStanding B)) → times j (in_order ys) ≡ 0 → buffer_in ys j ≡ None
       nothing [] none = refl
       nothing (y ∷ ys) none =
           let both = times-append j (in_order ys) (y.0 ∷ []) in
@@ -209,7 +209,7 @@ module _ {B : Type 0} where
           ]
   buffer_left j (x ∷ xs) ys none = ap (λ b. if x.0 == j then x.1.buffer else b) (buffer_left j xs ys none)
 
-  buffer_right : (j : ℕ) (xs ys : List (ℕ × Slot B)) → times j (in_order xs) ≡ 0 → buffer_in (xs ++ ys) j ≡ buffer_in ys j
+  buffer_right : (j : ℕ) (xs ys : List (ℕ × SlotStanding B)) → times j (in_order xs) ≡ 0 → buffer_in (xs ++ ys) j ≡ buffer_in ys j
   buffer_right j [] ys none = refl
   buffer_right j (x ∷ xs) ys none =
       let both = times-append j (in_order xs) (x.0 ∷ []) in
@@ -221,39 +221,39 @@ module _ {B : Type 0} where
       ]
 
   -- a turn leaves each index its buffer
-  pub buffer-rotated : (j : ℕ) (slots ms : List (ℕ × Slot B)) → IsRotation slots ms → times j (in_order slots) ≤ 1 → buffer_in ms j ≡ buffer_in slots j
+  pub buffer-rotated : (j : ℕ) (slots ms : List (ℕ × SlotStanding B)) → IsRotation slots ms → times j (in_order slots) ≤ 1 → buffer_in ms j ≡ buffer_in slots j
   buffer-rotated j slots ms is once =
       let size = ap (times j) (ap in_order is.was ∙ in_order-append is.front is.behind) ∙ times-append j (in_order is.behind) (in_order is.front) in
-      ap (λ (l : List (ℕ × Slot B)). buffer_in l j) is.turned
+      ap (λ (l : List (ℕ × SlotStanding B)). buffer_in l j) is.turned
       ∙ elim (cases_eq (times j (in_order is.front)) 0) [
         | inl none ↦ buffer_left j is.behind is.front none ∙ sym (buffer_right j is.front is.behind none)
         | inr some ↦
             let none : times j (in_order is.behind) ≡ 0 = omega (arith, some, size, once) in
             buffer_right j is.behind is.front none ∙ sym (buffer_left j is.front is.behind none)
       ]
-      ∙ ap (λ (l : List (ℕ × Slot B)). buffer_in l j) (sym is.was)
+      ∙ ap (λ (l : List (ℕ × SlotStanding B)). buffer_in l j) (sym is.was)
 
   module _ (IsSame : B → B → Type 0) (given : List B) where
-    given_both : (xs ys : List (ℕ × Slot B)) → AllGiven IsSame given xs → AllGiven IsSame given ys → AllGiven IsSame given (xs ++ ys)
+    given_both : (xs ys : List (ℕ × SlotStanding B)) → AllGiven IsSame given xs → AllGiven IsSame given ys → AllGiven IsSame given (xs ++ ys)
     given_both [] ys one other = other
     given_both (x ∷ xs) ys one other = (one.0, given_both xs ys one.1 other)
 
-    given_left : (xs ys : List (ℕ × Slot B)) → AllGiven IsSame given (xs ++ ys) → AllGiven IsSame given xs
+    given_left : (xs ys : List (ℕ × SlotStanding B)) → AllGiven IsSame given (xs ++ ys) → AllGiven IsSame given xs
     given_left [] ys all = tt
     given_left (x ∷ xs) ys all = (all.0, given_left xs ys all.1)
 
-    given_right : (xs ys : List (ℕ × Slot B)) → AllGiven IsSame given (xs ++ ys) → AllGiven IsSame given ys
+    given_right : (xs ys : List (ℕ × SlotStanding B)) → AllGiven IsSame given (xs ++ ys) → AllGiven IsSame given ys
     given_right [] ys all = all
     given_right (x ∷ xs) ys all = given_right xs ys all.1
 
-    pub given-rotated : (slots ms : List (ℕ × Slot B)) → IsRotation slots ms → AllGiven IsSame given slots → AllGiven IsSame given ms
+    pub given-rotated : (slots ms : List (ℕ × SlotStanding B)) → IsRotation slots ms → AllGiven IsSame given slots → AllGiven IsSame given ms
     given-rotated slots ms is all =
-        let parts = subst (λ (l : List (ℕ × Slot B)). AllGiven IsSame given l) is.was all in
-        subst (λ (l : List (ℕ × Slot B)). AllGiven IsSame given l) (sym is.turned)
+        let parts = subst (λ (l : List (ℕ × SlotStanding B)). AllGiven IsSame given l) is.was all in
+        subst (λ (l : List (ℕ × SlotStanding B)). AllGiven IsSame given l) (sym is.turned)
         (given_both is.behind is.front (given_right is.front is.behind parts) (given_left is.front is.behind parts))
 
   -- what a hand has of an index
-  pub held_times : (slots : List (ℕ × Slot B)) (hand : List ℕ) (i : ℕ) (o : Option B) → in_hand (hand_of slots hand) i ≡ Some o
+  pub held_times : (slots : List (ℕ × SlotStanding B)) (hand : List ℕ) (i : ℕ) (o : Option B) → in_hand (hand_of slots hand) i ≡ Some o
       → (0 < times i hand) × (buffer_in slots i ≡ o)
   held_times slots [] i o is = absurd (cc)
   held_times slots (x ∷ xs) i o is =
@@ -271,7 +271,7 @@ module _ {B : Type 0} where
       ]
 
   -- the hand after an exchange of the buffer in the first slot
-  pub exchanged_hand : (slots ms others : List (ℕ × Slot B)) (i : ℕ) (x y : Slot B) → ((j : ℕ) → buffer_in ms j ≡ buffer_in slots j)
+  pub exchanged_hand : (slots ms others : List (ℕ × SlotStanding B)) (i : ℕ) (x y : SlotStanding B) → ((j : ℕ) → buffer_in ms j ≡ buffer_in slots j)
       → ms ≡ (i, x) ∷ others → (hand : List ℕ) → hand_of ((i, y) ∷ others) hand ≡ with_buffer i y.buffer (hand_of slots hand)
   exchanged_hand slots ms others i x y same is [] = refl
   exchanged_hand slots ms others i x y same is (j ∷ js) =
@@ -285,12 +285,12 @@ module _ {B : Type 0} where
             let one = ne_eqb j i away in
             let other = ne_eqb i j (λ e. away (sym e)) in
             let b : buffer_in others j ≡ buffer_in slots j =
-            (rw other refl) ∙ ap (λ (l : List (ℕ × Slot B)). buffer_in l j) (sym is) ∙ same j in
+            (rw other refl) ∙ ap (λ (l : List (ℕ × SlotStanding B)). buffer_in l j) (sym is) ∙ same j in
             rw (one, other) (ap (λ o. (j, o) ∷ hand_of ((i, y) ∷ others) js) b ∙ ap (λ (l : List (ℕ × Option B)). (j, buffer_in slots j) ∷ l) rest)
       ]
 
   -- the hand once the first slot went home
-  pub put_hand : (slots ms others : List (ℕ × Slot B)) (i : ℕ) (x : Slot B) → ((j : ℕ) → buffer_in ms j ≡ buffer_in slots j)
+  pub put_hand : (slots ms others : List (ℕ × SlotStanding B)) (i : ℕ) (x : SlotStanding B) → ((j : ℕ) → buffer_in ms j ≡ buffer_in slots j)
       → ms ≡ (i, x) ∷ others → (hand : List ℕ) → hand_of others (hand_without i hand) ≡ without_index i (hand_of slots hand)
   put_hand slots ms others i x same is [] = refl
   put_hand slots ms others i x same is (j ∷ js) =
@@ -301,6 +301,6 @@ module _ {B : Type 0} where
             let one = ne_eqb j i away in
             let other = ne_eqb i j (λ e. away (sym e)) in
             let b : buffer_in others j ≡ buffer_in slots j =
-            (rw other refl) ∙ ap (λ (l : List (ℕ × Slot B)). buffer_in l j) (sym is) ∙ same j in
+            (rw other refl) ∙ ap (λ (l : List (ℕ × SlotStanding B)). buffer_in l j) (sym is) ∙ same j in
             rw one (ap (λ o. (j, o) ∷ hand_of others (hand_without i js)) b ∙ ap (λ (l : List (ℕ × Option B)). (j, buffer_in slots j) ∷ l) rest)
       ]

@@ -5,7 +5,7 @@ use Rattle.std.proofs.lemmas.Bool.{cases_eq, cases_lt}
 use Rattle.std.proofs.lemmas.List.{length-set, get_or-set_same, get_or-set_other}
 use Rattle.scq_word.specs.declared.setup.Setup.{Setup}
 use Rattle.scq_core.specs.Exports.{Location, read, start_cells}
-use Rattle.scq_band.specs.declared.slot.Slot.{Slot}
+use Rattle.scq_band.specs.Slots.{SlotStanding}
 use Rattle.scq_band.specs.Exports.{ring_at, IsLocation, number_in_ring, gate_word, at, full_slot, lifted, AllLaid, WordsAreOpened}
 use Rattle.scq_band.proofs.Layouts.{same_number, at_low, at_some, at_apart}
 
@@ -52,16 +52,16 @@ module _ {B : Type 0} where
   lifted-laid [] = refl
   lifted-laid (b ∷ bs) = ap (λ (xs : List B). b ∷ xs) (lifted-laid bs)
 
-  pub laid-prefix : (xs ys : List (Slot B)) → AllLaid (xs ++ ys) → AllLaid xs
+  pub laid-prefix : (xs ys : List (SlotStanding B)) → AllLaid (xs ++ ys) → AllLaid xs
   laid-prefix [] ys all = tt
   laid-prefix (x ∷ xs) ys all = (all.0, laid-prefix xs ys all.1)
 
-  pub laid-last : (xs : List (Slot B)) (x : Slot B) → AllLaid (xs ++ x ∷ []) → x.buffer ≡ None → ⊥
-  laid-last [] x all none = let both : None ≡ Some (all.0.0) = sym none ∙ all.0.1 in absurd (cc)
-  laid-last (y ∷ ys) x all none = laid-last ys x all.1 none
+  pub laid-last : (xs : List (SlotStanding B)) (x : SlotStanding B) → AllLaid (xs ++ x ∷ []) → (b : B) × (x.buffer ≡ Some b)
+  laid-last [] x all = all.0
+  laid-last (y ∷ ys) x all = laid-last ys x all.1
 
   -- the last of slots that are all laid has a buffer
-  pub lifted-snoc : (xs : List (Slot B)) (x : Slot B) (b : B) → x.buffer ≡ Some b → lifted (xs ++ x ∷ []) ≡ lifted xs ++ b ∷ []
+  pub lifted-snoc : (xs : List (SlotStanding B)) (x : SlotStanding B) (b : B) → x.buffer ≡ Some b → lifted (xs ++ x ∷ []) ≡ lifted xs ++ b ∷ []
   lifted-snoc [] x b is = one x.buffer b is
     where
       one : (o : Option B) (b : B) → o ≡ Some b → lifted (record { buffer = o } ∷ []) ≡ b ∷ []

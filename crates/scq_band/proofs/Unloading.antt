@@ -5,7 +5,7 @@ use Rattle.std.proofs.lemmas.Bool.{cases_eq}
 use Rattle.std.proofs.lemmas.List.{get_or-set_other}
 use mathlib.Core.Option.{some, some-injective, some-ne-none}
 use lib.ListN.{get_elem?}
-use Rattle.scq_band.specs.declared.slot.Slot.{Slot}
+use Rattle.scq_band.specs.Slots.{SlotStanding}
 use Rattle.scq_band.specs.Exports.{full_slot}
 
 -- what is read at a place
@@ -56,17 +56,16 @@ full_next filled i n before k past low = get_or-set_other filled i k false false
 
 module _ {B : Type 0} where
   -- a slot that is read has a buffer where each has
-  pub not_empty : (items : List (Slot B)) (i : ℕ) (slot : Slot B) → slice_get items i ≡ Some slot → (b : B) × (slice_get items i ≡ Some (full_slot b))
-      → slot.buffer ≡ None → ⊥
-  not_empty items i slot here laid none =
+  pub taken_full : (items : List (SlotStanding B)) (i : ℕ) (slot : SlotStanding B) → slice_get items i ≡ Some slot → (b : B) × (slice_get items i ≡ Some (full_slot b))
+      → (b : B) × (slot.buffer ≡ Some b)
+  taken_full items i slot here laid =
       let same : slot ≡ full_slot laid.0 = cc in
-      let is : Some laid.0 ≡ None = ap (λ (s : Slot B). s.buffer) (sym same) ∙ none in
-      absurd (cc)
+      (laid.0, ap (λ (s : SlotStanding B). s.buffer) same)
 
   -- one buffer more
-  pub buffers_next : (items : List (Slot B)) (buffers : List B) (i : ℕ) (slot : Slot B) (b : B) → slice_get items i ≡ Some slot → slot.buffer ≡ Some b
+  pub buffers_next : (items : List (SlotStanding B)) (buffers : List B) (i : ℕ) (slot : SlotStanding B) (b : B) → slice_get items i ≡ Some slot → slot.buffer ≡ Some b
       → map full_slot buffers ≡ take i items → map full_slot (buffers ++ b ∷ []) ≡ take (i + 1) items
   buffers_next items buffers i slot b here is before =
       let same : full_slot b ≡ slot = ap (λ o. record { buffer = o }) (sym is) in
-      map_next full_slot buffers b ∙ ap (λ (l : List (Slot B)). l ++ full_slot b ∷ []) before
-      ∙ ap (λ (s : Slot B). take i items ++ s ∷ []) same ∙ sym (take_next items i slot here)
+      map_next full_slot buffers b ∙ ap (λ (l : List (SlotStanding B)). l ++ full_slot b ∷ []) before
+      ∙ ap (λ (s : SlotStanding B). take i items ++ s ∷ []) same ∙ sym (take_next items i slot here)

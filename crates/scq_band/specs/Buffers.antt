@@ -1,10 +1,10 @@
 -- When the value of a slot is the buffer that was given for its index, with certain bytes.
 use Rattle.std.specs.Prelude.{◌≡◌, ℕ, List, Some, map, slice_get}
-use Rattle.scq_band.specs.declared.slot.Slot.{Slot}
+use Rattle.scq_band.specs.Slots.{SlotStanding}
 
 -- the buffer in it is the same as the one that was given for index i, and has the bytes w
 pub record LiesIn {B : Type 0} (contents : B → List ℕ) (IsSame : B → B
-    → Type 0) (given : List B) (i : ℕ) (slot : Slot B) (w : List ℕ) : Type 0 where
+    → Type 0) (given : List B) (i : ℕ) (slot : SlotStanding B) (w : List ℕ) : Type 0 where
   pub first : B
   pub buffer : B
   pub was : slice_get given i ≡ Some first

@@ -132,6 +132,10 @@ abbrev pub lifted_of : {B : Type 0} → List (ℕ × Option B) → List ℕ
 lifted_of [] = []
 lifted_of (x ∷ xs) = if is_none x.1 then x.0 ∷ lifted_of xs else lifted_of xs
 
+-- each buffer in the hand of a seat is lifted
+abbrev pub HoldsLifted : {B : Type 0} → Standing B → Type 0
+HoldsLifted s = (i : ℕ) → times i (lifted_of s.hand) ≡ times i (indices_of s.hand)
+
 -- the buffers that are laid in a hand, each with its index; and those that seats hold: laid in
 -- their hands, or out
 abbrev pub with_laid : {B : Type 0} → ℕ → Option B → List (ℕ × B) → List (ℕ × B)

@@ -45,13 +45,14 @@ pub use Rattle.scq_band.specs.Kept.{in_order, buffer_in, hand_of, identity_of, s
 pub use Rattle.scq_band.specs.Kept.{standing_of, AllGiven, IsSmall, AreSmall, IsKept, IsRotation}
 pub use Rattle.scq_band.specs.Kept.{note_with, note_sight_with, seen_in}
 pub use Rattle.scq_band.specs.Homes.{at_home, IsBrought, MayBring, full_slot, times_lifted}
-pub use Rattle.scq_band.specs.Homes.{IsLaidBack, AreHome, WentHome, OutOrHome, AllOutGiven}
+pub use Rattle.scq_band.specs.Homes.{IsLaidBack, AreHoles, AreHome, WentHome, OutOrHome, AllOutGiven}
 pub use Rattle.scq_band.specs.Homes.{MayLeave, IsMemberOf, AreMembersOf, HeadsKnown, GatesKnown}
 pub use Rattle.scq_band.specs.Homes.{HasAll, all_seen, SeatsAreGathered}
 pub use Rattle.scq_band.specs.Closing.{CallEndedSo, SomeCallEndedSo, WasPut, EachGetHasItsPut}
 pub use Rattle.scq_band.specs.Closing.{NoneIsPutTwice, NoneIsGotTwice, EachPutPassedIsGot, gets_on}
 pub use Rattle.scq_band.specs.Closing.{begun_on, IsBalance, IsAllThere, EachSpentIsPastTheBound}
 pub use Rattle.scq_band.specs.Closing.{NoneIsSpentWithinTheLimit, indices_of, lifted_of, with_laid}
+pub use Rattle.scq_band.specs.Closing.{HoldsLifted}
 pub use Rattle.scq_band.specs.Closing.{laid_of, held_buffers, ComesBackAsItWas, IsLeft}
 pub use Rattle.scq_band.specs.Closing.{EachIsInOneHand, EachLeftIsItsPut, AreTheSame}
 pub use Rattle.scq_band.specs.Closing.{AllRetiredWhereClosed, EachSeenRetiredHas, all_calls}

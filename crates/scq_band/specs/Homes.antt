@@ -7,7 +7,7 @@ use Rattle.atomic_table.specs.Table.{Me}
 use Rattle.scq_core.specs.declared.phase.Phase.TheVariants.{Idle}
 use Rattle.scq_band.specs.RunSeen.{Seen, nothing_seen, both_seen}
 use Rattle.scq_law.specs.Exports.{times}
-use Rattle.scq_band.specs.declared.slot.Slot.{Slot}
+use Rattle.scq_band.specs.Slots.{SlotStanding}
 use Rattle.scq_band.specs.declared.numbers.Numbers.{Numbers}
 use Rattle.scq_band.specs.Known.{Member, Known}
 use Rattle.scq_band.specs.Steps.{my, front_index}
@@ -38,21 +38,25 @@ module _ {S : Type 0} (Lies : ℕ → S → List ℕ → Type 0) where
 
 module _ {B : Type 0} where
   -- the slot with a buffer in it
-  abbrev pub full_slot : B → Slot B
+  abbrev pub full_slot : B → SlotStanding B
   full_slot b = record { buffer = Some b }
 
   -- how often a slot of this index is lifted
-  abbrev pub times_lifted : ℕ → List (ℕ × Slot B) → ℕ
+  abbrev pub times_lifted : ℕ → List (ℕ × SlotStanding B) → ℕ
   times_lifted i [] = 0
   times_lifted i (x ∷ xs) =
       (if is_none x.1.buffer then times i (x.0 ∷ []) else 0) + times_lifted i xs
 
+  -- these slots are holes, all of them
+  abbrev pub AreHoles : List (ℕ × SlotStanding B) → Type 0
+  AreHoles slots = (i : ℕ) → times_lifted i slots ≡ times i (indices_of slots)
+
   -- the first slot, of this index, has its buffer, which was in it or has come from those that are
   -- out
-  pub record IsLaidBack (i : ℕ) (slots : List (ℕ × Slot B)) (out : List (ℕ × B))
-      (later : List (ℕ × Slot B)) (left : List (ℕ × B)) : Type 0 where
+  pub record IsLaidBack (i : ℕ) (slots : List (ℕ × SlotStanding B)) (out : List (ℕ × B))
+      (later : List (ℕ × SlotStanding B)) (left : List (ℕ × B)) : Type 0 where
     pub buffer : B
-    pub others : List (ℕ × Slot B)
+    pub others : List (ℕ × SlotStanding B)
     pub laid : later ≡ (i, record { buffer = Some buffer }) ∷ others
     pub was : ((slots ≡ (i, record { buffer = Some buffer }) ∷ others) × (left ≡ out))
         ⊎ ((slots ≡ (i, record { buffer = None }) ∷ others)
@@ -61,7 +65,7 @@ module _ {B : Type 0} where
   -- these slots have gone home, each with the bytes that its buffer had in it or where it was out;
   -- of the slots, and of the buffers that were out, the others are left
   pub record AreHome (contents : B
-      → List ℕ) (gone : List (ℕ × List ℕ)) (slots later : List (ℕ × Slot B))
+      → List ℕ) (gone : List (ℕ × List ℕ)) (slots later : List (ℕ × SlotStanding B))
       (out left : List (ℕ × B)) : Type 0 where
     pub indices : indices_of gone ++ indices_of later ≡ indices_of slots
     pub laid : (i : ℕ) (b : B) → Contains slots (i, full_slot b)
@@ -70,7 +74,7 @@ module _ {B : Type 0} where
 
   -- a seat of whose slots some have gone home
   pub record WentHome (contents : B
-      → List ℕ) (me : Me (Slot B) Known) (out : List (ℕ × B)) (later : Me (Slot B) Known)
+      → List ℕ) (me : Me (SlotStanding B) Known) (out : List (ℕ × B)) (later : Me (SlotStanding B) Known)
       (left : List (ℕ × B)) : Type 0 where
     pub gone : List (ℕ × List ℕ)
     pub view : later.0 ≡ at_home gone me.0
@@ -89,7 +93,7 @@ module _ {B : Type 0} where
   -- it has brought home, each once; their buffers are the ones that were given, and those that are
   -- lifted are out
   pub record MayLeave (IsSame : B → B
-      → Type 0) (buffers : List B) (me : Me (Slot B) Known) (indices : List ℕ)
+      → Type 0) (buffers : List B) (me : Me (SlotStanding B) Known) (indices : List ℕ)
       (out : List (ℕ × B)) : Type 0 where
     pub seats : me.0.seats ≡ my me.0 ∷ []
     pub order : indices ≡ in_order me.1

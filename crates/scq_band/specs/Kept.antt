@@ -9,7 +9,7 @@ use Rattle.scq_word.specs.Exports.{n_of}
 use Rattle.scq_core.specs.declared.phase.Phase.TheVariants.{Idle}
 use Rattle.scq_law.specs.Exports.{times}
 use Rattle.scq_band.specs.declared.numbers.Numbers.{Numbers}
-use Rattle.scq_band.specs.declared.slot.Slot.{Slot}
+use Rattle.scq_band.specs.Slots.{SlotStanding}
 use Rattle.scq_band.specs.declared.rule.Key.{Key}
 use Rattle.scq_band.specs.declared.ring.Ring.{Ring}
 use Rattle.scq_band.specs.Rings.{AreRings}
@@ -29,18 +29,18 @@ in_order (x ∷ xs) = in_order xs ++ x.0 ∷ []
 
 module _ {B : Type 0} where
   -- the buffer in the slot of an index
-  abbrev pub buffer_in : List (ℕ × Slot B) → ℕ → Option B
+  abbrev pub buffer_in : List (ℕ × SlotStanding B) → ℕ → Option B
   buffer_in [] i = None
   buffer_in (x ∷ xs) i = if x.0 == i then x.1.buffer else buffer_in xs i
 
   -- the indices of a hand, each with the buffer in its slot
-  abbrev pub hand_of : List (ℕ × Slot B) → List ℕ → List (ℕ × Option B)
+  abbrev pub hand_of : List (ℕ × SlotStanding B) → List ℕ → List (ℕ × Option B)
   hand_of slots hand = map (λ i. (i, buffer_in slots i)) hand
 
   abbrev pub identity_of : TableId → Key B → Identity B
   identity_of table key = record { table = table; setup = key.setup; given = key.given.value.items }
 
-  abbrev pub standing_from : Seen → TableId → Key B → Me (Slot B) Known → Standing B
+  abbrev pub standing_from : Seen → TableId → Key B → Me (SlotStanding B) Known → Standing B
   standing_from seen table key me =
       record {
         band = identity_of table key;
@@ -55,11 +55,11 @@ module _ {B : Type 0} where
         seen = seen;
       }
 
-  abbrev pub standing_of : TableId → Key B → Me (Slot B) Sight → Standing B
+  abbrev pub standing_of : TableId → Key B → Me (SlotStanding B) Sight → Standing B
   standing_of table key me = standing_from me.0.seen table key (known_me me)
 
   -- each buffer that is laid in one of the slots is the same as the one given for its index
-  abbrev pub AllGiven : (B → B → Type 0) → List B → List (ℕ × Slot B) → Type 0
+  abbrev pub AllGiven : (B → B → Type 0) → List B → List (ℕ × SlotStanding B) → Type 0
   AllGiven IsSame given [] = Unit {0}
   AllGiven IsSame given (x ∷ xs) =
       ((b : B) → x.1.buffer ≡ Some b → IsAsGiven IsSame given x.0 b) × AllGiven IsSame given xs
@@ -75,7 +75,7 @@ AreSmall numbers = (r : ℕ) → IsSmall (known_of numbers r)
 -- what a seat keeps: its indices in the order of its slots, with room for all; its numbers; its
 -- spent ticket
 pub record IsKept {B : Type 0} (IsSame : B → B
-    → Type 0) (key : Key B) (me : Me (Slot B) Known) (indices : List ℕ) (room : ℕ)
+    → Type 0) (key : Key B) (me : Me (SlotStanding B) Known) (indices : List ℕ) (room : ℕ)
     (known : List Numbers)
     (kept : Option ℕ) : Type 0 where
   pub alone : IsAlone me.0

@@ -1,3 +1,4 @@
+pub mod Slots
 pub mod Layout
 pub mod Numbers
 pub mod Known

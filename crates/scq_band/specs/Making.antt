@@ -5,7 +5,7 @@ use Rattle.scq_word.specs.declared.setup.Setup.{Setup}
 use Rattle.scq_word.specs.Exports.{n_of}
 use Rattle.scq_core.specs.Exports.{Location, read, start_cells, start_of, machine_of}
 use Rattle.scq_core.specs.StateLists.{StateLists}
-use Rattle.scq_band.specs.declared.slot.Slot.{Slot}
+use Rattle.scq_band.specs.Slots.{SlotStanding}
 use Rattle.scq_band.specs.declared.making.Room.{Room}
 use Rattle.scq_band.specs.declared.making.Memory.{Memory}
 use Rattle.scq_band.specs.Layout.{ring_at, IsLocation, number_in_ring, gate_word, word_count, at}
@@ -17,10 +17,10 @@ use Rattle.scq_band.specs.RunSeen.{nothing_seen}
 use Rattle.scq_band.specs.Sights.{Sight}
 
 -- a buffer is laid in the slot
-abbrev pub HasBuffer : {B : Type 0} → Slot B → Type 0
+abbrev pub HasBuffer : {B : Type 0} → SlotStanding B → Type 0
 HasBuffer {B} slot = (b : B) × (slot.buffer ≡ Some b)
 
-abbrev pub AllLaid : {B : Type 0} → List (Slot B) → Type 0
+abbrev pub AllLaid : {B : Type 0} → List (SlotStanding B) → Type 0
 AllLaid [] = Unit {0}
 AllLaid (x ∷ xs) = HasBuffer x × AllLaid xs
 
@@ -29,7 +29,7 @@ abbrev lifted_from : {B : Type 0} → Option B → List B → List B
 lifted_from None bs = bs
 lifted_from (Some b) bs = b ∷ bs
 
-abbrev pub lifted : {B : Type 0} → List (Slot B) → List B
+abbrev pub lifted : {B : Type 0} → List (SlotStanding B) → List B
 lifted [] = []
 lifted (x ∷ xs) = lifted_from x.buffer (lifted xs)
 

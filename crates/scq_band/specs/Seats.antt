@@ -13,7 +13,7 @@ use Rattle.scq_band.specs.Numbers.{changed, finishes, sees, passes, drew, emptie
 use Rattle.scq_band.specs.declared.numbers.Numbers.{Numbers}
 use Rattle.scq_band.specs.Known.{Member, Known}
 use Rattle.atomic_table.specs.Table.{Me, rest}
-use Rattle.scq_band.specs.declared.slot.Slot.{Slot}
+use Rattle.scq_band.specs.Slots.{SlotStanding}
 use Rattle.scq_band.specs.Turns.{Takes}
 use Rattle.scq_band.specs.Steps.{my, front_bytes}
 
@@ -120,7 +120,7 @@ IsSeeking r h phase = phase ≡ AtD3 r h (least_of phase)
 -- a put of the index whose slot stood first has ended at a place, below the limit and above what
 -- was known of Tail: the index has left the hand, and its slot the seat
 pub record HasPut {B : Type 0} (contents : B
-    → List ℕ) (c : Setup) (r i p : ℕ) (me later : Me (Slot B) Known) : Type 0 where
+    → List ℕ) (c : Setup) (r i p : ℕ) (me later : Me (SlotStanding B) Known) : Type 0 where
   pub view : later.0 ≡ put_at r i p (front_bytes contents me.1) me.0
   pub slots : later.1 ≡ rest me.1
   pub low : p < c.limit

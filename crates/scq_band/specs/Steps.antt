@@ -9,7 +9,7 @@ use Rattle.scq_core.specs.declared.phase.Phase.TheVariants.{AtE6, AtD1, AtD2, At
 use Rattle.scq_core.specs.declared.phase.Phase.TheVariants.{AtD6, AtD7, AtD8, AtD9, AtD10}
 use Rattle.scq_core.specs.Exports.{ring_slots, cycle, passed, idle_part}
 use Rattle.scq_word.specs.Exports.{packed}
-use Rattle.scq_band.specs.declared.slot.Slot.{Slot}
+use Rattle.scq_band.specs.Slots.{SlotStanding}
 use Rattle.atomic_table.specs.Table.{Me}
 use Rattle.scq_band.specs.Layout.{ring_of_word}
 use Rattle.scq_band.specs.Known.{Member, Known}
@@ -35,7 +35,7 @@ module _ {B : Type 0} (contents : B → List ℕ) where
   bytes_in None = []
   bytes_in (Some b) = contents b
 
-  abbrev pub front_bytes : List (ℕ × Slot B) → List ℕ
+  abbrev pub front_bytes : List (ℕ × SlotStanding B) → List ℕ
   front_bytes [] = []
   front_bytes (x ∷ xs) = bytes_in x.1.buffer
 
@@ -54,7 +54,7 @@ abbrev pub load_turn : Setup → ℕ → Known → Phase
 load_turn c word v = loading (ring_of_word c word) (my_phase v)
 
 -- the turn of a draw from this word
-abbrev pub draw_turn : {B : Type 0} → (B → List ℕ) → Setup → ℕ → Me (Slot B) Known → Phase
+abbrev pub draw_turn : {B : Type 0} → (B → List ℕ) → Setup → ℕ → Me (SlotStanding B) Known → Phase
 draw_turn contents c word me =
     drawing (ring_of_word c word) (front_index me.1) (front_bytes contents me.1) (my_phase me.0)
 

@@ -1,19 +1,21 @@
 //! The end of a band: each slot that a seat holds goes home to the table, the seats' views are
 //! joined into one, and the table is closed.
-ghost use Rattle.std.specs.Prelude.{◌≡◌, ℕ, ◌+◌, ◌<◌, ◌≤◌, is_none, IsTrue, [], ◌∷◌, map, length};
+ghost use Rattle.std.specs.Prelude.{◌≡◌, ℕ, ◌+◌, ◌<◌, ◌≤◌, Bool, true, false, is_none, IsTrue, None};
+ghost use Rattle.std.specs.Prelude.{[], ◌∷◌, map, length};
 ghost use Rattle.std.specs.Prelude.{vec_len, sum_by, All};
 ghost use Rattle.std.specs.List.Sorted.{IsPermutation};
 ghost use Rattle.atomic_table.specs.Table.{rest};
 ghost use Rattle.scq_law.specs.Exports.{times};
-ghost use Rattle.scq_band.specs.declared.slot.Slot.{Slot};
+ghost use Rattle.scq_band.specs.Slots.{SlotStanding};
 ghost use Rattle.scq_band.specs.Buffers.{LiesIn, opening_of};
 ghost use Rattle.scq_band.specs.Steps.{my, front_index, front_bytes};
 ghost use Rattle.scq_band.specs.Kept.{identity_of};
 ghost use Rattle.scq_band.specs.Closing.{indices_of, lifted_of, IsOneRunToTheEnd, AreTheLifted};
+ghost use Rattle.scq_band.specs.Closing.{HoldsLifted};
 ghost use Rattle.scq_band.specs.Closing.{RecordsAgree, IndicesAgree, BuffersComeBack, RetiredAgree};
 ghost use Rattle.scq_band.specs.Closing.{SpentAgree, all_calls, all_hands, all_known, all_spent};
 ghost use Rattle.scq_band.specs.Closing.{callers_of};
-ghost use Rattle.scq_band.specs.Homes.{at_home, MayBring, IsLaidBack, times_lifted, WentHome};
+ghost use Rattle.scq_band.specs.Homes.{at_home, MayBring, IsLaidBack, AreHoles, times_lifted, WentHome};
 ghost use Rattle.scq_band.specs.Homes.{OutOrHome, AllOutGiven, MayLeave, IsMemberOf, HasAll};
 ghost use Rattle.scq_band.specs.Homes.{all_seen};
 ghost use Rattle.scq_band.specs.Sights.{known_me};
@@ -26,7 +28,8 @@ use crate::lending::lay_first;
 use crate::lifted::Lifted;
 use crate::rule::{Token, Words};
 use crate::seat::Seat;
-use crate::slot::Slot;
+use crate::slot::{Slot, TellsHoles};
+use crate::told::load_told;
 use scq_word::Buffer;
 use std::marker::Brand;
 
@@ -48,7 +51,39 @@ fn bring_home<B: Buffer>(words: &Words<B>, token: &mut Token<B>)
         ) }
     ensures seen { token.new.me.0.seen ≡ token.old.me.0.seen }
 {
-    words.load::<Brand>(token, GATE);
+    load_told::<B, Brand>(words, token, GATE);
+}
+
+/// How it is told whether a slot is a hole.
+pub trait Looks<B: Buffer> {
+    // Whether every slot that it looks at is one.
+    ghost all: { Bool };
+
+    fn is_hole(slot: &Slot<B>) -> bool
+        requires { IsTrue Self.all → slot.now.buffer ≡ None }
+        ensures { result ≡ is_none slot.now.buffer };
+}
+
+/// By what stands in it.
+pub struct ByPlace {}
+
+impl<B: TellsHoles> Looks<B> for ByPlace {
+    ghost all = { false };
+
+    fn is_hole(slot: &Slot<B>) -> bool {
+        B::is_hole(&slot.place)
+    }
+}
+
+/// It is one, as each buffer of the seats is lifted.
+pub struct NoneLaid {}
+
+impl<B: Buffer> Looks<B> for NoneLaid {
+    ghost all = { true };
+
+    fn is_hole(_slot: &Slot<B>) -> bool {
+        true
+    }
 }
 
 /// Takes the buffer of an index out of those that were lifted.
@@ -68,30 +103,33 @@ fn take_out<B, T: Lifted<B>>(out: &mut Vec<T>, index: u32) -> B
 }
 
 /// The slot that stands first, that of the index, has its buffer again where that was lifted.
-fn lay_back<B: Buffer, T: Lifted<B>>(
+fn lay_back<B: Buffer, T: Lifted<B>, L: Looks<B>>(
     words: &Words<B>,
     token: &mut Token<B>,
     index: u32,
     out: &mut Vec<T>,
 )
     requires own { token.old.table_id ≡ words.now.table_id }
-    requires first { (slot : Slot B) × (token.old.me.1 ≡ (index, slot) ∷ rest token.old.me.1)
-        × (IsTrue (is_none slot.buffer) → 0 < times index (indices_of (map T.pair out.old.items))) }
+    requires first { (slot : SlotStanding B) × (token.old.me.1 ≡ (index, slot) ∷ rest token.old.me.1)
+        × (IsTrue (is_none slot.buffer) → 0 < times index (indices_of (map T.pair out.old.items)))
+        × (IsTrue L.all → slot.buffer ≡ None) }
     ensures own { (token.new.table_id ≡ token.old.table_id) × (token.new.id ≡ token.old.id) }
     ensures view { token.new.me.0 ≡ token.old.me.0 }
     ensures laid { IsLaidBack index token.old.me.1 (map T.pair out.old.items) token.new.me.1
         (map T.pair out.new.items) }
 {
-    let Slot { buffer } = words.exchange(token, index as usize, Slot { buffer: None });
-    let buffer = match buffer {
-        Some(buffer) => buffer,
-        None => take_out(out, index),
+    let slot = words.exchange(token, index as usize, Slot::hole());
+    let buffer = if L::is_hole(&slot) {
+        slot.end();
+        take_out(out, index)
+    } else {
+        slot.lift()
     };
     lay_first(words, token, index, buffer);
 }
 
 /// All slots of a seat go home, each with its buffer.
-fn bring_all<B: Buffer, T: Lifted<B>>(
+fn bring_all<B: Buffer, T: Lifted<B>, L: Looks<B>>(
     words: &Words<B>,
     token: &mut Token<B>,
     mut hand: Vec<u32>,
@@ -101,6 +139,7 @@ fn bring_all<B: Buffer, T: Lifted<B>>(
     requires room { 0 < words.now.table_id.words }
     requires may { MayLeave B.IsSameBuffer words.now.key.given.value.items
         (known_me token.old.me) hand.items (map T.pair out.old.items) }
+    requires holes { IsTrue L.all → AreHoles token.old.me.1 }
     ensures own { (token.new.table_id ≡ token.old.table_id) × (token.new.id ≡ token.old.id) }
     ensures home { WentHome B.contents (known_me token.old.me) (map T.pair out.old.items)
         (known_me token.new.me) (map T.pair out.new.items) }
@@ -112,13 +151,13 @@ fn bring_all<B: Buffer, T: Lifted<B>>(
         (map T.pair out.new.items) }
 {
     while let Some(index) = hand.pop() {
-        lay_back(words, token, index, out);
+        lay_back::<B, T, L>(words, token, index, out);
         bring_home(words, token);
     }
 }
 
 /// Brings all slots of a seat home, and answers its token.
-fn bring_seat_home<B: Buffer, T: Lifted<B>>(
+fn bring_seat_home<B: Buffer, T: Lifted<B>, L: Looks<B>>(
     words: &Words<B>,
     seat: Seat<B>,
     out: &mut Vec<T>,
@@ -127,6 +166,7 @@ fn bring_seat_home<B: Buffer, T: Lifted<B>>(
     requires room { 0 < words.now.table_id.words }
     requires lifted { (i : ℕ)
         → times i (lifted_of seat.hand) ≤ times i (indices_of (map T.pair out.old.items)) }
+    requires holes { IsTrue L.all → HoldsLifted seat }
     requires given { AllOutGiven B.IsSameBuffer words.now.key.given.value.items
         (map T.pair out.old.items) }
     ensures own { result.table_id ≡ words.now.table_id }
@@ -151,13 +191,13 @@ fn bring_seat_home<B: Buffer, T: Lifted<B>>(
         numbers: _,
         spent: _,
     } = seat;
-    bring_all(words, &mut token, hand, out);
+    bring_all::<B, T, L>(words, &mut token, hand, out);
     token
 }
 
 /// Joins the tokens of all seats into one, in whose view each of them stands. What was lifted is
 /// laid back.
-pub fn gather<B: Buffer, T: Lifted<B>>(
+pub fn gather<B: Buffer, T: Lifted<B>, L: Looks<B>>(
     words: &Words<B>,
     mut seats: Vec<Seat<B>>,
     mut out: Vec<T>,
@@ -169,6 +209,7 @@ pub fn gather<B: Buffer, T: Lifted<B>>(
         ≡ sum_by (λ s. times i (lifted_of s.hand)) seats.items }
     requires given { AllOutGiven B.IsSameBuffer words.now.key.given.value.items
         (map T.pair out.items) }
+    requires holes { All (λ s. IsTrue L.all → HoldsLifted s) seats.items }
     ensures own { result.table_id ≡ words.now.table_id }
     ensures all { HasAll B.contents words.now.key.setup.rings seats.items result.me.0.known }
     ensures home { OutOrHome B.contents (map T.pair out.items) [] result.me.0.known.seats }
@@ -177,9 +218,9 @@ pub fn gather<B: Buffer, T: Lifted<B>>(
     let Some(last) = seats.pop() else {
         unreachable!()
     };
-    let mut first = bring_seat_home(words, last, &mut out);
+    let mut first = bring_seat_home::<B, T, L>(words, last, &mut out);
     while let Some(seat) = seats.pop() {
-        let token = bring_seat_home(words, seat, &mut out);
+        let token = bring_seat_home::<B, T, L>(words, seat, &mut out);
         take_in(words, &mut first, token);
     }
     seats.destroy_empty();
@@ -195,7 +236,7 @@ pub struct BandClosed<B> {
     pub left: Vec<u64>,
 }
 
-impl<B: Buffer> Band<B> {
+impl<B: TellsHoles> Band<B> {
     /// Closes a band whose seats all come back. The buffers that are lifted come in `out`, each
     /// with its index, as pairs or in a type that has more beside them; they are laid back, and all
     /// buffers are handed out. Takes no memory.
@@ -221,6 +262,51 @@ impl<B: Buffer> Band<B> {
         ensures spent { SpentAgree self.setup (all_calls seats.items)
             (all_spent seats.items) }
     {
+        self.close_by::<T, ByPlace>(seats, out)
+    }
+}
+
+impl<B: Buffer> Band<B> {
+    /// Closes a band as `close` does, where each buffer in the hands of its seats is lifted.
+    pub fn close_lifted<T: Lifted<B>>(self, seats: Vec<Seat<B>>, out: Vec<T>) -> BandClosed<B>
+        requires lifted { All HoldsLifted seats.items }
+        requires seats { All (λ s. s.band ≡ self) seats.items }
+        requires all { vec_len seats ≡ self.setup.seats }
+        requires out { AreTheLifted B.IsSameBuffer self seats.items (map T.pair out.items) }
+        ensures run { IsOneRunToTheEnd self.setup (opening_of B.contents self.given)
+            (callers_of seats.items) (all_calls seats.items) (all_hands seats.items)
+            (map B.contents result.buffers.items) }
+        ensures buffers { BuffersComeBack B.contents B.IsSameBuffer self seats.items
+            (map T.pair out.items) result.buffers.items }
+        ensures records { RecordsAgree self.setup (opening_of B.contents self.given)
+            (all_calls seats.items) (all_known seats.items) }
+        ensures indices { IndicesAgree self.setup (all_calls seats.items) (all_hands seats.items)
+            result.left.items }
+        ensures retired { RetiredAgree seats.items }
+        ensures spent { SpentAgree self.setup (all_calls seats.items)
+            (all_spent seats.items) }
+    {
+        self.close_by::<T, NoneLaid>(seats, out)
+    }
+
+    fn close_by<T: Lifted<B>, L: Looks<B>>(self, seats: Vec<Seat<B>>, out: Vec<T>) -> BandClosed<B>
+        requires holes { All (λ s. IsTrue L.all → HoldsLifted s) seats.items }
+        requires seats { All (λ s. s.band ≡ self) seats.items }
+        requires all { vec_len seats ≡ self.setup.seats }
+        requires out { AreTheLifted B.IsSameBuffer self seats.items (map T.pair out.items) }
+        ensures run { IsOneRunToTheEnd self.setup (opening_of B.contents self.given)
+            (callers_of seats.items) (all_calls seats.items) (all_hands seats.items)
+            (map B.contents result.buffers.items) }
+        ensures buffers { BuffersComeBack B.contents B.IsSameBuffer self seats.items
+            (map T.pair out.items) result.buffers.items }
+        ensures records { RecordsAgree self.setup (opening_of B.contents self.given)
+            (all_calls seats.items) (all_known seats.items) }
+        ensures indices { IndicesAgree self.setup (all_calls seats.items) (all_hands seats.items)
+            result.left.items }
+        ensures retired { RetiredAgree seats.items }
+        ensures spent { SpentAgree self.setup (all_calls seats.items)
+            (all_spent seats.items) }
+    {
         let Band {
             table,
             setup,
@@ -228,7 +314,7 @@ impl<B: Buffer> Band<B> {
             mut buffers,
             mut left,
         } = self;
-        let all = gather(&table.shared, seats, out);
+        let all = gather::<B, T, L>(&table.shared, seats, out);
         let mut closed = table.close_with(all);
         count_left(&closed, &setup, &mut left);
         unload(&mut closed, &mut buffers);

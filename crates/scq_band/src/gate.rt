@@ -5,6 +5,7 @@ ghost use Rattle.scq_band.specs.Exports.{looked, retired_at};
 
 use crate::layout::GATE;
 use crate::rule::{Token, Words};
+use crate::told::{load_told, subtract_told};
 use scq_word::Buffer;
 use std::marker::Brand;
 
@@ -22,7 +23,7 @@ pub fn read_gate<B: Buffer>(words: &Words<B>, token: &mut Token<B>) -> u64
     ensures reading { IsReading words.now.key.setup.seats token.old.me.0.known.gate
         (my token.old.me.0.known).retired result }
 {
-    words.load::<Brand>(token, GATE)
+    load_told::<B, Brand>(words, token, GATE)
 }
 
 /// The seat retires: the gate falls by one.
@@ -40,5 +41,5 @@ pub fn retire<B: Buffer>(words: &Words<B>, token: &mut Token<B>)
     ensures retired { token.new.me.0.known ≡ retired_at token.old.me.0.known }
     ensures slots { token.new.me.1 ≡ token.old.me.1 }
 {
-    words.fetch_sub::<Brand>(token, GATE, 1);
+    subtract_told::<B, Brand>(words, token, GATE, 1);
 }

@@ -11,11 +11,11 @@ ghost use Rattle.scq_band.specs.Exports.{word_count, ShowsWords, full_slot};
 use crate::layout::{slot_word, tail_word};
 use crate::slot::Slot;
 use atomic_table::Closed;
-use scq_word::{Setup, unpack};
+use scq_word::{Buffer, Setup, unpack};
 use std::alloc::Global;
 
 /// How many slots of a ring have an index.
-fn left_in_ring<B>(closed: &Closed<Slot<B>, Global>, setup: &Setup, ring: u32) -> u64
+fn left_in_ring<B: Buffer>(closed: &Closed<Slot<B>, Global>, setup: &Setup, ring: u32) -> u64
     requires full { IsFull closed.now.words }
     requires shows { (m : Cells) × ShowsWords setup.now (slots_items closed.now.words) m
         × HasIndices setup.now m }
@@ -38,7 +38,7 @@ fn left_in_ring<B>(closed: &Closed<Slot<B>, Global>, setup: &Setup, ring: u32) -
 }
 
 /// How many slots of each ring have an index, put into an empty list with room.
-pub fn count_left<B>(closed: &Closed<Slot<B>, Global>, setup: &Setup, left: &mut Vec<u64>)
+pub fn count_left<B: Buffer>(closed: &Closed<Slot<B>, Global>, setup: &Setup, left: &mut Vec<u64>)
     requires full { IsFull closed.now.words }
     requires shows { (m : Cells) × ShowsWords setup.now (slots_items closed.now.words) m
         × HasIndices setup.now m }
@@ -54,7 +54,7 @@ pub fn count_left<B>(closed: &Closed<Slot<B>, Global>, setup: &Setup, left: &mut
 }
 
 /// The buffers of all slots, in their order, put into an empty list with room.
-pub fn unload<B>(closed: &mut Closed<Slot<B>, Global>, buffers: &mut Vec<B>)
+pub fn unload<B: Buffer>(closed: &mut Closed<Slot<B>, Global>, buffers: &mut Vec<B>)
     requires full { IsFull closed.old.slots }
     requires laid { (i : ℕ) → i < slots_len closed.old.slots
         → (b : B) × (slice_get (slots_items closed.old.slots) i ≡ Some (full_slot b)) }
@@ -66,9 +66,7 @@ pub fn unload<B>(closed: &mut Closed<Slot<B>, Global>, buffers: &mut Vec<B>)
 {
     let mut i = 0;
     while i < closed.slot_count() {
-        let Slot { buffer } = closed.take(i);
-        let Some(buffer) = buffer else { unreachable!() };
-        buffers.push_reserved(buffer);
+        buffers.push_reserved(closed.take(i).lift());
         i += 1;
     }
 }

@@ -1,7 +1,7 @@
 //! Buffers that are lifted out of a seat's hand, and laid back.
 ghost use Rattle.std.specs.Prelude.{◌≡◌, ◌∷◌, Some, None};
 ghost use Rattle.atomic_table.specs.Table.{rest};
-ghost use Rattle.scq_band.specs.declared.slot.Slot.{Slot};
+ghost use Rattle.scq_band.specs.Slots.{SlotStanding};
 ghost use Rattle.scq_band.specs.Standing.{in_hand, with_buffer, IsAsGiven};
 
 use crate::band::Band;
@@ -15,17 +15,14 @@ use scq_word::Buffer;
 #[inline(always)]
 pub fn lay_first<B: Buffer>(words: &Words<B>, token: &mut Token<B>, index: u32, buffer: B)
     requires own { token.old.table_id ≡ words.now.table_id }
-    requires first { (slot : Slot B) × (token.old.me.1 ≡ (index, slot) ∷ rest token.old.me.1)
+    requires first { (slot : SlotStanding B) × (token.old.me.1 ≡ (index, slot) ∷ rest token.old.me.1)
         × (slot.buffer ≡ None) }
     ensures own { (token.new.table_id ≡ token.old.table_id) × (token.new.id ≡ token.old.id) }
     ensures laid { token.new.me
         ≡ (token.old.me.0, (index, record { buffer = Some buffer }) ∷ rest token.old.me.1) }
 {
-    let laid = Slot {
-        buffer: Some(buffer),
-    };
-    let Slot { buffer: hole } = words.exchange(token, index as usize, laid);
-    let None = hole else { unreachable!() };
+    let hole = words.exchange(token, index as usize, Slot::of(buffer));
+    hole.end();
 }
 
 /// Lifts the buffer out of the slot that stands first, that of the index.
@@ -40,9 +37,8 @@ pub fn lift_first<B: Buffer>(words: &Words<B>, token: &mut Token<B>, index: u32)
     ensures lifted { token.new.me
         ≡ (token.old.me.0, (index, record { buffer = None }) ∷ rest token.old.me.1) }
 {
-    let Slot { buffer } = words.exchange(token, index as usize, Slot { buffer: None });
-    let Some(buffer) = buffer else { unreachable!() };
-    buffer
+    let slot = words.exchange(token, index as usize, Slot::hole());
+    slot.lift()
 }
 
 impl<B: Buffer> Band<B> {

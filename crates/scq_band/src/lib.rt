@@ -32,6 +32,7 @@ mod seat;
 mod slot;
 mod splitting;
 mod steps;
+mod told;
 mod view;
 
 pub use band::Band;
@@ -42,5 +43,5 @@ pub use lifted::Lifted;
 pub use marks::Mark;
 pub use numbers::Numbers;
 pub use seat::Seat;
-pub use slot::Slot;
+pub use slot::{Slot, TellsHoles};
 pub use view::View;

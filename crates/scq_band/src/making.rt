@@ -13,7 +13,7 @@ use crate::numbers::Numbers;
 use crate::ring::Ring;
 use crate::slot::Slot;
 use scq_core::{State, ZERO_LEVEL, reset_level};
-use scq_word::{Bytes, NoMemory, Setup};
+use scq_word::{Buffer, Bytes, NoMemory, Setup};
 use std::alloc::Global;
 
 // How many cells of 32 bytes or less stay free behind what one seat writes, or all read: two lines
@@ -152,7 +152,7 @@ pub fn reserved(alloc: Global, setup: Setup) -> Result<Memory, NoMemory>
 
 /// The slots of these buffers, in their order. The list of the buffers is left empty, with its
 /// room.
-pub fn lay_all<B>(buffers: &mut Vec<B>, slots: &mut Vec<Slot<B>>)
+pub fn lay_all<B: Buffer>(buffers: &mut Vec<B>, slots: &mut Vec<Slot<B>>)
     requires empty { slots.old.items ≡ [] }
     requires room { vec_len buffers.old ≤ vec_capacity slots.old }
     ensures slots { slots.new.items ≡ map full_slot buffers.old.items }
@@ -161,23 +161,19 @@ pub fn lay_all<B>(buffers: &mut Vec<B>, slots: &mut Vec<Slot<B>>)
 {
     buffers.reverse();
     while let Some(buffer) = buffers.pop() {
-        slots.push_reserved(Slot {
-            buffer: Some(buffer),
-        });
+        slots.push_reserved(Slot::of(buffer));
     }
 }
 
 /// The buffers of these slots, in their order.
-pub fn lift_all<B>(mut slots: Vec<Slot<B>>, buffers: &mut Vec<B>)
+pub fn lift_all<B: Buffer>(mut slots: Vec<Slot<B>>, buffers: &mut Vec<B>)
     requires laid { AllLaid slots.items }
     requires empty { buffers.old.items ≡ [] }
     requires room { vec_len slots ≤ vec_capacity buffers.old }
     ensures { buffers.new.items ≡ lifted slots.items }
 {
     while let Some(slot) = slots.pop() {
-        let Slot { buffer } = slot;
-        let Some(buffer) = buffer else { unreachable!() };
-        buffers.push_reserved(buffer);
+        buffers.push_reserved(slot.lift());
     }
     slots.destroy_empty();
     buffers.reverse();

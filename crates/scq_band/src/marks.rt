@@ -11,6 +11,7 @@ use crate::band::Band;
 use crate::layout::GATE;
 use crate::rule::{Token, Words};
 use crate::seat::Seat;
+use crate::told::load_told;
 use crate::view::View;
 use atomic_table::{Badge, Split};
 use scq_word::Buffer;
@@ -50,7 +51,7 @@ pub(crate) fn find<B: Buffer>(words: &Words<B>, token: &mut Token<B>, word: usiz
         (opening_of B.contents words.now.key.given.value.items) word result
         token.old.me.0 token.new.me.0 }
 {
-    words.load::<Brand>(token, word)
+    load_told::<B, Brand>(words, token, word)
 }
 
 /// What a seat had seen when the mark was made. It may be dropped.

@@ -1,8 +1,7 @@
 use crate::slot::Slot;
 use crate::view::View;
-use atomic_table::{Play, Seat, Shared, TableRule};
+use atomic_table::{Seat, Shared, TableRule};
 use scq_word::{Buffer, Setup};
-use std::marker::Brand;
 use std::snapshot::Snapshot;
 
 /// What the table is told once, when it is made: its setup, and the buffers that it was given, that
@@ -34,12 +33,6 @@ impl<B: Buffer> TableRule<Slot<B>, View, Key<B>> for Rule {
         (opening_of B.contents key.given.value.items) key.setup };
 
     ghost first = { λ key. first_sight key.setup };
-}
-
-// What a step tells is picked at each call, in the proof of its caller (`ghosts-..` in its
-// Invariants.antt). This stands for a call that picks nothing.
-impl<B> Play<Slot<B>, View> for Brand {
-    ghost then = { λ _ _ _ _. Unit {0} };
 }
 
 pub type Words<B> = Shared<Slot<B>, View, Key<B>, Rule>;

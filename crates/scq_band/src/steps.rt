@@ -11,6 +11,7 @@ ghost use Rattle.scq_band.specs.Exports.{IsAlone};
 ghost use Rattle.scq_band.specs.Guesses.{Guesses, CarriesGuess, Guessed};
 
 use crate::rule::{Token, Words};
+use crate::told::{add_told, exchange_told, load_told, or_told, store_told, subtract_told};
 use scq_word::Buffer;
 use std::marker::Brand;
 
@@ -34,7 +35,7 @@ pub fn load<B: Buffer>(words: &Words<B>, token: &mut Token<B>, word: usize) -> u
     ensures went { Went words.now.key.setup
         (opening_of B.contents words.now.key.given.value.items) token.old.me.0 token.new.me.0 }
 {
-    words.load::<Brand>(token, word)
+    load_told::<B, Brand>(words, token, word)
 }
 
 /// E1 and D2: a fetch-and-add, which draws a ticket from Tail or Head.
@@ -57,7 +58,7 @@ pub fn draw<B: Buffer>(words: &Words<B>, token: &mut Token<B>, word: usize) -> u
     ensures went { Went words.now.key.setup
         (opening_of B.contents words.now.key.given.value.items) token.old.me.0 token.new.me.0 }
 {
-    words.fetch_add::<Brand>(token, word, 1)
+    add_told::<B, Brand>(words, token, word, 1)
 }
 
 /// E4, D5 and D7: a compare-and-exchange. Answers the word as it was; it has become `new` if it was
@@ -87,7 +88,7 @@ pub fn exchange<B: Buffer>(
     ensures went { Went words.now.key.setup
         (opening_of B.contents words.now.key.given.value.items) token.old.me.0 token.new.me.0 }
 {
-    words.compare_exchange::<Brand>(token, word, old, new)
+    exchange_told::<B, Brand>(words, token, word, old, new)
 }
 
 /// E2 and E4 at once: a compare-and-exchange from a guess of the entry. Answers the entry as it was.
@@ -117,7 +118,7 @@ pub fn place_or_load<B: Buffer>(
     ensures went { Went words.now.key.setup
         (opening_of B.contents words.now.key.given.value.items) token.old.me.0 token.new.me.0 }
 {
-    words.compare_exchange::<Brand>(token, word, guess, new)
+    exchange_told::<B, Brand>(words, token, word, guess, new)
 }
 
 /// E6: the reset value into Threshold.
@@ -139,7 +140,7 @@ pub fn reset<B: Buffer>(words: &Words<B>, token: &mut Token<B>, word: usize, lev
     ensures went { Went words.now.key.setup
         (opening_of B.contents words.now.key.given.value.items) token.old.me.0 token.new.me.0 }
 {
-    words.store::<Brand>(token, word, level)
+    store_told::<B, Brand>(words, token, word, level)
 }
 
 /// D4: a fetch-and-or of the mark, which takes the index out of the entry.
@@ -161,7 +162,7 @@ pub fn consume<B: Buffer>(words: &Words<B>, token: &mut Token<B>, word: usize, m
     ensures went { Went words.now.key.setup
         (opening_of B.contents words.now.key.given.value.items) token.old.me.0 token.new.me.0 }
 {
-    words.fetch_or::<Brand>(token, word, mark)
+    or_told::<B, Brand>(words, token, word, mark)
 }
 
 /// D10: one off Threshold.
@@ -182,5 +183,5 @@ pub fn count_down<B: Buffer>(words: &Words<B>, token: &mut Token<B>, word: usize
     ensures went { Went words.now.key.setup
         (opening_of B.contents words.now.key.given.value.items) token.old.me.0 token.new.me.0 }
 {
-    words.fetch_sub::<Brand>(token, word, 1)
+    subtract_told::<B, Brand>(words, token, word, 1)
 }

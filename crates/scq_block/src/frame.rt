@@ -7,7 +7,7 @@ ghost use Rattle.scq_block.specs.Frames.{written_same};
 ghost use denote.RawPtr.{InBlock, ◌+ₚ◌};
 
 use crate::span::Span;
-use scq_word::{Buffer, BufferMut};
+use scq_word::{Buffer, BufferMut, BufferRef};
 use std_alloc::vec::Lodged;
 
 /// A piece of a block: its bytes lie apart from those of the other frames. It ends in
@@ -58,9 +58,39 @@ impl Frame {
 }
 
 impl Buffer for Frame {
+    type Place = Option<Frame>;
+
     ghost contents = { bytes_of };
 
     ghost IsSameBuffer = { IsSame };
+
+    ghost laid = { λ place. place };
+
+    #[inline(always)]
+    fn hole() -> Option<Frame> {
+        None
+    }
+
+    #[inline(always)]
+    fn close_hole(place: Option<Frame>) {
+        match place {
+            None => {}
+            Some(_) => unreachable!(),
+        }
+    }
+
+    #[inline(always)]
+    fn place(self) -> Option<Frame> {
+        Some(self)
+    }
+
+    #[inline(always)]
+    fn lift(place: Option<Frame>) -> Frame {
+        match place {
+            Some(frame) => frame,
+            None => unreachable!(),
+        }
+    }
 
     ghost same_as_itself = { same_as_itself };
 
@@ -69,7 +99,9 @@ impl Buffer for Frame {
     ghost same_along = { same_along };
 
     ghost same_length = { λ a b same. same.size };
+}
 
+impl BufferRef for Frame {
     fn bytes(&self) -> &[u8] {
         self.bytes.as_slice()
     }

@@ -13,6 +13,7 @@ use Rattle.scq_port.specs.Exports.{retired_port, AreOpened, HasPassEnded, HasClo
 use Rattle.scq_port.specs.Exports.{buffer_bytes}
 use Rattle.scq_queue.specs.declared.closing.Closed.{Closed}
 use Rattle.scq_port.specs.declared.port_buffer.PortBuffer.{PortBuffer}
+use Rattle.scq_port.specs.declared.port_buffer.PortPlace.{PortPlace}
 use Rattle.scq_c.specs.declared.exports.End.{End}
 use Rattle.scq_c.specs.declared.exports.Held.{Held}
 use Rattle.scq_c.specs.declared.tally.Tally.{Tally}
@@ -134,7 +135,7 @@ pub record OfOpen (order topics hold limit : ℕ) (memory : Memory) (code : ℕ)
 -- the port's queue closed with this, as this pass of the port ended: `HasClosedPorts` says of it what
 -- holds of all passes of the queue, one of which this is. The counts of all of them were written out
 pub record ClosedWithAllPasses (x : PortStanding) (its : PassStanding PortBuffer)
-    (closed : Closed PortBuffer) (before after : List Tally) : Type 0 where
+    (closed : Closed PortBuffer PortPlace) (before after : List Tally) : Type 0 where
   pub closed_ports : HasClosedPorts x.pass.queue its closed.passes.value.items closed.left.items
       (map buffer_bytes closed.buffers.items)
   pub counts : AreWritten
@@ -147,7 +148,7 @@ pub record ClosedWithAllPasses (x : PortStanding) (its : PassStanding PortBuffer
 pub record OfEnd (x : PortStanding) (e : End) (before after : List Tally) : Type 0 where
   pub ended : HasPassEnded (retired_port x) e.ended.its
   pub last : e.last ≡ 1
-      → (closed : Closed PortBuffer) × (e.ended.closed ≡ Some closed)
+      → (closed : Closed PortBuffer PortPlace) × (e.ended.closed ≡ Some closed)
       × ClosedWithAllPasses x e.ended.its closed before after
   pub other : e.last ≡ 0 → (e.ended.closed ≡ None) × (after ≡ before)
   pub known : (e.last ≡ 0) ⊎ (e.last ≡ 1)

@@ -19,38 +19,38 @@ use Rattle.scq_passes.specs.Exports.{index_of, NoneSpent}
 use Rattle.scq_passes.proofs.FirstPasses.{first-length, first-at}
 use Rattle.scq_desk.specs.declared.seat.Seat.{Seat}
 
-module _ {W B S : Type 0} where
-  abbrev seat_at : Desk (Seat W B) S → Seat W B
+module _ {W B Place S : Type 0} where
+  abbrev seat_at : Desk (Seat W B Place) S → Seat W B Place
   seat_at d = d.worker
 
   -- the values that are kept at desks
-  abbrev pub held_at : List (Desk (Seat W B) S) → List (HeldStanding B)
-  held_at desks = flat_map (λ (d : Desk (Seat W B) S). option_to_list d.worker.kept) desks
+  abbrev pub held_at : List (Desk (Seat W B Place) S) → List (HeldStanding B)
+  held_at desks = flat_map (λ (d : Desk (Seat W B Place) S). option_to_list d.worker.kept) desks
 
   -- what is shown of the workers at desks
-  pub same-shown : {X : Type 0} (f : Seat W B → X) (new old : List (Desk (Seat W B) S)) → workers_at new ≡ workers_at old
-      → map (λ (d : Desk (Seat W B) S). f d.worker) new ≡ map (λ (d : Desk (Seat W B) S). f d.worker) old
+  pub same-shown : {X : Type 0} (f : Seat W B Place → X) (new old : List (Desk (Seat W B Place) S)) → workers_at new ≡ workers_at old
+      → map (λ (d : Desk (Seat W B Place) S). f d.worker) new ≡ map (λ (d : Desk (Seat W B Place) S). f d.worker) old
   same-shown f new old same = sym (map-map f seat_at new) ∙ ap (map f) same ∙ map-map f seat_at old
 
-  pub same-held : (new old : List (Desk (Seat W B) S)) → workers_at new ≡ workers_at old → held_at new ≡ held_at old
+  pub same-held : (new old : List (Desk (Seat W B Place) S)) → workers_at new ≡ workers_at old → held_at new ≡ held_at old
   same-held new old same =
-      let f : Seat W B → List (HeldStanding B) = λ s. option_to_list s.kept in
+      let f : Seat W B Place → List (HeldStanding B) = λ s. option_to_list s.kept in
       sym (flat_map-map f seat_at new) ∙ ap (flat_map f) same ∙ flat_map-map f seat_at old
 
   -- what holds of them
-  pub all-same : (P : Seat W B → Type 0) (new old : List (Desk (Seat W B) S)) → workers_at new ≡ workers_at old → All (λ d. P d.worker) new
+  pub all-same : (P : Seat W B Place → Type 0) (new old : List (Desk (Seat W B Place) S)) → workers_at new ≡ workers_at old → All (λ d. P d.worker) new
       → All (λ d. P d.worker) old
   all-same P new old same each k d less =
       let all : All P (workers_at old) = subst (All P) same (All-map P seat_at new each) in
       subst P (get_or-map seat_at old k d d.worker less) (all k d.worker (omega (arith, less, length-map old seat_at)))
 
   module _ (pass_of : W → PassStanding B) where
-    abbrev pub pass_at : Desk (Seat W B) S → PassStanding B
+    abbrev pub pass_at : Desk (Seat W B Place) S → PassStanding B
     pass_at d = pass_of d.worker.worker
 
     -- the passes of a queue have the numbers of their places
-    pub place-numbers : (shared : Identity B) (n : ℕ) (desks : List (Desk (Seat W B) S)) → map pass_at desks ≡ first_passes shared n → (w : ℕ)
-        (d : Desk (Seat W B) S)
+    pub place-numbers : (shared : Identity B) (n : ℕ) (desks : List (Desk (Seat W B Place) S)) → map pass_at desks ≡ first_passes shared n → (w : ℕ)
+        (d : Desk (Seat W B Place) S)
         → w < length desks
         → (pass_at (slice_index_or desks w d)).number ≡ w
     place-numbers shared n desks are w d less =
@@ -60,7 +60,7 @@ module _ {W B S : Type 0} where
         ap (λ (p : PassStanding B). p.number) is
 
     -- the values that are kept at the desks are those that the passes hold
-    held-own : (shared : Identity B) (desks : List (Desk (Seat W B) S)) → All (λ d. IfSome d.worker.kept (λ h. h.queue ≡ shared)) desks
+    held-own : (shared : Identity B) (desks : List (Desk (Seat W B Place) S)) → All (λ d. IfSome d.worker.kept (λ h. h.queue ≡ shared)) desks
         → All (λ h. h.queue ≡ shared) (held_at desks)
     held-own shared [] each = All-nil (λ (h : HeldStanding B). h.queue ≡ shared)
     held-own shared (d ∷ ds) each =
@@ -71,7 +71,7 @@ module _ {W B S : Type 0} where
         one None is = All-nil (λ (h : HeldStanding B). h.queue ≡ shared)
         one (Some h) is = All-cons (λ (h : HeldStanding B). h.queue ≡ shared) h [] is (All-nil (λ (h : HeldStanding B). h.queue ≡ shared))
 
-    held-times : (i : ℕ) (desks : List (Desk (Seat W B) S)) → All (λ d. (pass_at d).held ≡ index_of d.worker.kept) desks
+    held-times : (i : ℕ) (desks : List (Desk (Seat W B Place) S)) → All (λ d. (pass_at d).held ≡ index_of d.worker.kept) desks
         → times i (map (λ (h : HeldStanding B). h.index) (held_at desks)) ≡ sum_by (λ (p : PassStanding B). times i p.held) (map pass_at desks)
     held-times i [] each = refl
     held-times i (d ∷ ds) each =
@@ -87,7 +87,7 @@ module _ {W B S : Type 0} where
         one None = refl
         one (Some h) = refl
 
-    pub are-held : (shared : Identity B) (desks : List (Desk (Seat W B) S)) → All (λ d. IfSome d.worker.kept (λ h. h.queue ≡ shared)) desks
+    pub are-held : (shared : Identity B) (desks : List (Desk (Seat W B Place) S)) → All (λ d. IfSome d.worker.kept (λ h. h.queue ≡ shared)) desks
         → All (λ d. (pass_at d).held ≡ index_of d.worker.kept) desks
         → AreTheHeld shared (map pass_at desks) (held_at desks)
     are-held shared desks own held = record {
@@ -97,11 +97,11 @@ module _ {W B S : Type 0} where
     }
 
     -- what holds of the pass of each worker that met no ticket past the limit holds of all passes, where none met one
-    pub all-behind : (P : PassStanding B → Type 0) (desks : List (Desk (Seat W B) S)) → All (λ d. (pass_at d).spent ≡ None → P (pass_at d)) desks
+    pub all-behind : (P : PassStanding B → Type 0) (desks : List (Desk (Seat W B Place) S)) → All (λ d. (pass_at d).spent ≡ None → P (pass_at d)) desks
         → NoneSpent (map pass_at desks) → All P (map pass_at desks)
     all-behind P [] each none = All-nil P
     all-behind P (d ∷ desks) each none =
-        let Q : Desk (Seat W B) S → Type 0 = λ e. (pass_at e).spent ≡ None → P (pass_at e) in
+        let Q : Desk (Seat W B Place) S → Type 0 = λ e. (pass_at e).spent ≡ None → P (pass_at e) in
         let R : PassStanding B → Type 0 = λ x. x.spent ≡ None in
         let passes = map pass_at desks in
         All-cons P (pass_at d) passes (All-head Q d desks each (All-head R (pass_at d) passes none))

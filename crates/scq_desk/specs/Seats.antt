@@ -6,8 +6,8 @@ use Rattle.scq_queue.specs.Exports.{PassStanding, first_pass}
 use Rattle.scq_desk.specs.declared.seat.Seat.{Seat}
 
 -- a worker that is to begin: it has a new pass, an empty list, and keeps no value
-pub record IsToBegin {W B : Type 0} (pass_of : W → PassStanding B) (has_none : W → Type 0)
-    (shared : Identity B) (s : Seat W B) : Type 0 where
+pub record IsToBegin {W B Place : Type 0} (pass_of : W → PassStanding B) (has_none : W → Type 0)
+    (shared : Identity B) (s : Seat W B Place) : Type 0 where
   pub pass : pass_of s.worker ≡ first_pass shared (pass_of s.worker).number
   pub members : has_none s.worker
   pub kept : s.kept ≡ None

@@ -38,7 +38,7 @@ numbered (suc n) i x at =
 
 -- a value whose buffer is the one that the queue was given for its index contains this number
 pub number_of : (queue : PortQueue) (h : Value) → AreNumbered queue
-    → IsAsGiven (λ (a b : PortBuffer). a.number ≡ b.number) queue.given h.index h.buffer → HasItsNumber h
+    → IsAsGiven (λ (a b : PortBuffer). a.number.value ≡ b.number.value) queue.given h.index h.buffer → HasItsNumber h
 number_of queue h numbers is =
     sym is.same
     ∙ numbered (n_of queue.setup.order) h.index (buffer_bytes is.first)
@@ -46,7 +46,7 @@ number_of queue h numbers is =
     ∙ ap (λ o. option_map buffer_bytes o) is.was)
 
 -- the same buffers have the same numbers
-same_numbers : (given buffers : List PortBuffer) → AreTheSame (λ (a b : PortBuffer). a.number ≡ b.number) given buffers
+same_numbers : (given buffers : List PortBuffer) → AreTheSame (λ (a b : PortBuffer). a.number.value ≡ b.number.value) given buffers
     → map buffer_bytes buffers ≡ map buffer_bytes given
 same_numbers [] [] is = refl
 same_numbers [] (b ∷ bs) is = absurd (omega (arith, is.0))
@@ -58,6 +58,6 @@ same_numbers (g ∷ gs) (b ∷ bs) is =
 
 -- the buffers that come back at the end have the numbers of the opening
 pub numbers_at_end : (queue : PortQueue) (buffers : List PortBuffer) → AreNumbered queue
-    → AreTheSame (λ (a b : PortBuffer). a.number ≡ b.number) queue.given buffers
+    → AreTheSame (λ (a b : PortBuffer). a.number.value ≡ b.number.value) queue.given buffers
     → map buffer_bytes buffers ≡ numbers_below (n_of queue.setup.order)
 numbers_at_end queue buffers numbers is = same_numbers queue.given buffers is ∙ numbers

@@ -22,7 +22,7 @@ use Rattle.scq_band.specs.contracts.ring.Ring as ring
 use Rattle.scq_band.specs.contracts.band.Band as band
 use Rattle.scq_band.specs.contracts.band.Band.TheInside as band_inside
 use Rattle.scq_band.specs.contracts.seat.Seat as seat
-use Rattle.scq_band.proofs.SeatsSent.{snapshot_sent, vec_sent, u32_sent, u64_sent, option_sent, seat_sent}
+use Rattle.scq_band.proofs.SeatsSent.{snapshot_sent, vec_sent, u32_sent, u64_sent, option_sent, slot_sent, seat_sent}
 use Rattle.scq_queue.specs.contracts.counts.Counts as counts
 use Rattle.scq_queue.specs.contracts.held.Held as held
 use Rattle.scq_queue.specs.contracts.held.Held.TheInside as held_inside
@@ -40,6 +40,7 @@ use Rattle.scq_port.specs.contracts.ends.Knows as knows
 use Rattle.scq_port.specs.contracts.ends.EndRule as end_rule
 use Rattle.scq_port.specs.contracts.ends.EndRuleTableRuleOptionLeavingKnowsSnapshotQueuePortBuffer.TheImpl as end_rules
 use Rattle.scq_port.specs.contracts.port_buffer.PortBuffer as buffer
+use Rattle.scq_port.specs.contracts.port_buffer.PortPlace as place
 use Rattle.scq_port.specs.contracts.port_buffer.PortBufferBuffer.TheImpl as buffers
 use Rattle.scq_port.specs.contracts.hand.Hand as hand
 use Rattle.scq_port.specs.contracts.leaving.Leaving as leaving
@@ -57,8 +58,8 @@ buffer_sent = search (sendable, crossing.crosses) depth 20
 pub buffer_sync : IsSync buffer.the_row
 buffer_sync = search (sendable, crossing.crosses) depth 20
 
-slot_sent : IsSend (slot.the_row buffer.the_row)
-slot_sent = declared_send (slot.the_type buffer.the_row) (option_sent buffer.the_row buffer_sent, tt)
+place_sent : IsSend place.the_row
+place_sent = search (sendable, crossing.crosses) depth 20
 
 setup_sent : IsSend setup.the_row
 setup_sent = search (sendable, crossing.crosses) depth 20
@@ -82,21 +83,22 @@ table_sent T V K R g sends =
       ),
     )
 
-band_sent : IsSend (band.the_row buffer.the_row buffers.ghosts)
+band_sent : IsSend (band.the_row buffer.the_row place.the_row buffers.ghosts)
 band_sent =
-    view_send (band_inside.the_row buffer.the_row buffers.ghosts) _ _ _ _
-    (declared_send (band_inside.the_type buffer.the_row buffers.ghosts) (
-      table_sent (slot.the_row buffer.the_row) view.the_row (key.the_row buffer.the_row) rule.the_row (rules.ghosts buffer.the_row buffers.ghosts rules.no_dict) slot_sent,
+    view_send (band_inside.the_row buffer.the_row place.the_row buffers.ghosts) _ _ _ _
+    (declared_send (band_inside.the_type buffer.the_row place.the_row buffers.ghosts) (
+      table_sent (slot.the_row buffer.the_row place.the_row buffers.ghosts) view.the_row (key.the_row buffer.the_row) rule.the_row (rules.ghosts buffer.the_row place.the_row buffers.ghosts rules.no_dict)
+          (slot_sent buffer.the_row place.the_row buffers.ghosts place_sent),
       (setup_sent, (vec_sent ring.the_row ring_sent, (vec_sent buffer.the_row buffer_sent, (vec_sent u64 u64_sent, tt)))),
     ))
 
-queue_sent : IsSend (queue.the_row buffer.the_row buffers.ghosts)
+queue_sent : IsSend (queue.the_row buffer.the_row place.the_row buffers.ghosts)
 queue_sent =
-    view_send (queue_inside.the_row buffer.the_row buffers.ghosts) _ _ _ _
-    (declared_send (queue_inside.the_type buffer.the_row buffers.ghosts) (
+    view_send (queue_inside.the_row buffer.the_row place.the_row buffers.ghosts) _ _ _ _
+    (declared_send (queue_inside.the_type buffer.the_row place.the_row buffers.ghosts) (
       band_sent,
       (
-        vec_sent (seat.the_row buffer.the_row buffers.ghosts) (seat_sent buffer.the_row buffers.ghosts buffer_sent),
+        vec_sent (seat.the_row buffer.the_row place.the_row buffers.ghosts) (seat_sent buffer.the_row place.the_row buffers.ghosts place_sent),
         (vec_sent counts.the_row counts_sent, (vec_sent bool bool_sent, tt)),
       ),
     ))
@@ -104,29 +106,29 @@ queue_sent =
 usize_sync : IsSync usize
 usize_sync = search sendable
 
-held_sent : IsSend (held.the_row buffer.the_row buffers.ghosts)
+held_sent : IsSend (held.the_row buffer.the_row place.the_row buffers.ghosts)
 held_sent =
-    view_send (held_inside.the_row buffer.the_row buffers.ghosts) _ _ _ _
-    (declared_send (held_inside.the_type buffer.the_row buffers.ghosts) (
+    view_send (held_inside.the_row buffer.the_row place.the_row buffers.ghosts) _ _ _ _
+    (declared_send (held_inside.the_type buffer.the_row place.the_row buffers.ghosts) (
       u32_sent,
-      (buffer_sent, (snapshot_sent (seat.the_row buffer.the_row buffers.ghosts), tt)),
+      (buffer_sent, (snapshot_sent (seat.the_row buffer.the_row place.the_row buffers.ghosts), tt)),
     ))
 
-values_sent : IsSend (vec.the_row (option.the_row (held.the_row buffer.the_row buffers.ghosts)) alloc.the_row ghosts)
-values_sent = vec_sent (option.the_row (held.the_row buffer.the_row buffers.ghosts)) (option_sent (held.the_row buffer.the_row buffers.ghosts) held_sent)
+values_sent : IsSend (vec.the_row (option.the_row (held.the_row buffer.the_row place.the_row buffers.ghosts)) alloc.the_row ghosts)
+values_sent = vec_sent (option.the_row (held.the_row buffer.the_row place.the_row buffers.ghosts)) (option_sent (held.the_row buffer.the_row place.the_row buffers.ghosts) held_sent)
 
 leaving_sent : IsSend leaving.the_row
 leaving_sent =
     view_send leaving_inside.the_row _ _ _ _
-    (declared_send leaving_inside.the_type (pass_sent buffer.the_row buffers.ghosts buffer_sent, (values_sent, tt)))
+    (declared_send leaving_inside.the_type (pass_sent buffer.the_row place.the_row buffers.ghosts place_sent, (values_sent, tt)))
 
 left_sent : IsSend (option.the_row leaving.the_row)
 left_sent = option_sent leaving.the_row leaving_sent
 
-end_table_sync : IsSync (table.the_row (option.the_row leaving.the_row) knows.the_row (snapshot.the_row (queue.the_row buffer.the_row buffers.ghosts)) end_rule.the_row alloc.the_row end_rules.ghosts ghosts)
+end_table_sync : IsSync (table.the_row (option.the_row leaving.the_row) knows.the_row (snapshot.the_row (queue.the_row buffer.the_row place.the_row buffers.ghosts)) end_rule.the_row alloc.the_row end_rules.ghosts ghosts)
 end_table_sync =
-    declared_sync (table.the_type (option.the_row leaving.the_row) knows.the_row (snapshot.the_row (queue.the_row buffer.the_row buffers.ghosts)) end_rule.the_row alloc.the_row end_rules.ghosts ghosts) (
-      words.the_sync (option.the_row leaving.the_row) knows.the_row (snapshot.the_row (queue.the_row buffer.the_row buffers.ghosts)) end_rule.the_row end_rules.ghosts left_sent,
+    declared_sync (table.the_type (option.the_row leaving.the_row) knows.the_row (snapshot.the_row (queue.the_row buffer.the_row place.the_row buffers.ghosts)) end_rule.the_row alloc.the_row end_rules.ghosts ghosts) (
+      words.the_sync (option.the_row leaving.the_row) knows.the_row (snapshot.the_row (queue.the_row buffer.the_row place.the_row buffers.ghosts)) end_rule.the_row end_rules.ghosts left_sent,
       (
         usize_sync,
         (
@@ -142,11 +144,11 @@ end_table_sync =
 fulls_sync : IsSync (snapshot.the_row fulls.the_row)
 fulls_sync = search (sendable, crossing.crosses)
 
-pass_sync : IsSync (pass.the_row buffer.the_row buffers.ghosts)
+pass_sync : IsSync (pass.the_row buffer.the_row place.the_row buffers.ghosts)
 pass_sync =
-    view_sync (pass_inside.the_row buffer.the_row buffers.ghosts) _ _ _ _
-    (declared_sync (pass_inside.the_type buffer.the_row buffers.ghosts)
-    (seat_sync buffer.the_row buffers.ghosts buffer_sent, (fulls_sync, (counts_sync, (bool_sync, tt)))))
+    view_sync (pass_inside.the_row buffer.the_row place.the_row buffers.ghosts) _ _ _ _
+    (declared_sync (pass_inside.the_type buffer.the_row place.the_row buffers.ghosts)
+    (seat_sync buffer.the_row place.the_row buffers.ghosts place_sent, (fulls_sync, (counts_sync, (bool_sync, tt)))))
 
 snapshot_sync : (Y : RattleType) → IsSync (snapshot.the_row Y)
 snapshot_sync Y = search (sendable, crossing.crosses)
@@ -154,18 +156,18 @@ snapshot_sync Y = search (sendable, crossing.crosses)
 u32_sync : IsSync u32
 u32_sync = search sendable
 
-held_sync : IsSync (held.the_row buffer.the_row buffers.ghosts)
+held_sync : IsSync (held.the_row buffer.the_row place.the_row buffers.ghosts)
 held_sync =
-    view_sync (held_inside.the_row buffer.the_row buffers.ghosts) _ _ _ _
-    (declared_sync (held_inside.the_type buffer.the_row buffers.ghosts) (
+    view_sync (held_inside.the_row buffer.the_row place.the_row buffers.ghosts) _ _ _ _
+    (declared_sync (held_inside.the_type buffer.the_row place.the_row buffers.ghosts) (
       u32_sync,
-      (buffer_sync, (snapshot_sync (seat.the_row buffer.the_row buffers.ghosts), tt)),
+      (buffer_sync, (snapshot_sync (seat.the_row buffer.the_row place.the_row buffers.ghosts), tt)),
     ))
 
 ends_sent : IsSend ends.the_row
 ends_sent =
     declared_send ends.the_type (
-      table_sent (option.the_row leaving.the_row) knows.the_row (snapshot.the_row (queue.the_row buffer.the_row buffers.ghosts)) end_rule.the_row end_rules.ghosts left_sent,
+      table_sent (option.the_row leaving.the_row) knows.the_row (snapshot.the_row (queue.the_row buffer.the_row place.the_row buffers.ghosts)) end_rule.the_row end_rules.ghosts left_sent,
       tt,
     )
 
@@ -179,8 +181,8 @@ owner_sent =
       (
         ends_sent,
         (
-          vec_sent (pass.the_row buffer.the_row buffers.ghosts) (pass_sent buffer.the_row buffers.ghosts buffer_sent),
-          (vec_sent (held.the_row buffer.the_row buffers.ghosts) held_sent, (heap.the_send, tt)),
+          vec_sent (pass.the_row buffer.the_row place.the_row buffers.ghosts) (pass_sent buffer.the_row place.the_row buffers.ghosts place_sent),
+          (vec_sent (held.the_row buffer.the_row place.the_row buffers.ghosts) held_sent, (heap.the_send, tt)),
         ),
       ),
     )
@@ -188,12 +190,12 @@ owner_sent =
 owner_sync : IsSync owner.the_row
 owner_sync =
     declared_sync owner.the_type (
-      queue_sync buffer.the_row buffers.ghosts buffer_sent buffer_sync,
+      queue_sync buffer.the_row place.the_row buffers.ghosts place_sent buffer_sync,
       (
         ends_sync,
         (
-          vec_sync (pass.the_row buffer.the_row buffers.ghosts) pass_sync,
-          (vec_sync (held.the_row buffer.the_row buffers.ghosts) held_sync, (heap.the_sync, tt)),
+          vec_sync (pass.the_row buffer.the_row place.the_row buffers.ghosts) pass_sync,
+          (vec_sync (held.the_row buffer.the_row place.the_row buffers.ghosts) held_sync, (heap.the_sync, tt)),
         ),
       ),
     )
@@ -208,6 +210,6 @@ port_sent =
       array_send u64 16 u64_sent,
       (
         crossing.Arc-send owner.the_row owner_sent owner_sync,
-        (pass_sent buffer.the_row buffers.ghosts buffer_sent, (hand_sent, (u32_sent, (u32_sent, (bool_sent, (array_send u64 16 u64_sent, tt)))))),
+        (pass_sent buffer.the_row place.the_row buffers.ghosts place_sent, (hand_sent, (u32_sent, (u32_sent, (bool_sent, (array_send u64 16 u64_sent, tt)))))),
       ),
     ))

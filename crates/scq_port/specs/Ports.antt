@@ -8,7 +8,7 @@ use Rattle.scq_port.specs.Numbers.{numbers_below}
 
 -- what a buffer contains: the four bytes of its number
 abbrev pub buffer_bytes : PortBuffer → List ℕ
-buffer_bytes b = b.number
+buffer_bytes b = b.number.value
 
 -- a value that a port holds, and a queue of such buffers
 abbrev pub Value : Type 0

@@ -3,6 +3,7 @@ ghost use Rattle.std.specs.Prelude.{◌≡◌, Option};
 ghost use Rattle.scq_queue.specs.Exports.{PassStanding};
 ghost use Rattle.scq_queue.specs.declared.closing.Closed.{Closed};
 ghost use Rattle.scq_port.specs.declared.port_buffer.PortBuffer.{PortBuffer};
+ghost use Rattle.scq_port.specs.declared.port_buffer.PortPlace.{PortPlace};
 
 use crate::port_buffer::PortBuffer;
 use scq_queue::{Closed, Pass};
@@ -22,7 +23,7 @@ pub struct Made {}
 pub struct Ended {
     made: Made,
     pub ghost its: { PassStanding PortBuffer },
-    pub ghost closed: { Option (Closed PortBuffer) },
+    pub ghost closed: { Option (Closed PortBuffer PortPlace) },
 }
 
 impl Model for Ended {

@@ -258,6 +258,12 @@ module _ {B : Type 0} where
       → All (λ (s : Standing B). s.band ≡ queue) (map seat_of_pass passes)
   seats_own queue passes all = All-map (λ (s : Standing B). s.band ≡ queue) seat_of_pass passes all
 
+  -- all that they hold is lifted
+  pub seats_lifted : (passes : List (PassStanding B)) → All (λ (s : Standing B). band.HoldsLifted s) (map seat_of_pass passes)
+  seats_lifted passes =
+      All-map (λ (s : Standing B). band.HoldsLifted s) seat_of_pass passes
+      (λ k d low i. ap (times i) (lifted-all_lifted B _ ∙ sym (indices-all_lifted B _)))
+
   -- the buffers of held values, with their indices, are those that are lifted
   same_given : (IsSame : B → B → Type 0) (queue : Identity B) (held : List (HeldStanding B)) → All (HasGivenBuffer IsSame) held
       → ((k : ℕ) (h : HeldStanding B) → slice_get held k ≡ Some h → h.queue ≡ queue) → (o : ℕ × B) → Contains (map value_of held) o

@@ -23,10 +23,10 @@ bool_sent = search sendable
 pub counts_sent : IsSend counts.the_row
 counts_sent = declared_send counts.the_type (u64_sent, (u64_sent, (u64_sent, tt)))
 
-pub pass_sent : (B : RattleType) (buffer : Ghosts B.Denot) → IsSend B → IsSend (pass.the_row B buffer)
-pass_sent B buffer sends =
-    view_send (pass_inside.the_row B buffer) _ _ _ _
-    (declared_send (pass_inside.the_type B buffer) (seat_sent B buffer sends, (snapshot_sent fulls.the_row, (counts_sent, (bool_sent, tt)))))
+pub pass_sent : (B P : RattleType) (buffer : Ghosts B.Denot P.Denot) → IsSend P → IsSend (pass.the_row B P buffer)
+pass_sent B P buffer sends =
+    view_send (pass_inside.the_row B P buffer) _ _ _ _
+    (declared_send (pass_inside.the_type B P buffer) (seat_sent B P buffer sends, (snapshot_sent fulls.the_row, (counts_sent, (bool_sent, tt)))))
 
 -- what a pass tells another may
 band_note_sent : IsSend band_note.the_row

@@ -20,12 +20,12 @@ bool_sync = search sendable
 pub counts_sync : IsSync counts.the_row
 counts_sync = declared_sync counts.the_type (u64_sync, (u64_sync, (u64_sync, tt)))
 
-pub queue_sync : (B : RattleType) (buffer : Ghosts B.Denot) → IsSend B → IsSync B → IsSync (queue.the_row B buffer)
-queue_sync B buffer sends shares =
-    view_sync (queue_inside.the_row B buffer) _ _ _ _
-    (declared_sync (queue_inside.the_type B buffer) (
-      band_sync B buffer sends shares,
-      (vec_sync (seat.the_row B buffer) (seat_sync B buffer sends), (vec_sync counts.the_row counts_sync, (vec_sync bool bool_sync, tt))),
+pub queue_sync : (B P : RattleType) (buffer : Ghosts B.Denot P.Denot) → IsSend P → IsSync B → IsSync (queue.the_row B P buffer)
+queue_sync B P buffer sends shares =
+    view_sync (queue_inside.the_row B P buffer) _ _ _ _
+    (declared_sync (queue_inside.the_type B P buffer) (
+      band_sync B P buffer sends shares,
+      (vec_sync (seat.the_row B P buffer) (seat_sync B P buffer sends), (vec_sync counts.the_row counts_sync, (vec_sync bool bool_sync, tt))),
     ))
 
 -- a buffer on the heap may be shared

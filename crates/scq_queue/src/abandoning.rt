@@ -51,7 +51,10 @@ impl<B: Buffer> Queue<B> {
     }
 }
 
-impl<B: Buffer + Drop> Queue<B> {
+impl<B: Buffer + Drop> Queue<B>
+where
+    B::Place: Drop,
+{
     /// Lets the queue go, and with it the buffers that nobody holds. It asks for no pass; where all
     /// come back, `close` says what they did.
     pub fn abandon(self) {

@@ -101,7 +101,7 @@ impl<B: Buffer> Queue<B> {
         let given = Snapshot::of(&passes);
         all_given(&held);
         unpack(passes, &mut seats, &mut counts, &mut saw);
-        let BandClosed { buffers, left } = band.close(seats, held);
+        let BandClosed { buffers, left } = band.close_lifted(seats, held);
         Closed {
             buffers,
             left,

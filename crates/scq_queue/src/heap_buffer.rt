@@ -4,7 +4,8 @@ ghost use Rattle.std.proofs.Common.{sym, refl, ◌∙◌};
 ghost use Rattle.std.specs.Vec.{with_items};
 ghost use Rattle.scq_word.specs.Exports.{rewritten};
 
-use scq_word::{Buffer, BufferMut, NoMemory};
+use scq_band::TellsHoles;
+use scq_word::{Buffer, BufferMut, BufferRef, NoMemory};
 use std::alloc::Global;
 
 /// Bytes on the heap. Two of them are the same buffer where they have equally many.
@@ -25,9 +26,36 @@ impl HeapBuffer {
 }
 
 impl Buffer for HeapBuffer {
+    type Place = Option<HeapBuffer>;
+
     ghost contents = { λ buffer. buffer.bytes.items };
 
     ghost IsSameBuffer = { λ a b. length a.bytes.items ≡ length b.bytes.items };
+
+    ghost laid = { λ place. place };
+
+    #[inline(always)]
+    fn hole() -> Option<HeapBuffer> {
+        None
+    }
+
+    #[inline(always)]
+    fn close_hole(place: Option<HeapBuffer>) {
+        drop(place);
+    }
+
+    #[inline(always)]
+    fn place(self) -> Option<HeapBuffer> {
+        Some(self)
+    }
+
+    #[inline(always)]
+    fn lift(place: Option<HeapBuffer>) -> HeapBuffer {
+        match place {
+            Some(buffer) => buffer,
+            None => unreachable!(),
+        }
+    }
 
     ghost same_as_itself = { λ a. refl };
 
@@ -36,7 +64,15 @@ impl Buffer for HeapBuffer {
     ghost same_along = { λ a b c first second. first ∙ second };
 
     ghost same_length = { λ a b same. same };
+}
 
+impl TellsHoles for HeapBuffer {
+    fn is_hole(place: &Option<HeapBuffer>) -> bool {
+        place.is_none()
+    }
+}
+
+impl BufferRef for HeapBuffer {
     fn bytes(&self) -> &[u8] {
         self.bytes.as_slice()
     }

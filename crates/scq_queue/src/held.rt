@@ -4,7 +4,7 @@ ghost use Rattle.scq_queue.specs.Kept.{value_of, HasGivenBuffer};
 ghost use Rattle.std.specs.Borrow.{sem, Lends, Array, u8 as byte};
 
 use scq_band::{Lifted, Seat};
-use scq_word::{Buffer, BufferMut};
+use scq_word::{Buffer, BufferMut, BufferRef};
 use std::marker::Model;
 use std::snapshot::Snapshot;
 
@@ -30,14 +30,16 @@ impl<B: Buffer> Model for Held<B> {
     ghost invariant = { λ h. IsAsGiven B.IsSameBuffer h.owner.value.band.given h.index h.buffer };
 }
 
-impl<B: Buffer> Held<B> {
+impl<B: BufferRef> Held<B> {
     /// Its bytes.
     pub fn bytes(&self) -> &[u8]
         ensures { result.now ≡ B.contents self.now.buffer }
     {
         self.buffer.bytes()
     }
+}
 
+impl<B: Buffer> Held<B> {
     /// Its buffer.
     pub fn buffer(&self) -> &B
         ensures { result.now ≡ self.now.buffer }
@@ -65,7 +67,7 @@ impl<B: BufferMut> Held<B> {
 
     /// Its bytes, lent to be written: there stay as many.
     pub fn bytes_mut(&mut self) -> &mut [u8]
-        ensures* writes { sem 𝓛 (Lends (the_row B.row B.Buffer) (Array byte 0) self.entry result
+        ensures* writes { sem 𝓛 (Lends (the_row B.row B.Place.row B.Buffer) (Array byte 0) self.entry result
             (λ w. record self.old { buffer = B.written self.old.buffer w })) }
         ensures bytes { result.now ≡ B.contents self.old.buffer }
     {

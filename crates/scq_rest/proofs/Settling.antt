@@ -1,5 +1,5 @@
 -- Desks with their stands, before the work and behind it; and what is told of workers that waited, where their crew closes.
-use Rattle.std.proofs.Common.{◌≡◌, ◌∙◌, ◌⊎◌, refl, sym, ap, subst, arith, inl, inr, zero, suc, ℕ, ◌+◌, ◌-◌, ◌^◌, ◌<◌, ◌≤◌, Bool, true, List, [], ◌∷◌, length, map, get_or, Some, None}
+use Rattle.std.proofs.Common.{◌≡◌, ◌∙◌, ◌⊎◌, refl, sym, ap, subst, arith, inl, inr, zero, suc, ℕ, ◌+◌, ◌-◌, ◌^◌, ◌<◌, ◌≤◌, Bool, true, List, [], ◌∷◌, length, map, get_or, Option, Some, None}
 use Rattle.std.specs.Prelude.{slice_get, slice_index_or}
 use Rattle.std.specs.List.{All, AllZip}
 use Rattle.std.proofs.lemmas.Bool.{cases_lt}
@@ -49,41 +49,41 @@ firsts-new crew zero = All-nil (IsFirst crew)
 firsts-new crew (suc n) = All-push (IsFirst crew) (first_posts crew n) (first_post crew n) (firsts-new crew n) refl
 
 module _ {S : Type 0} where
-  abbrev pub desk_of : Work S → Desk (Seated Frame) S
+  abbrev pub desk_of : Work S → Desk (Seated Frame (Option Frame)) S
   desk_of w = w.desk
 
   abbrev pub stand_of : Work S → Post
   stand_of w = w.stand
 
   -- each worker is given what it begins with
-  pub all-given : (t : Task S) (xs : List (Work S)) (desks : List (Desk (Seated Frame) S)) (stands : List Post) → desks ≡ map desk_of xs → stands ≡ map stand_of xs
-      → All (λ (d : Desk (Seated Frame) S). IsToBegin t.queue d.worker) desks → All (λ (d : Desk (Seated Frame) S). All IsNew d.files.items) desks → All (IsFirst t.crew) stands
+  pub all-given : (t : Task S) (xs : List (Work S)) (desks : List (Desk (Seated Frame (Option Frame)) S)) (stands : List Post) → desks ≡ map desk_of xs → stands ≡ map stand_of xs
+      → All (λ (d : Desk (Seated Frame (Option Frame)) S). IsToBegin t.queue d.worker) desks → All (λ (d : Desk (Seated Frame (Option Frame)) S). All IsNew d.files.items) desks → All (IsFirst t.crew) stands
       → All (IsGiven t) xs
   all-given t xs desks stands desks_are stands_are fresh unread new k x less =
       record {
-        fresh = all-shown (λ (d : Desk (Seated Frame) S). IsToBegin t.queue d.worker) desk_of xs desks (sym desks_are) fresh k x less;
-        unread = all-shown (λ (d : Desk (Seated Frame) S). All IsNew d.files.items) desk_of xs desks (sym desks_are) unread k x less;
+        fresh = all-shown (λ (d : Desk (Seated Frame _) S). IsToBegin t.queue d.worker) desk_of xs desks (sym desks_are) fresh k x less;
+        unread = all-shown (λ (d : Desk (Seated Frame _) S). All IsNew d.files.items) desk_of xs desks (sym desks_are) unread k x less;
         stand = all-shown (IsFirst t.crew) stand_of xs stands (sym stands_are) new k x less;
       }
 
   -- the files and the pass's number of the desk at a place are those that it had
-  abbrev pub AreStill : List (Desk (Seated Frame) S) → List (Desk (Seated Frame) S) → Type 0
-  AreStill old new = (w : ℕ) (d : Desk (Seated Frame) S) → w < length old
+  abbrev pub AreStill : List (Desk (Seated Frame (Option Frame)) S) → List (Desk (Seated Frame (Option Frame)) S) → Type 0
+  AreStill old new = (w : ℕ) (d : Desk (Seated Frame (Option Frame)) S) → w < length old
       → (ids_of (slice_index_or new w d).files.items ≡ ids_of (slice_index_or old w d).files.items)
       × ((slice_index_or new w d).worker.worker.pass.number ≡ (slice_index_or old w d).worker.worker.pass.number)
 
-  pub desks-same : (t : Task S) (xs ys : List (Work S)) (x y : Work S) (old new : List (Desk (Seated Frame) S)) → AllZip (HasDone t) xs ys → old ≡ map desk_of xs
+  pub desks-same : (t : Task S) (xs ys : List (Work S)) (x y : Work S) (old new : List (Desk (Seated Frame (Option Frame)) S)) → AllZip (HasDone t) xs ys → old ≡ map desk_of xs
       → new ≡ map desk_of ys → AreStill old new
   desks-same t xs ys x y old new z old_is new_is w d less =
       let within : w < length xs = omega (arith, less, ap length old_is, length-map xs desk_of) in
       let long = zip-length (HasDone t) xs ys z in
       let done = zip-at (HasDone t) xs ys x y w z within in
       let now : slice_index_or new w d ≡ (get_or ys w y).desk =
-      ap (λ (l : List (Desk (Seated Frame) S)). slice_index_or l w d) new_is ∙ get_or-map desk_of ys w y d (omega (arith, within, long)) in
+      ap (λ (l : List (Desk (Seated Frame _) S)). slice_index_or l w d) new_is ∙ get_or-map desk_of ys w y d (omega (arith, within, long)) in
       let was : slice_index_or old w d ≡ (get_or xs w x).desk =
-      ap (λ (l : List (Desk (Seated Frame) S)). slice_index_or l w d) old_is ∙ get_or-map desk_of xs w x d within in (
-        ap (λ (e : Desk (Seated Frame) S). ids_of e.files.items) now ∙ done.files ∙ sym (ap (λ (e : Desk (Seated Frame) S). ids_of e.files.items) was),
-        ap (λ (e : Desk (Seated Frame) S). e.worker.worker.pass.number) now ∙ done.number ∙ sym (ap (λ (e : Desk (Seated Frame) S). e.worker.worker.pass.number) was),
+      ap (λ (l : List (Desk (Seated Frame _) S)). slice_index_or l w d) old_is ∙ get_or-map desk_of xs w x d within in (
+        ap (λ (e : Desk (Seated Frame _) S). ids_of e.files.items) now ∙ done.files ∙ sym (ap (λ (e : Desk (Seated Frame _) S). ids_of e.files.items) was),
+        ap (λ (e : Desk (Seated Frame _) S). e.worker.worker.pass.number) now ∙ done.number ∙ sym (ap (λ (e : Desk (Seated Frame _) S). e.worker.worker.pass.number) was),
       )
 
   -- what holds of each work that is done holds of all of them
@@ -112,7 +112,7 @@ module _ {S : Type 0} where
   still-ordered t w (x ∷ xs) (y ∷ ys) z order = (z.0.worker ∙ order.0, still-ordered t (suc w) xs ys z.1 order.1)
 
   each-waited : (t : Task S) (xs ys : List (Work S)) → AllZip (HasDone t) xs ys
-      → EachWaited (length t.topics + 1) (takes_behind t.most) (map stand_of ys) (map (λ (d : Desk (Seated Frame) S). d.worker.worker.pass) (map desk_of ys))
+      → EachWaited (length t.topics + 1) (takes_behind t.most) (map stand_of ys) (map (λ (d : Desk (Seated Frame (Option Frame)) S). d.worker.worker.pass) (map desk_of ys))
   each-waited t [] [] z w s p stands passes = absurd (cc)
   each-waited t [] (y ∷ ys) z w s p stands passes = absurd z
   each-waited t (x ∷ xs) [] z w s p stands passes = absurd z
@@ -127,7 +127,7 @@ module _ {S : Type 0} where
   each-rang : (t : Task S) (v : ℕ) (xs ys : List (Work S)) → AllZip (HasDone t) xs ys → AreInWorkerOrder v (map stand_of xs)
       → All (IsFirst t.crew) (map stand_of xs) → length t.crew ≡ t.workers
       → (w : ℕ) (s : Post) (p : PassStanding Frame) → slice_get (map stand_of ys) w ≡ Some s
-      → slice_get (map (λ (d : Desk (Seated Frame) S). d.worker.worker.pass) (map desk_of ys)) w ≡ Some p → p.spent ≡ None
+      → slice_get (map (λ (d : Desk (Seated Frame (Option Frame)) S). d.worker.worker.pass) (map desk_of ys)) w ≡ Some p → p.spent ≡ None
       → HasRung (v + w) (length t.crew) p (no_wakes t.crew) s.wakes
   each-rang t v [] [] z order new many w s p stands passes awake = absurd (cc)
   each-rang t v [] (y ∷ ys) z order new many w s p stands passes awake = absurd z
@@ -145,7 +145,7 @@ module _ {S : Type 0} where
 
   pub settled : (t : Task S) (xs ys : List (Work S)) → AllZip (HasDone t) xs ys → AreAll t.crew (map stand_of xs)
       → All (IsFirst t.crew) (map stand_of xs) → length t.crew ≡ t.workers
-      → AreSettled t.crew (length t.topics + 1) (takes_behind t.most) (map stand_of ys) (map (λ (d : Desk (Seated Frame) S). d.worker.worker.pass) (map desk_of ys))
+      → AreSettled t.crew (length t.topics + 1) (takes_behind t.most) (map stand_of ys) (map (λ (d : Desk (Seated Frame (Option Frame)) S). d.worker.worker.pass) (map desk_of ys))
   settled t xs ys z all new many =
       record {
         all = record {
@@ -153,7 +153,7 @@ module _ {S : Type 0} where
           order = still-ordered t 0 xs ys z all.order;
           many = length-map ys stand_of ∙ zip-length (HasDone t) xs ys z ∙ sym (length-map xs stand_of) ∙ all.many;
         };
-        many = length-map ys stand_of ∙ sym (length-map ys desk_of) ∙ sym (length-map (map desk_of ys) (λ (d : Desk (Seated Frame) S). d.worker.worker.pass));
+        many = length-map ys stand_of ∙ sym (length-map ys desk_of) ∙ sym (length-map (map desk_of ys) (λ (d : Desk (Seated Frame _) S). d.worker.worker.pass));
         waited = each-waited t xs ys z;
         rang = λ w s p stands passes awake.
             rung-as (0 + w) w (length t.crew) (length t.crew) p p (no_wakes t.crew) (no_wakes t.crew) s.wakes s.wakes (omega arith) refl refl refl refl

@@ -23,7 +23,7 @@ module _ {B : Type 0} where
     left = λ none. absurd (none-or p.spent ticket is none);
   }
 
-module _ {B S : Type 0} (shared : Identity B) (job : Job) (src : SourceOf S) (files : List (OwnFile S)) (was now : Worker B) (kept : Option (HeldStanding B))
+module _ {B Place S : Type 0} (shared : Identity B) (job : Job) (src : SourceOf S) (files : List (OwnFile S)) (was now : Worker B Place) (kept : Option (HeldStanding B))
     (t : IsToSweep shared job.topics job.size job.most job.longest src files was.pass was.members was.starved kept) where
   left-told : (contents : B → List ℕ) (topics rests : ℕ) → HasTaken was.pass now.pass → HasSweptTold contents shared IsReturn topics rests was.pass now.pass
       → HasLeftTold contents IsReturn topics rests now.pass

@@ -25,8 +25,8 @@ use Rattle.scq_stages.specs.Exports.{Seated, HaveFinished, KeepsStages, HasRunAt
 use Rattle.scq_stages.proofs.AllStaged.{AllDone, HasDoneItsWork, all-shared, have-staged, held_in}
 use Rattle.scq_stages.proofs.Conclusion.{Work, lists_in, worked_messages, passes_in}
 
-module _ {B S : Type 0} where
-  abbrev work_of : Desk (Seated B) S → Work B
+module _ {B Place S : Type 0} where
+  abbrev work_of : Desk (Seated B Place) S → Work B
   work_of d = record {
     pass = d.worker.worker.pass;
     list = d.worker.worker.members;
@@ -35,26 +35,26 @@ module _ {B S : Type 0} where
     kept = d.worker.kept;
   }
 
-  abbrev pub passes_at : List (Desk (Seated B) S) → List (PassStanding B)
-  passes_at desks = map (λ (d : Desk (Seated B) S). d.worker.worker.pass) desks
+  abbrev pub passes_at : List (Desk (Seated B Place) S) → List (PassStanding B)
+  passes_at desks = map (λ (d : Desk (Seated B Place) S). d.worker.worker.pass) desks
 
-  abbrev pub lists_at : List (Desk (Seated B) S) → List (Vec Finished Global)
-  lists_at desks = map (λ (d : Desk (Seated B) S). d.worker.worker.members) desks
+  abbrev pub lists_at : List (Desk (Seated B Place) S) → List (Vec Finished Global)
+  lists_at desks = map (λ (d : Desk (Seated B Place) S). d.worker.worker.members) desks
 
   -- the workers of a queue have left: each had its own of the files, and did what `HasRunAt` says, however the reading of these ended
-  pub record AllRan (c : Setup) (shared : Identity B) (size : ℕ) (src : SourceOf S) (sources : List S) (desks : List (Desk (Seated B) S)) : Type 0 where
+  pub record AllRan (c : Setup) (shared : Identity B) (size : ℕ) (src : SourceOf S) (sources : List S) (desks : List (Desk (Seated B Place) S)) : Type 0 where
     pub some : 0 < length desks
     pub few : length sources ≤ 64
     pub dealt : AreDealt 1 sources desks
     pub run : All (HasRunAt shared size src) desks
     pub setup : shared.setup ≡ c
-    pub numbers : (w : ℕ) (d : Desk (Seated B) S) → w < length desks → (slice_index_or desks w d).worker.worker.pass.number ≡ w
+    pub numbers : (w : ℕ) (d : Desk (Seated B Place) S) → w < length desks → (slice_index_or desks w d).worker.worker.pass.number ≡ w
     pub rings : c.rings ≡ 3
     pub seats : c.seats ≡ length desks
     pub limit : c.limit ≡ 2 ^ 60
 
   module _ (c : Setup) (shared : Identity B) (size : ℕ) (src : SourceOf S) (sources : List S)
-      (desks : List (Desk (Seated B) S)) (ran : AllRan c shared size src sources desks) where
+      (desks : List (Desk (Seated B Place) S)) (ran : AllRan c shared size src sources desks) where
     pub all-read : AllRead [] size src sources desks
     all-read = record { some = ran.some; few = ran.few; dealt = ran.dealt; read = λ k d less. (ran.run k d less).read }
 
@@ -109,7 +109,7 @@ module _ {B S : Type 0} where
           (all-shared c shared works all-done left_in closed-so)
 
       -- where each file was read to its end and no worker wanted memory
-      module _ (whole : AllWhole desks) (fed : All (λ (d : Desk (Seated B) S). d.worker.worker.starved ≡ false) desks) where
+      module _ (whole : AllWhole desks) (fed : All (λ (d : Desk (Seated B Place) S). d.worker.worker.starved ≡ false) desks) where
         abbrev pub messages_given : List (List Message)
         messages_given = given [] size src sources desks all-read
 
@@ -118,7 +118,7 @@ module _ {B S : Type 0} where
 
         own-so : (w : ℕ) (v : Work B) → slice_get works w ≡ Some v → v.messages ≡ own_of (length works) w 1 messages_given
         own-so w v is = by (slice_get desks w) refl where
-          by : (o : Option (Desk (Seated B) S)) → slice_get desks w ≡ o → v.messages ≡ own_of (length works) w 1 messages_given
+          by : (o : Option (Desk (Seated B Place) S)) → slice_get desks w ≡ o → v.messages ≡ own_of (length works) w 1 messages_given
           by None at = absurd (cc (slice_get-map work_of desks w, is, at))
           by (Some d) at =
               let first : Some (work_of d) ≡ Some v = sym (slice_get-map work_of desks w ∙ ap (option_map work_of) at) ∙ is in

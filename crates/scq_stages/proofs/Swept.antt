@@ -11,9 +11,9 @@ use Rattle.scq_stages.proofs.FewCalls.{few_calls-moved}
 use Rattle.scq_stages.proofs.Finishing.{finished-along, finished-nothing}
 use Rattle.scq_stages.proofs.Moving.{moved-of}
 
-module _ {B : Type 0} where
+module _ {B Place : Type 0} where
   -- it took nothing
-  pub finished-none : (w : Worker B) → HasFinishedAll w w
+  pub finished-none : (w : Worker B Place) → HasFinishedAll w w
   finished-none w =
       let none_ : since w.pass w.pass ≡ [] = since-of w.pass w.pass [] (sym (append-nil w.pass.calls)) in
       record {
@@ -23,7 +23,7 @@ module _ {B : Type 0} where
       }
 
   -- it took more
-  pub finished-more : (u v w : Worker B) → HasGivenBack u.pass v.pass → HasGivenBack v.pass w.pass → HasFinishedAll u v → HasFinishedAll v w
+  pub finished-more : (u v w : Worker B Place) → HasGivenBack u.pass v.pass → HasGivenBack v.pass w.pass → HasFinishedAll u v → HasFinishedAll v w
       → HasFinishedAll u w
   finished-more u v w taken later one more =
       let split = since-takes u.pass v.pass w.pass taken later in
@@ -35,7 +35,7 @@ module _ {B : Type 0} where
       }
 
   -- it left then
-  pub finished-left : (u v w : Worker B) (kept : Option (HeldStanding B)) → HasGivenBack u.pass v.pass → HasFinishedAll u v → HasLeftAt v w kept
+  pub finished-left : (u v w : Worker B Place) (kept : Option (HeldStanding B)) → HasGivenBack u.pass v.pass → HasFinishedAll u v → HasLeftAt v w kept
       → HasLeftAt u w kept
   finished-left u v w kept taken one more = record {
     left = λ n.
@@ -45,14 +45,14 @@ module _ {B : Type 0} where
   }
 
   -- what one take made of it, behind sweeps that went before
-  pub finishes-on : (v w : Worker B) → HasGivenBack v.pass w.pass → HasFinishedAll v w → FinishesOn v w
+  pub finishes-on : (v w : Worker B Place) → HasGivenBack v.pass w.pass → HasFinishedAll v w → FinishesOn v w
   finishes-on v w taken made first_of back was = finished-more first_of v w back taken was made
 
-  pub leaves-on : (v w : Worker B) (kept : Option (HeldStanding B)) → HasLeftAt v w kept → LeavesOn v w kept
+  pub leaves-on : (v w : Worker B Place) (kept : Option (HeldStanding B)) → HasLeftAt v w kept → LeavesOn v w kept
   leaves-on v w kept left first_of back was = finished-left first_of v w kept back was left
 
   -- that it asked makes no difference
-  pub finished-asked : (v w : Worker B) → w.pass.calls ≡ v.pass.calls → w.members.items ≡ v.members.items
+  pub finished-asked : (v w : Worker B Place) → w.pass.calls ≡ v.pass.calls → w.members.items ≡ v.members.items
       → w.starved ≡ v.starved → HasFinishedAll v w
   finished-asked v w same members starved =
       let none_ : since v.pass w.pass ≡ [] = since-of v.pass w.pass [] (same ∙ sym (append-nil v.pass.calls)) in

@@ -1,17 +1,35 @@
 //! Buffers: bytes that go from hand to hand, and those that are written in place.
 
-ghost use Rattle.std.specs.Prelude.{◌≡◌, ℕ, List, length};
+ghost use Rattle.std.specs.Prelude.{◌≡◌, ℕ, List, length, Option, Some, None};
 ghost use Rattle.std.specs.Borrow.{sem, Lends, Array, u8 as byte};
 
 /// Bytes that stand somewhere. A buffer has two meanings: its bytes, and which buffer it is.
 pub trait Buffer: Send + Sync {
+    /// What stands in its slot: the buffer, or none while it is lifted.
+    type Place: Send + Sync;
+
     ghost contents: { Self → List ℕ };
 
     ghost IsSameBuffer: { Self → Self → Type 0 };
 
-    /// Its bytes.
-    fn bytes(&self) -> &[u8]
-        ensures { result.now ≡ contents self.now };
+    ghost laid: { Self.Place → Option Self };
+
+    /// A place with nothing in it.
+    fn hole() -> Self::Place
+        ensures { laid result ≡ None };
+
+    /// The end of a place with nothing in it.
+    fn close_hole(place: Self::Place)
+        requires { laid place ≡ None };
+
+    /// A place with the buffer in it.
+    fn place(self) -> Self::Place
+        ensures { laid result ≡ Some self };
+
+    /// The buffer that is in a place.
+    fn lift(place: Self::Place) -> Self
+        requires { (buffer : Self) × (laid place ≡ Some buffer) }
+        ensures { laid place ≡ Some result };
 
     ghost same_as_itself: { (a : Self) → IsSameBuffer a a };
 
@@ -23,8 +41,15 @@ pub trait Buffer: Send + Sync {
         → length (contents a) ≡ length (contents b) };
 }
 
+/// A buffer whose bytes can be read.
+pub trait BufferRef: Buffer {
+    /// Its bytes.
+    fn bytes(&self) -> &[u8]
+        ensures { result.now ≡ Self.contents self.now };
+}
+
 /// A buffer that is written in place. A write changes its bytes, and leaves it the same buffer.
-pub trait BufferMut: Buffer {
+pub trait BufferMut: BufferRef {
     // The buffer once these bytes were left in it.
     ghost written: { Self → List ℕ → Self };
 

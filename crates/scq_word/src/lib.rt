@@ -15,7 +15,7 @@ mod shape;
 mod words;
 
 pub use bounds::limit_for;
-pub use buffer::{Buffer, BufferMut};
+pub use buffer::{Buffer, BufferMut, BufferRef};
 pub use bytes::{Bytes, NoMemory};
 pub use entry::Entry;
 pub use setup::{Setup, SetupFault};

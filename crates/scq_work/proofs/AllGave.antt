@@ -38,17 +38,17 @@ parts-spread size (m ∷ ms) some =
       sum_by-cons most_parts m ms,
     )
 
-module _ {B S : Type 0} where
+module _ {B Place S : Type 0} where
   -- the workers of a queue have left: each had its own of the files, and did what `HasRun` says, however the reading of these ended
   pub record AllRan (c : Setup) (shared : Identity B) (topics : List (List ℕ × Kind)) (size most longest : ℕ) (src : SourceOf S)
-      (sources : List S) (desks : List (Desk (Seated B) S)) : Type 0 where
+      (sources : List S) (desks : List (Desk (Seated B Place) S)) : Type 0 where
     pub some : 0 < length desks
     pub few : length sources ≤ 64
     pub dealt : AreDealt 1 sources desks
     pub run : All (λ d. HasRun shared topics size most longest src d.files.items d.worker.worker.pass d.worker.worker.members
         d.worker.worker.starved d.worker.kept) desks
     pub setup : shared.setup ≡ c
-    pub numbers : (w : ℕ) (d : Desk (Seated B) S) → w < length desks → (slice_index_or desks w d).worker.worker.pass.number ≡ w
+    pub numbers : (w : ℕ) (d : Desk (Seated B Place) S) → w < length desks → (slice_index_or desks w d).worker.worker.pass.number ≡ w
     pub order : c.order ≤ 12
     pub rings : c.rings ≡ length topics + 2
     pub seats : c.seats ≡ length desks
@@ -56,7 +56,7 @@ module _ {B S : Type 0} where
     pub some_size : 0 < size
 
   module _ (c : Setup) (shared : Identity B) (topics : List (List ℕ × Kind)) (size most longest : ℕ) (src : SourceOf S) (sources : List S)
-      (desks : List (Desk (Seated B) S)) (ran : AllRan c shared topics size most longest src sources desks) where
+      (desks : List (Desk (Seated B Place) S)) (ran : AllRan c shared topics size most longest src sources desks) where
     pub all-read : AllRead topics longest src sources desks
     all-read = record { some = ran.some; few = ran.few; dealt = ran.dealt; read = λ k d less. (ran.run k d less).read }
 
@@ -67,14 +67,14 @@ module _ {B S : Type 0} where
     is-given = files.is-given topics longest src sources desks all-read
 
     -- a worker passed on what its files gave
-    pub own-given : (w : ℕ) (d : Desk (Seated B) S) → slice_get desks w ≡ Some d → worker_messages d ≡ own_of (length desks) w 1 given
+    pub own-given : (w : ℕ) (d : Desk (Seated B Place) S) → slice_get desks w ≡ Some d → worker_messages d ≡ own_of (length desks) w 1 given
     own-given = files.own-given topics longest src sources desks all-read
 
     -- the parts of the messages of all workers are those of all files, in some order
     pub all-parts-passed : IsPermutation (parts_in size (flat_map (λ own. own) given)) (parts_in size (flat_map worker_messages desks))
     all-parts-passed =
         let parts = map (parts_in size) given in
-        let each = by-number (λ (d : Desk (Seated B) S). parts_in size (worker_messages d)) (λ w. own_of (length desks) w 1 parts) desks 0 (λ k d less.
+        let each = by-number (λ (d : Desk (Seated B Place) S). parts_in size (worker_messages d)) (λ w. own_of (length desks) w 1 parts) desks 0 (λ k d less.
         ap (parts_in size) (own-given k (get_or desks k d) (slice_get-get_or desks k d less)) ∙ sym (own-parts size (length desks) k 1 given)
         ∙ ap (λ j. own_of (length desks) j 1 parts) (plain k)) in
         subst (λ l. IsPermutation l (parts_in size (flat_map worker_messages desks))) (all-parts-in size given)
@@ -85,10 +85,10 @@ module _ {B S : Type 0} where
         plain k = omega arith
 
     -- and they are few
-    pub few-in-all : sum_by (λ (d : Desk (Seated B) S). length (parts_in size (worker_messages d))) desks ≤ 2 ^ 36
+    pub few-in-all : sum_by (λ (d : Desk (Seated B Place) S). length (parts_in size (worker_messages d))) desks ≤ 2 ^ 36
     few-in-all =
         let few = files.few-parts-in-all topics longest src sources desks all-read in
         let spread = parts-spread size (flat_map worker_messages desks) ran.some_size in
         let same = ap length (flat-parts size worker_messages desks) in
-        let all = length-flat_map (λ (d : Desk (Seated B) S). parts_in size (worker_messages d)) desks in
+        let all = length-flat_map (λ (d : Desk (Seated B Place) S). parts_in size (worker_messages d)) desks in
         omega (arith, few, spread, same, all)

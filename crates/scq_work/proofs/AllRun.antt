@@ -40,31 +40,31 @@ use Rattle.scq_work.proofs.PartMembers.{members-known, members-short}
 use Rattle.scq_passes.proofs.ManyLists.{stands-at}
 use Rattle.scq_passes.proofs.Closed.{all-taken as takes-are-sends, have-shared}
 
-module _ {B S : Type 0} where
-  abbrev work_of : ℕ → Desk (Seated B) S → Work B
+module _ {B Place S : Type 0} where
+  abbrev work_of : ℕ → Desk (Seated B Place) S → Work B
   work_of size d = record { pass = d.worker.worker.pass; members = d.worker.worker.members; messages = parts_in size (worker_messages d) }
 
-  abbrev counted : ℕ → Desk (Seated B) S → ℕ × PassStanding B
+  abbrev counted : ℕ → Desk (Seated B Place) S → ℕ × PassStanding B
   counted size d = (length (parts_in size (worker_messages d)), d.worker.worker.pass)
 
-  abbrev pub passes_at : List (Desk (Seated B) S) → List (PassStanding B)
-  passes_at desks = map (λ (d : Desk (Seated B) S). d.worker.worker.pass) desks
+  abbrev pub passes_at : List (Desk (Seated B Place) S) → List (PassStanding B)
+  passes_at desks = map (λ (d : Desk (Seated B Place) S). d.worker.worker.pass) desks
 
-  abbrev pub lists_at : List (Desk (Seated B) S) → List (List Answered)
-  lists_at desks = map (λ (d : Desk (Seated B) S). d.worker.worker.members) desks
+  abbrev pub lists_at : List (Desk (Seated B Place) S) → List (List Answered)
+  lists_at desks = map (λ (d : Desk (Seated B Place) S). d.worker.worker.members) desks
 
   -- so it is of each worker
-  of-each : (P : ℕ → PassStanding B → List Answered → Type 0) (desks : List (Desk (Seated B) S))
-      → ((w : ℕ) (d : Desk (Seated B) S) → slice_get desks w ≡ Some d → P w d.worker.worker.pass d.worker.worker.members)
+  of-each : (P : ℕ → PassStanding B → List Answered → Type 0) (desks : List (Desk (Seated B Place) S))
+      → ((w : ℕ) (d : Desk (Seated B Place) S) → slice_get desks w ≡ Some d → P w d.worker.worker.pass d.worker.worker.members)
       → OfEachWorkersAnswers P (passes_at desks) (lists_at desks)
   of-each P desks each w p list pass_is list_is = by (slice_get desks w) refl where
-    pass : Desk (Seated B) S → PassStanding B
+    pass : Desk (Seated B Place) S → PassStanding B
     pass d = d.worker.worker.pass
 
-    members : Desk (Seated B) S → List Answered
+    members : Desk (Seated B Place) S → List Answered
     members d = d.worker.worker.members
 
-    by : (o : Option (Desk (Seated B) S)) → slice_get desks w ≡ o → P w p list
+    by : (o : Option (Desk (Seated B Place) S)) → slice_get desks w ≡ o → P w p list
     by None is = absurd (cc (slice_get-map pass desks w, pass_is, is))
     by (Some d) is =
         let first : Some d.worker.worker.pass ≡ Some p = sym (slice_get-map pass desks w ∙ ap (option_map pass) is) ∙ pass_is in
@@ -74,12 +74,12 @@ module _ {B S : Type 0} where
         subst (λ q. P w q list) its_pass (subst (λ (l : List Answered). P w d.worker.worker.pass l) its_list (each w d is))
 
   module _ (c : Setup) (shared : Identity B) (topics : List (List ℕ × Kind)) (size most longest : ℕ) (src : SourceOf S) (sources : List S)
-      (desks : List (Desk (Seated B) S)) (ran : AllRan c shared topics size most longest src sources desks) where
+      (desks : List (Desk (Seated B Place) S)) (ran : AllRan c shared topics size most longest src sources desks) where
     -- what `AllGave` says of these desks, by short names
     abbrev messages_given : List (List Message)
     messages_given = given c shared topics size most longest src sources desks ran
 
-    own-gave : (w : ℕ) (d : Desk (Seated B) S) → slice_get desks w ≡ Some d → worker_messages d ≡ own_of (length desks) w 1 messages_given
+    own-gave : (w : ℕ) (d : Desk (Seated B Place) S) → slice_get desks w ≡ Some d → worker_messages d ≡ own_of (length desks) w 1 messages_given
     own-gave = own-given c shared topics size most longest src sources desks ran
 
     abbrev works : List (ℕ × PassStanding B)
@@ -108,24 +108,24 @@ module _ {B S : Type 0} where
           (subst (λ (ps : List (PassStanding B)). NoneIsKeptWithinTheLimit c ps) (sym passes-same) closed.limits))
 
       bounded : All (IsBounded (2 ^ 36)) (passes_at desks)
-      bounded = All-map (IsBounded (2 ^ 36)) (λ (d : Desk (Seated B) S). d.worker.worker.pass) desks (λ k d less.
+      bounded = All-map (IsBounded (2 ^ 36)) (λ (d : Desk (Seated B Place) S). d.worker.worker.pass) desks (λ k d less.
           let long : k < length works = subst (λ n. k < n) (sym (length-map desks (counted size))) less in
           let its = all-bounded works (2 ^ 36) few-messages all-few (subst (λ (ps : List (PassStanding B)). EachTakeIsASend ps) (sym passes-same) closed.sent.takes)
           (subst (λ (ps : List (PassStanding B)). NoPlaceIsTakenTwice ps) (sym passes-same) closed.sent.taken_once) k (counted size d) long in
           subst (λ (w : ℕ × PassStanding B). IsBounded (2 ^ 36) w.1) (get_or-map (counted size) desks k d (counted size d) less) its)
 
-      spent-none : (k : ℕ) (d : Desk (Seated B) S) → k < length desks → (get_or desks k d).worker.worker.pass.spent ≡ None
+      spent-none : (k : ℕ) (d : Desk (Seated B Place) S) → k < length desks → (get_or desks k d).worker.worker.pass.spent ≡ None
       spent-none k d less =
-          subst (λ (p : PassStanding B). p.spent ≡ None) (get_or-map (λ (e : Desk (Seated B) S). e.worker.worker.pass) desks k d d.worker.worker.pass less)
-          (unspent k d.worker.worker.pass (omega (arith, less, length-map desks (λ (e : Desk (Seated B) S). e.worker.worker.pass))))
+          subst (λ (p : PassStanding B). p.spent ≡ None) (get_or-map (λ (e : Desk (Seated B Place) S). e.worker.worker.pass) desks k d d.worker.worker.pass less)
+          (unspent k d.worker.worker.pass (omega (arith, less, length-map desks (λ (e : Desk (Seated B Place) S). e.worker.worker.pass))))
 
       swept : All HasSwept (passes_at desks)
-      swept = All-map HasSwept (λ (d : Desk (Seated B) S). d.worker.worker.pass) desks (λ k d less. (ran.run k d less).swept (spent-none k d less))
+      swept = All-map HasSwept (λ (d : Desk (Seated B Place) S). d.worker.worker.pass) desks (λ k d less. (ran.run k d less).swept (spent-none k d less))
 
       pub same : SendsAreTakes (passes_at desks)
       same = takes-are-sends c shared.given (passes_at desks) (held_at desks) left_in closed swept
 
-      messages-known : (k : ℕ) (d : Desk (Seated B) S) → k < length desks → All (λ m. m.topic ≤ length topics) (worker_messages (get_or desks k d))
+      messages-known : (k : ℕ) (d : Desk (Seated B Place) S) → k < length desks → All (λ m. m.topic ≤ length topics) (worker_messages (get_or desks k d))
       messages-known k d less =
           let files = (get_or desks k d).files.items in
           flat-known (reverse files) (All-permutation (λ (f : OwnFile S). IsRead topics longest src f.number f.was.value f.source (given_of f)
@@ -150,7 +150,7 @@ module _ {B S : Type 0} where
           none-in None is = refl
           none-in (Some h) is = absurd (cc)
 
-          flat-none : (ds : List (Desk (Seated B) S)) → ((k : ℕ) (d : Desk (Seated B) S) → k < length ds → option_to_list (get_or ds k d).worker.kept ≡ []) → held_at ds ≡ []
+          flat-none : (ds : List (Desk (Seated B Place) S)) → ((k : ℕ) (d : Desk (Seated B Place) S) → k < length ds → option_to_list (get_or ds k d).worker.kept ≡ []) → held_at ds ≡ []
           flat-none [] each = refl
           flat-none (d ∷ ds) each =
               let here : option_to_list d.worker.kept ≡ [] = each zero d (omega arith) in
@@ -158,13 +158,13 @@ module _ {B S : Type 0} where
 
       pass-numbers : (w : ℕ) (p : PassStanding B) → slice_get (passes_at desks) w ≡ Some p → p.number ≡ w
       pass-numbers w p is =
-          let pass : Desk (Seated B) S → PassStanding B = λ d. d.worker.worker.pass in
+          let pass : Desk (Seated B Place) S → PassStanding B = λ d. d.worker.worker.pass in
           let less : w < length desks = omega (arith, slice_get_within (passes_at desks) w p is, length-map desks pass) in
           elim (slice_get_cases desks w).1 [
             | inl (d, within, found, here) ↦
                 let same : Some d.worker.worker.pass ≡ Some p = sym (slice_get-map pass desks w ∙ ap (option_map pass) found) ∙ is in
                 let its : d.worker.worker.pass ≡ p = cc in
-                subst (λ (q : PassStanding B). q.number ≡ w) its (subst (λ (e : Desk (Seated B) S). e.worker.worker.pass.number ≡ w) here (ran.numbers w d less))
+                subst (λ (q : PassStanding B). q.number ≡ w) its (subst (λ (e : Desk (Seated B Place) S). e.worker.worker.pass.number ≡ w) here (ran.numbers w d less))
             | inr (past, none) ↦ absurd (omega arith)
           ]
 
@@ -173,13 +173,13 @@ module _ {B S : Type 0} where
       all-shared =
           have-shared c shared.given (passes_at desks) (held_at desks) left_in closed (HasHelped (length topics + 1)) (2 ^ 36) (length topics + 1) shared ran.setup refl
           (omega (arith, ran.rings))
-          (All-map (λ (p : PassStanding B). p.queue ≡ shared) (λ (d : Desk (Seated B) S). d.worker.worker.pass) desks (λ k d less. (ran.run k d less).queue))
+          (All-map (λ (p : PassStanding B). p.queue ≡ shared) (λ (d : Desk (Seated B Place) S). d.worker.worker.pass) desks (λ k d less. (ran.run k d less).queue))
           pass-numbers unspent swept
-          (All-map (λ (p : PassStanding B). HoldsNothingAtEachFull p.calls) (λ (d : Desk (Seated B) S). d.worker.worker.pass) desks
+          (All-map (λ (p : PassStanding B). HoldsNothingAtEachFull p.calls) (λ (d : Desk (Seated B Place) S). d.worker.worker.pass) desks
           (λ k d less. ((ran.run k d less).sweeping (spent-none k d less)).between.alone))
-          (All-map (HasHelped (length topics + 1)) (λ (d : Desk (Seated B) S). d.worker.worker.pass) desks (λ k d less.
+          (All-map (HasHelped (length topics + 1)) (λ (d : Desk (Seated B Place) S). d.worker.worker.pass) desks (λ k d less.
           record { helps = ((ran.run k d less).sweeping (spent-none k d less)).helps; retired = (ran.run k d less).ended (spent-none k d less) }))
-          (All-map (λ (p : PassStanding B). MeetsNoSpent p.calls) (λ (d : Desk (Seated B) S). d.worker.worker.pass) desks
+          (All-map (λ (p : PassStanding B). MeetsNoSpent p.calls) (λ (d : Desk (Seated B Place) S). d.worker.worker.pass) desks
           (λ k d less. ((ran.run k d less).sweeping (spent-none k d less)).between.unspent))
           bounded none-kept
 
@@ -188,15 +188,15 @@ module _ {B S : Type 0} where
         gave : AreGiven topics longest src.left 1 sources messages_given
         gave = is-given c shared topics size most longest src sources desks ran whole
 
-        listed : (k : ℕ) (d : Desk (Seated B) S) → k < length desks
+        listed : (k : ℕ) (d : Desk (Seated B Place) S) → k < length desks
             → HasListedAll topics most (parts_in size (worker_messages (get_or desks k d))) (get_or desks k d).worker.worker.pass
             (get_or desks k d).worker.worker.members
         listed k d less = (ran.run k d less).listed (spent-none k d less) (fed k d less)
 
-        listed-at : (w : ℕ) (d : Desk (Seated B) S) → slice_get desks w ≡ Some d
+        listed-at : (w : ℕ) (d : Desk (Seated B Place) S) → slice_get desks w ≡ Some d
             → HasListedAll topics most (parts_in size (worker_messages d)) d.worker.worker.pass d.worker.worker.members
         listed-at w d is =
-            subst (λ (e : Desk (Seated B) S). HasListedAll topics most (parts_in size (worker_messages e)) e.worker.worker.pass e.worker.worker.members)
+            subst (λ (e : Desk (Seated B Place) S). HasListedAll topics most (parts_in size (worker_messages e)) e.worker.worker.pass e.worker.worker.members)
             (get_or_from_slice_get desks w d d is)
             (listed w d (slice_get_within desks w d is))
 
@@ -216,7 +216,7 @@ module _ {B S : Type 0} where
             (subst (λ (ps : List (PassStanding B)). SendsAreTakes ps) (sym work-passes) same) in
             let members : members_among (map (work_of size) desks) ≡ members_of (lists_at desks) =
             flat_map-map (λ (w : Work B). w.members) (work_of size) desks ∙ sym
-            (flat_map-map (λ (l : List Answered). l) (λ (d : Desk (Seated B) S). d.worker.worker.members) desks) in
+            (flat_map-map (λ (l : List Answered). l) (λ (d : Desk (Seated B Place) S). d.worker.worker.members) desks) in
             let parts : worked_parts (map (work_of size) desks) ≡ parts_in size (flat_map worker_messages desks) =
             flat_map-map (λ (w : Work B). w.messages) (work_of size) desks ∙ flat-parts size worker_messages desks in
             let passed : List Part = parts_in size (flat_map worker_messages desks) in
@@ -230,8 +230,8 @@ module _ {B S : Type 0} where
 
         pub have-answered : HaveAnswered topics size most (length desks) messages_given (passes_at desks) (lists_at desks)
         have-answered = record {
-          each_pass = length-map desks (λ (d : Desk (Seated B) S). d.worker.worker.pass);
-          each_list = length-map desks (λ (d : Desk (Seated B) S). d.worker.worker.members);
+          each_pass = length-map desks (λ (d : Desk (Seated B Place) S). d.worker.worker.pass);
+          each_list = length-map desks (λ (d : Desk (Seated B Place) S). d.worker.worker.members);
           once = once;
           whole = members-whole topics size longest src.left sources messages_given (members_of (lists_at desks)) gave once;
           known = members-known topics size (flat_map (λ own. own) messages_given) (members_of (lists_at desks)) once

@@ -17,23 +17,23 @@ use Rattle.scq_worker.proofs.Gathered.{few-batches, gathered-added, gathered-alo
 use Rattle.scq_worker.proofs.PassedOn.{passed-as, stopped-more, working-as}
 use Rattle.scq_worker.proofs.WorkerSteps.{answered-along, answered-nothing}
 
-module _ {B : Type 0} where
-  pub still-as : (u v : Worker B) (p : Post) → v.starved ≡ u.starved → v.number ≡ u.number → v.pass ≡ u.pass → IsSameWorker u v p p
+module _ {B Place : Type 0} where
+  pub still-as : (u v : Worker B Place) (p : Post) → v.starved ≡ u.starved → v.number ≡ u.number → v.pass ≡ u.pass → IsSameWorker u v p p
   still-as u v p starved number pass =
       record { starved = λ fed. sym starved ∙ fed; number = number; pass = ap (λ (x : PassStanding B). x.number) pass; bell = refl }
 
-  pub own-same : (w : Worker B) → KeepsItsOwn w w
+  pub own-same : (w : Worker B Place) → KeepsItsOwn w w
   own-same w = record { starved = λ fed. fed; number = refl; opens = refl }
 
-  pub own-along : (u v w : Worker B) → KeepsItsOwn u v → KeepsItsOwn v w → KeepsItsOwn u w
+  pub own-along : (u v w : Worker B Place) → KeepsItsOwn u v → KeepsItsOwn v w → KeepsItsOwn u w
   own-along u v w one more =
       record { starved = λ fed. one.starved (more.starved fed); number = more.number ∙ one.number; opens = more.opens ∙ one.opens }
 
-  pub took-nothing : (topics : List (List ℕ × Kind)) (w : Worker B) → HasTakenAll topics 0 w w
+  pub took-nothing : (topics : List (List ℕ × Kind)) (w : Worker B Place) → HasTakenAll topics 0 w w
   took-nothing topics w =
       record { taken = taken-nothing w.pass; gates = refl; vain = omega arith; answered = λ fed. answered-nothing topics w.pass w.members }
 
-  pub took-along : (topics : List (List ℕ × Kind)) (m n : ℕ) (u v w : Worker B) → (w.starved ≡ false → v.starved ≡ false)
+  pub took-along : (topics : List (List ℕ × Kind)) (m n : ℕ) (u v w : Worker B Place) → (w.starved ≡ false → v.starved ≡ false)
       → HasTakenAll topics m u v → HasTakenAll topics n v w → HasTakenAll topics (m + n) u w
   took-along topics m n u v w fed one more = record {
     taken = taken-along u.pass v.pass w.pass one.taken more.taken;
@@ -42,16 +42,16 @@ module _ {B : Type 0} where
     answered = λ now. answered-along topics u.pass v.pass w.pass u.members v.members w.members (one.answered (fed now)) (more.answered now);
   }
 
-module _ {B : Type 0} (q : Identity B) (j : Job) where
+module _ {B Place : Type 0} (q : Identity B) (j : Job) where
   -- so it did of more parts
-  pub stopped-within : (ps ns : List Part) (u w : Worker B) (kept : Option (HeldStanding B)) → length ps ≤ length ns → HasStoppedIn q j ps u w kept
+  pub stopped-within : (ps ns : List Part) (u w : Worker B Place) (kept : Option (HeldStanding B)) → length ps ≤ length ns → HasStoppedIn q j ps u w kept
       → HasStoppedIn q j ns u w kept
   stopped-within ps ns u w kept few one parts at =
       stopped-more q (length (parts ++ ps)) (length (parts ++ ns)) w.pass kept
       (omega (arith, few, length-append parts ps, length-append parts ns)) (one parts at)
 
   -- its pass is the same
-  pub goes-same : (w v : Worker B) (was : Post) → Suits q (length j.topics) w.pass → w.pass.retired ≡ None → v.pass ≡ w.pass
+  pub goes-same : (w v : Worker B Place) (was : Post) → Suits q (length j.topics) w.pass → w.pass.retired ≡ None → v.pass ≡ w.pass
       → KeepsCalling q j w v was was
   goes-same w v was suits stays same =
       let Goes : PassStanding B → Type 0 = λ p. Suits q (length j.topics) p × (p.retired ≡ None)
@@ -61,7 +61,7 @@ module _ {B : Type 0} (q : Identity B) (j : Job) where
       record { suits = its.0; stays = its.1; vain = its.2; rung = its.3 }
 
   -- nothing that is open has changed
-  pub gathered-still : (w v : Worker B) (was : Post) → Suits q (length j.topics) w.pass → w.pass.retired ≡ None
+  pub gathered-still : (w v : Worker B Place) (was : Post) → Suits q (length j.topics) w.pass → w.pass.retired ≡ None
       → AreOpen j.most (length j.topics + 1) v.opens.items → ((t : ℕ) → open_on t v.opens.items ≡ open_on t w.opens.items)
       → v.pass ≡ w.pass → v.members ≡ w.members → v.starved ≡ w.starved → HasGathered q j [] w v was was
   gathered-still w v was suits stays opens same pass list starved = record {
@@ -73,7 +73,7 @@ module _ {B : Type 0} (q : Identity B) (j : Job) where
   }
 
   -- a part is added to those that are open on its topic
-  pub gathered-one : (p : Part) (w v : Worker B) (was : Post) → Suits q (length j.topics) w.pass → w.pass.retired ≡ None
+  pub gathered-one : (p : Part) (w v : Worker B Place) (was : Post) → Suits q (length j.topics) w.pass → w.pass.retired ≡ None
       → AreOpen j.most (length j.topics + 1) v.opens.items → 0 < j.most
       → ((t : ℕ) → open_on t v.opens.items ≡ open_on t w.opens.items ++ (if t == p.topic then p ∷ [] else []))
       → v.pass ≡ w.pass → v.members ≡ w.members → v.starved ≡ w.starved → HasGathered q j (p ∷ []) w v was was
@@ -88,7 +88,7 @@ module _ {B : Type 0} (q : Identity B) (j : Job) where
   }
 
   -- a part goes alone, where nothing is open on its topic
-  pub gone-alone : (p : Part) (u v w : Worker B) (was mid is : Post) → mid.worker ≡ was.worker → HasGathered q j [] u v was mid
+  pub gone-alone : (p : Part) (u v w : Worker B Place) (was mid is : Post) → mid.worker ≡ was.worker → HasGathered q j [] u v was mid
       → open_on p.topic v.opens.items ≡ [] → KeepsCalling q j v w mid is → HasPassedOn j (p ∷ []) v w → w.opens ≡ v.opens
       → HasGathered q j (p ∷ []) u w was is
   gone-alone p u v w was mid is same one none goes passed kept = record {
@@ -106,7 +106,7 @@ module _ {B : Type 0} (q : Identity B) (j : Job) where
   }
 
   -- or it stopped there
-  pub stopped-alone : (p : Part) (u v w : Worker B) (was mid : Post) (kept : Option (HeldStanding B)) → HasGathered q j [] u v was mid
+  pub stopped-alone : (p : Part) (u v w : Worker B Place) (was mid : Post) (kept : Option (HeldStanding B)) → HasGathered q j [] u v was mid
       → HasStoppedBehind q j v w kept → HasStoppedIn q j (p ∷ []) u w kept
   stopped-alone p u v w was mid kept one left parts at =
       let last = one.work parts at in
@@ -115,12 +115,12 @@ module _ {B : Type 0} (q : Identity B) (j : Job) where
       (left last.batches last.passed)
 
   -- what is told of an answer with these parts, of the same parts
-  pub told-gathered : {X E : Type 0} (r : Result X E) (ps ns : List Part) (u w : Worker B) (was is a b : Post) → ps ≡ ns
+  pub told-gathered : {X E : Type 0} (r : Result X E) (ps ns : List Part) (u w : Worker B Place) (was is a b : Post) → ps ≡ ns
       → OnOk r (HasGathered q j ps u w was is) → IsSameWorker u w a b → OnOk r (HasGathered q j ns u w was is × IsSameWorker u w a b)
   told-gathered (Ok x) ps ns u w was is a b same gathered still = (subst (λ (l : List Part). HasGathered q j l u w was is) same gathered, still)
   told-gathered (Err e) ps ns u w was is a b same gathered still = tt
 
-  pub told-stopped : {X E : Type 0} (held : E → Option (HeldStanding B)) (r : Result X E) (ps ns : List Part) (u w : Worker B) (a b : Post) → ps ≡ ns
+  pub told-stopped : {X E : Type 0} (held : E → Option (HeldStanding B)) (r : Result X E) (ps ns : List Part) (u w : Worker B Place) (a b : Post) → ps ≡ ns
       → IfErr r (λ l. HasStoppedIn q j ps u w (held l)) → IsSameWorker u w a b → IfErr r (λ l. HasStoppedIn q j ns u w (held l) × IsSameWorker u w a b)
   told-stopped held (Ok x) ps ns u w a b same stopped still = tt
   told-stopped held (Err e) ps ns u w a b same stopped still = (subst (λ (l : List Part). HasStoppedIn q j l u w (held e)) same stopped, still)

@@ -115,7 +115,7 @@ module _ {B : Type 0} where
       (subst (λ (s : Bool). HasPassed topics batches p was s) (sym starved) passed))
 
   -- and as much open
-  pub working-as : (topics : List (List ℕ × Kind)) (most : ℕ) (parts : List Part) (w v : Worker B)
+  pub working-as : {Place : Type 0} (topics : List (List ℕ × Kind)) (most : ℕ) (parts : List Part) (w v : Worker B Place)
       → ((t : ℕ) → open_on t v.opens.items ≡ open_on t w.opens.items) → v.pass ≡ w.pass → v.members ≡ w.members → v.starved ≡ w.starved
       → IsWorking topics most parts w → IsWorking topics most parts v
   working-as topics most parts w v opens pass list starved was = record {

@@ -62,7 +62,7 @@ module _ {B S : Type 0} (shared : Identity B) (topics : List (List ℕ × Kind))
             run-stopped shared topics size most longest src files p q is after kept held read stops end retired same;
       }
 
-module _ {B S : Type 0} (shared : Identity B) (job : Job) (src : SourceOf S) (files : List (OwnFile S)) (was now : Worker B) (kept : Option (HeldStanding B))
+module _ {B Place S : Type 0} (shared : Identity B) (job : Job) (src : SourceOf S) (files : List (OwnFile S)) (was now : Worker B Place) (kept : Option (HeldStanding B))
     (t : IsToSweep shared job.topics job.size job.most job.longest src files was.pass was.members was.starved kept) where
   -- so its calls find its pass
   pub sweep-suits : Suits shared (length job.topics) was.pass
@@ -80,11 +80,11 @@ module _ {B S : Type 0} (shared : Identity B) (job : Job) (src : SourceOf S) (fi
       (subst (λ (x : PassStanding B). HasAnswered job.topics x now.pass was.members now.members) t.retired (made.answered all))) t.none
 
   -- it met a ticket past the limit in a sweep, and keeps what came back
-  pub late-out : (seat : Seated B) (held : Option (HeldStanding B)) → ((n : ℕ) → HasLeft n n was.pass now.pass held) → seat.worker ≡ now → seat.kept ≡ held
+  pub late-out : (seat : Seated B Place) (held : Option (HeldStanding B)) → ((n : ℕ) → HasLeft n n was.pass now.pass held) → seat.worker ≡ now → seat.kept ≡ held
       → HasRun shared job.topics job.size job.most job.longest src files seat.worker.pass seat.worker.members seat.worker.starved seat.kept
   late-out seat held end same keeps =
       let n = length (parts_in job.size (all_given files)) in
-      subst (λ (w : Worker B). HasRun shared job.topics job.size job.most job.longest src files w.pass w.members w.starved seat.kept) (sym same)
+      subst (λ (w : Worker B Place). HasRun shared job.topics job.size job.most job.longest src files w.pass w.members w.starved seat.kept) (sym same)
       (run-late shared job.topics job.size job.most job.longest src files t.before now.pass was.members now.members was.starved now.starved
       seat.kept held t.read t.stops t.suits t.work (subst (λ (x : PassStanding B). HasLeft n n x now.pass held) t.retired (end n)) keeps)
 

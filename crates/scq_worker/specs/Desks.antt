@@ -59,7 +59,8 @@ module _ {B S : Type 0} (shared : Identity B) (topics : List (List ℕ × Kind))
     pub done : (ticket : ℕ) → pass.spent ≡ Some ticket → HasRun
 
 -- the same of a desk and a job
-module _ {B S : Type 0} (q : Identity B) (j : Job) (src : SourceOf S) (d : Desk (Seated B) S) where
+module _ {B Place S : Type 0} (q : Identity B) (j : Job) (src : SourceOf S)
+    (d : Desk (Seated B Place) S) where
   abbrev pub IsToSweepAt : Type 0
   IsToSweepAt = IsToSweep q j.topics j.size j.most j.longest src d.files.items
       d.worker.worker.pass d.worker.worker.members d.worker.worker.starved d.worker.kept

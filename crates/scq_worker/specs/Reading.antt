@@ -15,24 +15,25 @@ use Rattle.scq_worker.specs.declared.job.Job.{Job}
 use Rattle.scq_worker.specs.declared.worker.Worker.{Worker}
 
 -- a worker has gathered these parts, and goes on
-abbrev pub IsWorking : {B : Type 0} → List (List ℕ × Kind) → ℕ → List Part → Worker B → Type 0
+abbrev pub IsWorking : {B Place : Type 0} → List (List ℕ × Kind) → ℕ → List Part → Worker B Place
+    → Type 0
 IsWorking topics most parts w =
     IsAtWork topics most parts w.opens.items w.pass w.members w.starved
 
 -- whatever came of it, a worker has its numbers still, its stand is as it was but for whom it woke,
 -- and where it wants no memory it wanted none before
-pub record IsSameWorker {B : Type 0} (old new : Worker B) (was is : Post) : Type 0 where
+pub record IsSameWorker {B Place : Type 0} (old new : Worker B Place) (was is : Post) : Type 0 where
   pub starved : new.starved ≡ false → old.starved ≡ false
   pub number : new.number ≡ old.number
   pub pass : new.pass.number ≡ old.pass.number
   pub bell : but_wakes is ≡ but_wakes was
 
-module _ {B : Type 0} where
-  pub still-same : (w : Worker B) (p : Post) → IsSameWorker w w p p
+module _ {B Place : Type 0} where
+  pub still-same : (w : Worker B Place) (p : Post) → IsSameWorker w w p p
   still-same w p = record { starved = λ fed. fed; number = refl; pass = refl; bell = refl }
 
-  pub still-along : (u v w : Worker B) (p q r : Post) → IsSameWorker u v p q → IsSameWorker v w q r
-      → IsSameWorker u w p r
+  pub still-along : (u v w : Worker B Place) (p q r : Post) → IsSameWorker u v p q
+      → IsSameWorker v w q r → IsSameWorker u w p r
   still-along u v w p q r one more = record {
     starved = λ fed. one.starved (more.starved fed);
     number = more.number ∙ one.number;
@@ -41,15 +42,16 @@ module _ {B : Type 0} where
   }
 
 -- behind whatever it had passed on it has passed on this batch
-abbrev pub HasPassedOn : {B : Type 0} → Job → List Part → Worker B → Worker B → Type 0
+abbrev pub HasPassedOn : {B Place : Type 0} → Job → List Part → Worker B Place → Worker B Place
+    → Type 0
 HasPassedOn j batch old new =
     (batches : List (List Part)) → HasPassed j.topics batches old.pass old.members old.starved
     → HasPassed j.topics (batches ++ batch ∷ []) new.pass new.members new.starved
 
-module _ {B : Type 0} (q : Identity B) (j : Job) where
+module _ {B Place : Type 0} (q : Identity B) (j : Job) where
   -- a worker may make further calls, took in vain no more than it helped, and woke the next one at
   -- each send: `was` and `is` are what is seen of its stand
-  pub record KeepsCalling (old new : Worker B) (was is : Post) : Type 0 where
+  pub record KeepsCalling (old new : Worker B Place) (was is : Post) : Type 0 where
     pub suits : Suits q (length j.topics) new.pass
     pub stays : new.pass.retired ≡ None
     pub vain : HelpsInVain (length j.topics + 1) (takes_behind j.most) old.pass
@@ -57,7 +59,7 @@ module _ {B : Type 0} (q : Identity B) (j : Job) where
     pub rung : RingsOn was.worker j.workers old.pass new.pass was.wakes is.wakes
 
   -- behind whatever it had gathered it has gathered these parts, and goes on
-  pub record HasGathered (more : List Part) (old new : Worker B) (was is : Post)
+  pub record HasGathered (more : List Part) (old new : Worker B Place) (was is : Post)
       : Type 0 where
     pub goes : KeepsCalling old new was is
     pub opens : AreOpen j.most (length j.topics + 1) new.opens.items
@@ -65,19 +67,20 @@ module _ {B : Type 0} (q : Identity B) (j : Job) where
         → IsWorking j.topics j.most (parts ++ more) new
 
   -- it met a ticket past the limit, with at most one batch passed on behind those before
-  abbrev pub HasStoppedBehind : Worker B → Worker B → Option (HeldStanding B) → Type 0
+  abbrev pub HasStoppedBehind : Worker B Place → Worker B Place → Option (HeldStanding B) → Type 0
   HasStoppedBehind old new kept =
       (batches : List (List Part)) → HasPassed j.topics batches old.pass old.members old.starved
       → HasStopped q (length batches + 1) new.pass kept
 
   -- with at most the parts before and these passed on
-  abbrev pub HasStoppedIn : List Part → Worker B → Worker B → Option (HeldStanding B) → Type 0
+  abbrev pub HasStoppedIn : List Part → Worker B Place → Worker B Place → Option (HeldStanding B)
+      → Type 0
   HasStoppedIn more old new kept =
       (parts : List Part) → IsWorking j.topics j.most parts old
       → HasStopped q (length (parts ++ more)) new.pass kept
 
   -- it has gathered nothing
-  pub gathered-nothing : (w : Worker B) (was : Post) → Suits q (length j.topics) w.pass
+  pub gathered-nothing : (w : Worker B Place) (was : Post) → Suits q (length j.topics) w.pass
       → w.pass.retired ≡ None → AreOpen j.most (length j.topics + 1) w.opens.items
       → HasGathered [] w w was was
   gathered-nothing w was suits stays opens = record {
@@ -92,7 +95,7 @@ module _ {B : Type 0} (q : Identity B) (j : Job) where
         subst (λ (l : List Part). IsWorking j.topics j.most l w) (sym (append-nil parts)) at;
   }
 
-  pub goes-along : (u v w : Worker B) (was mid is : Post) → mid.worker ≡ was.worker
+  pub goes-along : (u v w : Worker B Place) (was mid is : Post) → mid.worker ≡ was.worker
       → KeepsCalling u v was mid → KeepsCalling v w mid is → KeepsCalling u w was is
   goes-along u v w was mid is same one more = record {
     suits = more.suits;
@@ -103,7 +106,7 @@ module _ {B : Type 0} (q : Identity B) (j : Job) where
   }
 
   -- more parts behind these
-  pub gathered-along : (ps ns : List Part) (u v w : Worker B) (was mid is : Post)
+  pub gathered-along : (ps ns : List Part) (u v w : Worker B Place) (was mid is : Post)
       → mid.worker ≡ was.worker → HasGathered ps u v was mid → HasGathered ns v w mid is
       → HasGathered (ps ++ ns) u w was is
   gathered-along ps ns u v w was mid is same one more = record {
@@ -115,7 +118,7 @@ module _ {B : Type 0} (q : Identity B) (j : Job) where
   }
 
   -- it stopped at one of those
-  pub stopped-along : (ps ns : List Part) (u v w : Worker B) (was mid : Post)
+  pub stopped-along : (ps ns : List Part) (u v w : Worker B Place) (was mid : Post)
       (kept : Option (HeldStanding B)) → HasGathered ps u v was mid → HasStoppedIn ns v w kept
       → HasStoppedIn (ps ++ ns) u w kept
   stopped-along ps ns u v w was mid kept one more parts at =

@@ -6,10 +6,10 @@ use Rattle.scq_desk.specs.declared.seat.Seat.{Seat}
 use Rattle.scq_worker.specs.declared.worker.Worker.{Worker}
 
 -- a worker, seated
-abbrev pub Seated : Type 0 → Type 0
-Seated B = Seat (Worker B) B
+abbrev pub Seated : Type 0 → Type 0 → Type 0
+Seated B Place = Seat (Worker B Place) B Place
 
 -- it is to begin: it has a new pass, an empty list, nothing open, and keeps no value
-abbrev pub IsToBegin : {B : Type 0} → Identity B → Seated B → Type 0
+abbrev pub IsToBegin : {B Place : Type 0} → Identity B → Seated B Place → Type 0
 IsToBegin shared s =
     seats.IsToBegin (λ w. w.pass) (λ w. (w.members ≡ []) × (w.opens.items ≡ [])) shared s

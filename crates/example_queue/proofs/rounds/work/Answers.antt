@@ -1,4 +1,6 @@
 use denote.Param.Send.{IsSend, IsSync, sendable, param_send}
+use Rattle.std.specs.contracts.option.Option as option
+use Rattle.scq_band.proofs.SeatsSent.{option_sent}
 use Rattle.scq_queue.specs.contracts.heap_buffer.HeapBuffer as heap
 use Rattle.scq_queue.specs.contracts.heap_buffer.HeapBufferBuffer.TheImpl as buffer
 use Rattle.scq_queue.proofs.PassesSent.{pass_sent, heap_buffer_sent}
@@ -12,8 +14,8 @@ pub join-requires-send-F : goal.join-requires-send-F
 join-requires-send-F g c κs within =
     let row =
     arg-0-1 g.row.H g.row.R g.H.laws g.R.laws g.H.Home g.H.Home-dict g.R.Threads g.R.Threads-dict g.R.Wait g.R.Wait-dict κs in
-    let sent = pass_sent heap.the_row buffer.ghosts heap_buffer_sent in
-    let shared = queue_sync heap.the_row buffer.ghosts heap_buffer_sent heap_buffer_sync in
+    let sent = pass_sent heap.the_row (option.the_row heap.the_row) buffer.ghosts (option_sent heap.the_row heap_buffer_sent) in
+    let shared = queue_sync heap.the_row (option.the_row heap.the_row) buffer.ghosts (option_sent heap.the_row heap_buffer_sent) heap_buffer_sync in
     let runtime : IsSync g.row.R = record { shared = c.type_bounds.sync-R.shared } in
     let here : IsSend row = search (sendable, told_sent, sender_sent, receiver_sent) depth 20 in
     param_send 1 row here

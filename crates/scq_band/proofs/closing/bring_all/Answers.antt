@@ -1,12 +1,16 @@
-use Rattle.std.proofs.Common.{◌≡◌, ◌∙◌, refl, sym, ap, subst, map, length, arith}
-use Rattle.scq_band.specs.Exports.{LiesIn, Sight, known_in, known_me, front_bytes, times_lifted, MayBring}
+use Rattle.std.proofs.Common.{◌≡◌, ◌∙◌, ℕ, List, refl, sym, ap, subst, map, length, arith}
+use Rattle.atomic_table.specs.Table.{Me, rest}
+use Rattle.scq_band.specs.Slots.{SlotStanding}
+use Rattle.scq_band.specs.Exports.{LiesIn, Sight, known_in, known_me, front_bytes, times_lifted, MayBring, AreHoles}
 use Rattle.scq_band.specs.Known.{Known}
 use Rattle.scq_band.proofs.GoingHome.{stands_first, leaves, goes_on, none_left, went_none, went_more}
+use Rattle.scq_band.proofs.Holes.{front_hole, rest_holes, laid_rest}
 use Rattle.scq_band.proofs.closing.bring_all.Goals as goal
 
 pub lay_back-requires-clause-first : goal.lay_back-requires-clause-first
 lay_back-requires-clause-first g c κs within =
-    stands_first _ _ (known_me c.loop-index.token.me) _ _ _ _ c.in-Some.ensures.items c.loop-index.invariant.2
+    let first = stands_first _ _ (known_me c.loop-index.token.me) _ _ _ _ c.in-Some.ensures.items c.loop-index.invariant.2 in
+    (first.0, first.1, first.2, λ all. front_hole c.loop-index.token.me.1 _ first.0 first.1 (c.loop-index.invariant.6 all))
 
 pub bring_home-requires-clause-may : goal.bring_home-requires-clause-may
 bring_home-requires-clause-may g c κs within =
@@ -28,6 +32,12 @@ loop-index-preserved g c =
           (map g.T.Lifted.pair c.loop-index.out.items) (map g.T.Lifted.pair c.lay_back.new.out.items) c.loop-index.invariant.3 n.went,
       λ j. let now = n.less j in let before = c.loop-index.invariant.4 j in omega arith,
       c.bring_home.ensures.seen ∙ ap (λ (v : Sight). v.seen) c.lay_back.ensures.view ∙ c.loop-index.invariant.5,
+      λ all.
+          let first = stands_first _ _ me _ _ _ _ c.in-Some.ensures.items c.loop-index.invariant.2 in
+          let gone : c.bring_home.new.token.me.1 ≡ rest c.loop-index.token.me.1 =
+          ap (λ (m : Me (SlotStanding g.row.B.Denot) Known). m.1) c.bring_home.ensures.home ∙ laid_rest _ _ _ _ _ c.lay_back.ensures.laid in
+          subst (λ (l : List (ℕ × SlotStanding g.row.B.Denot)). AreHoles l) (sym gone)
+          (rest_holes c.loop-index.token.me.1 _ first.0 first.1 (c.loop-index.invariant.6 all)),
     )
 
 pub loop-index-init : goal.loop-index-init
@@ -39,6 +49,7 @@ loop-index-init g c = (
       (map g.T.Lifted.pair c.args.out.now.items) c.requires.may,
   λ i. refl,
   refl,
+  c.requires.holes,
 )
 
 pub returns-clause-none : goal.returns-clause-none

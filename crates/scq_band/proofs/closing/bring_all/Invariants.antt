@@ -1,6 +1,7 @@
 use Rattle.std.proofs.Common.{◌≡◌, ℕ, ◌+◌, map, vec_len}
+use Rattle.std.specs.Prelude.{IsTrue}
 use Rattle.scq_law.specs.Exports.{times}
-use Rattle.scq_band.specs.Exports.{known_me, indices_of, times_lifted, WentHome, MayLeave}
+use Rattle.scq_band.specs.Exports.{known_me, indices_of, times_lifted, WentHome, MayLeave, AreHoles}
 use Rattle.scq_band.proofs.closing.bring_all.Given as goal
 
 abbrev pub invariant-loop-index : goal.invariant-loop-index
@@ -11,6 +12,7 @@ invariant-loop-index g l =
     × ((i : ℕ) → times i (indices_of (map g.T.Lifted.pair l.out.items)) + times_lifted i l.fn.token.me.1
     ≡ times i (indices_of (map g.T.Lifted.pair l.fn.out.items)) + times_lifted i l.token.me.1)
     × (l.token.me.0.seen ≡ l.fn.token.me.0.seen)
+    × (IsTrue g.L.Looks.all → AreHoles l.token.me.1)
 
 abbrev pub decreases-loop-index : goal.decreases-loop-index
 decreases-loop-index g l = vec_len l.hand

@@ -2,9 +2,9 @@ use Rattle.std.proofs.Common.{◌≡◌, ◌≤◌, ◌∙◌, sym, ap, subst, m
 use Rattle.std.specs.Prelude.{vec_capacity}
 use Rattle.scq_law.specs.Exports.{times}
 use Rattle.scq_band.specs.Known.{Known}
-use Rattle.scq_band.specs.Exports.{known_me, my, Identity, indices_of, lifted_of, times_lifted, IsMemberOf}
+use Rattle.scq_band.specs.Exports.{known_me, my, Identity, indices_of, lifted_of, times_lifted, IsMemberOf, HoldsLifted}
 use Rattle.scq_band.specs.Standing.{Standing}
-use Rattle.scq_band.proofs.SeatsHome.{lifted_as, may_leave, leaves_alone, is_member, out_or_home}
+use Rattle.scq_band.proofs.SeatsHome.{lifted_as, are_holes, may_leave, leaves_alone, is_member, out_or_home}
 use Rattle.scq_band.proofs.closing.bring_seat_home.Goals as goal
 
 pub bring_all-requires-clause-may : goal.bring_all-requires-clause-may
@@ -20,6 +20,12 @@ bring_all-requires-clause-may g c κs within =
     (λ i. subst (λ (t : Standing g.row.B.Denot). times i (lifted_of t.hand) ≤ times i (indices_of (map g.T.Lifted.pair c.args.out.now.items)))
     (sym c.seat.view_is)
     (c.requires.lifted i))
+
+pub bring_all-requires-clause-holes : goal.bring_all-requires-clause-holes
+bring_all-requires-clause-holes g c κs within all =
+    let s = c.seat.inside in
+    are_holes _ s.key.value (known_me s.token.me) s.hand.items (vec_capacity s.hand) s.numbers.items s.spent c.seat.invariant
+    (subst (λ (t : Standing g.row.B.Denot). HoldsLifted t) (sym c.seat.view_is) (c.requires.holes all))
 
 pub returns-clause-member : goal.returns-clause-member
 returns-clause-member g c =

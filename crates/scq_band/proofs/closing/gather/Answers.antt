@@ -1,11 +1,11 @@
 use Rattle.std.proofs.Common.{◌≡◌, ◌∙◌, List, sym, subst, map, length, arith}
-use Rattle.std.specs.Prelude.{Some}
+use Rattle.std.specs.Prelude.{Some, IsTrue}
 use Rattle.std.proofs.lemmas.List.{length-map}
 use Rattle.std.proofs.lemmas.List.Elements.{All-pop}
 use Rattle.atomic_table.specs.Table.{Me}
 use Rattle.scq_law.specs.Exports.{times}
-use Rattle.scq_band.specs.declared.slot.Slot.{Slot}
-use Rattle.scq_band.specs.Exports.{Member, Sight, identity_of, indices_of, lifted_of, OutOrHome, SeatsAreGathered}
+use Rattle.scq_band.specs.Slots.{SlotStanding}
+use Rattle.scq_band.specs.Exports.{Member, Sight, identity_of, indices_of, lifted_of, OutOrHome, SeatsAreGathered, HoldsLifted}
 use Rattle.scq_band.specs.Standing.{Standing}
 use Rattle.scq_band.proofs.Gathering.{gathered_first, gathered_more, out_joined, all_home_then, out_some, out_less, none_left_out, all_gathered}
 use Rattle.scq_band.proofs.closing.gather.Goals as goal
@@ -29,6 +29,8 @@ loop-seat-init g c =
           e.numbers.0 e.numbers.1 e.gate c.bring_seat_home-first.result.me.0.seen e.seen,
       subst (λ (xs : List Member). OutOrHome g.B.Buffer.contents (map g.T.Lifted.pair c.args.out.items) (map g.T.Lifted.pair c.bring_seat_home-first.new.out.items) xs)
           (sym e.alone) e.home,
+      (All-pop (λ (s : Standing g.row.B.Denot). IsTrue g.L.Looks.all → HoldsLifted s) c.args.seats.items left (Some c.in-Some.last)
+          c.in-Some.ensures.items c.requires.holes).0,
     )
 
 pub bring_seat_home-first-requires-clause-band : goal.bring_seat_home-first-requires-clause-band
@@ -36,6 +38,11 @@ bring_seat_home-first-requires-clause-band g c κs within =
     let bands = All-pop (λ (s : Standing g.row.B.Denot). s.band ≡ identity_of c.args.words.now.table_id c.args.words.now.key) c.args.seats.items
     c.pop.new.self.items (Some c.in-Some.last) c.in-Some.ensures.items c.requires.bands in
     bands.1
+
+pub bring_seat_home-first-requires-clause-holes : goal.bring_seat_home-first-requires-clause-holes
+bring_seat_home-first-requires-clause-holes g c κs within =
+    (All-pop (λ (s : Standing g.row.B.Denot). IsTrue g.L.Looks.all → HoldsLifted s) c.args.seats.items c.pop.new.self.items (Some c.in-Some.last)
+    c.in-Some.ensures.items c.requires.holes).1
 
 pub bring_seat_home-first-requires-clause-lifted : goal.bring_seat_home-first-requires-clause-lifted
 bring_seat_home-first-requires-clause-lifted g c κs within i =
@@ -47,6 +54,11 @@ bring_seat_home-token-requires-clause-band g c κs within =
     let bands = All-pop (λ (s : Standing g.row.B.Denot). s.band ≡ identity_of c.args.words.now.table_id c.args.words.now.key) c.loop-seat.seats.items
     c.pop-in-loop-seat.new.self.items (Some c.in-Some-pop.seat) c.in-Some-pop.ensures.items c.loop-seat.invariant.1 in
     bands.1
+
+pub bring_seat_home-token-requires-clause-holes : goal.bring_seat_home-token-requires-clause-holes
+bring_seat_home-token-requires-clause-holes g c κs within =
+    (All-pop (λ (s : Standing g.row.B.Denot). IsTrue g.L.Looks.all → HoldsLifted s) c.loop-seat.seats.items c.pop-in-loop-seat.new.self.items
+    (Some c.in-Some-pop.seat) c.in-Some-pop.ensures.items c.loop-seat.invariant.6).1
 
 pub bring_seat_home-token-requires-clause-lifted : goal.bring_seat_home-token-requires-clause-lifted
 bring_seat_home-token-requires-clause-lifted g c κs within i =
@@ -90,9 +102,11 @@ loop-seat-preserved g c =
           (times i (indices_of (map g.T.Lifted.pair c.loop-seat.out.items)))
           (times i (indices_of (map g.T.Lifted.pair c.bring_seat_home-token.new.out.items))) (c.loop-seat.invariant.2 i) c.in-Some-pop.ensures.items (e.less i),
       e.given,
-      subst (λ (m : Me (Slot g.row.B.Denot) Sight). SeatsAreGathered g.B.Buffer.contents rings c.args.seats.items left m.0.known m.0.seen)
+      subst (λ (m : Me (SlotStanding g.row.B.Denot) Sight). SeatsAreGathered g.B.Buffer.contents rings c.args.seats.items left m.0.known m.0.seen)
           (sym c.take_in.ensures.both) more,
-      subst (λ (m : Me (Slot g.row.B.Denot) Sight). OutOrHome g.B.Buffer.contents out still m.0.known.seats) (sym c.take_in.ensures.both) home,
+      subst (λ (m : Me (SlotStanding g.row.B.Denot) Sight). OutOrHome g.B.Buffer.contents out still m.0.known.seats) (sym c.take_in.ensures.both) home,
+      (All-pop (λ (s : Standing g.row.B.Denot). IsTrue g.L.Looks.all → HoldsLifted s) before left (Some c.in-Some-pop.seat)
+          c.in-Some-pop.ensures.items c.loop-seat.invariant.6).0,
     )
 
 pub destroy_empty-requires-2 : goal.destroy_empty-requires-2

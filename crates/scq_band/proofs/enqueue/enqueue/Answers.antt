@@ -2,7 +2,7 @@ use Rattle.std.proofs.Common.{◌≡◌, ℕ, List, ◌+◌, ◌<◌, ◌≤◌,
 use Rattle.scq_word.proofs.EntryLemmas.{n_of_some}
 use Rattle.scq_core.specs.declared.phase.Phase.{Phase}
 use Rattle.scq_core.specs.declared.phase.Phase.TheVariants.{AtE1, AtE2, AtE5}
-use Rattle.scq_band.specs.declared.slot.Slot.{Slot}
+use Rattle.scq_band.specs.Slots.{SlotStanding}
 use Rattle.scq_core.specs.Exports.{location_of}
 use Rattle.scq_band.specs.Exports.{known_me, at, LiesIn, MayTurn, Fronts, my_phase, front_bytes, IsAlone, goes_to, done_at, placed_to, put_index}
 use Rattle.scq_band.specs.Exports.{content_of, least_of}
@@ -92,7 +92,7 @@ place-requires-clause-front g c κs within =
     let at = (goal.at.place-requires-clause-front g c).After-draw-ticket in
     let Lie = LiesIn g.B.Buffer.contents g.B.Buffer.IsSameBuffer c.args.words.now.key.given.value.items in
     subst (λ (w : List ℕ). Fronts Lie c.args.index w c.draw-ticket.new.token.me.1) (sym (ap (λ u. content_of (my_phase u)) (below-limit g at c.if-ticket-ring.false)))
-    (subst (λ (ss : List (ℕ × Slot g.row.B.Denot)). Fronts Lie c.args.index (front_bytes g.B.Buffer.contents c.args.token.now.me.1) ss) (sym (drawn g at).kept)
+    (subst (λ (ss : List (ℕ × SlotStanding g.row.B.Denot)). Fronts Lie c.args.index (front_bytes g.B.Buffer.contents c.args.token.now.me.1) ss) (sym (drawn g at).kept)
     c.requires.front)
 
 pub reset_threshold-requires-clause-alone : goal.reset_threshold-requires-clause-alone

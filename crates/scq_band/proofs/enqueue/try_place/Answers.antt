@@ -6,7 +6,7 @@ use Rattle.scq_core.specs.declared.phase.Phase.TheVariants.{AtE2, AtE4}
 use Rattle.scq_core.specs.declared.step.Step.TheVariants.{E4}
 use Rattle.scq_core.specs.Exports.{ring_slots}
 use Rattle.scq_band.specs.Exports.{known_me, LiesIn, Fronts, Carries, my_phase, Exchanges, IsAlone, goes_to, content_of, least_of}
-use Rattle.scq_band.specs.declared.slot.Slot.{Slot}
+use Rattle.scq_band.specs.Slots.{SlotStanding}
 use Rattle.scq_band.proofs.RingLemmas.{tail_fits, entry_low}
 use Rattle.scq_band.proofs.Outcomes.{may_phase, phase_word, alone_at}
 use Rattle.scq_band.proofs.Drawing.{looks_as}
@@ -71,7 +71,7 @@ exchange-requires-clause-carries g c κs within =
     let Lie = LiesIn g.B.Buffer.contents g.B.Buffer.IsSameBuffer c.args.words.now.key.given.value.items in
     subst (λ (p : Phase). Carries Lie p c.load_vacant.new.token.me.1)
     (sym (ap my_phase (room g (goal.at.exchange-requires-clause-carries g c).In-Some)))
-    (subst (λ (ss : List (ℕ × Slot g.row.B.Denot)). Fronts Lie c.args.index (content_of (my_phase c.args.token.now.me.0.known)) ss)
+    (subst (λ (ss : List (ℕ × SlotStanding g.row.B.Denot)). Fronts Lie c.args.index (content_of (my_phase c.args.token.now.me.0.known)) ss)
     (sym (c.load_vacant.ensures.slots ∙ c.tries.invariant.2)) c.requires.front)
 
 pub tries-smaller : goal.tries-smaller

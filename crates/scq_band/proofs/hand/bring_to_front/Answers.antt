@@ -3,7 +3,7 @@ use Rattle.std.specs.Prelude.{vec_len, slice_index_or}
 use Rattle.std.proofs.lemmas.List.{append-nil}
 use Rattle.scq_law.specs.Exports.{times}
 use Rattle.scq_band.specs.Exports.{front_index}
-use Rattle.scq_band.specs.declared.slot.Slot.{Slot}
+use Rattle.scq_band.specs.Slots.{SlotStanding}
 use Rattle.scq_band.proofs.Slots.{Sought, SoughtHand, sought_first, sought_next, sought_hand}
 use Rattle.scq_band.proofs.hand.bring_to_front.Goals as goal
 use Rattle.scq_band.proofs.hand.bring_to_front.Goals.{After-len-in-deeper}
@@ -78,7 +78,7 @@ deeper-preserved g c =
     let away : s.first.0 ≢ c.args.index = λ e. c.deeper-test.true (top ∙ e) in
     let now = ap (λ me. me.1) c.turn.ensures.2 in (
       (c.turn.ensures.0 ∙ own.0, c.turn.ensures.1 ∙ own.1, ap (λ me. me.0) c.turn.ensures.2 ∙ own.2),
-      subst (λ (ms : List (ℕ × Slot g.row.B.Denot)). Sought c.args.index c.args.token.now.me.1 ms (c.deeper.turns + 1)) (sym now)
+      subst (λ (ms : List (ℕ × SlotStanding g.row.B.Denot)). Sought c.args.index c.args.token.now.me.1 ms (c.deeper.turns + 1)) (sym now)
           (sought_next c.args.index c.args.token.now.me.1 c.deeper.token.me.1 c.deeper.turns s away),
     )
 

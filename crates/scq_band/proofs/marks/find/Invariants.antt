@@ -2,12 +2,12 @@ use Rattle.std.proofs.Common.{◌≡◌}
 use Rattle.scq_band.specs.Exports.{opening_of, HasFound}
 use Rattle.scq_band.proofs.marks.find.Given as goal
 
-abbrev pub ghosts-load : goal.ghosts-load
-ghosts-load g a =
+abbrev pub ghosts-load_told : goal.ghosts-load_told
+ghosts-load_told g a =
     record {
-      then =
-          λ st me n later.
+      tells =
+          λ me n later.
           (later.0.known ≡ me.0.known) × (later.1 ≡ me.1)
-          × HasFound a.self.now.key.setup (opening_of g.B.Buffer.contents a.self.now.key.given.value.items)
+          × HasFound a.words.now.key.setup (opening_of g.B.Buffer.contents a.words.now.key.given.value.items)
           a.word n me.0 later.0;
     }

@@ -1,5 +1,5 @@
 use Rattle.scq_band.proofs.Operations.{TellsOfPhase}
 use Rattle.scq_band.proofs.steps.consume.Given as goal
 
-abbrev pub ghosts-fetch_or : goal.ghosts-fetch_or
-ghosts-fetch_or g a = record { then = λ st. TellsOfPhase g.B.Buffer.contents g.B.Buffer.IsSameBuffer a.self.now.key a.seat.now.me }
+abbrev pub ghosts-or_told : goal.ghosts-or_told
+ghosts-or_told g a = record { tells = TellsOfPhase g.B.Buffer.contents g.B.Buffer.IsSameBuffer a.words.now.key a.token.now.me }

@@ -4,11 +4,8 @@ use Rattle.scq_band.proofs.RunShown.{moves}
 use Rattle.scq_band.proofs.Operations.{exchange_says}
 use Rattle.scq_band.proofs.steps.exchange.Goals as goal
 
-pub compare_exchange-requires : goal.compare_exchange-requires
-compare_exchange-requires g c =
-    let k = c.args.words.now.key.setup in (
-      c.requires.own,
-      c.requires.low,
-      moves _ k _ _ _ _ _ (λ n. either (n == c.args.old) c.args.new n) c.requires.may c.requires.carries c.requires.word
-          (λ m r b. exchange_says k _ _ _ _ c.requires.kind),
-    )
+pub exchange_told-requires-clause-allows : goal.exchange_told-requires-clause-allows
+exchange_told-requires-clause-allows g c κs within =
+    let k = c.args.words.now.key.setup in
+    moves _ k _ _ _ _ _ (λ n. either (n == c.args.old) c.args.new n) c.requires.may c.requires.carries c.requires.word
+    (λ m r b. exchange_says k _ _ _ _ c.requires.kind)

@@ -3,10 +3,7 @@ use Rattle.scq_band.specs.Exports.{my_phase}
 use Rattle.scq_band.proofs.Guessing.{guesses}
 use Rattle.scq_band.proofs.steps.place_or_load.Goals as goal
 
-pub compare_exchange-requires : goal.compare_exchange-requires
-compare_exchange-requires g c = (
-  c.requires.own,
-  c.requires.low,
-  guesses _ _ c.args.words.now.key.setup _ _ _ (my_phase c.args.token.now.me.0.known) _ c.args.guess c.args.new refl c.requires.alone c.requires.kind
-      c.requires.carries c.requires.word,
-)
+pub exchange_told-requires-clause-allows : goal.exchange_told-requires-clause-allows
+exchange_told-requires-clause-allows g c κs within =
+    guesses _ _ c.args.words.now.key.setup _ _ _ (my_phase c.args.token.now.me.0.known) _ c.args.guess c.args.new refl c.requires.alone c.requires.kind
+    c.requires.carries c.requires.word

@@ -1,8 +1,8 @@
 use Rattle.scq_band.proofs.Guessing.{TellsOfGuess}
 use Rattle.scq_band.proofs.steps.place_or_load.Given as goal
 
-abbrev pub ghosts-compare_exchange : goal.ghosts-compare_exchange
-ghosts-compare_exchange g a =
+abbrev pub ghosts-exchange_told : goal.ghosts-exchange_told
+ghosts-exchange_told g a =
     record {
-      then = λ st. TellsOfGuess g.B.Buffer.contents g.B.Buffer.IsSameBuffer a.self.now.key a.old a.seat.now.me;
+      tells = TellsOfGuess g.B.Buffer.contents g.B.Buffer.IsSameBuffer a.words.now.key a.old a.token.now.me;
     }

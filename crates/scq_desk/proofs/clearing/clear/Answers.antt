@@ -1,5 +1,5 @@
 use Rattle.std.proofs.Common.{◌≡◌, ◌∙◌, sym, ap, subst, refl, false, arith, List, ◌++◌, [], length, map, reverse}
-use Rattle.std.specs.Prelude.{flat_map}
+use Rattle.std.specs.Prelude.{Option, flat_map}
 use Rattle.std.specs.List.{All}
 use Rattle.std.specs.Option.{option_to_list}
 use Rattle.std.proofs.lemmas.List.{nil_from_length, reverse-reverse}
@@ -13,7 +13,7 @@ use Rattle.scq_desk.proofs.clearing.clear.Goals as goal
 
 pub desks-init : goal.desks-init
 desks-init g c =
-    let D = Desk (Seat g.row.W.Denot Frame) g.row.S.Denot in
+    let D = Desk (Seat g.row.W.Denot Frame (Option Frame)) g.row.S.Denot in
     let all = c.args.desks.items in
     let back : reverse c.reverse.new.self.items ≡ all = ap reverse c.reverse.ensures.items ∙ reverse-reverse all in
     let clean = c.requires.clean in
@@ -29,7 +29,7 @@ desks-init g c =
 
 pub desks-preserved : goal.desks-preserved
 desks-preserved g c =
-    let D = Desk (Seat g.row.W.Denot Frame) g.row.S.Denot in
+    let D = Desk (Seat g.row.W.Denot Frame (Option Frame)) g.row.S.Denot in
     let pass_of : D → PassStanding Frame = λ d. g.W.Sits.pass_of d.worker.worker in
     let kept_of : D → List (HeldStanding Frame) = λ d. option_to_list d.worker.kept in
     let list_of : D → _ = λ d. g.W.Sits.list_of d.worker.worker in
@@ -57,7 +57,7 @@ desks-preserved g c =
 
 pub returns-clause-starved : goal.returns-clause-starved
 returns-clause-starved g c fed =
-    let D = Desk (Seat g.row.W.Denot Frame) g.row.S.Denot in
+    let D = Desk (Seat g.row.W.Denot Frame (Option Frame)) g.row.S.Denot in
     let IsFed : D → Type 0 = λ d. g.W.Sits.starved_of d.worker.worker ≡ false in
     let none : c.desks.desks.items ≡ [] = nil_from_length c.desks.desks.items (omega (arith, c.in_default.ensures.cases, c.desks.desks.ok.0)) in
     c.desks.invariant.fed fed (subst (λ (ds : List D). All IsFed (reverse ds)) (sym none) (All-nil IsFed))

@@ -28,18 +28,18 @@ returns-clause-count g c =
 pub returns-clause-fresh : goal.returns-clause-fresh
 returns-clause-fresh g c =
     let at = (goal.at.returns-clause-fresh g c).After-deal in
-    let P : Seat _ Frame → Type 0 = IsToBegin g.W.Sits.pass_of g.W.Sits.has_none c.args.queue.now in
-    subst (λ (ds : List (Desk (Seat _ Frame) _)). All (λ d. P d.worker) ds) (sym (whole g at))
+    let P : Seat _ Frame _ → Type 0 = IsToBegin g.W.Sits.pass_of g.W.Sits.has_none c.args.queue.now in
+    subst (λ (ds : List (Desk (Seat _ Frame _) _)). All (λ d. P d.worker) ds) (sym (whole g at))
     (all-same P c.make_desks.new.desks.items c.deal.new.desks (sym (same g at)) c.make_desks.ensures.fresh)
 
 pub returns-clause-unread : goal.returns-clause-unread
 returns-clause-unread g c =
-    let P : List (Desk (Seat _ Frame) _) → Type 0 = λ ds. All (λ d. All IsNew d.files.items) ds in
+    let P : List (Desk (Seat _ Frame _) _) → Type 0 = λ ds. All (λ d. All IsNew d.files.items) ds in
     subst P (sym (whole g (goal.at.returns-clause-unread g c).After-deal)) c.deal.ensures.unread
 
 pub returns-clause-dealt : goal.returns-clause-dealt
 returns-clause-dealt g c =
-    let P : List (Desk (Seat _ Frame) _) → Type 0 = λ ds. AreDealt 1 c.of-was.result.value.items ds in
+    let P : List (Desk (Seat _ Frame _) _) → Type 0 = λ ds. AreDealt 1 c.of-was.result.value.items ds in
     subst P (sym (whole g (goal.at.returns-clause-dealt g c).After-deal)) c.deal.ensures.dealt
 
 pub returns-clause-numbers : goal.returns-clause-numbers
@@ -48,4 +48,4 @@ returns-clause-numbers g c =
     let at = (goal.at.returns-clause-numbers g c).After-deal in
     place-numbers pass_of c.args.queue.now c.args.queue.now.setup.seats _
     (ap (map (pass_at pass_of)) (whole g at)
-    ∙ same-shown (λ (s : Seat _ Frame). pass_of s.worker) c.deal.new.desks c.make_desks.new.desks.items (same g at) ∙ c.make_desks.ensures.passes)
+    ∙ same-shown (λ (s : Seat _ Frame _). pass_of s.worker) c.deal.new.desks c.make_desks.new.desks.items (same g at) ∙ c.make_desks.ensures.passes)

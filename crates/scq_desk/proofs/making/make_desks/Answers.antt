@@ -1,5 +1,5 @@
 use Rattle.std.proofs.Common.{◌≡◌, ◌∙◌, sym, ap, subst, refl, arith, ◌≤◌, List, ◌∷◌, ◌++◌, [], length, map, reverse, append_assoc}
-use Rattle.std.specs.Prelude.{vec_len, vec_capacity}
+use Rattle.std.specs.Prelude.{Option, vec_len, vec_capacity}
 use Rattle.std.specs.List.{All}
 use Rattle.std.proofs.lemmas.List.{reverse-reverse, map-append}
 use Rattle.std.proofs.lemmas.List.Elements.{All-nil, All-push}
@@ -15,7 +15,7 @@ use Rattle.scq_desk.proofs.making.make_desks.Goals as goal
 
 pub passes-init : goal.passes-init
 passes-init g c =
-    let D = Desk (Seat g.row.W.Denot Frame) g.row.S.Denot in
+    let D = Desk (Seat g.row.W.Denot Frame (Option Frame)) g.row.S.Denot in
     let all = c.args.passes.items in
     let back : reverse c.reverse.new.self.items ≡ all = ap reverse c.reverse.ensures.items ∙ reverse-reverse all in
     let none = c.requires.none in
@@ -40,7 +40,7 @@ overflow_cast-number g c =
 
 pub passes-preserved : goal.passes-preserved
 passes-preserved g c =
-    let D = Desk (Seat g.row.W.Denot Frame) g.row.S.Denot in
+    let D = Desk (Seat g.row.W.Denot Frame (Option Frame)) g.row.S.Denot in
     let pass_of : D → PassStanding Frame = λ d. g.W.Sits.pass_of d.worker.worker in
     let inv = c.passes.invariant in
     let queue = c.args.queue.now in

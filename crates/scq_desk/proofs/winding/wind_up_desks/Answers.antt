@@ -21,7 +21,7 @@ use Rattle.scq_desk.proofs.winding.wind_up_desks.Goals.{After-clear}
 
 pub gather-requires-clause-dealt : goal.gather-requires-clause-dealt
 gather-requires-clause-dealt g c lifetimes lives =
-    let P : List (Desk (Seat _ Frame) _) → Type 0 = λ ds. AreDealt 1 c.args.laid.was.value.items ds in
+    let P : List (Desk (Seat _ Frame _) _) → Type 0 = λ ds. AreDealt 1 c.args.laid.was.value.items ds in
     subst P (sym c.as_mut_slice.ensures.value) c.requires.dealt
 
 -- the desks that are cleared have the workers that did the work
@@ -35,7 +35,7 @@ same g c = c.gather.ensures.same ∙ ap workers_at c.as_mut_slice.ensures.value
 passes : (g : _) (c : After-clear g) → c.clear.new.left.passes.items ≡ map (pass_at g.W.Sits.pass_of) c.args.desks.items
 passes g c =
     c.clear.ensures.passes ∙ ap (map (pass_at g.W.Sits.pass_of)) (whole g c)
-    ∙ same-shown (λ (s : Seat _ Frame). g.W.Sits.pass_of s.worker) c.gather.new.desks c.args.desks.items (same g c)
+    ∙ same-shown (λ (s : Seat _ Frame _). g.W.Sits.pass_of s.worker) c.gather.new.desks c.args.desks.items (same g c)
 
 held : (g : _) (c : After-clear g) → c.clear.new.left.held.items ≡ held_at c.args.desks.items
 held g c = c.clear.ensures.held ∙ ap held_at (whole g c) ∙ same-held c.gather.new.desks c.args.desks.items (same g c)
@@ -71,7 +71,7 @@ merge-requires g c =
 
 pub returns-clause-gathered : goal.returns-clause-gathered
 returns-clause-gathered g c size ended =
-    let P : List (Desk (Seat _ Frame) _) → Type 0 = λ ds. AllEnded size g.S.Source ds in
+    let P : List (Desk (Seat _ Frame _) _) → Type 0 = λ ds. AllEnded size g.S.Source ds in
     let gathered = c.gather.ensures.gathered size (subst P (sym c.as_mut_slice.ensures.value) ended) in
     record {
       count = gathered.count;
@@ -84,32 +84,32 @@ returns-clause-gathered g c size ended =
 pub returns-clause-stops : goal.returns-clause-stops
 returns-clause-stops g c size ended stop =
     let its = c.as_mut_slice.ensures.value in
-    let Ended : List (Desk (Seat _ Frame) _) → Type 0 = λ ds. AllEnded size g.S.Source ds in
-    let Stop : List (Desk (Seat _ Frame) _) → Type 0 = λ ds. AllStop ds in
+    let Ended : List (Desk (Seat _ Frame _) _) → Type 0 = λ ds. AllEnded size g.S.Source ds in
+    let Stop : List (Desk (Seat _ Frame _) _) → Type 0 = λ ds. AllStop ds in
     subst (λ n. StopsAtFaults n size g.S.Source c.args.laid.was.value.items
     c.gather.new.gathered.sources.items) (ap length its) (c.gather.ensures.stops size (subst Ended (sym its) ended) (subst Stop (sym its) stop))
 
 pub returns-clause-whole : goal.returns-clause-whole
 returns-clause-whole g c none =
-    subst (λ (ds : List (Desk (Seat _ Frame) _)). AllWhole ds) c.as_mut_slice.ensures.value (c.gather.ensures.whole none)
+    subst (λ (ds : List (Desk (Seat _ Frame _) _)). AllWhole ds) c.as_mut_slice.ensures.value (c.gather.ensures.whole none)
 
 pub returns-clause-fed : goal.returns-clause-fed
 returns-clause-fed g c none =
     let at = (goal.at.returns-clause-fed g c).After-clear in
     let fed = c.clear.ensures.starved (or_parts c.clear.new.left.starved c.gather.new.gathered.starved (sym c.any_wanted.ensures ∙ none)).0 in
-    let P : Seat _ Frame → Type 0 = λ s. g.W.Sits.starved_of s.worker ≡ false in
+    let P : Seat _ Frame _ → Type 0 = λ s. g.W.Sits.starved_of s.worker ≡ false in
     all-same P c.gather.new.desks c.args.desks.items (same g at)
-    (subst (λ (ds : List (Desk (Seat _ Frame) _)). All (λ d. P d.worker) ds) (whole g at) fed)
+    (subst (λ (ds : List (Desk (Seat _ Frame _) _)). All (λ d. P d.worker) ds) (whole g at) fed)
 
 pub returns-clause-brought : goal.returns-clause-brought
 returns-clause-brought g c =
     let at = (goal.at.returns-clause-brought g c).After-clear in
     let its = passes g at in
     let back = c.close-buffers.ensures.back in
-    let list_at : Desk (Seat _ Frame) _ → _ = λ d. g.W.Sits.list_of d.worker.worker in
+    let list_at : Desk (Seat _ Frame _) _ → _ = λ d. g.W.Sits.list_of d.worker.worker in
     record {
       lists = c.clear.ensures.lists ∙ ap (map list_at) (whole g at)
-          ∙ same-shown (λ (s : Seat _ Frame). g.W.Sits.list_of s.worker) c.gather.new.desks c.args.desks.items (same g at);
+          ∙ same-shown (λ (s : Seat _ Frame _). g.W.Sits.list_of s.worker) c.gather.new.desks c.args.desks.items (same g at);
       passes = back.passes ∙ its;
       closing = ap (λ v. v.items) c.of-closing.ensures ∙ its;
       counts = back.counts ∙ ap (map (λ (p : PassStanding Frame). counts_of (lists_of p))) (sym back.passes);

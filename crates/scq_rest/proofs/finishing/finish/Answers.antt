@@ -59,7 +59,7 @@ returns-in-Ok-clause-unsent g c awake =
 pub returns-in-Err-clause-unsent : goal.returns-in-Err-clause-unsent
 returns-in-Err-clause-unsent g c awake =
     let left = c.in-Err.ensures.left 0 in
-    absurd (none-or c.sweep_and_rest.new.taker.pass.spent left.spent.0 left.spent.1 (subst (λ (w : Worker _). w.pass.spent ≡ None) c.keep.ensures.same awake))
+    absurd (none-or c.sweep_and_rest.new.taker.pass.spent left.spent.0 left.spent.1 (subst (λ (w : Worker _ _). w.pass.spent ≡ None) c.keep.ensures.same awake))
 
 pub returns-in-Ok-clause-number : goal.returns-in-Ok-clause-number
 returns-in-Ok-clause-number g c =
@@ -78,9 +78,9 @@ returns-in-Err-clause-waited g c =
     let rests = c.sweep_and_rest.new.stand.rests in
     let left = c.in-Err.ensures.left 0 in
     let behind = takes_behind c.args.job.now.most in
-    subst (λ (w : Worker _). HasWaited contents all behind rests w.pass) (sym c.keep.ensures.same)
+    subst (λ (w : Worker _ _). HasWaited contents all behind rests w.pass) (sym c.keep.ensures.same)
     (waited-spent contents all behind rests left.spent.0 c.sweep_and_rest.new.taker.pass left.spent.1)
 
 pub returns-in-Err-clause-number : goal.returns-in-Err-clause-number
 returns-in-Err-clause-number g c =
-    ap (λ (w : Worker _). w.pass.number) c.keep.ensures.same ∙ (c.in-Err.ensures.left 0).own.1
+    ap (λ (w : Worker _ _). w.pass.number) c.keep.ensures.same ∙ (c.in-Err.ensures.left 0).own.1

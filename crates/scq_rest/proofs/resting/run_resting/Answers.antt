@@ -1,5 +1,5 @@
 -- Each desk is put together with its stand, and taken apart again once the work is done.
-use Rattle.std.proofs.Common.{◌≡◌, ◌∙◌, sym, ap, subst, arith, ℕ, ◌+◌, List, ◌∷◌, length, map}
+use Rattle.std.proofs.Common.{◌≡◌, ◌∙◌, sym, ap, subst, arith, ℕ, ◌+◌, List, ◌∷◌, length, map, Option}
 use Rattle.std.specs.List.{All, AllZip}
 use Rattle.std.proofs.lemmas.List.{length-map}
 use Rattle.std.proofs.lemmas.List.Elements.{All-map, All-head, All-tail}
@@ -25,7 +25,7 @@ new-of crew workers stands are = subst (All (IsFirst crew)) (sym are) (firsts-ne
 
 module _ {S : Type 0} where
   -- one fewer are given than there are desks
-  few-given : (desks : List (Desk (Seated Frame) S)) (first : Work S) (given : List (Work S)) → desks ≡ map desk_of (first ∷ given)
+  few-given : (desks : List (Desk (Seated Frame (Option Frame)) S)) (first : Work S) (given : List (Work S)) → desks ≡ map desk_of (first ∷ given)
       → length given + 1 ≡ length desks
   few-given desks first given are = omega (arith, ap length are, length-map (first ∷ given) desk_of)
 
@@ -107,7 +107,7 @@ returns-clause-run g c =
     let t = task c.args.queue.now job c.args.crew.now g.S.Source in
     let xs = c.pair-first.result ∷ c.pair-first.new.given.items in
     let ys = c.run_all-first.result.0 ∷ c.run_all-first.result.1.items in
-    let P : Desk (Seated Frame) S → Type 0 = HasRunAt c.args.queue.now job g.S.Source in
+    let P : Desk (Seated Frame _) S → Type 0 = HasRunAt c.args.queue.now job g.S.Source in
     subst (All P) (sym c.take_apart.ensures.desks)
     (All-map P desk_of ys (each-done t (λ (w : Work S). P w.desk) xs ys c.run_all-first.ensures (λ x y done. done.run)))
 
@@ -122,6 +122,6 @@ returns-clause-settled g c =
     let ys = c.run_all-first.result.0 ∷ c.run_all-first.result.1.items in
     let new = subst (All (IsFirst crew)) c.pair-first.ensures.stands (new-of crew c.args.job.now.workers c.args.stands.items c.requires.stands) in
     let all = subst (AreAll crew) c.pair-first.ensures.stands (all-of crew c.args.job.now.workers c.args.stands.items c.requires.stands c.requires.workers.1) in
-    subst (λ (ps : List Post). AreSettled crew topics behind ps (map (λ (d : Desk (Seated Frame) S). d.worker.worker.pass) c.take_apart.new.desks.items)) (sym c.take_apart.ensures.stands)
-    (subst (λ (ds : List (Desk (Seated Frame) S)). AreSettled crew topics behind (map stand_of ys) (map (λ (d : Desk (Seated Frame) S). d.worker.worker.pass) ds))
+    subst (λ (ps : List Post). AreSettled crew topics behind ps (map (λ (d : Desk (Seated Frame _) S). d.worker.worker.pass) c.take_apart.new.desks.items)) (sym c.take_apart.ensures.stands)
+    (subst (λ (ds : List (Desk (Seated Frame _) S)). AreSettled crew topics behind (map stand_of ys) (map (λ (d : Desk (Seated Frame _) S). d.worker.worker.pass) ds))
     (sym c.take_apart.ensures.desks) (settled t xs ys c.run_all-first.ensures all new c.requires.workers.1))

@@ -29,7 +29,7 @@ ends-preserved g c =
     let work = c.in-Some.work in
     let put = c.put_apart.ensures in
     record {
-      desks = ap (λ (l : List (Desk (Seated Frame) S)). l ++ map desk_of (reverse rest)) put.desks
+      desks = ap (λ (l : List (Desk (Seated Frame _) S)). l ++ map desk_of (reverse rest)) put.desks
           ∙ popped desk_of c.ends.desks.items (c.args.desks.now.items ++ map desk_of c.args.ends.items) c.ends.ends.items rest work inv.desks
           c.in-Some.ensures.items;
       stands = ap (λ (l : List Post). l ++ map stand_of (reverse rest)) put.stands

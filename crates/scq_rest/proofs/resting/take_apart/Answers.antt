@@ -24,9 +24,9 @@ take_all_apart-requires-clause-room g c κs within =
 pub returns-clause-desks : goal.returns-clause-desks
 returns-clause-desks g c =
     let S = g.row.S.Denot in
-    let f : _ → Desk (Seated Frame) S = desk_of in
+    let f : _ → Desk (Seated Frame _) S = desk_of in
     c.take_all_apart.ensures.desks
-    ∙ ap (λ (l : List (Desk (Seated Frame) S)). l ++ map f c.args.ends.items) (c.put_apart.ensures.desks ∙ ap (λ (l : List (Desk (Seated Frame) S)). l ++ c.args.first.desk ∷ []) c.requires.empty.0)
+    ∙ ap (λ (l : List (Desk (Seated Frame _) S)). l ++ map f c.args.ends.items) (c.put_apart.ensures.desks ∙ ap (λ (l : List (Desk (Seated Frame _) S)). l ++ c.args.first.desk ∷ []) c.requires.empty.0)
 
 pub returns-clause-stands : goal.returns-clause-stands
 returns-clause-stands g c =

@@ -14,6 +14,8 @@ use Rattle.scq_block.specs.contracts.frame.FrameBuffer.TheImpl as buffer
 use Rattle.std.specs.contracts.sync.atomic.AtomicBool as flag
 use Rattle.scq_park.proofs.Crossing.{crew_sync}
 use Rattle.scq_park.specs.contracts.crew.Crew as crew
+use Rattle.std.specs.contracts.option.Option as option
+use Rattle.scq_band.proofs.SeatsSent.{option_sent}
 use Rattle.scq_queue.specs.contracts.queue.Queue as queue
 use Rattle.scq_queue.proofs.QueuesShared.{queue_sync}
 use Rattle.scq_worker.specs.contracts.job.Job as job
@@ -24,8 +26,8 @@ use Rattle.scq_rest.proofs.WorkSent.{work_sent, end_sent}
 use Rattle.scq_rest.proofs.threads.start.Lts.{arg-1-2, arg-1-3}
 use Rattle.scq_rest.proofs.threads.start.Goals as goal
 
-queue_shared : IsSync (queue.the_row frame.the_row buffer.ghosts)
-queue_shared = queue_sync frame.the_row buffer.ghosts frame_sent frame_shared
+queue_shared : IsSync (queue.the_row frame.the_row (option.the_row frame.the_row) buffer.ghosts)
+queue_shared = queue_sync frame.the_row (option.the_row frame.the_row) buffer.ghosts (option_sent frame.the_row frame_sent) frame_shared
 
 -- a closure may be sent where each of its eight captures may
 closure_sent : (name : Sym) (A B C D E F G H : RattleType) → IsSend A → IsSend B → IsSend C → IsSend D → IsSend E → IsSend F → IsSend G → IsSend H
@@ -59,7 +61,7 @@ spawn_with-requires-send-F g c κs within =
     arg_send _ no _
     (closure_sent _ _ _ _ _ _ _ _ _ (shr_send (named 6) κs.1.1.1.1.1.1.0 (param 1 g.row.R) its_rt) crossing.send
     (shr_send (named 7) κs.1.1.1.1.1.1.1.0 job.the_row its_job)
-    (shr_send (named 8) κs.1.1.1.1.1.1.1.1.0 (queue.the_row frame.the_row buffer.ghosts) queue_shared)
+    (shr_send (named 8) κs.1.1.1.1.1.1.1.1.0 (queue.the_row frame.the_row (option.the_row frame.the_row) buffer.ghosts) queue_shared)
     (shr_send (named 9) κs.1.1.1.1.1.1.1.1.1.0 (param 3 g.row.G) its_gate) (shr_send (named 10) κs.1.1.1.1.1.1.1.1.1.1.0 crew.the_row crew_sync)
     (shr_send (named 11) κs.1.1.1.1.1.1.1.1.1.1.1.0 flag.the_row its_flag) its_work) in
     param_send 2 row here

@@ -9,6 +9,8 @@ use Rattle.scq_stages.specs.Exports.{Seated}
 use Rattle.scq_block.proofs.FramesSent.{frame_sent, frame_shared}
 use Rattle.scq_block.specs.contracts.frame.Frame as frame
 use Rattle.scq_block.specs.contracts.frame.FrameBuffer.TheImpl as buffer
+use Rattle.std.specs.contracts.option.Option as option
+use Rattle.scq_band.proofs.SeatsSent.{option_sent}
 use Rattle.scq_queue.specs.contracts.queue.Queue as queue
 use Rattle.scq_queue.proofs.QueuesShared.{queue_sync}
 use Rattle.scq_stages.specs.contracts.job.StageJob as job
@@ -16,8 +18,8 @@ use Rattle.scq_stages.proofs.job.StageJob.TheSendSync as jobs
 use Rattle.scq_stages.proofs.apart.run_all.Lts.{arg-0-2}
 use Rattle.scq_stages.proofs.apart.run_all.Goals as goal
 
-queue_shared : IsSync (queue.the_row frame.the_row buffer.ghosts)
-queue_shared = queue_sync frame.the_row buffer.ghosts frame_sent frame_shared
+queue_shared : IsSync (queue.the_row frame.the_row (option.the_row frame.the_row) buffer.ghosts)
+queue_shared = queue_sync frame.the_row (option.the_row frame.the_row) buffer.ghosts (option_sent frame.the_row frame_sent) frame_shared
 
 -- what the closure borrows may be shared: the allocator, the job and the queue
 pub work_apart-requires-sync-F : goal.work_apart-requires-sync-F
@@ -41,6 +43,6 @@ pub returns-clause-behind : goal.returns-clause-behind
 returns-clause-behind g c k d less awake =
     let S = g.row.S.Denot in
     let at = (c.work_apart.ensures.each k d (omega (arith, less, c.work_apart.ensures.count))).1 in
-    let P : Desk (Seated Frame) S → Type 0 = λ e. e.worker.worker.pass.spent ≡ None
+    let P : Desk (Seated Frame _) S → Type 0 = λ e. e.worker.worker.pass.spent ≡ None
     → HasLeftSwept bytes_of IsGivenBack 2 64 e.worker.worker.pass in
     subst P at.left at.call.3 awake

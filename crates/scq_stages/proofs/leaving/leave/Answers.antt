@@ -15,7 +15,7 @@ returns-clause-leaving c =
     let was = c.args.worker.now in
     let now = c.sweep_out.new.taker in
     let at = c.retire.new.pass in
-    let begun : Worker Frame = record was { pass = at } in
+    let begun : Worker Frame _ = record was { pass = at } in
     let is : at ≡ after_retire was.pass = c.retire.ensures in
     on-both c.sweep_out.result (λ (taken : HasGivenBack at now.pass) (makes : FinishesOn begun now) messages done.
     let its = makes begun (taken-nothing at) (finished-none begun) in
@@ -28,7 +28,7 @@ returns-clause-leaving c =
 pub returns-clause-left : goal.returns-clause-left
 returns-clause-left c =
     let now = c.sweep_out.new.taker.pass in
-    let begun : Worker Frame = record c.args.worker.now { pass = c.retire.new.pass } in
+    let begun : Worker Frame _ = record c.args.worker.now { pass = c.retire.new.pass } in
     let is : c.retire.new.pass ≡ after_retire c.args.worker.now.pass = c.retire.ensures in
     err-then c.sweep_out.result _ _
     (λ l its n. subst (λ (x : PassStanding _). HasLeftSo HasFewStageCalls n n x now l.held) is
@@ -36,7 +36,7 @@ returns-clause-left c =
 
 pub returns-clause-starved : goal.returns-clause-starved
 returns-clause-starved c =
-    let begun : Worker Frame = record c.args.worker.now { pass = c.retire.new.pass } in
+    let begun : Worker Frame _ = record c.args.worker.now { pass = c.retire.new.pass } in
     let now = c.sweep_out.new.taker in
     either-way c.sweep_out.result (λ l. LeavesOn begun now l.held)
     (λ (makes : FinishesOn begun now). (makes begun (taken-nothing begun.pass) (finished-none begun)).fed)

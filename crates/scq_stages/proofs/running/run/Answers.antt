@@ -66,13 +66,13 @@ returns-in-Err-leave g c =
       same = ids-kept g at;
       run = subst (λ (fs : List (OwnFile _)). HasRun c.args.queue.now job.size src fs later.worker.pass later.worker.members.items
           later.worker.starved later.kept) (sym (whole g at))
-          (subst (λ (w : Worker _). HasRun c.args.queue.now job.size src files w.pass w.members.items w.starved later.kept) (sym c.keep.ensures.same)
+          (subst (λ (w : Worker _ _). HasRun c.args.queue.now job.size src files w.pass w.members.items w.starved later.kept) (sym c.keep.ensures.same)
           (run-late c.args.queue.now job.size src files mid.pass now.pass mid.members.items now.members.items mid.starved now.starved
           later.kept c.in-Err-leave.at_limit.held (read g at) c.work.ensures.stops c.in-Ok.ensures.suits (c.in-Ok.ensures.done (begun g at))
           (c.in-Err-leave.ensures.left (length (all_given files))) c.keep.ensures.kept));
       behind = λ awake. absurd (none-or now.pass.spent left.spent.0 left.spent.1
-          (ap (λ (w : Worker _). w.pass.spent) (sym c.keep.ensures.same) ∙ awake));
-      number = ap (λ (w : Worker _). w.pass.number) c.keep.ensures.same ∙ left.own.1 ∙ c.work.ensures.number;
+          (ap (λ (w : Worker _ _). w.pass.spent) (sym c.keep.ensures.same) ∙ awake));
+      number = ap (λ (w : Worker _ _). w.pass.number) c.keep.ensures.same ∙ left.own.1 ∙ c.work.ensures.number;
     }
 
 -- it left, and asked before each of its sweeps
@@ -110,7 +110,7 @@ returns-in-Err g c =
     let later = c.keep-in-Err.new.self in
     let at = (goal.at.returns-in-Err g c).After-work in
     let end = c.in-Err.ensures.left (begun g at) in
-    let retired = ap (λ (w : Worker _). w.pass) c.keep-in-Err.ensures.same ∙ c.retire.ensures in
+    let retired = ap (λ (w : Worker _ _). w.pass) c.keep-in-Err.ensures.same ∙ c.retire.ensures in
     record {
       same = ids-kept g at;
       run = subst (λ (fs : List (OwnFile _)). HasRun c.args.queue.now job.size src fs later.worker.pass later.worker.members.items

@@ -52,4 +52,4 @@ returns-in-Ok-make_queue-clause-behind g c =
     let closed = some-and end.frames _ (subst (λ o. IsSomeAnd o (λ ps. Closed ps.value.items left.it.items)) its.same left.holds) in
     let none : NoneSpent (passes_at ran) = subst (λ (ps : List (PassStanding Frame)). NoneSpent ps) its.holds closed.holds.shared.unspent in
     subst (λ o. IfSome o (λ ps. All P ps.value.items)) (sym its.same)
-    (subst (λ (ps : List (PassStanding Frame)). All P ps) (sym its.holds) (all-behind (λ (w : Worker Frame). w.pass) P ran c.run_all-desks.ensures.behind none))
+    (subst (λ (ps : List (PassStanding Frame)). All P ps) (sym its.holds) (all-behind (λ (w : Worker Frame _). w.pass) P ran c.run_all-desks.ensures.behind none))

@@ -35,7 +35,7 @@ returns-clause-waited g c =
     let ran = c.run_resting-desks.result.0.items in
     let stands = c.run_resting-desks.result.1.items in
     let end = c.wind_up-end.result.0 in
-    let its = some-of end.passes (λ ps. ps.value.items ≡ map (λ (d : Desk (Seated Frame) S). d.worker.worker.pass) ran) c.wind_up-end.ensures.there c.wind_up-end.ensures.passes in
+    let its = some-of end.passes (λ ps. ps.value.items ≡ map (λ (d : Desk (Seated Frame _) S). d.worker.worker.pass) ran) c.wind_up-end.ensures.there c.wind_up-end.ensures.passes in
     let passes = its.it.value.items in
     let Closed : List (PassStanding Frame) → List ℕ → Type 0 =
     λ ps l. IsSomeAnd end.frames (λ fs. NothingIsStranded job.order topics job.workers ps fs.value.items l) in
@@ -43,7 +43,7 @@ returns-clause-waited g c =
     c.wind_up-end.ensures.closed c.wind_up-end.ensures.end.none_stranded in
     let closed = some-and end.frames _ (subst (λ o. IsSomeAnd o (λ ps. Closed ps.value.items left.it.items)) its.same left.holds) in
     let seats : length passes ≡ job.workers =
-    ap length its.holds ∙ length-map ran (λ (d : Desk (Seated Frame) S). d.worker.worker.pass) ∙ c.run_resting-desks.ensures.count ∙ c.lay_out-laid.ensures.count in
+    ap length its.holds ∙ length-map ran (λ (d : Desk (Seated Frame _) S). d.worker.worker.pass) ∙ c.run_resting-desks.ensures.count ∙ c.lay_out-laid.ensures.count in
     let saw : c.wind_up-end.result.1.items ≡ map (λ (p : PassStanding Frame). was_told p.gate) passes =
     subst (λ o. IfSome o (λ ps. c.wind_up-end.result.1.items ≡ map (λ (p : PassStanding Frame). was_told p.gate) ps.value.items)) its.same c.wind_up-end.ensures.saw in
     let settled : AreSettled c.args.crew topics behind stands passes =

@@ -44,12 +44,12 @@ returns-in-Ok-make_queue-clause-behind g c =
     let end = c.wind_up-end.result.0 in
     let said = c.wind_up-end.ensures in
     let P : PassStanding Frame → Type 0 = HasLeftSwept bytes_of IsReturn topics 64 in
-    let its = some-of end.passes (λ ps. ps.value.items ≡ map (λ (d : Desk (Seated Frame) S). d.worker.worker.pass) ran) said.there said.passes in
+    let its = some-of end.passes (λ ps. ps.value.items ≡ map (λ (d : Desk (Seated Frame _) S). d.worker.worker.pass) ran) said.there said.passes in
     let Closed : List (PassStanding Frame) → List ℕ → Type 0 =
     λ ps l. IsSomeAnd end.frames (λ fs. NothingIsStranded job.order topics job.workers ps fs.value.items l) in
     let left = some-of end.left (λ l. IsSomeAnd end.passes (λ ps. Closed ps.value.items l.items)) said.closed said.end.none_stranded in
     let closed = some-and end.frames _ (subst (λ o. IsSomeAnd o (λ ps. Closed ps.value.items left.it.items)) its.same left.holds) in
-    let none : NoneSpent (map (λ (d : Desk (Seated Frame) S). d.worker.worker.pass) ran) =
+    let none : NoneSpent (map (λ (d : Desk (Seated Frame _) S). d.worker.worker.pass) ran) =
     subst (λ (ps : List (PassStanding Frame)). NoneSpent ps) its.holds closed.holds.shared.unspent in
     subst (λ o. IfSome o (λ ps. All P ps.value.items)) (sym its.same)
-    (subst (λ (ps : List (PassStanding Frame)). All P ps) (sym its.holds) (all-behind (λ (w : Worker Frame). w.pass) P ran c.run_apart-desks.ensures.behind none))
+    (subst (λ (ps : List (PassStanding Frame)). All P ps) (sym its.holds) (all-behind (λ (w : Worker Frame _). w.pass) P ran c.run_apart-desks.ensures.behind none))

@@ -34,6 +34,6 @@ returns-in-Err g c =
       run = late-out c.args.queue.now c.args.job.now g.S.Source was.files.items was.worker.worker c.sweep_out.new.taker was.worker.kept c.requires.sweep
           c.keep.new.self c.in-Err.at_limit.held c.in-Err.ensures.left c.keep.ensures.same c.keep.ensures.kept;
       behind = λ awake. absurd (none-or c.sweep_out.new.taker.pass.spent left.spent.0 left.spent.1
-          (subst (λ (w : Worker _). w.pass.spent ≡ None) c.keep.ensures.same awake));
-      number = ap (λ (w : Worker _). w.pass.number) c.keep.ensures.same ∙ left.own.1;
+          (subst (λ (w : Worker _ _). w.pass.spent ≡ None) c.keep.ensures.same awake));
+      number = ap (λ (w : Worker _ _). w.pass.number) c.keep.ensures.same ∙ left.own.1;
     }

@@ -83,7 +83,7 @@ returns-in-Err g c =
     let desk = c.pass_all_on.new.desk in
     let now = c.keep.new.self in
     let end = c.in-Err.ensures.stopped [] (begun g at) in
-    let retired = ap (λ (w : Worker _). w.pass) c.keep.ensures.same ∙ c.retire-in-Err.ensures.pass in
+    let retired = ap (λ (w : Worker _ _). w.pass) c.keep.ensures.same ∙ c.retire-in-Err.ensures.pass in
     record {
       same = its.files.same;
       produced = produced-stopped c.args.queue.now job.topics job.size job.most job.longest g.S.Source desk.files.items desk.worker.worker.pass

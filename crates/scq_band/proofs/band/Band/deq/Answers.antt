@@ -129,6 +129,11 @@ returns-in-Ok-clause-got g c =
       low = subst (λ (s : Setup). c.in-Ok.index < n_of s.order) setup c.in-Ok.ensures.got.got.low;
     }
 
+pub finds_none-later-requires-clause-finished : goal.finds_none-later-requires-clause-finished
+finds_none-later-requires-clause-finished g c =
+    let known = knows g (goal.at.finds_none-later-requires-clause-finished g c).After-index-known in
+    subst (λ (x : Numbers). x.finished < 2 ^ 60) (sym known) (c.seat.invariant.small c.args.ring).0
+
 pub finds_none-later-requires-clause-drawn : goal.finds_none-later-requires-clause-drawn
 finds_none-later-requires-clause-drawn g c =
     let none = c.dequeue-found.ensures.nothing c.in-Nothing.drawn (c.in-Err.is ∙ ap (λ w. Err w) c.in-Nothing.is) in

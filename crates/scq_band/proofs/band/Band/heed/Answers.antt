@@ -1,6 +1,6 @@
 use Rattle.std.proofs.Common.{sym, ◌∙◌, ap, subst}
 use Rattle.atomic_table.specs.Table.{Me}
-use Rattle.scq_band.specs.declared.slot.Slot.{Slot}
+use Rattle.scq_band.specs.Slots.{SlotStanding}
 use Rattle.scq_band.specs.Known.{Known}
 use Rattle.scq_band.specs.Exports.{both_seen, MarkStanding, having_seen, IsKept, standing_of, standing_from, seen_in, known_me, both_sight, mark_with}
 use Rattle.scq_band.specs.Standing.{Standing}
@@ -14,7 +14,7 @@ invariant_of-seat g c =
     let me = c.seat.inside.token.me in
     let v = mark_with (seen_in c.mark.inside.badge.views) in
     let now = ap known_me (c.learn.ensures.learned v c.mark.invariant.is) ∙ ap (λ (u : Known). (u, me.1)) (both_nobody me.0.known) in
-    subst (λ (m : Me (Slot g.row.B.Denot) Known). IsKept g.B.Buffer.IsSameBuffer key m c.seat.inside.hand.items (vec_capacity c.seat.inside.hand)
+    subst (λ (m : Me (SlotStanding g.row.B.Denot) Known). IsKept g.B.Buffer.IsSameBuffer key m c.seat.inside.hand.items (vec_capacity c.seat.inside.hand)
     c.seat.inside.numbers.items c.seat.inside.spent) (sym now) c.seat.invariant
 
 pub returns : goal.returns

@@ -1,7 +1,7 @@
 use Rattle.std.proofs.Common.{◌≡◌, List, ◌∷◌, sym, ◌∙◌, ap, subst}
 use Rattle.std.specs.Prelude.{Some, None, Option, vec_capacity}
 use Rattle.atomic_table.specs.Table.{rest}
-use Rattle.scq_band.specs.declared.slot.Slot.{Slot}
+use Rattle.scq_band.specs.Slots.{SlotStanding}
 use Rattle.scq_band.specs.Exports.{known_me, Identity, with_buffer, IsAsGiven, standing_of, IsKept}
 use Rattle.scq_band.specs.Standing.{Standing}
 use Rattle.scq_band.proofs.Exchanging.{Brought, same_slot}
@@ -22,7 +22,7 @@ lifted : (g : _) (c : After-lift_first g) → (b : Brought g.B.Buffer.IsSameBuff
     c.seat.inside.key.value.given.value.items c.bring_to_front.new.token.me.1 c.args.index (Some c.requires.laid.0))
     → b.slot.buffer ≡ Some c.lift_first.result
 lifted g c b =
-    ap (λ (s : Slot g.row.B.Denot). s.buffer) (same_slot c.args.index b.slot (record { buffer = Some c.lift_first.result }) b.others _
+    ap (λ (s : SlotStanding g.row.B.Denot). s.buffer) (same_slot c.args.index b.slot (record { buffer = Some c.lift_first.result }) b.others _
     c.bring_to_front.new.token.me.1 b.is c.lift_first.ensures.buffer)
 
 -- what is kept, and seen, of the seat without it

@@ -30,7 +30,7 @@ new-requires g c =
     (map contents bs) base)
 
 pub lift_all-requires-clause-laid : goal.lift_all-requires-clause-laid
-lift_all-requires-clause-laid g c =
+lift_all-requires-clause-laid g c κs within =
     subst AllLaid (sym (c.in-Err-new.ensures.err ∙ c.lay_all.ensures.slots)) (all_laid c.args.buffers.items)
 
 pub returns-clause-refused : goal.returns-clause-refused

@@ -2,7 +2,7 @@ use Rattle.std.proofs.Common.{◌≡◌, ◌≤◌, ℕ, List, refl, ◌∷◌, 
 use Rattle.std.specs.Prelude.{Some, vec_capacity}
 use Rattle.atomic_table.specs.Table.{Me, rest}
 use Rattle.scq_word.specs.declared.setup.Setup.{Setup}
-use Rattle.scq_band.specs.declared.slot.Slot.{Slot}
+use Rattle.scq_band.specs.Slots.{SlotStanding}
 use Rattle.scq_band.specs.Exports.{opening_of, Sight, Went, known_me, front_index, HasSpentPut, Identity, with_buffer, IsAsGiven}
 use Rattle.scq_band.specs.Exports.{having_seen, seat_after_spent_put, IsRing, standing_of, IsKept}
 use Rattle.scq_band.proofs.Exchanging.{same_slot}
@@ -25,7 +25,7 @@ laid g c =
 -- where the put is refused, the slots are as they were when the buffer was laid
 still : (g : _) (c : In-Err g) → c.enqueue.new.token.me.1
     ≡ (c.args.index, record { buffer = Some c.args.buffer }) ∷ rest c.bring_to_front.new.token.me.1
-still g c = c.in-Err.ensures.spent.slots ∙ ap (λ (m : Me (Slot g.row.B.Denot) Sight). m.1) c.lay_first.ensures.laid
+still g c = c.in-Err.ensures.spent.slots ∙ ap (λ (m : Me (SlotStanding g.row.B.Denot) Sight). m.1) c.lay_first.ensures.laid
 
 -- what is kept, and seen, of the seat then
 refused : (g : _) (c : After-lift_first-buffer g) → IsKept g.B.Buffer.IsSameBuffer c.seat.inside.key.value (known_me c.lift_first-buffer.new.token.me)
@@ -75,7 +75,7 @@ pub enqueue-requires-clause-held : goal.enqueue-requires-clause-held
 enqueue-requires-clause-held g c κs within = laid_held (laid g (goal.at.enqueue-requires-clause-held g c).After-lay_first) c.self.inside.table.shared.key c.requires.seat c.self.view_is
 
 pub enqueue-requires-clause-first : goal.enqueue-requires-clause-first
-enqueue-requires-clause-first g c κs within = ap (λ (m : Me (Slot g.row.B.Denot) Sight). front_index m.1) c.lay_first.ensures.laid
+enqueue-requires-clause-first g c κs within = ap (λ (m : Me (SlotStanding g.row.B.Denot) Sight). front_index m.1) c.lay_first.ensures.laid
 
 pub enqueue-requires-clause-front : goal.enqueue-requires-clause-front
 enqueue-requires-clause-front g c κs within =
@@ -84,7 +84,7 @@ enqueue-requires-clause-front g c κs within =
 pub lift_first-buffer-requires-clause-first : goal.lift_first-buffer-requires-clause-first
 lift_first-buffer-requires-clause-first g c κs within =
     let is = still g (goal.at.lift_first-buffer-requires-clause-first g c).In-Err in
-    (c.args.buffer, is ∙ ap (λ (os : List (ℕ × Slot g.row.B.Denot)). (c.args.index, record { buffer = Some c.args.buffer }) ∷ os) (sym (ap rest is)))
+    (c.args.buffer, is ∙ ap (λ (os : List (ℕ × SlotStanding g.row.B.Denot)). (c.args.index, record { buffer = Some c.args.buffer }) ∷ os) (sym (ap rest is)))
 
 pub let_go-requires-clause-low : goal.let_go-requires-clause-low
 let_go-requires-clause-low g c =
@@ -125,7 +125,7 @@ pub returns-in-Err-clause-back : goal.returns-in-Err-clause-back
 returns-in-Err-clause-back g c =
     let slot = same_slot c.args.index (record { buffer = Some c.lift_first-buffer.result }) (record { buffer = Some c.args.buffer }) _ _
     c.enqueue.new.token.me.1 c.lift_first-buffer.ensures.buffer (still g (goal.at.returns-in-Err-clause-back g c).In-Err) in
-    let both : Some c.lift_first-buffer.result ≡ Some c.args.buffer = ap (λ (s : Slot g.row.B.Denot). s.buffer) slot in
+    let both : Some c.lift_first-buffer.result ≡ Some c.args.buffer = ap (λ (s : SlotStanding g.row.B.Denot). s.buffer) slot in
     cc
 
 pub returns-in-Err-clause-spent : goal.returns-in-Err-clause-spent
@@ -142,7 +142,7 @@ returns-in-Ok-clause-run g c fresh =
 pub returns-in-Err-clause-run : goal.returns-in-Err-clause-run
 returns-in-Err-clause-run g c fresh =
     let k = c.self.inside.table.shared.key in
-    let same = ap (λ (m : Me (Slot g.row.B.Denot) Sight). m.0) c.lift_first-buffer.ensures.lifted in
+    let same = ap (λ (m : Me (SlotStanding g.row.B.Denot) Sight). m.0) c.lift_first-buffer.ensures.lifted in
     let view = ap (λ (v : Sight). v.known) same ∙ c.in-Err.ensures.spent.view in
     laid_call g.B.Buffer.contents (laid g (goal.at.returns-in-Err-clause-run g c).After-lay_first)
     c.lift_first-buffer.new.token.table_id k c.lift_first-buffer.new.token.me

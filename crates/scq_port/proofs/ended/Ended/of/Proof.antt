@@ -24,6 +24,7 @@ use denote.Triple.Entry.{alive, Res}
 use denote.Triple.Walked.{says, Stays, stay_dropped, walk_of, ends_at, Goes-dropped}
 use Rattle.std.proofs.raw_atomic.Walks.{proved_at}
 use Rattle.scq_port.specs.contracts.port_buffer.PortBuffer as PB
+use Rattle.scq_port.specs.contracts.port_buffer.PortPlace as PP
 use Rattle.scq_port.specs.contracts.port_buffer.PortBufferBuffer.TheImpl as PBBuffer
 use Rattle.std.specs.contracts.snapshot.Snapshot as snapshot
 use Rattle.scq_queue.specs.contracts.pass.Pass as pass
@@ -33,7 +34,7 @@ use Rattle.scq_port.proofs.ended.Ended.of.Statement.{statement}
 use Rattle.scq_port.proofs.ended.Ended.of.Code as code
 
 abbrev R : RattleType
-R = Tuple (snapshot.the_row (pass.the_row PB.the_row PBBuffer.ghosts) ∷ option.the_row (closing.the_row PB.the_row PBBuffer.ghosts) ∷ [])
+R = Tuple (snapshot.the_row (pass.the_row PB.the_row PP.the_row PBBuffer.ghosts) ∷ option.the_row (closing.the_row PB.the_row PP.the_row PBBuffer.ghosts) ∷ [])
 
 pub of_spec : {M : Type 1} → statement M
 of_spec 𝓤 𝓛 𝓜 𝓡 wired =

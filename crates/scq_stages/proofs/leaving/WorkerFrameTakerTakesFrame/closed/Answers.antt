@@ -10,7 +10,7 @@ use Rattle.scq_stages.proofs.leaving.WorkerFrameTakerTakesFrame.closed.Goals as 
 pub returns-clause-made : goal.returns-clause-made
 returns-clause-made c =
     let was = c.args.self.now in
-    let asks : Worker Frame = record was { pass = c.closed.new.pass } in
+    let asks : Worker Frame _ = record was { pass = c.closed.new.pass } in
     let said = c.closed.ensures.looked in
     finishes-on was asks (looked _ _ _ said.1)
     (finished-asked was asks (ap (λ (x : PassStanding _). x.calls) said.1) refl refl)
