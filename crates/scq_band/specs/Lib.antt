@@ -13,6 +13,7 @@ pub mod Seats
 pub mod Rings
 pub mod Guesses
 pub mod Standing
+pub mod Lifting
 pub mod Kept
 pub mod Homes
 pub mod Closing

@@ -1,19 +1,21 @@
-//! The calls on a ring: enqueue (`enq`, and `put`, which lays a buffer first) and dequeue (`deq`).
-//! They are lock-free, with a bound: among any `k b + 1` steps of a run one ends a call, for `k`
-//! seats and `b` of `scq_law`'s `specs/Progress`, and only what others end on its ring delays a
-//! call (field `delayed` of `IsCallInRun`). None waits for another seat. As tickets are finite each
-//! also ends after a bounded number of its own steps, which the field calls wait-free; but that
-//! bound is astronomical. The linearization points are those of `scq_law`'s `specs/Points`: of an
-//! enqueue mostly the step that drew its place, of a dequeue the one that drew its own or the
-//! enqueue's point, whichever is later, and of an Empty the step that decided it.
-ghost use Rattle.std.specs.Prelude.{◌≡◌, ℕ, ◌<◌, ◌≤◌, List, [], ◌∷◌, ◌++◌, Some, None, Err, IfOk};
-ghost use Rattle.std.specs.Prelude.{IfErr, length, vec_capacity, slice_set};
+//! The calls on a ring: enqueue (`enq`, and `put`, which lays a buffer first) and dequeue (`deq`,
+//! and `get`, which lifts a buffer then). They are lock-free, with a bound: among any `k b + 1`
+//! steps of a run one ends a call, for `k` seats and `b` of `scq_law`'s `specs/Progress`, and only
+//! what others end on its ring delays a call (field `delayed` of `IsCallInRun`). None waits for
+//! another seat. As tickets are finite each also ends after a bounded number of its own steps,
+//! which the field calls wait-free; but that bound is astronomical. The linearization points are
+//! those of `scq_law`'s `specs/Points`: of an enqueue mostly the step that drew its place, of a
+//! dequeue the one that drew its own or the enqueue's point, whichever is later, and of an Empty
+//! the step that decided it.
+ghost use Rattle.std.specs.Prelude.{◌≡◌, ℕ, ◌+◌, ◌^◌, ◌<◌, ◌≤◌, List, [], ◌∷◌, ◌++◌, Some, None, Err};
+ghost use Rattle.std.specs.Prelude.{IfOk, IfErr, length, vec_capacity, slice_set};
 ghost use Rattle.scq_band.specs.Buffers.{opening_of};
-ghost use Rattle.scq_band.specs.Numbers.{known_of, changed, finishes, RisesInHead};
+ghost use Rattle.scq_band.specs.Numbers.{known_of, changed, finishes, sees, passes, RisesInHead};
 ghost use Rattle.scq_band.specs.RunSeen.{IsCallInRun};
 ghost use Rattle.scq_band.specs.Standing.{caller_of, in_hand, bytes_in_hand, having_seen};
 ghost use Rattle.scq_band.specs.Standing.{seat_after_spent_put, seat_after_spent_get, IsAsGiven};
 ghost use Rattle.scq_band.specs.Standing.{SeatHasPut, SeatHasDequeued, SeatFoundNone};
+ghost use Rattle.scq_band.specs.Lifting.{SeatHasGotLifted};
 
 use crate::band::Band;
 use crate::dequeue::{Without, dequeue};
@@ -55,6 +57,25 @@ fn let_go(hand: &mut Vec<u32>, numbers: &mut Vec<Numbers>, ring: u32, place: u64
     let _index = hand.take_last();
     let known = numbers[ring as usize];
     numbers[ring as usize] = known.finishes(place);
+}
+
+// Notes a dequeue of an index from a place, which is its ticket, and not below the head number. The
+// highest place that was seen mostly is higher already, and then isn't written.
+#[inline(always)]
+fn note_get(numbers: &mut Vec<Numbers>, ring: u32, known: Numbers, place: u64)
+    requires low { ring < length numbers.old.items }
+    requires known { known ≡ known_of numbers.old.items ring }
+    requires above { known.head ≤ place }
+    requires small { place + 1 < 2 ^ 64 }
+    ensures { numbers.new.items
+        ≡ changed (λ x. sees place (passes (place + 1) x)) ring numbers.old.items }
+{
+    if place > known.seen {
+        numbers[ring as usize].seen = place;
+        numbers[ring as usize].head = place + 1;
+        return;
+    }
+    numbers[ring as usize].head = place + 1;
 }
 
 // Notes a head that rose. Where it didn't, nothing is written: so a call on a ring that stays empty
@@ -191,9 +212,56 @@ impl<B: Buffer> Band<B> {
         let known = seat.numbers[ring as usize];
         match found {
             Ok((place, index)) => {
-                seat.numbers[ring as usize] = known.gets(place);
+                note_get(&mut seat.numbers, ring, known, place);
                 seat.hand.push_reserved(index);
                 Ok((place, index))
+            }
+            Err(end) => match end {
+                Without::Nothing(drawn) => {
+                    let later = known.finds_none(drawn);
+                    note_head(&mut seat.numbers, ring, known, later);
+                    Err(DeqRefusal::Empty { head: later.head })
+                }
+                Without::Spent(ticket) => {
+                    seat.numbers[ring as usize] = known.draws(ticket);
+                    seat.spent = Some(ticket);
+                    Err(DeqRefusal::Spent { ticket })
+                }
+            },
+        }
+    }
+
+    /// Dequeues an index, and lifts its buffer: what `deq` and `lift` do one after the other.
+    #[inline(always)]
+    pub fn get(&self, seat: &mut Seat<B>, ring: u32) -> Result<(u64, u32, B), DeqRefusal>
+        requires seat { seat.old.band ≡ self.now }
+        requires ring { ring < self.now.setup.rings }
+        ensures band { seat.new.band ≡ seat.old.band }
+        ensures got { IfOk result (λ r. SeatHasGotLifted B.contents B.IsSameBuffer self.now
+            ring r.0 r.1 r.2 seat.old seat.new) }
+        ensures empty { (head : ℕ) → result ≡ Err (DeqRefusal.Empty head)
+            → SeatFoundNone B.contents self.now ring head seat.old seat.new }
+        ensures spent { (ticket : ℕ) → result ≡ Err (DeqRefusal.Spent ticket)
+            → seat.old.spent ≡ None
+            → (seat.new ≡ having_seen seat.new.seen (seat_after_spent_get ring ticket seat.old))
+            × (self.now.setup.limit ≤ ticket) }
+        ensures run { seat.old.spent ≡ None
+            → IsCallInRun self.now.setup (opening_of B.contents self.now.given) (caller_of seat.old)
+            (caller_of seat.new) }
+        ensures kept { (ticket : ℕ) → seat.old.spent ≡ Some ticket
+            → (result ≡ Err (DeqRefusal.Spent ticket)) × (seat.new ≡ seat.old) }
+    {
+        if let Some(ticket) = seat.spent {
+            return Err(DeqRefusal::Spent { ticket });
+        }
+        let found = dequeue(&self.table.shared, &mut seat.token, self.ring(ring));
+        let known = seat.numbers[ring as usize];
+        match found {
+            Ok((place, index)) => {
+                note_get(&mut seat.numbers, ring, known, place);
+                seat.hand.push_reserved(index);
+                let buffer = lift_first(&self.table.shared, &mut seat.token, index);
+                Ok((place, index, buffer))
             }
             Err(end) => match end {
                 Without::Nothing(drawn) => {

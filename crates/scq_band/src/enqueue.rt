@@ -10,7 +10,7 @@ ghost use Rattle.scq_band.specs.Exports.{put_index, content_of, least_of, GoesOn
 ghost use Rattle.scq_band.specs.Guesses.{HasLooked};
 ghost use Rattle.scq_core.specs.declared.phase.Phase.TheVariants.{Idle, AtE1, AtE4};
 ghost use Rattle.scq_word.specs.Exports.{n_of, rank_in, IsIndexOrMark};
-ghost use Rattle.scq_core.specs.Exports.{ring_slots, holds_index};
+ghost use Rattle.scq_core.specs.Exports.{ring_slots, holds_index, threshold_of};
 
 use crate::ring::Ring;
 use crate::rule::{Token, Words};
@@ -201,13 +201,20 @@ fn place<B: Buffer>(
     try_place(words, token, ring, ticket, index)
 }
 
-/// E5, and E6 where Threshold isn't at the reset value.
+/// E5, and E6 where Threshold isn't at the reset value. `word` is its word.
 #[inline(always)]
-fn reset_threshold<B: Buffer>(words: &Words<B>, token: &mut Token<B>, ring: &Ring, ticket: u64)
+fn reset_threshold<B: Buffer>(
+    words: &Words<B>,
+    token: &mut Token<B>,
+    ring: &Ring,
+    ticket: u64,
+    word: usize,
+)
     requires own { (token.old.table_id ≡ words.now.table_id)
         × (words.now.table_id.words ≡ word_count words.now.key.setup) }
     requires ring { IsRing words.now.key.setup ring.now }
     requires alone { IsAlone token.old.me.0.known }
+    requires word { word ≡ at words.now.key.setup (threshold_of ring.now.number) }
     requires placed { IsEnding ring.now.number ticket (my_phase token.old.me.0.known) }
     ensures own { (token.new.table_id ≡ token.old.table_id) × (token.new.id ≡ token.old.id) }
     ensures went { Went words.now.key.setup
@@ -217,8 +224,8 @@ fn reset_threshold<B: Buffer>(words: &Words<B>, token: &mut Token<B>, ring: &Rin
         ≡ done_at ring.now.number ticket
         (content_of (my_phase token.old.me.0.known)) token.old.me.0.known }
 {
-    if load(words, token, ring.threshold()) != ring.level {
-        reset(words, token, ring.threshold(), ring.level);
+    if load(words, token, word) != ring.level {
+        reset(words, token, word, ring.level);
     }
 }
 
@@ -252,13 +259,14 @@ pub fn enqueue<B: Buffer>(
         HasSpentPut words.now.key.setup ring.now.number ticket
         (known_me token.old.me) (known_me token.new.me)) }
 {
+    let threshold_at = ring.threshold();
     'draws: loop {
         let ticket = draw(words, token, ring.tail);
         if ticket >= ring.limit {
             return Err(ticket);
         }
         if place(words, token, ring, ticket, index) {
-            reset_threshold(words, token, ring, ticket);
+            reset_threshold(words, token, ring, ticket, threshold_at);
             return Ok(ticket);
         }
     }

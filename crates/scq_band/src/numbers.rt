@@ -1,6 +1,6 @@
 //! What is known of the rings.
 ghost use Rattle.std.specs.Prelude.{◌≡◌, ◌+◌, ◌<◌, ◌≤◌, ◌^◌, IfSome};
-ghost use Rattle.scq_band.specs.Numbers.{first_numbers_of, finishes, sees, passes, drew, empties};
+ghost use Rattle.scq_band.specs.Numbers.{first_numbers_of, finishes, passes, drew, empties};
 ghost use Rattle.scq_band.specs.Numbers.{larger};
 
 use scq_word::Setup;
@@ -46,21 +46,6 @@ impl Numbers {
             finished: place,
             seen: place,
             head: self.head,
-        }
-    }
-
-    /// The seat has dequeued an index from a place, which is its ticket, and not below the head
-    /// number.
-    #[inline(always)]
-    pub(crate) fn gets(self, place: u64) -> Numbers
-        requires above { self.head ≤ place }
-        requires small { place + 1 < 2 ^ 64 }
-        ensures { result ≡ sees place (passes (place + 1) self) }
-    {
-        Numbers {
-            finished: self.finished,
-            seen: self.seen.max(place),
-            head: place + 1,
         }
     }
 

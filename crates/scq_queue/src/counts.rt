@@ -14,5 +14,7 @@ pub struct Counts {
 pub fn count(number: &mut u64)
     ensures { number.new ≡ min (number.old + 1) (2 ^ 64 - 1) }
 {
-    *number = number.saturating_add(1);
+    if let Some(more) = number.checked_add(1) {
+        *number = more;
+    }
 }

@@ -32,9 +32,8 @@ pub fn get<B: Buffer>(
     ensures kept { (ticket : ℕ) → seat.old.spent ≡ Some ticket
         → (result ≡ Err (DeqRefusal.Spent ticket)) × (seat.new ≡ seat.old) }
 {
-    match band.deq(seat, ring) {
-        Ok((place, index)) => {
-            let buffer = band.lift(seat, index);
+    match band.get(seat, ring) {
+        Ok((place, index, buffer)) => {
             let held = Held {
                 index,
                 buffer,

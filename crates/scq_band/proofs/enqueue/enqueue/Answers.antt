@@ -8,7 +8,7 @@ use Rattle.scq_band.specs.Exports.{known_me, at, LiesIn, MayTurn, Fronts, my_pha
 use Rattle.scq_band.specs.Exports.{content_of, least_of}
 use Rattle.atomic_table.specs.Table.{rest}
 use Rattle.scq_band.proofs.Outcomes.{alone_at, alone_seated, turned_as}
-use Rattle.scq_band.proofs.RingLemmas.{tail_low}
+use Rattle.scq_band.proofs.RingLemmas.{tail_fits, tail_low}
 use Rattle.scq_band.proofs.Drawing.{DrewFromTail, drew_from_tail, turn_of_draw, may_draw, looks_as}
 use Rattle.scq_band.proofs.RunShown.{went_on, goes_then}
 use Rattle.scq_band.proofs.enqueue.enqueue.Goals as goal
@@ -99,6 +99,12 @@ pub reset_threshold-requires-clause-alone : goal.reset_threshold-requires-clause
 reset_threshold-requires-clause-alone g c κs within =
     let stands = alone g (goal.at.reset_threshold-requires-clause-alone g c).After-draw-ticket c.if-ticket-ring.false in
     alone_seated c.draw-ticket.new.token.me.0.known c.place.new.token.me.0.known _ _ stands.out (c.if-place.ensures.placed refl)
+
+pub threshold-threshold_at-requires : goal.threshold-threshold_at-requires
+threshold-threshold_at-requires g c = tail_fits c.args.words.now.key.setup c.args.ring.now c.requires.ring
+
+pub reset_threshold-requires-clause-word : goal.reset_threshold-requires-clause-word
+reset_threshold-requires-clause-word g c κs within = c.threshold-threshold_at.ensures c.args.words.now.key.setup c.requires.ring
 
 pub reset_threshold-requires-clause-placed : goal.reset_threshold-requires-clause-placed
 reset_threshold-requires-clause-placed g c κs within =

@@ -2,7 +2,7 @@ use Rattle.std.proofs.Common.{◌≡◌, ◌≢◌, refl, sym, ◌∙◌, ap, su
 use Rattle.scq_core.specs.declared.phase.Phase.TheVariants.{AtE5, AtE6}
 use Rattle.scq_core.specs.declared.step.Step.TheVariants.{E5, E6}
 use Rattle.scq_band.specs.Exports.{known_me, ring_of_word, my_phase, loading, load_turn, IsReset, goes_to, put_index, content_of}
-use Rattle.scq_band.proofs.RingLemmas.{tail_fits, threshold_low}
+use Rattle.scq_band.proofs.RingLemmas.{threshold_low}
 use Rattle.scq_band.proofs.Outcomes.{may_load, may_phase, load_kind, load_word, phase_word, alone_at, turned_as}
 use Rattle.scq_band.proofs.Ending.{saw_other_level, saw_own_level, was_reset}
 use Rattle.scq_band.proofs.RunShown.{went_on}
@@ -10,9 +10,9 @@ use Rattle.scq_band.proofs.enqueue.reset_threshold.Goals as goal
 use Rattle.scq_band.proofs.enqueue.reset_threshold.Goals.{After-load}
 
 -- the put is about to look at Threshold
-ending : (g : _) (c : After-load g) → load_turn c.args.words.now.key.setup c.threshold.result c.args.token.now.me.0.known
+ending : (g : _) (c : After-load g) → load_turn c.args.words.now.key.setup c.args.word c.args.token.now.me.0.known
     ≡ AtE5 c.args.ring.now.number (put_index (my_phase c.args.token.now.me.0.known)) (content_of (my_phase c.args.token.now.me.0.known)) c.args.ticket
-ending g c = ap (loading (ring_of_word c.args.words.now.key.setup c.threshold.result)) c.requires.placed
+ending g c = ap (loading (ring_of_word c.args.words.now.key.setup c.args.word)) c.requires.placed
 
 stays : (g : _) (c : After-load g) → c.load.new.token.me.1 ≡ c.args.token.now.me.1
 stays g c =
@@ -28,20 +28,20 @@ other g c differs =
     (put_index p) (content_of p) c.args.ticket (ending g c) c.requires.alone (λ e. differs (e ∙ sym c.requires.ring.level)) c.load.ensures.turned
 
 pub load-requires-clause-low : goal.load-requires-clause-low
-load-requires-clause-low g c κs within = threshold_low c.requires.ring (c.threshold.ensures _ c.requires.ring) c.requires.own.1
+load-requires-clause-low g c κs within = threshold_low c.requires.ring c.requires.word c.requires.own.1
 
 pub load-requires-clause-may : goal.load-requires-clause-may
 load-requires-clause-may g c κs within =
-    may_load c.args.words.now.key.setup _ c.threshold.result _ E5 c.requires.alone c.requires.placed refl refl
+    may_load c.args.words.now.key.setup _ c.args.word _ E5 c.requires.alone c.requires.placed refl refl
 
 pub load-requires-clause-kind : goal.load-requires-clause-kind
 load-requires-clause-kind g c κs within =
-    load_kind c.args.words.now.key.setup c.args.token.now.me.0.known c.threshold.result _ c.requires.placed refl tt
+    load_kind c.args.words.now.key.setup c.args.token.now.me.0.known c.args.word _ c.requires.placed refl tt
 
 pub load-requires-clause-word : goal.load-requires-clause-word
 load-requires-clause-word g c κs within =
     let k = c.args.words.now.key.setup in
-    load_word k c.args.token.now.me.0.known c.threshold.result _ c.requires.placed refl (c.threshold.ensures k c.requires.ring)
+    load_word k c.args.token.now.me.0.known c.args.word _ c.requires.placed refl c.requires.word
 
 pub reset-requires-clause-may : goal.reset-requires-clause-may
 reset-requires-clause-may g c κs within =
@@ -56,8 +56,8 @@ pub reset-requires-clause-word : goal.reset-requires-clause-word
 reset-requires-clause-word g c κs within =
     let k = c.args.words.now.key.setup in
     let now = other g (goal.at.reset-requires-clause-word g c).After-load c.if-load-ring.true in
-    phase_word k c.load.new.token.me.0.known c.threshold-then-load-ring.result _ (ap my_phase now)
-    (c.threshold-then-load-ring.ensures k c.requires.ring)
+    phase_word k c.load.new.token.me.0.known c.args.word _ (ap my_phase now)
+    c.requires.word
 
 pub returns-then-load-ring-clause-done : goal.returns-then-load-ring-clause-done
 returns-then-load-ring-clause-done g c =
@@ -86,11 +86,5 @@ returns-else-load-ring-clause-slots g c = stays g (goal.at.returns-else-load-rin
 pub returns-then-load-ring-clause-went : goal.returns-then-load-ring-clause-went
 returns-then-load-ring-clause-went g c = went_on c.load.ensures.went c.reset.ensures.went
 
-pub threshold-requires : goal.threshold-requires
-threshold-requires g c = tail_fits c.args.words.now.key.setup c.args.ring.now c.requires.ring
-
-pub threshold-requires-then-load-ring : goal.threshold-requires-then-load-ring
-threshold-requires-then-load-ring g c = tail_fits c.args.words.now.key.setup c.args.ring.now c.requires.ring
-
 pub reset-requires-clause-low : goal.reset-requires-clause-low
-reset-requires-clause-low g c κs within = threshold_low c.requires.ring (c.threshold-then-load-ring.ensures _ c.requires.ring) c.requires.own.1
+reset-requires-clause-low g c κs within = threshold_low c.requires.ring c.requires.word c.requires.own.1

@@ -3,7 +3,7 @@ use Rattle.std.specs.Prelude.{Option, Some, None, Result, Err, slice_set}
 use Rattle.scq_word.specs.Exports.{n_of}
 use Rattle.scq_band.specs.declared.calls.DeqRefusal.{DeqRefusal}
 use Rattle.scq_band.specs.declared.calls.DeqRefusal.TheVariants.{Empty, Spent}
-use Rattle.scq_band.specs.Exports.{IsRing, IsCallInRun, LiesIn, opening_of, known_of, changed, sees, passes, drew, empties, RisesInHead, HasGotAfter}
+use Rattle.scq_band.specs.Exports.{IsRing, IsCallInRun, LiesIn, opening_of, known_of, changed, passes, drew, empties, RisesInHead, HasGotAfter}
 use Rattle.scq_band.specs.Exports.{HasFoundNone, HasSpentGet, known_me, my, Identity, caller_of, standing_of}
 use Rattle.scq_word.specs.declared.setup.Setup.{Setup}
 use Rattle.scq_band.specs.declared.numbers.Numbers.{Numbers}
@@ -104,14 +104,16 @@ invariant_of-seat g c =
     let at = goal.at.invariant_of-seat g c in
     let numbers = c.seat.inside.numbers.items in
     let place = c.in-Ok.place in
-    let new = ap (λ (x : Numbers). slice_set numbers c.args.ring x) (c.gets.ensures ∙ ap (λ x. sees place (passes (place + 1) x)) (knows g at.After-index-known)) in
     kept_got g.B.Buffer.contents g.B.Buffer.IsSameBuffer c.seat.inside.key.value (known_me c.seat.inside.token.me) (known_me c.dequeue-found.new.token.me)
     c.seat.inside.hand.items c.push_reserved.new.self.items _ _ numbers _ _ c.args.ring place c.in-Ok.index c.seat.invariant (got g at.In-Ok)
-    c.push_reserved.ensures.items c.push_reserved.ensures.capacity new
+    c.push_reserved.ensures.items c.push_reserved.ensures.capacity c.note_get.ensures
 
-pub gets-requires-clause-above : goal.gets-requires-clause-above
-gets-requires-clause-above g c =
-    let at = goal.at.gets-requires-clause-above g c in
+pub note_get-requires-clause-known : goal.note_get-requires-clause-known
+note_get-requires-clause-known g c = knows g (goal.at.note_get-requires-clause-known g c).After-index-known
+
+pub note_get-requires-clause-above : goal.note_get-requires-clause-above
+note_get-requires-clause-above g c =
+    let at = goal.at.note_get-requires-clause-above g c in
     subst (λ (x : Numbers). x.head ≤ c.in-Ok.place) (sym (knows g at.After-index-known)) (above g at.In-Ok (got g at.In-Ok))
 
 pub returns-in-Ok-clause-got : goal.returns-in-Ok-clause-got
