@@ -5,7 +5,7 @@ using Word = std::atomic<uint64_t>;
 
 constexpr uint64_t ZERO_LEVEL = uint64_t(1) << 32;
 constexpr size_t DISTANCE = 16;             // of the gate, Tail, Head and Threshold, in words, as in `scq_band`
-constexpr uint32_t LARGEST_LINED_ORDER = 7; // up to which each entry has a cache line to itself, likewise
+constexpr uint32_t LARGEST_LINED_ORDER = 9; // up to which each entry has a cache line to itself, likewise
 
 // How many rows of eight words the entries of a ring take, as a power of two.
 static inline uint32_t column_bits(uint32_t order) { return order <= LARGEST_LINED_ORDER ? order + 1 : order - 2; }

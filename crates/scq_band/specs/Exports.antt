@@ -18,7 +18,8 @@ pub use Rattle.scq_band.specs.Shown.{Scene, awake, LeadsTo, ShowsWords, StandsAm
 pub use Rattle.scq_band.specs.Shown.{Has, Stored, IsMember, Owns, IsView, first_members, first_view}
 pub use Rattle.scq_band.specs.Knowing.{EachViewKnowsTruth}
 pub use Rattle.scq_band.specs.Turns.{learned, turned_member, made, FindsIndex, Draws}
-pub use Rattle.scq_band.specs.Turns.{IsPastFirstRound, MayTurn, Fronts, Takes, Carries, SlotsAfter, Turned}
+pub use Rattle.scq_band.specs.Turns.{IsPastFirstRound, MayTurn, Fronts, Takes, Carries}
+pub use Rattle.scq_band.specs.Turns.{SlotsAfter, Turned}
 pub use Rattle.scq_band.specs.Buffers.{LiesIn, opening_of}
 pub use Rattle.scq_band.specs.Steps.{my_of, my, my_phase, front_index, bytes_in, front_bytes}
 pub use Rattle.scq_band.specs.Steps.{loading, drawing, load_turn, draw_turn, OnlyReads, IsDraw}
@@ -45,7 +46,8 @@ pub use Rattle.scq_band.specs.Kept.{in_order, buffer_in, hand_of, identity_of, s
 pub use Rattle.scq_band.specs.Kept.{standing_of, AllGiven, IsSmall, AreSmall, IsKept, IsRotation}
 pub use Rattle.scq_band.specs.Kept.{note_with, note_sight_with, seen_in}
 pub use Rattle.scq_band.specs.Homes.{at_home, IsBrought, MayBring, full_slot, times_lifted}
-pub use Rattle.scq_band.specs.Homes.{IsLaidBack, AreHoles, AreHome, WentHome, OutOrHome, AllOutGiven}
+pub use Rattle.scq_band.specs.Homes.{IsLaidBack, AreHoles, AreHome, WentHome, OutOrHome}
+pub use Rattle.scq_band.specs.Homes.{AllOutGiven}
 pub use Rattle.scq_band.specs.Homes.{MayLeave, IsMemberOf, AreMembersOf, HeadsKnown, GatesKnown}
 pub use Rattle.scq_band.specs.Homes.{HasAll, all_seen, SeatsAreGathered}
 pub use Rattle.scq_band.specs.Closing.{CallEndedSo, SomeCallEndedSo, WasPut, EachGetHasItsPut}

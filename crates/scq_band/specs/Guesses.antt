@@ -39,8 +39,8 @@ module _ {S : Type 0} (Lies : ℕ → S → List ℕ → Type 0) where
   CarriesGuess (AtE2 r i w t l) slots = Fronts Lies i w slots
   CarriesGuess turn slots = Unit {0}
 
-  -- what an exchange from a guess tells: where the entry was as guessed it was loaded and exchanged,
-  -- E2 and E4, and the first slot went home; where it was not it was loaded, E2
+  -- what an exchange from a guess tells: where the entry was as guessed it was loaded and
+  -- exchanged, E2 and E4, and the first slot went home; where it was not it was loaded, E2
   pub record Guessed (c : Setup) (t : Phase) (guess : ℕ) (me : Me S Known) (x : ℕ)
       (later : Me S Known) : Type 0 where
     pub hit : x ≡ guess → (later.0 ≡ placed_from t me.0) × (later.1 ≡ rest me.1)

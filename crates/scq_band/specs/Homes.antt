@@ -74,8 +74,8 @@ module _ {B : Type 0} where
 
   -- a seat of whose slots some have gone home
   pub record WentHome (contents : B
-      → List ℕ) (me : Me (SlotStanding B) Known) (out : List (ℕ × B)) (later : Me (SlotStanding B) Known)
-      (left : List (ℕ × B)) : Type 0 where
+      → List ℕ) (me : Me (SlotStanding B) Known) (out : List (ℕ × B))
+      (later : Me (SlotStanding B) Known) (left : List (ℕ × B)) : Type 0 where
     pub gone : List (ℕ × List ℕ)
     pub view : later.0 ≡ at_home gone me.0
     pub are : AreHome contents gone me.1 later.1 out left

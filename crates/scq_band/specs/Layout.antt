@@ -40,7 +40,7 @@ remainder_of order s = s / 8 + s % 8 * 2 ^ (order + 1 - 3)
 
 -- the largest order at which each entry has a row to itself
 abbrev pub largest_lined_order : ℕ
-largest_lined_order = 7
+largest_lined_order = 9
 
 -- how many rows the entries of a ring take, as a power of two: one for each entry up to that order,
 -- and above it one for eight

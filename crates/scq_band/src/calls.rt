@@ -7,8 +7,8 @@
 //! those of `scq_law`'s `specs/Points`: of an enqueue mostly the step that drew its place, of a
 //! dequeue the one that drew its own or the enqueue's point, whichever is later, and of an Empty
 //! the step that decided it.
-ghost use Rattle.std.specs.Prelude.{◌≡◌, ℕ, ◌+◌, ◌^◌, ◌<◌, ◌≤◌, List, [], ◌∷◌, ◌++◌, Some, None, Err};
-ghost use Rattle.std.specs.Prelude.{IfOk, IfErr, length, vec_capacity, slice_set};
+ghost use Rattle.std.specs.Prelude.{◌≡◌, ℕ, ◌+◌, ◌^◌, ◌<◌, ◌≤◌, List, [], ◌∷◌, ◌++◌, Some, None};
+ghost use Rattle.std.specs.Prelude.{Err, IfOk, IfErr, length, vec_capacity, slice_set};
 ghost use Rattle.scq_band.specs.Buffers.{opening_of};
 ghost use Rattle.scq_band.specs.Numbers.{known_of, changed, finishes, sees, passes, RisesInHead};
 ghost use Rattle.scq_band.specs.RunSeen.{IsCallInRun};

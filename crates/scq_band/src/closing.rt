@@ -1,8 +1,7 @@
 //! The end of a band: each slot that a seat holds goes home to the table, the seats' views are
 //! joined into one, and the table is closed.
-ghost use Rattle.std.specs.Prelude.{◌≡◌, ℕ, ◌+◌, ◌<◌, ◌≤◌, Bool, true, false, is_none, IsTrue, None};
-ghost use Rattle.std.specs.Prelude.{[], ◌∷◌, map, length};
-ghost use Rattle.std.specs.Prelude.{vec_len, sum_by, All};
+ghost use Rattle.std.specs.Prelude.{◌≡◌, ℕ, ◌+◌, ◌<◌, ◌≤◌, Bool, true, false, is_none, IsTrue};
+ghost use Rattle.std.specs.Prelude.{None, [], ◌∷◌, map, length, vec_len, sum_by, All};
 ghost use Rattle.std.specs.List.Sorted.{IsPermutation};
 ghost use Rattle.atomic_table.specs.Table.{rest};
 ghost use Rattle.scq_law.specs.Exports.{times};
@@ -15,9 +14,9 @@ ghost use Rattle.scq_band.specs.Closing.{HoldsLifted};
 ghost use Rattle.scq_band.specs.Closing.{RecordsAgree, IndicesAgree, BuffersComeBack, RetiredAgree};
 ghost use Rattle.scq_band.specs.Closing.{SpentAgree, all_calls, all_hands, all_known, all_spent};
 ghost use Rattle.scq_band.specs.Closing.{callers_of};
-ghost use Rattle.scq_band.specs.Homes.{at_home, MayBring, IsLaidBack, AreHoles, times_lifted, WentHome};
-ghost use Rattle.scq_band.specs.Homes.{OutOrHome, AllOutGiven, MayLeave, IsMemberOf, HasAll};
-ghost use Rattle.scq_band.specs.Homes.{all_seen};
+ghost use Rattle.scq_band.specs.Homes.{at_home, MayBring, IsLaidBack, AreHoles, times_lifted};
+ghost use Rattle.scq_band.specs.Homes.{WentHome, OutOrHome, AllOutGiven, MayLeave, IsMemberOf};
+ghost use Rattle.scq_band.specs.Homes.{HasAll, all_seen};
 ghost use Rattle.scq_band.specs.Sights.{known_me};
 
 use crate::badges::take_in;
@@ -110,7 +109,8 @@ fn lay_back<B: Buffer, T: Lifted<B>, L: Looks<B>>(
     out: &mut Vec<T>,
 )
     requires own { token.old.table_id ≡ words.now.table_id }
-    requires first { (slot : SlotStanding B) × (token.old.me.1 ≡ (index, slot) ∷ rest token.old.me.1)
+    requires first { (slot : SlotStanding B)
+        × (token.old.me.1 ≡ (index, slot) ∷ rest token.old.me.1)
         × (IsTrue (is_none slot.buffer) → 0 < times index (indices_of (map T.pair out.old.items)))
         × (IsTrue L.all → slot.buffer ≡ None) }
     ensures own { (token.new.table_id ≡ token.old.table_id) × (token.new.id ≡ token.old.id) }

@@ -16,9 +16,10 @@ pub const GATE: usize = 0;
 const DISTANCE: usize = 16;
 
 /// The largest order at which each entry has a cache line to itself, so that threads at different
-/// tickets share none. From order 8 on threads lost about as much by fetching more lines, beside
-/// those of the slots, as they gained.
-const LARGEST_LINED_ORDER: u32 = 7;
+/// tickets share none. Where slots have no bytes, as those of ports, that pays up to order 9;
+/// beside the lines of slots that have some, threads lose from order 8 on about as much by fetching
+/// more lines as they gain.
+const LARGEST_LINED_ORDER: u32 = 9;
 
 // How many rows, lines, the entries of a ring take, as a power of two: one for each entry, or one
 // for eight.
@@ -34,7 +35,8 @@ fn column_bits(setup: &Setup) -> u32
 }
 
 /// Where the entry of a ticket stands. Rows are filled one after the other, column by column: the
-/// ticket's bits of `row_mask` tell the row, and those of a slot above the lowest `bits` the column.
+/// ticket's bits of `row_mask` tell the row, and those of a slot above the lowest `bits` the
+/// column.
 #[derive(Clone, Copy)]
 pub struct Columns {
     pub row_mask: u32,

@@ -15,8 +15,8 @@ use scq_word::Buffer;
 #[inline(always)]
 pub fn lay_first<B: Buffer>(words: &Words<B>, token: &mut Token<B>, index: u32, buffer: B)
     requires own { token.old.table_id ≡ words.now.table_id }
-    requires first { (slot : SlotStanding B) × (token.old.me.1 ≡ (index, slot) ∷ rest token.old.me.1)
-        × (slot.buffer ≡ None) }
+    requires first { (slot : SlotStanding B)
+        × (token.old.me.1 ≡ (index, slot) ∷ rest token.old.me.1) × (slot.buffer ≡ None) }
     ensures own { (token.new.table_id ≡ token.old.table_id) × (token.new.id ≡ token.old.id) }
     ensures laid { token.new.me
         ≡ (token.old.me.0, (index, record { buffer = Some buffer }) ∷ rest token.old.me.1) }

@@ -91,8 +91,8 @@ pub fn exchange<B: Buffer>(
     exchange_told::<B, Brand>(words, token, word, old, new)
 }
 
-/// E2 and E4 at once: a compare-and-exchange from a guess of the entry. Answers the entry as it was.
-/// If it was as guessed it has become `new`; else the seat has made E2 alone.
+/// E2 and E4 at once: a compare-and-exchange from a guess of the entry. Answers the entry as it
+/// was. If it was as guessed it has become `new`; else the seat has made E2 alone.
 #[inline(always)]
 pub fn place_or_load<B: Buffer>(
     words: &Words<B>,

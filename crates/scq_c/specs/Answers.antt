@@ -132,8 +132,9 @@ pub record OfOpen (order topics hold limit : ℕ) (memory : Memory) (code : ℕ)
   pub is_open : code ≡ scq_is_open → All IsClosed before → ⊥
   pub known : (code ≡ scq_ok) ⊎ ((scq_no_memory ≤ code) × (code ≤ scq_is_open))
 
--- the port's queue closed with this, as this pass of the port ended: `HasClosedPorts` says of it what
--- holds of all passes of the queue, one of which this is. The counts of all of them were written out
+-- the port's queue closed with this, as this pass of the port ended: `HasClosedPorts` says of it
+-- what holds of all passes of the queue, one of which this is. The counts of all of them were
+-- written out
 pub record ClosedWithAllPasses (x : PortStanding) (its : PassStanding PortBuffer)
     (closed : Closed PortBuffer PortPlace) (before after : List Tally) : Type 0 where
   pub closed_ports : HasClosedPorts x.pass.queue its closed.passes.value.items closed.left.items
@@ -143,8 +144,8 @@ pub record ClosedWithAllPasses (x : PortStanding) (its : PassStanding PortBuffer
       before after
 
 -- of a port's end, with the pass that the port had then, and with what its queue closed with: it
--- retired, and what it held was given back, all of it or as far as no ticket was spent; 1 is written
--- out exactly where the queue closed with it, else no count is written
+-- retired, and what it held was given back, all of it or as far as no ticket was spent; 1 is
+-- written out exactly where the queue closed with it, else no count is written
 pub record OfEnd (x : PortStanding) (e : End) (before after : List Tally) : Type 0 where
   pub ended : HasPassEnded (retired_port x) e.ended.its
   pub last : e.last ≡ 1

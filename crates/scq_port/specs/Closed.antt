@@ -1,6 +1,6 @@
 -- What is told with the last port of a queue, of all passes of the queue; of these only the last
--- port's own is known to be one port's. It is all that the queue's `close` says but `back`, of which
--- `numbers` stands for the buffers.
+-- port's own is known to be one port's. It is all that the queue's `close` says but `back`, of
+-- which `numbers` stands for the buffers.
 use Rattle.std.specs.Prelude.{◌≡◌, ℕ, List}
 use Rattle.scq_word.specs.Exports.{n_of}
 use Rattle.scq_band.specs.Exports.{opening_of, IsOneRunToTheEnd}

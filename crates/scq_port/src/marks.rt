@@ -39,8 +39,8 @@ impl Port {
         self.owner.queue.heed(&mut self.pass, mark);
     }
 
-    /// Two ports of one queue meet: what they had seen are prefixes of one run, which both have seen
-    /// from now on.
+    /// Two ports of one queue meet: what they had seen are prefixes of one run, which both have
+    /// seen from now on.
     pub fn meet(&mut self, other: &mut Port)
         requires own { other.old.pass.queue ≡ self.old.pass.queue }
         ensures one { self.new ≡ port_having_seen self.new.pass.seen self.old }

@@ -196,9 +196,9 @@ impl Port {
         self.pass.spent()
     }
 
-    /// Closes the port, as dropping it does: retires it, gives back what it holds, and answers how it
-    /// ended, for contracts alone. The last port of a queue that closes closes the queue, and is told
-    /// of all passes together.
+    /// Closes the port, as dropping it does: retires it, gives back what it holds, and answers how
+    /// it ended, for contracts alone. The last port of a queue that closes closes the queue, and is
+    /// told of all passes together.
     ///
     /// Where the pass keeps a spent ticket, or draws one, what can't be given back goes with it,
     /// and back to the queue where that closes.

@@ -67,8 +67,8 @@ impl<B: BufferMut> Held<B> {
 
     /// Its bytes, lent to be written: there stay as many.
     pub fn bytes_mut(&mut self) -> &mut [u8]
-        ensures* writes { sem 𝓛 (Lends (the_row B.row B.Place.row B.Buffer) (Array byte 0) self.entry result
-            (λ w. record self.old { buffer = B.written self.old.buffer w })) }
+        ensures* writes { sem 𝓛 (Lends (the_row B.row B.Place.row B.Buffer) (Array byte 0)
+            self.entry result (λ w. record self.old { buffer = B.written self.old.buffer w })) }
         ensures bytes { result.now ≡ B.contents self.old.buffer }
     {
         self.buffer.bytes_mut()
