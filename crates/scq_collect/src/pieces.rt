@@ -14,9 +14,9 @@ ghost use Rattle.scq_collect.specs.Pieces.{all_answers, pieces_bytes};
 ghost use Rattle.scq_collect.specs.Spots.{plain, spot_answer};
 
 use crate::Answers;
-use crate::division::{count_of_pieces, count_of_spans, cuts_of, spans_of};
+use crate::division::{Division, cuts_of, division_of, threads_at_once};
 use crate::joining::whole_of;
-use crate::laid::{blocks_of, bytes_in};
+use crate::laid::blocks_of;
 use crate::messages::message_end;
 use crate::spots::{Spot, read_spot};
 use crate::stretches::{Stretch, stretches_in_order};
@@ -89,7 +89,8 @@ pub fn output_in_pieces<R: Threads + Sync>(
     Ok(Text { pieces })
 }
 
-/// The stretches of the answers of these lists, made by at most so many threads.
+/// The stretches of the answers of these lists, made by at most so many threads, and at most one on
+/// each processor.
 fn stretches_of_lists<R: Threads + Sync>(
     rt: &R,
     alloc: Global,
@@ -105,8 +106,9 @@ fn stretches_of_lists<R: Threads + Sync>(
     let blocks = blocks_of(alloc, lists, &mut samples)?;
     samples.sort_unstable();
     let parts = parts_in(lists);
-    let pieces = count_of_pieces(parts, bytes_in(blocks.as_slice()), threads);
-    let spans = spans_of(alloc, samples.as_slice(), count_of_spans(parts, pieces))?;
+    let threads = threads_at_once(rt, threads);
+    let Division { spans, pieces } =
+        division_of(alloc, blocks.as_slice(), samples.as_slice(), parts, threads)?;
     let cuts = cuts_of(alloc, spans.as_slice(), pieces)?;
     stretches_in_order(rt, alloc, topics, blocks.as_slice(), cuts.as_slice())
 }

@@ -17,7 +17,7 @@ stretches_in_order-requires-clause-known g c κs within =
 pub stretches_in_order-requires-clause-all : goal.stretches_in_order-requires-clause-all
 stretches_in_order-requires-clause-all g c κs within =
     let flat : List (Bor (List Span)) → List Span = λ cuts. flat_map (λ cut. cut.now) cuts in
-    subst (AreNext 0) (sym (ap flat c.as_slice-5.ensures.value ∙ c.in_ok-cuts.ensures ∙ c.as_slice-3.ensures.value)) c.in_ok-spans.ensures
+    subst (AreNext 0) (sym (ap flat c.as_slice-5.ensures.value ∙ c.in_ok-cuts.ensures ∙ c.as_slice-3.ensures.value)) c.in_ok-spans.ensures.spans
 
 pub returns : goal.returns
 returns g c =
