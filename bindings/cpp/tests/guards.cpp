@@ -151,6 +151,31 @@ static void a_closed_port_has_given_back() {
     CHECK(one && two);
 }
 
+// A port that ends without a close, while it holds a buffer that it was lent and one that it took.
+static void a_port_that_ends_gives_back_what_it_holds() {
+    std::vector<Lent> lent;
+    std::vector<Taken> taken;
+    Port ports[2];
+    CHECK(Queue::open(small(), ports) == Answer::Ok);
+    {
+        Port port = std::move(ports[0]);
+        CHECK(port.lend().send(1));
+        taken.push_back(port.take(1));
+        lent.push_back(port.lend());
+        CHECK(taken[0] && lent[0] && ports[1].lend().answer() == Answer::Full);
+    }
+    CHECK(taken[0].give_back() == Answer::Closed && lent[0].give_back() == Answer::Closed);
+    {
+        const Lent one = ports[1].lend(), two = ports[1].lend();
+        CHECK(one && two && one.index() != two.index());
+    }
+    scq_counts counts[2] = {{9, 9, 9}, {9, 9, 9}};
+    bool last = false;
+    CHECK(ports[1].close(last, counts, 2) == Answer::Ok && last);
+    CHECK(counts[0].sent == 1 && counts[0].taken == 1 && counts[0].full == 0);
+    CHECK(counts[1].sent == 0 && counts[1].taken == 0 && counts[1].full == 1);
+}
+
 static void a_second_send_is_answered() {
     Port ports[2];
     CHECK(Queue::open(small(), ports) == Answer::Ok);
@@ -336,6 +361,7 @@ int main() {
     buffers_that_end_are_given_back();
     what_is_moved_stays_one();
     a_closed_port_has_given_back();
+    a_port_that_ends_gives_back_what_it_holds();
     a_second_send_is_answered();
     a_guard_that_was_moved_from_is_answered();
     a_guard_that_was_refused_is_answered();

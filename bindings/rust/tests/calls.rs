@@ -247,6 +247,26 @@ fn a_guard_that_is_forgotten_comes_back_when_its_port_closes() {
     assert!(both.0.is_ok() && both.1.is_ok());
 }
 
+#[test]
+fn a_port_that_is_dropped_gives_back_what_it_holds() {
+    let mut ports = ports(SMALL, 2);
+    let second = ports.pop().unwrap();
+    let first = ports.pop().unwrap();
+    first.lend().unwrap().send(1).unwrap();
+    std::mem::forget(first.take(1).unwrap());
+    std::mem::forget(first.lend().unwrap());
+    assert!(matches!(second.lend(), Err(LendError::Full { .. })));
+    drop(first);
+    {
+        let (one, two) = (second.lend().unwrap(), second.lend().unwrap());
+        assert_ne!(one.index(), two.index());
+    }
+    let mut counts = [Counts { sent: 9, taken: 9, full: 9 }; 2];
+    assert!(second.end(&mut counts));
+    assert_eq!(counts[0], Counts { sent: 1, taken: 1, full: 0 });
+    assert_eq!(counts[1], Counts { sent: 0, taken: 0, full: 1 });
+}
+
 /// Lends and gives back on one port of a queue with few tickets, until they run out.
 #[test]
 fn tickets_run_out_at_the_limit() {

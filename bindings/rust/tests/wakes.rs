@@ -1,6 +1,6 @@
 //! How often who sends or receives calls the system to wake another: each call of `futex` that this
 //! program makes is counted, as the standard library makes them by `syscall`, for which one stands
-//! here.
+//! here. Who calls the system to sleep, and is rung just before, counts as one that sleeps.
 #![cfg(all(target_os = "linux", target_arch = "x86_64"))]
 #![deny(unsafe_op_in_unsafe_fn)]
 
@@ -18,8 +18,6 @@ const WAIT: usize = 0;
 const WAKE: usize = 1;
 const WAIT_BITSET: usize = 9;
 const WAKE_BITSET: usize = 10;
-/// What the system answers where nobody sleeps as the word isn't what was expected.
-const TRY_AGAIN: c_long = -11;
 
 static SLEEPS: AtomicU64 = AtomicU64::new(0);
 static WAKES: AtomicU64 = AtomicU64::new(0);
@@ -56,7 +54,7 @@ pub unsafe extern "C" fn syscall(
     }
     if number == FUTEX {
         match second & 0x7f {
-            WAIT | WAIT_BITSET if answer != TRY_AGAIN => SLEEPS.fetch_add(1, SeqCst),
+            WAIT | WAIT_BITSET => SLEEPS.fetch_add(1, SeqCst),
             WAKE | WAKE_BITSET => WAKES.fetch_add(1, SeqCst),
             _ => 0,
         };
@@ -69,14 +67,15 @@ pub unsafe extern "C" fn syscall(
     -1
 }
 
-/// Wakes for each sleep while this is done, at most 1.5 where it sleeps at all.
+/// Wakes for each sleep while this is done: at most 1.5, beside one in a hundred messages, since a
+/// lock of the standard library at which two threads meet may wake where nobody sleeps.
 fn wakes(name: &str, threads: usize, act: impl FnOnce()) {
     let before = (SLEEPS.load(SeqCst), WAKES.load(SeqCst));
     act();
     let (sleeps, wakes) = (SLEEPS.load(SeqCst) - before.0, WAKES.load(SeqCst) - before.1);
     println!("{name}, {threads}+{threads}: {sleeps} sleeps and {wakes} wakes");
     // (The start and the end of threads make some of their own.)
-    let most = sleeps + sleeps / 2 + 8 * threads as u64;
+    let most = sleeps + sleeps / 2 + (8 * threads + MESSAGES / 100) as u64;
     assert!(wakes <= most, "{name}, {threads}+{threads}: {sleeps} sleeps, {wakes} wakes");
 }
 
