@@ -12,7 +12,8 @@
 //!
 //! A queue that may hang or crash (on Linux): `Recorder::open` in place of `Recorder::seat`, and `seat.close()` at the end. Such a seat
 //! writes its file whenever its room is full, and what is left when it is dropped, at `exit`, at `abort`, and at nine signals (SIGINT
-//! and such).
+//! and such). Until then the last line of the file is unfinished, so that `scq judge` refuses what SIGKILL or `_exit` has cut. A child of
+//! `fork` leaves the files of its parent alone. A seat with events that is dropped and was never written is told on stderr.
 //!
 //! A queue that isn't empty at the start: it holds the values `opening(0)`, `opening(1)`, .. in this order, and
 //! `write_openings("0.log", count)` writes the file that stands first among those of `scq judge`.
@@ -46,6 +47,9 @@ const LANE_BITS: u32 = 12;
 
 /// The most bytes of a line.
 const LINE: usize = 128;
+
+/// An End's line without so many bytes is none, and neither is the head.
+const HELD: usize = 2;
 
 /// What stamps the events of all threads. The counter has lines of the cache of its own.
 #[repr(align(128))]
@@ -91,9 +95,18 @@ struct Log {
     last_written: AtomicU64,
     bad: AtomicBool,
     writing: AtomicBool,
+    was_written: AtomicBool,
+    process: u32,
+    held: UnsafeCell<Held>,
 }
 
-// Only the seat's thread writes events, and a handler reads those that `count` says.
+/// The last bytes of what was written, which a file under way lacks.
+struct Held {
+    bytes: [u8; LINE],
+    count: usize,
+}
+
+// Only the seat's thread writes events, and a handler reads those that `count` says. Who writes the file has what is held back.
 unsafe impl Sync for Log {}
 unsafe impl Send for Log {}
 
@@ -105,7 +118,7 @@ pub struct Seat<'a> {
     room: usize,
     first_lane: u64,
     puts: Vec<u64>,
-    /// The last reading of the clock.
+    /// The last stamp of the clock.
     last: u64,
 }
 
@@ -171,8 +184,13 @@ impl Recorder {
     #[cfg(target_os = "linux")]
     pub fn open(&self, seat: u32, lanes: u32, room: usize, name: impl AsRef<Path>) -> Result<Seat<'_>, Error> {
         let mut file = File::create(name)?;
-        file.write_all(self.head().as_bytes())?;
+        let head = self.head();
+        let (now, later) = head.as_bytes().split_at(HELD);
+        file.write_all(now)?;
         let made = self.make(seat, lanes, room.max(4 * lanes as usize), Some(file));
+        let held = unsafe { &mut *made.log.held.get() };
+        held.bytes[..later.len()].copy_from_slice(later);
+        held.count = later.len();
         ending::list(&made.log);
         Ok(made)
     }
@@ -201,6 +219,9 @@ impl Recorder {
             last_written: AtomicU64::new(0),
             bad: AtomicBool::new(false),
             writing: AtomicBool::new(false),
+            was_written: AtomicBool::new(false),
+            process: std::process::id(),
+            held: UnsafeCell::new(Held { bytes: [0; LINE], count: 0 }),
         };
         Seat {
             recorder: self,
@@ -221,15 +242,15 @@ impl Seat<'_> {
         if first == 0 {
             return self.recorder.next.fetch_add(self.puts.len() as u64, Ordering::SeqCst);
         }
-        let tick = loop {
+        loop {
             let reading = if is_end { clock::after() } else { clock::before() };
             let tick = reading.wrapping_sub(first);
-            if tick > self.last {
-                break tick;
+            let stamp = (tick << 1 | u64::from(is_end)) << LANE_BITS | self.first_lane;
+            if stamp > self.last {
+                self.last = stamp;
+                return stamp;
             }
-        };
-        self.last = tick;
-        (tick << 1 | u64::from(is_end)) << LANE_BITS | self.first_lane
+        }
     }
 
     #[inline(always)]
@@ -258,7 +279,7 @@ impl Seat<'_> {
     fn ended(&mut self) {
         let count = self.log.count.load(Ordering::Relaxed);
         if self.log.file.is_some() && self.room - count < 2 * self.puts.len() {
-            self.log.empty();
+            self.log.empty(false);
         }
     }
 
@@ -351,33 +372,49 @@ impl Seat<'_> {
         let events = unsafe { &*self.log.events.get() };
         let mut file = File::create(name)?;
         file.write_all(self.recorder.head().as_bytes())?;
-        write_events(file, self.log.seat, events)
+        self.log.was_written.store(true, Ordering::Relaxed);
+        let mut none = Held { bytes: [0; LINE], count: 0 };
+        write_events(file, self.log.seat, events, &mut none, true)
     }
 
     /// Writes the rest of a seat that has its file open. Whether all was written.
     pub fn close(self) -> bool {
-        self.log.empty();
+        self.log.empty(true);
         !self.log.bad.load(Ordering::Relaxed)
     }
 }
 
 impl Drop for Seat<'_> {
     fn drop(&mut self) {
-        self.log.empty();
+        let log = &self.log;
+        let count = log.count.load(Ordering::Relaxed);
+        if log.file.is_none() && count > 0 && !log.was_written.load(Ordering::Relaxed) {
+            eprintln!("scq recorder: of seat {}, {count} events were never written", log.seat);
+        }
+        log.empty(true);
     }
 }
 
 impl Log {
-    // Writes what it holds, where a file is open.
-    fn empty(&self) {
+    // Writes what it holds, where a file is open that is this process's.
+    fn empty(&self, is_last: bool) {
+        #[cfg(not(target_os = "linux"))]
+        let _ = is_last;
         #[cfg(target_os = "linux")]
         if let Some(file) = &self.file {
+            if self.process != std::process::id() {
+                self.bad.store(true, Ordering::Relaxed);
+                unsafe { &mut *self.events.get() }.clear();
+                self.count.store(0, Ordering::SeqCst);
+                return;
+            }
             ending::locked_out(&self.writing, || {
                 let events = unsafe { &mut *self.events.get() };
                 if let Some(last) = events.last() {
                     self.last_written.store(last.stamp, Ordering::SeqCst);
                 }
-                if write_events(file, self.seat, events).is_err() {
+                let held = unsafe { &mut *self.held.get() };
+                if write_events(file, self.seat, events, held, is_last).is_err() {
                     self.bad.store(true, Ordering::Relaxed);
                 }
                 events.clear();
@@ -393,16 +430,24 @@ impl Log {
     }
 }
 
-// The lines of events, by a buffer on the stack. The content is `-`: which put a value is from is all that it says.
-fn write_events(mut file: impl Write, seat: u32, events: &[Event]) -> Result<(), Error> {
+// The lines of events behind what was held back, by a buffer on the stack; but for the last bytes, where more may come. The content is `-`:
+// which put a value is from is all that it says.
+fn write_events(mut file: impl Write, seat: u32, events: &[Event], held: &mut Held, is_last: bool) -> Result<(), Error> {
     let mut buffer = [0; 64 * LINE];
-    let mut used = 0;
+    let mut used = held.count;
+    buffer[..used].copy_from_slice(&held.bytes[..used]);
+    held.count = 0;
     for event in events {
-        used += write_line(&mut buffer[used..], seat, event)?;
         if used > buffer.len() - LINE {
             file.write_all(&buffer[..used])?;
             used = 0;
         }
+        used += write_line(&mut buffer[used..], seat, event)?;
+    }
+    if !is_last && used >= HELD {
+        used -= HELD;
+        held.bytes[..HELD].copy_from_slice(&buffer[used..used + HELD]);
+        held.count = HELD;
     }
     file.write_all(&buffer[..used])
 }
@@ -431,9 +476,10 @@ fn write_line(buffer: &mut [u8], seat: u32, event: &Event) -> Result<usize, Erro
 }
 
 /// The processor's clock, where it is known.
-#[cfg(all(target_arch = "x86_64", target_os = "linux"))]
+#[cfg(all(any(target_arch = "x86_64", target_arch = "aarch64"), target_os = "linux"))]
 mod clock {
     use std::arch::asm;
+    #[cfg(target_arch = "x86_64")]
     use std::arch::x86_64::{__cpuid, __get_cpuid_max};
     use std::sync::atomic::{AtomicU64, Ordering};
     use std::thread;
@@ -448,6 +494,7 @@ mod clock {
     }
 
     /// A reading that comes before all later loads and stores.
+    #[cfg(target_arch = "x86_64")]
     #[inline(always)]
     pub fn before() -> u64 {
         let (low, high): (u64, u64);
@@ -456,11 +503,30 @@ mod clock {
     }
 
     /// A reading that comes after all earlier loads, and after earlier stores were made, though maybe not seen.
+    #[cfg(target_arch = "x86_64")]
     #[inline(always)]
     pub fn after() -> u64 {
         let (low, high): (u64, u64);
         unsafe { asm!("lfence", "rdtsc", out("rax") low, out("rdx") high, options(nostack)) };
         high << 32 | low
+    }
+
+    /// The same of the generic timer: `isb` lets nothing behind it begin before what stands in front of it is done.
+    #[cfg(target_arch = "aarch64")]
+    #[inline(always)]
+    pub fn before() -> u64 {
+        let reading: u64;
+        unsafe { asm!("mrs {}, cntvct_el0", "isb", out(reg) reading, options(nostack)) };
+        reading
+    }
+
+    /// `dsb ishld` waits for the loads alone.
+    #[cfg(target_arch = "aarch64")]
+    #[inline(always)]
+    pub fn after() -> u64 {
+        let reading: u64;
+        unsafe { asm!("dsb ishld", "isb", "mrs {}, cntvct_el0", out(reg) reading, options(nostack)) };
+        reading
     }
 
     /// The reading that counts as none: a little before now, since another processor's may be less.
@@ -474,6 +540,13 @@ mod clock {
         Ok(before().wrapping_sub(1 << 20).max(1))
     }
 
+    // The architecture has it so.
+    #[cfg(target_arch = "aarch64")]
+    fn is_constant() -> bool {
+        true
+    }
+
+    #[cfg(target_arch = "x86_64")]
     #[allow(unused_unsafe)]
     fn is_constant() -> bool {
         unsafe { __get_cpuid_max(0x8000_0000).0 >= 0x8000_0007 && __cpuid(0x8000_0007).edx >> 8 & 1 == 1 }
@@ -517,7 +590,7 @@ mod clock {
     }
 }
 
-#[cfg(not(all(target_arch = "x86_64", target_os = "linux")))]
+#[cfg(not(all(any(target_arch = "x86_64", target_arch = "aarch64"), target_os = "linux")))]
 mod clock {
     pub fn before() -> u64 {
         0
@@ -538,7 +611,7 @@ mod ending {
     use super::{write_events, Log};
     use std::sync::atomic::{AtomicBool, AtomicPtr, AtomicU64, AtomicU8, AtomicUsize, Ordering};
     use std::sync::{Arc, Once};
-    use std::{ptr, thread, time::Duration};
+    use std::{process, ptr, thread, time::Duration};
 
     type Signals = [u64; 16];
     const BLOCK: i32 = 0;
@@ -657,8 +730,9 @@ mod ending {
         each(|log| {
             let events = log.so_far();
             let count = events.iter().take_while(|event| event.stamp <= until).count();
-            if let Some(file) = &log.file {
-                let _ = write_events(file, log.seat, &events[..count]);
+            if let (Some(file), true) = (&log.file, log.process == process::id()) {
+                let held = unsafe { &mut *log.held.get() };
+                let _ = write_events(file, log.seat, &events[..count], held, true);
             }
         });
         ENDING.store(ENDED, Ordering::SeqCst);

@@ -4,8 +4,9 @@ import java.util.concurrent.CyclicBarrier;
 import java.util.concurrent.ThreadLocalRandom;
 
 /**
- * The platform's ArrayBlockingQueue, recorded by its {@code offer} and {@code poll}. With a third word a wrong queue takes its
- * place, whose {@code poll} now and then looks at the front, and takes whatever stands there then.
+ * The platform's ArrayBlockingQueue, recorded by its {@code offer} and {@code poll}. With the word {@code wrong} a wrong queue takes
+ * its place, whose {@code poll} now and then looks at the front, and takes whatever stands there then. With {@code exit} the stamps
+ * are the clock's, the files are written as events come, and the program ends in the midst of calls.
  *
  * <pre>
  * javac -d classes recorders/Recorder.java recorders/examples/BlockingQueue.java
@@ -31,9 +32,12 @@ public final class BlockingQueue {
         return queue.poll() == null ? null : front;
     }
 
-    private void run(Recorder.Seat seat, int calls) {
+    private void run(Recorder.Seat seat, int calls, boolean exits) {
         for (int k = 0; k < calls; k++) {
             long value = seat.putStart(0);
+            if (exits && k == calls / 2) {
+                System.exit(0);
+            }
             if (queue.offer(value)) {
                 seat.putDone();
             } else {
@@ -51,25 +55,29 @@ public final class BlockingQueue {
 
     public static void main(String[] words) throws Exception {
         if (words.length < 2) {
-            System.err.println("BlockingQueue FOLDER CALLS [wrong]");
+            System.err.println("BlockingQueue FOLDER CALLS [wrong | exit]");
             System.exit(2);
         }
         int calls = Integer.parseInt(words[1]);
-        BlockingQueue queue = new BlockingQueue(words.length > 2);
-        Recorder recorder = new Recorder();
+        String way = words.length > 2 ? words[2] : "";
+        boolean exits = way.equals("exit");
+        BlockingQueue queue = new BlockingQueue(way.equals("wrong"));
+        Recorder recorder = exits ? Recorder.byClock() : new Recorder();
         Recorder.Seat[] seats = new Recorder.Seat[THREADS];
         Thread[] threads = new Thread[THREADS];
         // All begin together: a thread that is done before the next has begun overlaps with none.
         CyclicBarrier start = new CyclicBarrier(THREADS);
         for (int i = 0; i < THREADS; i++) {
-            Recorder.Seat seat = seats[i] = recorder.seat(i, 4 * calls);
+            Path name = Path.of(words[0], (i + 1) + ".log");
+            Recorder.Seat seat = seats[i] = exits ? recorder.open(i, 1000, name) : recorder.seat(i, 4 * calls);
+            boolean mine = exits && i == 0;
             threads[i] = new Thread(() -> {
                 try {
                     start.await();
                 } catch (Exception stopped) {
                     throw new IllegalStateException(stopped);
                 }
-                queue.run(seat, calls);
+                queue.run(seat, calls, mine);
             });
         }
         for (Thread thread : threads) {
