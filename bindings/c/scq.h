@@ -297,7 +297,7 @@ uint32_t scq_version(void);
 /* Makes a queue of 2^order buffers, with `topics` topics, and opens `n` ports, each of which may
  * hold up to `hold` buffers at a time. Each topic, and the stock of free buffers, counts its puts
  * and its gets by tickets up to `limit`; SCQ_MAX_LIMIT is the plain choice. A port takes some 1,860
- * bytes, and 16 for each buffer of the queue.
+ * bytes, and 12 for each buffer of the queue.
  *
  * The buffers lie where *memory says, in memory of the caller's: huge pages, a pool, a mapping. It
  * may be reused once all ports are closed. A buffer begins with the bytes that stand there. This is

@@ -45,7 +45,7 @@ pub fn bounded<T>(capacity: usize) -> Result<(Sender<T>, Receiver<T>), OpenError
 }
 
 /// The same with a handle of its own for each of the first `ends` ends, from 2 to 4,096. A handle
-/// takes some 1,860 bytes, and 16 for each value that there is room for: where channels are made
+/// takes some 1,860 bytes, and 12 for each value that there is room for: where channels are made
 /// often, as one for each answer, 2 make it the cheapest.
 ///
 /// # Errors

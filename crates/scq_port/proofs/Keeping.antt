@@ -22,7 +22,7 @@ none_set : (slots : List (Option Value)) (i j : ℕ) (y : Option Value) (x : Opt
 none_set slots i j y x is none e = let here : Some y ≡ None = sym (set_here slots i x y is) ∙ ap (λ k. slice_get (slice_set slots i y) k) (sym e) ∙ none in cc
 
 -- the place of a value that came was free
-pub place_free : {queue : PortQueue} {p : PassStanding PortBuffer} {slots : List (Option Value)} {used hold : ℕ} (i : ℕ) → Keeps queue p slots used hold
+pub place_free : {queue : PortQueue} {p : PassStanding PortBuffer} {slots : List (Option Value)} {room hold : ℕ} (i : ℕ) → Keeps queue p slots room hold
     → i < n_of queue.setup.order → (Contains p.held i → ⊥) → slice_get slots i ≡ Some None
 place_free {p = p} {slots = slots} i before low came =
     let there = place_there slots i (subst (λ (n : ℕ). i < n) (sym before.places) low) in
@@ -33,8 +33,8 @@ place_free {p = p} {slots = slots} i before low came =
     by (Some h) is = absurd (came (contains_times p.held i (let one = (before.here i h is).holds in omega (arith, one))))
 
 -- a value that stands at its place is held by the pass
-pub place_held : {queue : PortQueue} {p : PassStanding PortBuffer} {slots : List (Option Value)} {used hold : ℕ} (i : ℕ) {h : Value}
-    → Keeps queue p slots used hold → slice_get slots i ≡ Some (Some h) → IsHeldBy p h
+pub place_held : {queue : PortQueue} {p : PassStanding PortBuffer} {slots : List (Option Value)} {room hold : ℕ} (i : ℕ) {h : Value}
+    → Keeps queue p slots room hold → slice_get slots i ≡ Some (Some h) → IsHeldBy p h
 place_held {p = p} i {h = h} before is =
     let stands = before.here i h is in
     record {
@@ -46,7 +46,7 @@ place_held {p = p} i {h = h} before is =
     }
 
 -- where no value stands at a place, the pass holds none of this index
-pub none_held : {queue : PortQueue} {p : PassStanding PortBuffer} {slots : List (Option Value)} {used hold : ℕ} (i : ℕ) → Keeps queue p slots used hold
+pub none_held : {queue : PortQueue} {p : PassStanding PortBuffer} {slots : List (Option Value)} {room hold : ℕ} (i : ℕ) → Keeps queue p slots room hold
     → ((h : Value) → slice_get slots i ≡ Some (Some h) → ⊥) → Contains p.held i → ⊥
 none_held {p = p} {slots = slots} i before none there = by (slice_get slots i) refl
   where
@@ -63,7 +63,7 @@ no_value = None
 
 -- a pass of a new queue holds nothing
 pub keeps_new : (queue : PortQueue) (p : PassStanding PortBuffer) (hold : ℕ) → p.queue ≡ queue → p.held ≡ []
-    → Keeps queue p (replicate (n_of queue.setup.order) None) 0 hold
+    → Keeps queue p (replicate (n_of queue.setup.order) None) hold hold
 keeps_new queue p hold own none =
     record {
       own = own;
@@ -71,8 +71,7 @@ keeps_new queue p hold own none =
       here = λ i h is. absurd (none_there (n_of queue.setup.order) i h is);
       free = λ i is. ap (times i) none;
       past = λ i is. ap (times i) none;
-      used = sym (ap length none);
-      room = omega arith;
+      room_is = let zero_of = ap length none in omega (arith, zero_of);
     }
   where
     filled : (n : ℕ) → length (replicate n no_value) ≡ n
@@ -85,18 +84,17 @@ keeps_new queue p hold own none =
     none_there (suc n) (suc i) h is = none_there n i h is
 
 -- a value came
-pub keeps_more : (queue : PortQueue) (old new : PassStanding PortBuffer) (slots : List (Option Value)) (used hold : ℕ) (h : Value) (ring place : ℕ) (w : List ℕ)
-    → Keeps queue old slots used hold → new ≡ having_seen new.seen (after_get ring h.index place w old) → IsHeldBy new h → (Contains old.held h.index → ⊥)
-    → h.index < n_of queue.setup.order → used < hold → Keeps queue new (slice_set slots h.index (Some h)) (used + 1) hold
-keeps_more queue old new slots used hold h ring place w before is held came low room =
+pub keeps_more : (queue : PortQueue) (old new : PassStanding PortBuffer) (slots : List (Option Value)) (room hold : ℕ) (h : Value) (ring place : ℕ) (w : List ℕ)
+    → Keeps queue old slots room hold → new ≡ having_seen new.seen (after_get ring h.index place w old) → IsHeldBy new h → (Contains old.held h.index → ⊥)
+    → h.index < n_of queue.setup.order → 0 < room → Keeps queue new (slice_set slots h.index (Some h)) (room - 1) hold
+keeps_more queue old new slots room hold h ring place w before is held came low some =
     record {
       own = own;
       places = length-set slots h.index (Some h) ∙ before.places;
       here = here;
       free = λ j at. rest j (apart j None at (λ (e : Some (Some h) ≡ Some None). cc)) (before.free j (other_place j (apart j None at (λ (e : Some (Some h) ≡ Some None). cc)) ∙ at));
       past = λ j at. let differs = none_set slots h.index j (Some h) None was at in rest j differs (before.past j (other_place j differs ∙ at));
-      used = let len = ap length now in let two = length-append old.held (h.index ∷ []) in let u = before.used in omega (arith, len, two, u);
-      room = omega (arith, room);
+      room_is = let len = ap length now in let two = length-append old.held (h.index ∷ []) in let u = before.room_is in omega (arith, len, two, u, some);
     }
   where
     own : new.queue ≡ queue
@@ -146,10 +144,10 @@ keeps_more queue old new slots used hold h ring place w before is held came low 
         ]
 
 -- a value went
-pub keeps_less : (queue : PortQueue) (old new : PassStanding PortBuffer) (slots : List (Option Value)) (used hold i : ℕ) (h : Value) (ring place : ℕ) (w : List ℕ)
-    → Keeps queue old slots used hold → slice_get slots i ≡ Some (Some h) → new ≡ having_seen new.seen (after_put ring h.index place w old)
-    → (0 < used) × Keeps queue new (slice_set slots i None) (used - 1) hold
-keeps_less queue old new slots used hold i h ring place w before was is = (
+pub keeps_less : (queue : PortQueue) (old new : PassStanding PortBuffer) (slots : List (Option Value)) (room hold i : ℕ) (h : Value) (ring place : ℕ) (w : List ℕ)
+    → Keeps queue old slots room hold → slice_get slots i ≡ Some (Some h) → new ≡ having_seen new.seen (after_put ring h.index place w old)
+    → (room < hold) × Keeps queue new (slice_set slots i None) (room + 1) hold
+keeps_less queue old new slots room hold i h ring place w before was is = (
   some,
   record {
     own = ap (λ (p : PassStanding PortBuffer). p.queue) is ∙ before.own;
@@ -174,8 +172,7 @@ keeps_less queue old new slots used hold i h ring place w before was is = (
         λ j at.
         let differs = none_set slots i j None (Some h) was at in
         ap (times j) now ∙ less_other old.held i j differs ∙ before.past j (other_place j differs ∙ at);
-    used = let u = before.used in let l = left in let len = ap length now in omega (arith, u, l, len);
-    room = let r = before.room in omega (arith, r);
+    room_is = let u = before.room_is in let l = left in let len = ap length now in omega (arith, u, l, len);
   },
 )
   where
@@ -191,8 +188,8 @@ keeps_less queue old new slots used hold i h ring place w before was is = (
     left : length (without i old.held) + 1 ≡ length old.held
     left = let l = less_length old.held i in let one = stands_i.holds in omega (arith, l, one)
 
-    some : 0 < used
-    some = let u = before.used in let l = left in omega (arith, u, l)
+    some : room < hold
+    some = let u = before.room_is in let l = left in omega (arith, u, l)
 
     gone : times i new.held ≡ 0
     gone = ap (times i) now ∙ less_here old.held i
@@ -204,9 +201,9 @@ keeps_less queue old new slots used hold i h ring place w before was is = (
     apart j x at differs e = differs (sym (set_here slots i (Some h) None was) ∙ ap (slice_get (slice_set slots i None)) (sym e) ∙ at)
 
 -- nothing came and nothing went
-pub keeps_alike : (queue : PortQueue) (old new : PassStanding PortBuffer) (slots : List (Option Value)) (used hold : ℕ) → Keeps queue old slots used hold → IsAlike old new
-    → Keeps queue new slots used hold
-keeps_alike queue old new slots used hold before is =
+pub keeps_alike : (queue : PortQueue) (old new : PassStanding PortBuffer) (slots : List (Option Value)) (room hold : ℕ) → Keeps queue old slots room hold → IsAlike old new
+    → Keeps queue new slots room hold
+keeps_alike queue old new slots room hold before is =
     record {
       own = is.queue ∙ before.own;
       places = before.places;
@@ -221,6 +218,5 @@ keeps_alike queue old new slots used hold before is =
           };
       free = λ i at. ap (times i) is.held ∙ before.free i at;
       past = λ i at. ap (times i) is.held ∙ before.past i at;
-      used = before.used ∙ sym (ap length is.held);
-      room = before.room;
+      room_is = let len = ap length is.held in let u = before.room_is in omega (arith, u, len);
     }

@@ -9,8 +9,8 @@ use Rattle.scq_port.specs.Exports.{PortQueue}
 use Rattle.scq_port.specs.Kept.{IsPort}
 use Rattle.scq_port.proofs.Keeping.{keeps_alike}
 
-pub has_seen : {queue : PortQueue} {old new : PassStanding PortBuffer} {hand : Hand} {many number : ℕ} {awake : Bool} → IsPort queue old hand many number awake
-    → new ≡ having_seen new.seen old → IsPort queue new hand many number awake
+pub has_seen : {queue : PortQueue} {old new : PassStanding PortBuffer} {hand : Hand} {many sends number : ℕ} {awake : Bool} → IsPort queue old hand many sends number awake
+    → new ≡ having_seen new.seen old → IsPort queue new hand many sends number awake
 has_seen {queue = queue} {old = old} {new = new} {hand = hand} before is =
     let alike : IsAlike old new =
     record {
@@ -20,8 +20,9 @@ has_seen {queue = queue} {old = old} {new = new} {hand = hand} before is =
       retired = ap (λ (p : PassStanding PortBuffer). p.retired) is;
     } in
     record {
-      keeps = keeps_alike queue old new hand.slots.items hand.used hand.hold before.keeps alike;
+      keeps = keeps_alike queue old new hand.slots.items hand.room hand.hold before.keeps alike;
       topics = before.topics;
+      sends_is = before.sends_is;
       number_is = alike.number ∙ before.number_is;
       low = before.low;
       awake_is = before.awake_is ∙ ap (λ (o : Option ℕ). is_none o) (sym alike.retired);

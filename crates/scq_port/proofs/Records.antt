@@ -1,6 +1,6 @@
 -- What calls make of a port, put together of what the queue says of them.
-use Rattle.std.proofs.Common.{◌≡◌, ℕ, suc, ◌+◌, ◌-◌, ◌<◌, ◌≤◌, List, refl, sym, ◌∙◌, ap, subst}
-use Rattle.std.specs.Prelude.{◌==◌, Bool, true, false, is_none, Option, Some, None, Result, Err, slice_get, slice_set}
+use Rattle.std.proofs.Common.{◌≡◌, ℕ, suc, ◌+◌, ◌-◌, ◌<◌, ◌≤◌, List, refl, sym, ◌∙◌, ap, subst, arith}
+use Rattle.std.specs.Prelude.{◌==◌, if◌then◌else◌, Bool, true, false, is_none, Option, Some, None, Result, Err, slice_get, slice_set}
 use Rattle.std.proofs.lemmas.Bool.{eqb-true}
 use Rattle.scq_word.specs.Exports.{n_of}
 use Rattle.scq_band.specs.Exports.{opening_of, Caller, IsCallInRun, WasEmptyInRun, IsReadingInRun, WasCountedInRun, AllWereSeenRetired}
@@ -24,14 +24,14 @@ pub same_port : (old new : PortStanding) → new.pass ≡ old.pass → new.slots
 same_port old new p s h = λ i. record { pass = p i; slots = s i; hold = h i }
 
 -- what is kept, in other words
-keeps_as : (queue : PortQueue) (p : PassStanding PortBuffer) (slots now : List (Option Value)) (used count hold most : ℕ) → Keeps queue p slots used hold
-    → now ≡ slots → count ≡ used → most ≡ hold → Keeps queue p now count most
-keeps_as queue p slots now used count hold most before s u h =
+keeps_as : (queue : PortQueue) (p : PassStanding PortBuffer) (slots now : List (Option Value)) (room count hold most : ℕ) → Keeps queue p slots room hold
+    → now ≡ slots → count ≡ room → most ≡ hold → Keeps queue p now count most
+keeps_as queue p slots now room count hold most before s u h =
     subst (λ (m : ℕ). Keeps queue p now count m) (sym h)
-    (subst (λ (n : ℕ). Keeps queue p now n hold) (sym u) (subst (λ (l : List (Option Value)). Keeps queue p l used hold) (sym s) before))
+    (subst (λ (n : ℕ). Keeps queue p now n hold) (sym u) (subst (λ (l : List (Option Value)). Keeps queue p l room hold) (sym s) before))
 
 -- what is said of the queue's setup is said of the pass's queue
-module _ {queue : PortQueue} {old : PassStanding PortBuffer} {slots : List (Option Value)} {used hold : ℕ} (kept : Keeps queue old slots used hold) where
+module _ {queue : PortQueue} {old : PassStanding PortBuffer} {slots : List (Option Value)} {room hold : ℕ} (kept : Keeps queue old slots room hold) where
   pub in_run : {new : Caller} → IsCallInRun queue.setup (opening_of buffer_bytes queue.given) (caller_of old) new
       → IsCallInRun old.queue.setup (opening_of buffer_bytes old.queue.given) (caller_of old) new
   in_run {new = new} is = subst (λ (q : PortQueue). IsCallInRun q.setup (opening_of buffer_bytes q.given) (caller_of old) new) (sym kept.own) is
@@ -49,43 +49,43 @@ module _ {queue : PortQueue} {old : PassStanding PortBuffer} {slots : List (Opti
 
 -- what a pass keeps with its values: where a value came, and where it holds what it held
 module _ {queue : PortQueue} {old new : PassStanding PortBuffer} (before : Hand) {after : Hand} (kept : KeepsHand queue old before) where
-  pub still_more : {h : Value} {ring place : ℕ} → HasGot buffer_bytes ring place old new h → h.index < n_of queue.setup.order → before.used < before.hold
-      → after.slots.items ≡ slice_set before.slots.items h.index (Some h) → (after.used ≡ before.used + 1) × (after.hold ≡ before.hold)
+  pub still_more : {h : Value} {ring place : ℕ} → HasGot buffer_bytes ring place old new h → h.index < n_of queue.setup.order → 0 < before.room
+      → after.slots.items ≡ slice_set before.slots.items h.index (Some h) → (after.room ≡ before.room - 1) × (after.hold ≡ before.hold)
       → StillKeeps queue old new after
   still_more {h = h} {ring = ring} {place = place} got low room slots rest =
       record {
         keeps =
-            keeps_as queue new _ _ (before.used + 1) _ before.hold _
-            (keeps_more queue old new before.slots.items before.used before.hold h ring place (buffer_bytes h.buffer) kept got.pass got.held got.came low room)
+            keeps_as queue new _ _ (before.room - 1) _ before.hold _
+            (keeps_more queue old new before.slots.items before.room before.hold h ring place (buffer_bytes h.buffer) kept got.pass got.held got.came low room)
             slots rest.0 rest.1;
         number = ap (λ (p : PassStanding PortBuffer). p.number) got.pass;
         retired = ap (λ (p : PassStanding PortBuffer). p.retired) got.pass;
       }
 
-  pub still_alike : IsAlike old new → after.slots.items ≡ before.slots.items → (after.used ≡ before.used) × (after.hold ≡ before.hold)
+  pub still_alike : IsAlike old new → after.slots.items ≡ before.slots.items → (after.room ≡ before.room) × (after.hold ≡ before.hold)
       → StillKeeps queue old new after
   still_alike alike slots rest =
       record {
         keeps =
-            keeps_as queue new _ _ before.used _ before.hold _
-            (keeps_alike queue old new before.slots.items before.used before.hold kept alike) slots rest.0 rest.1;
+            keeps_as queue new _ _ before.room _ before.hold _
+            (keeps_alike queue old new before.slots.items before.room before.hold kept alike) slots rest.0 rest.1;
         number = alike.number;
         retired = alike.retired;
       }
 
-pub came_of : {queue : PortQueue} {p q : PassStanding PortBuffer} (before after : Hand) {h : Value} → KeepsHand queue p before → before.used < before.hold
+pub came_of : {queue : PortQueue} {p q : PassStanding PortBuffer} (before after : Hand) {h : Value} → KeepsHand queue p before → 0 < before.room
     → after.slots.items ≡ slice_set before.slots.items h.index (Some h) → after.hold ≡ before.hold → h.index < n_of queue.setup.order
     → Came (seen_as p before) (seen_as q after) h
 came_of before after {h = h} kept room slots hold low =
     record {
-      room = subst (λ (n : ℕ). n < before.hold) kept.used room;
+      room = let r = kept.room_is in omega (arith, r, room);
       slots = slots;
       hold = hold;
       index = subst (λ (q : PortQueue). h.index < n_of q.setup.order) (sym kept.own) low;
     }
 
-pub spent_of : {queue : PortQueue} {after : PassStanding PortBuffer} {ticket : ℕ} {old new : PortStanding} {slots : List (Option Value)} {used hold : ℕ}
-    → Keeps queue old.pass slots used hold → WasSpent queue ticket after old.pass new.pass
+pub spent_of : {queue : PortQueue} {after : PassStanding PortBuffer} {ticket : ℕ} {old new : PortStanding} {slots : List (Option Value)} {room hold : ℕ}
+    → Keeps queue old.pass slots room hold → WasSpent queue ticket after old.pass new.pass
     → (old.pass.spent ≡ None → IsInQueueRun buffer_bytes queue old.pass new.pass)
     → ((t : ℕ) → old.pass.spent ≡ Some t → (t ≡ ticket) × (new.pass ≡ old.pass)) → new.slots ≡ old.slots → new.hold ≡ old.hold → IsSpent after ticket old new
 spent_of {ticket = ticket} {old = old} {new = new} kept spent run same slots hold =
@@ -118,7 +118,7 @@ none_out {p = p} before out i kept none hold =
 -- a value that was taken out is the one that was held, and its place is free then
 module _ {queue : PortQueue} {p : PassStanding PortBuffer} (before out : Hand) (i : ℕ) {h : Value} (kept : KeepsHand queue p before)
     (was : (slice_get before.slots.items i ≡ Some (Some h)) × (out.slots.items ≡ slice_set before.slots.items i None))
-    (rest : (out.used ≡ before.used) × (out.hold ≡ before.hold)) where
+    (rest : (out.room ≡ before.room) × (out.hold ≡ before.hold)) where
   at_index : h.index ≡ i
   at_index = (kept.here i h was.0).index
 
@@ -132,16 +132,16 @@ module _ {queue : PortQueue} {p : PassStanding PortBuffer} (before out : Hand) (
 
   -- where it went for good there is one less
   module _ {q : PassStanding PortBuffer} (ring place : ℕ) (w : List ℕ) (is : q ≡ having_seen q.seen (after_put ring h.index place w p)) where
-    less : (0 < before.used) × Keeps queue q (slice_set before.slots.items i None) (before.used - 1) before.hold
-    less = keeps_less queue p q before.slots.items before.used before.hold i h ring place w kept was.0 is
+    less : (before.room < before.hold) × Keeps queue q (slice_set before.slots.items i None) (before.room + 1) before.hold
+    less = keeps_less queue p q before.slots.items before.room before.hold i h ring place w kept was.0 is
 
-    pub some_used : 1 ≤ out.used
-    some_used = subst (λ (n : ℕ). 1 ≤ n) (sym rest.0) less.0
+    pub room_grows : out.room < before.hold
+    room_grows = subst (λ (n : ℕ). n < before.hold) (sym rest.0) less.0
 
-    pub still_less : StillKeeps queue p q (record out { used = out.used - 1 })
+    pub still_less : StillKeeps queue p q (record out { room = out.room + 1 })
     still_less =
         record {
-          keeps = keeps_as queue q _ _ (before.used - 1) _ before.hold _ less.1 was.1 (ap (λ (n : ℕ). n - 1) rest.0) rest.1;
+          keeps = keeps_as queue q _ _ (before.room + 1) _ before.hold _ less.1 was.1 (ap (λ (n : ℕ). n + 1) rest.0) rest.1;
           number = ap (λ (x : PassStanding PortBuffer). x.number) is;
           retired = ap (λ (x : PassStanding PortBuffer). x.retired) is;
         }
@@ -155,7 +155,7 @@ module _ {queue : PortQueue} {p : PassStanding PortBuffer} (before out : Hand) (
         (subst (λ (l : List (Option Value)). slice_get l i ≡ Some None) (sym was.1) (set_here before.slots.items i (Some h) None was.0)))
 
     module _ (after : Hand) (put : after.slots.items ≡ slice_set out.slots.items v.index (Some v))
-        (still : (after.used ≡ out.used) × (after.hold ≡ out.hold)) where
+        (still : (after.room ≡ out.room) × (after.hold ≡ out.hold)) where
       put_back : after.slots.items ≡ before.slots.items
       put_back =
           put ∙ ap (λ (u : Value). slice_set out.slots.items u.index (Some u)) back ∙ ap (λ (k : ℕ). slice_set out.slots.items k (Some h)) at_index
@@ -210,3 +210,8 @@ retired_of x awake is isnt = by x.pass.retired refl
     by : (o : Option ℕ) → x.pass.retired ≡ o → PortHasRetired x x
     by None e = let all : true ≡ false = sym (ap (λ (p : Option ℕ). is_none p) e) ∙ sym is ∙ isnt in absurd (cc)
     by (Some calls) e = record { same = refl; calls = calls; retired = e }
+
+-- a port that may send on none of its topics isn't awake
+pub asleep_of : (awake : Bool) {many sends topic : ℕ} → sends ≡ (if awake then many else 0) → sends ≤ topic → topic < many → awake ≡ false
+asleep_of true is low there = absurd (omega (arith, is, low, there))
+asleep_of false is low there = refl

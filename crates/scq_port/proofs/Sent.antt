@@ -210,6 +210,6 @@ port_sent =
       array_send u64 16 u64_sent,
       (
         crossing.Arc-send owner.the_row owner_sent owner_sync,
-        (pass_sent buffer.the_row place.the_row buffers.ghosts place_sent, (hand_sent, (u32_sent, (u32_sent, (bool_sent, (array_send u64 16 u64_sent, tt)))))),
+        (pass_sent buffer.the_row place.the_row buffers.ghosts place_sent, (hand_sent, (u32_sent, (u32_sent, (u32_sent, (bool_sent, (array_send u64 16 u64_sent, tt))))))),
       ),
     ))

@@ -1,6 +1,6 @@
 -- For private calls: what a port keeps.
 use Rattle.std.specs.Prelude.{◌≡◌, ℕ, ◌+◌, ◌<◌, ◌≤◌, Bool, is_none, List, [], length, map, Option}
-use Rattle.std.specs.Prelude.{Some, None, slice_get}
+use Rattle.std.specs.Prelude.{Some, None, slice_get, if◌then◌else◌}
 use Rattle.scq_law.specs.Exports.{times}
 use Rattle.scq_word.specs.Exports.{n_of}
 use Rattle.scq_queue.specs.Exports.{PassStanding}
@@ -20,20 +20,19 @@ pub record StandsAt (queue : PortQueue) (p : PassStanding PortBuffer) (i : ℕ)
   pub index : h.index ≡ i
   pub holds : times i p.held ≡ 1
 
--- a pass of the queue, with all the values that it holds, each at its index; how many they are, and
--- how many there may be
+-- a pass of the queue, with all the values that it holds, each at its index; for how many more
+-- there is room, and how many there may be
 pub record Keeps (queue : PortQueue) (p : PassStanding PortBuffer) (slots : List (Option Value))
-    (count hold : ℕ) : Type 0 where
+    (room hold : ℕ) : Type 0 where
   pub own : p.queue ≡ queue
   pub places : length slots ≡ n_of queue.setup.order
   pub here : (i : ℕ) (h : Value) → slice_get slots i ≡ Some (Some h) → StandsAt queue p i h
   pub free : (i : ℕ) → slice_get slots i ≡ Some None → times i p.held ≡ 0
   pub past : (i : ℕ) → slice_get slots i ≡ None → times i p.held ≡ 0
-  pub used : count ≡ length p.held
-  pub room : count ≤ hold
+  pub room_is : room + length p.held ≡ hold
 
 abbrev pub KeepsHand : PortQueue → PassStanding PortBuffer → Hand → Type 0
-KeepsHand queue p hand = Keeps queue p hand.slots.items hand.used hand.hold
+KeepsHand queue p hand = Keeps queue p hand.slots.items hand.room hand.hold
 
 -- the same of the same pass after a call, which retired nothing
 pub record StillKeeps (queue : PortQueue) (old new : PassStanding PortBuffer) (hand : Hand)
@@ -42,12 +41,13 @@ pub record StillKeeps (queue : PortQueue) (old new : PassStanding PortBuffer) (h
   pub number : new.number ≡ old.number
   pub retired : new.retired ≡ old.retired
 
--- a port's pass and values, how many topics its queue has, the number of its pass, and whether that
--- hasn't retired
+-- a port's pass and values, how many topics its queue has, on how many it may send, the number of
+-- its pass, and whether that hasn't retired
 pub record IsPort (queue : PortQueue) (p : PassStanding PortBuffer) (hand : Hand)
-    (many number : ℕ) (awake : Bool) : Type 0 where
+    (many sends number : ℕ) (awake : Bool) : Type 0 where
   pub keeps : KeepsHand queue p hand
   pub topics : many + 1 ≡ queue.setup.rings
+  pub sends_is : sends ≡ (if awake then many else 0)
   pub number_is : p.number ≡ number
   pub low : number < queue.setup.seats
   pub awake_is : awake ≡ is_none p.retired

@@ -8,11 +8,11 @@ use scq_band::Lifted;
 use scq_queue::Held;
 use std::mem;
 
-/// The values that a port holds, each at the index of its buffer: `used` of them, and no more than
-/// `hold`.
+/// The values that a port holds, each at the index of its buffer: no more than `hold`, and so there
+/// is room for `room` more.
 pub struct Hand {
     pub(crate) slots: Vec<Option<Held<PortBuffer>>>,
-    pub(crate) used: u32,
+    pub(crate) room: u32,
     pub(crate) hold: u32,
 }
 
@@ -22,7 +22,7 @@ impl Hand {
     pub(crate) fn put_in(&mut self, held: Held<PortBuffer>) -> u32
         requires free { slice_get self.old.slots.items held.index ≡ Some None }
         ensures put { self.new.slots.items ≡ slice_set self.old.slots.items held.index (Some held) }
-        ensures rest { (self.new.used ≡ self.old.used) × (self.new.hold ≡ self.old.hold) }
+        ensures rest { (self.new.room ≡ self.old.room) × (self.new.hold ≡ self.old.hold) }
         ensures index { result ≡ held.index }
     {
         let index = held.index();
@@ -40,10 +40,10 @@ impl Hand {
         ensures some { (h : Value) → result ≡ Some h
             → (slice_get self.old.slots.items index ≡ Some (Some h))
             × (self.new.slots.items ≡ slice_set self.old.slots.items index None) }
-        ensures rest { (self.new.used ≡ self.old.used) × (self.new.hold ≡ self.old.hold) }
+        ensures rest { (self.new.room ≡ self.old.room) × (self.new.hold ≡ self.old.hold) }
     {
         let at = index as usize;
-        if at >= self.slots.len() {
+        if at >= self.slots.len() || self.slots[at].is_none() {
             return None;
         }
         self.slots[at].take()

@@ -19,7 +19,7 @@ pub(crate) fn lend(
 ) -> Result<u32, LendRefusal>
     requires numbers { AreNumbered queue.now }
     requires kept { KeepsHand queue.now pass.old hand.old }
-    requires room { hand.old.used < hand.old.hold }
+    requires room { 0 < hand.old.room }
     ensures kept { StillKeeps queue.now pass.old pass.new hand.new }
     ensures lent { IfOk result (λ index.
         IsLent index (seen_as pass.old hand.old) (seen_as pass.new hand.new)) }
@@ -31,7 +31,7 @@ pub(crate) fn lend(
 {
     match queue.lend(pass) {
         Ok(held) => {
-            hand.used += 1;
+            hand.room -= 1;
             Ok(hand.put_in(held))
         }
         Err(scq_queue::LendRefusal::Full { head }) => Err(LendRefusal::Full { head }),
@@ -50,7 +50,7 @@ pub(crate) fn take(
     requires numbers { AreNumbered queue.now }
     requires kept { KeepsHand queue.now pass.old hand.old }
     requires topic { topic + 1 < queue.now.setup.rings }
-    requires room { hand.old.used < hand.old.hold }
+    requires room { 0 < hand.old.room }
     ensures kept { StillKeeps queue.now pass.old pass.new hand.new }
     ensures taken { IfOk result (λ r.
         ValueIsTaken topic r.0 r.1 (seen_as pass.old hand.old) (seen_as pass.new hand.new)) }
@@ -62,7 +62,7 @@ pub(crate) fn take(
 {
     match queue.take(pass, topic) {
         Ok((place, held)) => {
-            hand.used += 1;
+            hand.room -= 1;
             Ok((place, hand.put_in(held)))
         }
         Err(scq_queue::TakeRefusal::Empty { head }) => Err(TakeRefusal::Empty { head }),
@@ -97,7 +97,7 @@ pub(crate) fn send(
     };
     match queue.send(pass, topic, held) {
         Ok(place) => {
-            hand.used -= 1;
+            hand.room += 1;
             Ok(place)
         }
         Err((held, spent)) => {
@@ -131,7 +131,7 @@ pub(crate) fn give_back(
     };
     match queue.give_back(pass, held) {
         Ok(()) => {
-            hand.used -= 1;
+            hand.room += 1;
             Ok(())
         }
         Err((held, spent)) => {

@@ -24,7 +24,7 @@ pub(crate) fn let_go(
 {
     let Hand {
         mut slots,
-        used: _,
+        room: _,
         hold: _,
     } = hand;
     while let Some(slot) = slots.pop() {

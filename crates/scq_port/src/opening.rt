@@ -29,12 +29,12 @@ fn buffers(alloc: Global, count: u32) -> Result<Vec<PortBuffer>, NoMemory>
 }
 
 // How many places of a hand stay free behind those of its indices: two lines of 64 bytes.
-const PLACES_APART: usize = 11;
+const PLACES_APART: usize = 16;
 
 /// A hand without values, with a place for each of so many indices.
 fn empty_hand(alloc: Global, places: u32, hold: u32) -> Result<Hand, NoMemory>
     ensures { IfOk result (λ hand.
-        (hand.slots.items ≡ replicate places None) × (hand.used ≡ 0) × (hand.hold ≡ hold)) }
+        (hand.slots.items ≡ replicate places None) × (hand.room ≡ hold) × (hand.hold ≡ hold)) }
 {
     let mut slots = Vec::with_capacity(alloc, places as usize + PLACES_APART)?;
     while slots.len() < places as usize {
@@ -42,7 +42,7 @@ fn empty_hand(alloc: Global, places: u32, hold: u32) -> Result<Hand, NoMemory>
     }
     Ok(Hand {
         slots,
-        used: 0,
+        room: hold,
         hold,
     })
 }
@@ -65,12 +65,14 @@ fn port_of(
 {
     let owner = Arc::try_clone(owner)?;
     let hand = empty_hand(alloc, setup.shape().n(), hold)?;
+    let topics = setup.rings() - 1;
     Ok(Port {
         before: [0; APART],
         owner,
         pass,
         hand,
-        topics: setup.rings() - 1,
+        topics,
+        sends: topics,
         number,
         awake: true,
         behind: [0; APART],

@@ -32,13 +32,15 @@ pub(crate) const APART: usize = 16;
 /// whichever thread has it. Where it is dropped it gives back what it holds, and the last port of a
 /// queue frees it.
 ///
-/// `before` and `behind` are never used.
+/// It takes from the topics below `topics`, and sends on those below `sends`: all, or none where it
+/// has retired. `before` and `behind` are never used.
 pub struct Port {
     pub(crate) before: [u64; APART],
     pub(crate) owner: Arc<Owner, Global>,
     pub(crate) pass: Pass<PortBuffer>,
     pub(crate) hand: Hand,
     pub(crate) topics: u32,
+    pub(crate) sends: u32,
     pub(crate) number: u32,
     pub(crate) awake: bool,
     pub(crate) behind: [u64; APART],
@@ -55,7 +57,7 @@ impl Model for Port {
     ghost view = { λ p. seen_as p.pass p.hand };
 
     ghost invariant = { λ p.
-        IsPort (arc_value p.owner).queue p.pass p.hand p.topics p.number p.awake };
+        IsPort (arc_value p.owner).queue p.pass p.hand p.topics p.sends p.number p.awake };
 }
 
 impl Port {
@@ -71,7 +73,7 @@ impl Port {
         ensures spent { (ticket : ℕ) → result ≡ Err (LendRefusal.Spent ticket)
             → IsSpentGet 0 ticket self.old self.new }
     {
-        if self.hand.used >= self.hand.hold {
+        if self.hand.room == 0 {
             return Err(LendRefusal::NoRoom);
         }
         holding::lend(&self.owner.queue, &mut self.pass, &mut self.hand)
@@ -92,10 +94,10 @@ impl Port {
         ensures spent { (ticket : ℕ) → result ≡ Err (TakeRefusal.Spent ticket)
             → IsSpentGet (suc topic) ticket self.old self.new }
     {
-        if topic >= self.topics {
-            return Err(TakeRefusal::NoTopic);
-        }
-        if self.hand.used >= self.hand.hold {
+        if (topic >= self.topics) | (self.hand.room == 0) {
+            if topic >= self.topics {
+                return Err(TakeRefusal::NoTopic);
+            }
             return Err(TakeRefusal::NoRoom);
         }
         holding::take(&self.owner.queue, &mut self.pass, topic, &mut self.hand)
@@ -118,10 +120,10 @@ impl Port {
         ensures spent { (ticket : ℕ) → result ≡ Err (SendRefusal.Spent ticket)
             → IsSpentPut (suc topic) ticket self.old self.new }
     {
-        if topic >= self.topics {
-            return Err(SendRefusal::NoTopic);
-        }
-        if !self.awake {
+        if topic >= self.sends {
+            if topic >= self.topics {
+                return Err(SendRefusal::NoTopic);
+            }
             return Err(SendRefusal::Retired);
         }
         holding::send(
@@ -153,6 +155,7 @@ impl Port {
     {
         retire(&self.owner.queue, &mut self.pass, self.awake);
         self.awake = false;
+        self.sends = 0;
     }
 
     /// Whether all ports of its queue had retired, at this call's one step.
@@ -232,6 +235,7 @@ impl Port {
             mut pass,
             hand,
             topics: _,
+            sends: _,
             number,
             awake,
             behind: _,

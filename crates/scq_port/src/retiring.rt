@@ -11,8 +11,8 @@ pub(crate) fn retire(queue: &Queue<PortBuffer>, pass: &mut Pass<PortBuffer>, awa
     requires awake { awake ≡ is_none pass.old.retired }
     ensures retired { pass.new ≡ retired_pass pass.old }
     ensures number { pass.new.number ≡ pass.old.number }
-    ensures kept { (slots : List (Option Value)) (used hold : ℕ)
-        → Keeps queue.now pass.old slots used hold → Keeps queue.now pass.new slots used hold }
+    ensures kept { (slots : List (Option Value)) (room hold : ℕ)
+        → Keeps queue.now pass.old slots room hold → Keeps queue.now pass.new slots room hold }
 {
     if awake {
         queue.retire(pass);

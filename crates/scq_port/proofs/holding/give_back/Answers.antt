@@ -1,9 +1,9 @@
-use Rattle.std.proofs.Common.{◌≡◌, ℕ, subst, refl}
+use Rattle.std.proofs.Common.{rules, ◌≡◌, ◌<◌, ℕ, subst, refl}
 use Rattle.scq_queue.specs.Exports.{WasGivenBack}
 use Rattle.scq_queue.proofs.HeldOnce.{put_refused, alike_itself}
 use Rattle.scq_port.specs.Exports.{buffer_bytes, seen_as, IsSpentPut}
 use Rattle.scq_port.proofs.Keeping.{place_held}
-use Rattle.scq_port.proofs.Records.{unspent, in_run, still_alike, none_out, some_used, still_less, went_out, free_again, still_back, spent_back}
+use Rattle.scq_port.proofs.Records.{unspent, in_run, still_alike, none_out, room_grows, still_less, went_out, free_again, still_back, spent_back}
 use Rattle.scq_port.proofs.holding.give_back.Goals as goal
 
 pub returns-in_default-clause-kept : goal.returns-in_default-clause-kept
@@ -17,10 +17,12 @@ returns-in_default-clause-not_held c is =
 pub give_back-requires-clause-held : goal.give_back-requires-clause-held
 give_back-requires-clause-held c κs = place_held c.args.index c.requires.kept (c.in-Some.ensures.some c.in-Some.held refl).0
 
-pub overflow_sub-hand : goal.overflow_sub-hand
-overflow_sub-hand c =
-    some_used c.args.hand.now c.take_out.new.self c.args.index c.requires.kept (c.in-Some.ensures.some c.in-Some.held refl) c.take_out.ensures.rest
-    _ _ _ c.in-Ok.ensures.given.pass
+pub overflow_add-hand : goal.overflow_add-hand
+overflow_add-hand c =
+    let grows : c.take_out.new.self.room < c.args.hand.now.hold =
+    room_grows c.args.hand.now c.take_out.new.self c.args.index c.requires.kept (c.in-Some.ensures.some c.in-Some.held refl) c.take_out.ensures.rest
+    _ _ _ c.in-Ok.ensures.given.pass in
+    search (rules, grows)
 
 pub returns-in-Ok-clause-kept : goal.returns-in-Ok-clause-kept
 returns-in-Ok-clause-kept c =

@@ -11,7 +11,7 @@ use Rattle.scq_port.proofs.letting_go.let_go.Goals as goal
 pub loop-slot-init : goal.loop-slot-init
 loop-slot-init c =
     let hand = c.args.hand in (
-      begins c.args.queue.now c.args.pass hand.slots.items hand.used hand.hold c.requires.kept,
+      begins c.args.queue.now c.args.pass hand.slots.items hand.room hand.hold c.requires.kept,
       goes_first hand.slots.items c.args.pass,
       refl,
     )
