@@ -107,8 +107,13 @@ fn stretches_of_lists<R: Threads + Sync>(
     samples.sort_unstable();
     let parts = parts_in(lists);
     let threads = threads_at_once(rt, threads);
-    let Division { spans, pieces } =
-        division_of(alloc, blocks.as_slice(), samples.as_slice(), parts, threads)?;
+    let Division { spans, pieces } = division_of(
+        alloc,
+        blocks.as_slice(),
+        samples.as_slice(),
+        parts,
+        threads,
+    )?;
     let cuts = cuts_of(alloc, spans.as_slice(), pieces)?;
     stretches_in_order(rt, alloc, topics, blocks.as_slice(), cuts.as_slice())
 }

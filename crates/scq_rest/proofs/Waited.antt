@@ -1,5 +1,5 @@
 -- A worker that has retired, and what its sweeps and rests make of it.
-use Rattle.std.proofs.Common.{◌≡◌, sym, subst, ℕ, ◌+◌, List, length, Option, Some}
+use Rattle.std.proofs.Common.{◌≡◌, ◌∙◌, ap, sym, subst, ℕ, ◌+◌, List, length, Option, Some}
 use Rattle.scq_band.specs.Exports.{Identity}
 use Rattle.scq_queue.specs.Exports.{PassStanding, HeldStanding}
 use Rattle.scq_files.specs.declared.own_file.OwnFile.{OwnFile}
@@ -25,6 +25,10 @@ module _ {B : Type 0} where
 
 module _ {B Place S : Type 0} (shared : Identity B) (job : Job) (src : SourceOf S) (files : List (OwnFile S)) (was now : Worker B Place) (kept : Option (HeldStanding B))
     (t : IsToSweep shared job.topics job.size job.most job.longest src files was.pass was.members was.starved kept) where
+  -- it asked nothing before
+  pub sweep-unasked : was.pass.gates ≡ 0
+  sweep-unasked = ap (λ (p : PassStanding B). p.gates) t.retired ∙ t.work.passed.producing.unasked
+
   left-told : (contents : B → List ℕ) (topics rests : ℕ) → HasTaken was.pass now.pass → HasSweptTold contents shared IsReturn topics rests was.pass now.pass
       → HasLeftTold contents IsReturn topics rests now.pass
   left-told contents topics rests taken end = record {

@@ -1,6 +1,6 @@
 -- Who was woken how often, of all workers together.
-use Rattle.std.proofs.Common.{◌≡◌, ◌≢◌, ◌∙◌, ◌⊎◌, refl, sym, ap, subst, arith, ℕ, zero, suc, ◌+◌, ◌-◌, ◌<◌, ◌≤◌, ◌==◌, if◌then◌else◌, List, [], ◌∷◌, length, map, inl, inr, Some, None}
-use Rattle.std.specs.Prelude.{slice_index, slice_set, slice_get, All}
+use Rattle.std.proofs.Common.{◌≡◌, ◌≢◌, ◌∙◌, ◌⊎◌, refl, sym, ap, subst, arith, ℕ, zero, suc, ◌+◌, ◌-◌, ◌<◌, ◌≤◌, ◌==◌, if◌then◌else◌, List, [], ◌∷◌, length, map, inl, inr, Some, None, Bool, true, false}
+use Rattle.std.specs.Prelude.{slice_index, slice_set, slice_get}
 use Rattle.std.proofs.lemmas.Bool.{cases_lt}
 use Rattle.std.proofs.lemmas.Bool.Decides.{eqb_tells}
 use Rattle.std.proofs.lemmas.List.{get_or-set_same, get_or-set_other, length-set, length-map}
@@ -11,16 +11,17 @@ use Rattle.scq_park.specs.declared.rested.Rested.{Rested}
 use Rattle.scq_park.specs.Exports.{Post, plus, woken, ended, no_wakes, counted, rested_of}
 use Rattle.scq_passes.specs.Exports.{NoneSpent}
 use Rattle.scq_queue.specs.Exports.{PassStanding, Placed, sends_of}
-use Rattle.scq_worker.specs.Exports.{HasRung, next_of, more_often, others_more}
+use Rattle.scq_worker.specs.Exports.{HasRung, RingsEachSend, next_of, more_often, others_more, others_more_where, asked_once}
 use Rattle.scq_rest.specs.Exports.{EachRang, before_of, at_retirements}
 
 module _ {B : Type 0} where
-  -- it sent nothing more, and woke nobody more
-  pub rung-on : (number workers : ℕ) (p q : PassStanding B) (first was is : List ℕ) → sends_of q.calls ≡ sends_of p.calls → is ≡ was
-      → HasRung number workers p first was → HasRung number workers q first is
-  rung-on number workers p q first was is sends same rung =
-      same ∙ rung
-      ∙ ap (λ (l : List Placed). others_more number workers (more_often (next_of number workers) (length l) first)) (sym sends)
+  -- it sent nothing more, and woke all others where its first question was its last
+  pub rung-on : (number its workers : ℕ) (p q : PassStanding B) (first was is : List ℕ) → sends_of q.calls ≡ sends_of p.calls → its ≡ number
+      → is ≡ others_more_where (asked_once q) its workers was → RingsEachSend number workers p first was → HasRung number workers q first is
+  rung-on number its workers p q first was is sends same more rings =
+      more ∙ ap (λ n. others_more_where (asked_once q) n workers was) same
+      ∙ ap (λ (l : List ℕ). others_more_where (asked_once q) number workers l)
+      (rings ∙ ap (λ (l : List Placed). more_often (next_of number workers) (length l) first) (sym sends))
 
   -- the same of what is equal
   pub rung-as : (n m workers many : ℕ) (p q : PassStanding B) (first start is now : List ℕ) → n ≡ m → workers ≡ many → p ≡ q → first ≡ start → is ≡ now
@@ -111,34 +112,49 @@ plus-long [] (n ∷ ns) long = absurd (omega arith)
 plus-long (m ∷ ms) [] long = absurd (omega arith)
 plus-long (m ∷ ms) (n ∷ ns) long = let rest = plus-long ms ns (omega arith) in omega (arith, rest)
 
--- workers from a number on have woken the others so: each sent so often
-abbrev pub HaveRung : ℕ → List ℕ → ℕ → List Post → List ℕ → Type 0
+where-length : (told : Bool) (n k : ℕ) (ns : List ℕ) → length (others_more_where told n k ns) ≡ length ns
+where-length true n k ns = others-length n k ns
+where-length false n k ns = refl
+
+-- workers from a number on have woken the others so: each sent so often, and asked once or not
+abbrev pub HaveRung : ℕ → List ℕ → ℕ → List Post → List (ℕ × Bool) → Type 0
 HaveRung workers zeros v [] [] = Unit {0}
 HaveRung workers zeros v [] (k ∷ ks) = ⊥
 HaveRung workers zeros v (p ∷ ps) [] = ⊥
 HaveRung workers zeros v (p ∷ ps) (k ∷ ks) =
-    (p.wakes ≡ others_more v workers (more_often (next_of v workers) k zeros)) × HaveRung workers zeros (suc v) ps ks
+    (p.wakes ≡ others_more_where k.1 v workers (more_often (next_of v workers) k.0 zeros)) × HaveRung workers zeros (suc v) ps ks
 
 -- by the sends of which of them a worker is woken, and by how many retirements
-abbrev by_sends : ℕ → ℕ → ℕ → List ℕ → ℕ
+abbrev by_sends : ℕ → ℕ → ℕ → List (ℕ × Bool) → ℕ
 by_sends workers j v [] = 0
-by_sends workers j v (k ∷ ks) = (if next_of v workers == j then k else 0) + by_sends workers j (suc v) ks
+by_sends workers j v (k ∷ ks) = (if next_of v workers == j then k.0 else 0) + by_sends workers j (suc v) ks
 
-abbrev by_retirements : ℕ → ℕ → List ℕ → ℕ
+abbrev by_retirements : ℕ → ℕ → List (ℕ × Bool) → ℕ
 by_retirements j v [] = 0
-by_retirements j v (k ∷ ks) = (if v == j then 0 else 1) + by_retirements j (suc v) ks
+by_retirements j v (k ∷ ks) = (if v == j then 0 else if k.1 then 1 else 0) + by_retirements j (suc v) ks
 
 -- what one of them gives
-one-gives : (workers v k j : ℕ) (zeros : List ℕ) → length zeros ≡ workers → j < workers → slice_index zeros j ≡ 0
-    → slice_index (others_more v workers (more_often (next_of v workers) k zeros)) j ≡ (if next_of v workers == j then k else 0) + (if v == j then 0 else 1)
-one-gives workers v k j zeros long low none =
-    let sent : slice_index (more_often (next_of v workers) k zeros) j ≡ (if next_of v workers == j then k else 0) =
+sent-gives : (workers v k j : ℕ) (zeros : List ℕ) → length zeros ≡ workers → j < workers → slice_index zeros j ≡ 0
+    → slice_index (more_often (next_of v workers) k zeros) j ≡ (if next_of v workers == j then k else 0)
+sent-gives workers v k j zeros long low none =
     elim (eqb_tells (next_of v workers) j) [
       | inl same ↦
           rw same.0
           (subst (λ i. slice_index (more_often i k zeros) j ≡ k) (sym same.1) (let at = often-at j k zeros (omega arith) in omega (arith, at, none)))
       | inr other ↦ rw other.0 (often-else (next_of v workers) k j zeros (λ is. other.1 (sym is)) ∙ none)
-    ] in
+    ]
+
+one-gives : (workers v k j : ℕ) (told : Bool) (zeros : List ℕ) → length zeros ≡ workers → j < workers → slice_index zeros j ≡ 0
+    → slice_index (others_more_where told v workers (more_often (next_of v workers) k zeros)) j
+    ≡ (if next_of v workers == j then k else 0) + (if v == j then 0 else if told then 1 else 0)
+one-gives workers v k j false zeros long low none =
+    let sent = sent-gives workers v k j zeros long low none in
+    elim (eqb_tells v j) [
+      | inl same ↦ rw same.0 (omega (arith, sent))
+      | inr other ↦ rw other.0 (omega (arith, sent))
+    ]
+one-gives workers v k j true zeros long low none =
+    let sent = sent-gives workers v k j zeros long low none in
     let wide = often-length (next_of v workers) k zeros in
     elim (eqb_tells v j) [
       | inl same ↦
@@ -152,35 +168,20 @@ one-gives workers v k j zeros long low none =
     ]
 
 -- what they all give, beside what was given before
-all-give : (workers j v : ℕ) (zeros before : List ℕ) (ps : List Post) (ks : List ℕ) → length zeros ≡ workers → length before ≡ workers
+all-give : (workers j v : ℕ) (zeros before : List ℕ) (ps : List Post) (ks : List (ℕ × Bool)) → length zeros ≡ workers → length before ≡ workers
     → j < workers → slice_index zeros j ≡ 0 → HaveRung workers zeros v ps ks
     → slice_index (woken before ps) j ≡ slice_index before j + by_sends workers j v ks + by_retirements j v ks
 all-give workers j v zeros before [] [] long wide low none rung = omega arith
 all-give workers j v zeros before [] (k ∷ ks) long wide low none rung = absurd rung
 all-give workers j v zeros before (p ∷ ps) [] long wide low none rung = absurd rung
 all-give workers j v zeros before (p ∷ ps) (k ∷ ks) long wide low none rung =
-    let its : List ℕ = others_more v workers (more_often (next_of v workers) k zeros) in
     let same : length p.wakes ≡ length before =
-    ap length rung.0 ∙ others-length v workers (more_often (next_of v workers) k zeros) ∙ often-length (next_of v workers) k zeros ∙ long ∙ sym wide in
+    ap length rung.0 ∙ where-length k.1 v workers (more_often (next_of v workers) k.0 zeros) ∙ often-length (next_of v workers) k.0 zeros ∙ long
+    ∙ sym wide in
     let rest = all-give workers j (suc v) zeros (plus before p.wakes) ps ks long (plus-long before p.wakes same ∙ wide) low none rung.1 in
     let here = plus-at before p.wakes j same in
-    let gives = ap (λ (l : List ℕ). slice_index l j) rung.0 ∙ one-gives workers v k j zeros long low none in
+    let gives = ap (λ (l : List ℕ). slice_index l j) rung.0 ∙ one-gives workers v k.0 j k.1 zeros long low none in
     omega (arith, rest, here, gives)
-
--- all but the worker itself retired
-retired-behind : (j v : ℕ) (ks : List ℕ) → j < v → by_retirements j v ks ≡ length ks
-retired-behind j v [] low = refl
-retired-behind j v (k ∷ ks) low = elim (eqb_tells v j) [
-  | inl same ↦ absurd (omega (arith, same.1, low))
-  | inr other ↦ rw other.0 (let rest = retired-behind j (suc v) ks (omega arith) in omega (arith, rest))
-]
-
-retired-all : (j v : ℕ) (ks : List ℕ) → v ≤ j → j < v + length ks → by_retirements j v ks + 1 ≡ length ks
-retired-all j v [] low high = absurd (omega arith)
-retired-all j v (k ∷ ks) low high = elim (eqb_tells v j) [
-  | inl same ↦ rw same.0 (let rest = retired-behind j (suc v) ks (omega (arith, same.1)) in omega (arith, rest))
-  | inr other ↦ rw other.0 (let rest = retired-all j (suc v) ks (elim (cases_lt v j) [ inl less ↦ omega (arith, less) | inr past ↦ absurd (other.1 (omega (arith, low, past))) ]) (omega arith) in omega (arith, rest))
-]
 
 -- the worker whose next one this is stands before it
 next-before : (workers v j : ℕ) → v < workers → j < workers → next_of v workers ≡ j → v ≡ before_of j workers
@@ -202,18 +203,18 @@ before-next : (workers j : ℕ) → j < workers → next_of (before_of j workers
 before-next workers zero low = let past : workers ≤ before_of 0 workers + 1 = omega arith in grind (arith, past)
 before-next workers (suc j) low = let less : j + 1 < workers = omega arith in grind (arith, less)
 
-sent-behind : (workers j v : ℕ) (ks : List ℕ) → before_of j workers < v → v + length ks ≡ workers → j < workers → by_sends workers j v ks ≡ 0
+sent-behind : (workers j v : ℕ) (ks : List (ℕ × Bool)) → before_of j workers < v → v + length ks ≡ workers → j < workers → by_sends workers j v ks ≡ 0
 sent-behind workers j v [] low long high = refl
 sent-behind workers j v (k ∷ ks) low long high = elim (eqb_tells (next_of v workers) j) [
   | inl same ↦ absurd (let at = next-before workers v j (omega arith) high same.1 in omega (arith, at, low))
   | inr other ↦ rw other.0 (let rest = sent-behind workers j (suc v) ks (omega arith) (omega arith) high in omega (arith, rest))
 ]
 
-sent-by : (workers j v i n : ℕ) (ks : List ℕ) → v + i ≡ before_of j workers → v + length ks ≡ workers → j < workers → slice_get ks i ≡ Some n
-    → by_sends workers j v ks ≡ n
+sent-by : (workers j v i : ℕ) (n : ℕ × Bool) (ks : List (ℕ × Bool)) → v + i ≡ before_of j workers → v + length ks ≡ workers → j < workers
+    → slice_get ks i ≡ Some n → by_sends workers j v ks ≡ n.0
 sent-by workers j v i n [] at long high is = absurd (cc)
 sent-by workers j v zero n (k ∷ ks) at long high is =
-    let mine : k ≡ n = cc in
+    let mine : k.0 ≡ n.0 = cc in
     let here : v ≡ before_of j workers = omega (arith, at) in
     let yes_ : next_of v workers ≡ j = ap (λ b. next_of b workers) here ∙ before-next workers j high in
     elim (eqb_tells (next_of v workers) j) [
@@ -226,15 +227,14 @@ sent-by workers j v (suc i) n (k ∷ ks) at long high is =
       | inr other ↦ rw other.0 (let rest = sent-by workers j (suc v) i n ks (omega arith) (omega arith) high is in omega (arith, rest))
     ]
 
--- so often each was woken: at each send of the worker before it, and at the retirement of each other
-pub woken-so : (workers j n : ℕ) (zeros : List ℕ) (ps : List Post) (ks : List ℕ) → length zeros ≡ workers → length ks ≡ workers
+-- so often each was woken: at each send of the worker before it, and at the retirement of each other that asked once
+pub woken-so : (workers j : ℕ) (n : ℕ × Bool) (zeros : List ℕ) (ps : List Post) (ks : List (ℕ × Bool)) → length zeros ≡ workers → length ks ≡ workers
     → j < workers → slice_index zeros j ≡ 0 → HaveRung workers zeros 0 ps ks → slice_get ks (before_of j workers) ≡ Some n
-    → slice_index (woken zeros ps) j ≡ n + (workers - 1)
+    → slice_index (woken zeros ps) j ≡ n.0 + by_retirements j 0 ks
 woken-so workers j n zeros ps ks long many low none rung is =
     let all = all-give workers j 0 zeros zeros ps ks long long low none rung in
-    let retired = retired-all j 0 ks (omega arith) (omega (arith, many, low)) in
     let sent = sent-by workers j 0 (before_of j workers) n ks (omega arith) (omega (arith, many)) low is in
-    omega (arith, all, retired, sent, none, many)
+    omega (arith, all, sent, none)
 
 -- at first nobody was woken
 none-woken : (crew : List TableId) (j : ℕ) → slice_index (no_wakes crew) j ≡ 0
@@ -242,14 +242,18 @@ none-woken [] j = refl
 none-woken (t ∷ crew) zero = refl
 none-woken (t ∷ crew) (suc j) = none-woken crew j
 
--- how often each sent
-abbrev sends_by : List (PassStanding Frame) → List ℕ
-sends_by passes = map (λ (p : PassStanding Frame). length (sends_of p.calls)) passes
+-- how often each sent, and whether it asked once
+abbrev sends_by : List (PassStanding Frame) → List (ℕ × Bool)
+sends_by passes = map (λ (p : PassStanding Frame). (length (sends_of p.calls), asked_once p)) passes
+
+retirements-same : (j v : ℕ) (passes : List (PassStanding Frame)) → by_retirements j v (sends_by passes) ≡ at_retirements j v passes
+retirements-same j v [] = refl
+retirements-same j v (p ∷ passes) = ap (λ n. (if v == j then 0 else if asked_once p then 1 else 0) + n) (retirements-same j (suc v) passes)
 
 sends-at : (passes : List (PassStanding Frame)) (i : ℕ) (p : PassStanding Frame) → slice_get passes i ≡ Some p
-    → slice_get (sends_by passes) i ≡ Some (length (sends_of p.calls))
+    → slice_get (sends_by passes) i ≡ Some (length (sends_of p.calls), asked_once p)
 sends-at [] i p is = absurd (cc)
-sends-at (q ∷ passes) zero p is = let same : q ≡ p = cc in ap (λ (x : PassStanding Frame). Some (length (sends_of x.calls))) same
+sends-at (q ∷ passes) zero p is = let same : q ≡ p = cc in ap (λ (x : PassStanding Frame). Some (length (sends_of x.calls), asked_once x)) same
 sends-at (q ∷ passes) (suc i) p is = sends-at passes i p is
 
 all-rang : (crew : List TableId) (v : ℕ) (ps : List Post) (passes : List (PassStanding Frame)) → length ps ≡ length passes → NoneSpent passes
@@ -279,7 +283,7 @@ wakes-told (p ∷ ps) (n ∷ ns) (suc w) r is = let rest = wakes-told ps ns w r 
 pub rung-told : (crew : List TableId) (workers : ℕ) (ps : List Post) (passes : List (PassStanding Frame)) → EachRang crew ps passes → NoneSpent passes
     → length ps ≡ length crew → length passes ≡ workers → length ps ≡ workers
     → (w : ℕ) (p : PassStanding Frame) (r : Rested) → slice_get passes (before_of w workers) ≡ Some p
-    → slice_get (ended ps (woken (no_wakes crew) ps)) w ≡ Some r → r.wakes ≡ counted (length (sends_of p.calls) + at_retirements workers)
+    → slice_get (ended ps (woken (no_wakes crew) ps)) w ≡ Some r → r.wakes ≡ counted (length (sends_of p.calls) + at_retirements w 0 passes)
 rung-told crew workers ps passes each none wide long many w p r pass rest =
     let told = wakes-told ps (woken (no_wakes crew) ps) w r rest in
     let rang = all-rang crew 0 ps passes (many ∙ sym long) none
@@ -288,7 +292,7 @@ rung-told crew workers ps passes each none wide long many w p r pass rest =
     (each v s q stand its awake)) in
     let here : length crew ≡ workers = sym wide ∙ many in
     let at = subst (λ k. slice_get passes (before_of w k) ≡ Some p) (sym here) pass in
-    let so = woken-so (length crew) w (length (sends_of p.calls)) (no_wakes crew) ps (sends_by passes) (length-map crew (λ (x : TableId). zero))
-    (length-map passes (λ (x : PassStanding Frame). length (sends_of x.calls)) ∙ long ∙ sym here) (omega (arith, told.1, wide)) (none-woken crew w) rang
+    let so = woken-so (length crew) w (length (sends_of p.calls), asked_once p) (no_wakes crew) ps (sends_by passes) (length-map crew (λ (x : TableId). zero))
+    (length-map passes (λ (x : PassStanding Frame). (length (sends_of x.calls), asked_once x)) ∙ long ∙ sym here) (omega (arith, told.1, wide)) (none-woken crew w) rang
     (sends-at passes (before_of w (length crew)) p at) in
-    told.0 ∙ ap counted (so ∙ ap (λ k. length (sends_of p.calls) + (k - 1)) here)
+    told.0 ∙ ap counted (so ∙ ap (λ k. length (sends_of p.calls) + k) (retirements-same w 0 passes))

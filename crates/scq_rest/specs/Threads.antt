@@ -7,7 +7,7 @@ use Rattle.scq_topics.specs.declared.kind.Kind.{Kind}
 use Rattle.scq_band.specs.Exports.{Identity}
 use Rattle.scq_park.specs.Exports.{first_post}
 use Rattle.scq_worker.specs.Exports.{takes_behind, IsToBegin, HasProduced, HasRun, but_wakes}
-use Rattle.scq_worker.specs.Exports.{HasRung}
+use Rattle.scq_worker.specs.Exports.{RingsEachSend, HasRung}
 use Rattle.scq_files.specs.Exports.{IsNew, ids_of, SourceOf}
 use Rattle.scq_rest.specs.Waiting.{HasWaited}
 use Rattle.scq_worker.specs.declared.job.Job.{Job}
@@ -59,16 +59,23 @@ module _ {S : Type 0} where
     pub ready : CanStart t
     pub given : IsGiven t w
 
-  -- one that has read its files and retired
+  -- one that has read its files and retired, in a crew of so many
   pub record HasReadAndRetired (t : Task S) (w : Work S) : Type 0 where
     pub produced : HasProduced t.queue t.topics t.size t.most t.longest t.src
         w.desk.files.items w.desk.worker.worker.pass
         w.desk.worker.worker.members w.desk.worker.worker.starved w.desk.worker.kept
+    pub crew : length t.crew ≡ t.workers
     pub stand : w.stand.crew ≡ t.crew
     pub unrested : w.stand.rests ≡ 0
 
-  -- where it met no ticket past the limit it woke the next worker as often as it sent, and each
-  -- other once more
+  -- where it met no ticket past the limit it woke the next worker as often as it sent
+  abbrev pub RangEachSend : Task S → Work S → Work S → Type 0
+  RangEachSend t old new =
+      new.desk.worker.worker.pass.spent ≡ None
+      → RingsEachSend old.stand.worker t.workers new.desk.worker.worker.pass old.stand.wakes
+      new.stand.wakes
+
+  -- and each other once more where its first question whether all had retired was its last
   abbrev pub RangOn : Task S → Work S → Work S → Type 0
   RangOn t old new =
       new.desk.worker.worker.pass.spent ≡ None
@@ -81,7 +88,7 @@ module _ {S : Type 0} where
     pub files : ids_of new.desk.files.items ≡ ids_of old.desk.files.items
     pub number : new.desk.worker.worker.pass.number ≡ old.desk.worker.worker.pass.number
     pub stand : but_wakes new.stand ≡ but_wakes old.stand
-    pub rung : RangOn t old new
+    pub rung : RangEachSend t old new
 
   -- its whole work is done
   pub record HasDone (t : Task S) (old new : Work S) : Type 0 where

@@ -1,7 +1,7 @@
 -- Workers that have waited in place of leaving early: how often each rested and took in vain.
 -- `topics` is the number of topic rings, and `behind` how often a worker takes behind each send.
-use Rattle.std.specs.Prelude.{◌≡◌, ◌⊎◌, ℕ, zero, suc, ◌+◌, ◌-◌, ◌^◌, ◌≤◌, Bool, true, List, length}
-use Rattle.std.specs.Prelude.{map, All}
+use Rattle.std.specs.Prelude.{◌≡◌, ◌⊎◌, ℕ, zero, suc, ◌+◌, ◌-◌, ◌^◌, ◌≤◌, ◌==◌, Bool, true, List}
+use Rattle.std.specs.Prelude.{[], ◌∷◌, length, map, All, if◌then◌else◌}
 use Rattle.std.specs.Prelude.{Some, None, slice_get}
 use Rattle.scq_park.specs.declared.rested.Rested.{Rested}
 use Rattle.scq_park.specs.Exports.{Post, counted}
@@ -9,6 +9,7 @@ use Rattle.scq_queue.specs.Exports.{PassStanding, was_told, sends_of}
 use Rattle.scq_block.specs.Exports.{bytes_of}
 use Rattle.scq_block.specs.declared.frame.Frame.{Frame}
 use Rattle.scq_passes.specs.Exports.{IsReturn, SweepsInVain}
+use Rattle.scq_worker.specs.Exports.{asked_once}
 use Rattle.scq_rest.specs.Sweeping.{HasLeftTold}
 
 -- of a worker that waited, unless it met a ticket past the limit: it was told that all had
@@ -32,15 +33,20 @@ abbrev pub before_of : ℕ → ℕ → ℕ
 before_of zero workers = workers - 1
 before_of (suc w) workers = w
 
--- how many wakes a worker is given at retirements, of so many workers: one at that of each other
-abbrev pub at_retirements : ℕ → ℕ
-at_retirements workers = workers - 1
+-- how many wakes a worker is given at retirements by these workers, the first of which has this
+-- number: one by each other that was told by its first question that all had retired. It asked once
+abbrev pub at_retirements : ℕ → ℕ → List (PassStanding Frame) → ℕ
+at_retirements w number [] = 0
+at_retirements w number (p ∷ passes) =
+    (if number == w then 0 else if asked_once p then 1 else 0)
+    + at_retirements w (suc number) passes
 
 -- all workers: each saw that all had retired, as its pass read the gate, rested no more often than
 -- it was woken, took in vain no more often than one does that rests after each sweep that took
 -- nothing, rested as often as sweeps before its last took nothing, and left after a sweep before
 -- which it was told that all had retired; and it was woken once at each send of the worker before
--- it, and at the retirements. A count of rests or wakes stands still at the last value of 64 bits
+-- it, and at the retirements of those that were told so by their first question. A count of rests
+-- or wakes stands still at the last value of 64 bits
 pub record HaveWaited (topics behind workers : ℕ) (passes : List (PassStanding Frame))
     (saw : List Bool) (rested : List Rested) : Type 0 where
   pub each_saw : length saw ≡ workers
@@ -56,4 +62,4 @@ pub record HaveWaited (topics behind workers : ℕ) (passes : List (PassStanding
       → (rests : ℕ) × (r.rests ≡ counted rests) × HasLeftTold bytes_of IsReturn topics rests p
   pub rung : (w : ℕ) (p : PassStanding Frame) (r : Rested)
       → slice_get passes (before_of w workers) ≡ Some p → slice_get rested w ≡ Some r
-      → r.wakes ≡ counted (length (sends_of p.calls) + at_retirements workers)
+      → r.wakes ≡ counted (length (sends_of p.calls) + at_retirements w 0 passes)

@@ -6,7 +6,7 @@ use Rattle.scq_passes.proofs.Kept.{taken-sends, sent-sends, placed, full-sends}
 use Rattle.scq_passes.specs.Exports.{HasTaken, HasFoundFull, after_retire}
 use Rattle.scq_queue.specs.Exports.{sends_of, PassStanding, first_pass}
 use Rattle.scq_band.specs.Exports.{Identity}
-use Rattle.scq_worker.specs.Exports.{next_of, woken_once_more, more_often, others_more, RingsEachSend, RingsOn, HasRung, Sends, HasSent}
+use Rattle.scq_worker.specs.Exports.{next_of, woken_once_more, more_often, others_more, RingsEachSend, RingsOn, Sends, HasSent}
 
 module _ {B : Type 0} (number workers : ℕ) where
   -- a batch was sent, and the next worker woken; then topics were taken from
@@ -26,14 +26,12 @@ module _ {B : Type 0} (number workers : ℕ) where
       same ∙ rings ∙ ap (λ k. more_often (next_of number workers) k first) (sym (ap length (taken-sends q r taken) ∙ ap length (full-sends head p q full)))
 
   -- its files are read, and it has retired
-  pub rung-retired : (shared : Identity B) (seat of : ℕ) (p q r : PassStanding B) (was mid is : List ℕ) → p ≡ first_pass shared seat
-      → RingsOn number workers p q was mid → r ≡ after_retire q → of ≡ number → is ≡ others_more of workers mid → HasRung number workers r was is
-  rung-retired shared seat of p q r was mid is fresh on retired same more =
+  pub rung-retired : (shared : Identity B) (seat : ℕ) (p q r : PassStanding B) (was mid : List ℕ) → p ≡ first_pass shared seat
+      → RingsOn number workers p q was mid → r ≡ after_retire q → RingsEachSend number workers r was mid
+  rung-retired shared seat p q r was mid fresh on retired =
       let next = next_of number workers in
       let start : RingsEachSend number workers p was was = subst (λ (x : PassStanding B). RingsEachSend number workers x was was) (sym fresh) refl in
-      let rings : mid ≡ more_often next (length (sends_of r.calls)) was =
-      on was start ∙ ap (λ (x : PassStanding B). more_often next (length (sends_of x.calls)) was) (sym retired) in
-      more ∙ ap (λ n. others_more n workers mid) same ∙ ap (others_more number workers) rings
+      on was start ∙ ap (λ (x : PassStanding B). more_often next (length (sends_of x.calls)) was) (sym retired)
 
 -- where nobody rests, nobody is woken
 either-way : (b : Bool) (ns : List ℕ) → (if b then ns else ns) ≡ ns

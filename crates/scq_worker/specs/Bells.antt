@@ -1,7 +1,7 @@
 -- Stands by which workers wake others, and how often each was woken.
 use Rattle.std.proofs.Common.{ap, subst}
 use Rattle.std.specs.Prelude.{◌≡◌, ℕ, zero, suc, ◌+◌, ◌==◌, if◌then◌else◌, List, [], ◌∷◌, ◌++◌}
-use Rattle.std.specs.Prelude.{length, nat_lt, slice_index, slice_set}
+use Rattle.std.specs.Prelude.{Bool, length, nat_lt, slice_index, slice_set}
 use Rattle.scq_core.specs.declared.ended.Ended.{Ended}
 use Rattle.scq_core.specs.declared.ended.Ended.TheVariants.{Done}
 use Rattle.scq_park.specs.Exports.{Post, post}
@@ -41,6 +41,14 @@ others_more number zero ns = ns
 others_more number (suc k) ns =
     if k == number then others_more number k ns else woken_once_more k (others_more number k ns)
 
+-- the same where this holds, else as often as before
+abbrev pub others_more_where : Bool → ℕ → ℕ → List ℕ → List ℕ
+others_more_where told number workers ns = if told then others_more number workers ns else ns
+
+-- whether a pass asked just once whether all had retired
+abbrev pub asked_once : {B : Type 0} → PassStanding B → Bool
+asked_once p = p.gates == 1
+
 module _ {B : Type 0} (number workers : ℕ) where
   -- by these wakes a worker of this number has woken the next one as often as its pass sent
   abbrev pub RingsEachSend : PassStanding B → List ℕ → List ℕ → Type 0
@@ -52,10 +60,11 @@ module _ {B : Type 0} (number workers : ℕ) where
   RingsOn p q was is =
       (first : List ℕ) → RingsEachSend p first was → RingsEachSend q first is
 
-  -- in all it has woken the next one as often as it sent, and each other worker once more
+  -- in all it has woken the next one as often as it sent, and, where its first question whether
+  -- all had retired was its last, each other worker once more
   abbrev pub HasRung : PassStanding B → List ℕ → List ℕ → Type 0
   HasRung p first is = is
-      ≡ others_more number workers
+      ≡ others_more_where (asked_once p) number workers
       (more_often (next_of number workers) (length (sends_of p.calls)) first)
 
 module _ {B : Type 0} (workers : ℕ) where

@@ -20,4 +20,5 @@ pub use Rattle.scq_worker.specs.Desks.{IsToSweep, HasRun, HasProduced, IsToSweep
 pub use Rattle.scq_worker.specs.Desks.{HasProducedAt}
 pub use Rattle.scq_worker.specs.Seats.{Seated, IsToBegin}
 pub use Rattle.scq_worker.specs.Bells.{but_wakes, next_of, woken_once_more, more_often, others_more}
+pub use Rattle.scq_worker.specs.Bells.{others_more_where, asked_once}
 pub use Rattle.scq_worker.specs.Bells.{RingsEachSend, RingsOn, HasRung, same-worker, HasJustSent}

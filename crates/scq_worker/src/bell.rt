@@ -25,8 +25,8 @@ pub trait Bell<T> {
         ensures rung { (seen stand.new).wakes
             ≡ woken_once_more (next_of (seen stand.old).worker workers) (seen stand.old).wakes };
 
-    /// Its worker's pass has retired: it wakes all others. Woken before, they would find it awake,
-    /// and rest again.
+    /// Its worker's pass has retired, and its worker is done: it wakes all others. Woken before,
+    /// they would find it awake, and rest again.
     fn after_retire<B: Buffer>(&self, stand: &mut T, pass: &Pass<B>, workers: u32)
         requires fits { fits self.now (but_wakes (seen stand.old)) workers }
         requires retired { IsSome pass.now.retired }
@@ -49,7 +49,7 @@ impl Bell<NoBell> for NoBell {
     fn after_retire<B: Buffer>(&self, _stand: &mut NoBell, _pass: &Pass<B>, _workers: u32) {}
 }
 
-/// After a send it wakes the next worker, and after it retired all others.
+/// After a send it wakes the next worker, and where it is done once it retired all others.
 impl Bell<Stand> for Crew {
     ghost seen = { λ stand. stand };
 
@@ -83,7 +83,7 @@ fn wake_next(crew: &Crew, stand: &mut Stand, workers: u32)
 }
 
 /// Wakes each worker but the stand's.
-fn wake_others(crew: &Crew, stand: &mut Stand, workers: u32)
+pub fn wake_others(crew: &Crew, stand: &mut Stand, workers: u32)
     requires stand { stand.old.crew ≡ crew.now }
     requires workers { length crew.now ≡ workers }
     ensures kept { but_wakes stand.new ≡ but_wakes stand.old }

@@ -2,7 +2,7 @@
 ghost use Rattle.std.specs.Prelude.{◌≡◌, ◌≤◌, ◌+◌, [], length, None, IfErr, OnOk, All};
 ghost use Rattle.scq_block.specs.Exports.{bytes_of};
 ghost use Rattle.scq_files.specs.Exports.{IsNew, ids_of, all_given, WereRead};
-ghost use Rattle.scq_worker.specs.Bells.{but_wakes, HasRung};
+ghost use Rattle.scq_worker.specs.Bells.{but_wakes, RingsEachSend};
 ghost use Rattle.scq_worker.specs.Opening.{NoneIsOpen};
 ghost use Rattle.scq_worker.specs.Passing.{parts_in};
 ghost use Rattle.scq_worker.specs.Reading.{HasGathered, HasStoppedIn, IsSameWorker};
@@ -25,7 +25,8 @@ use std::alloc::Global;
 pub type WorkDesk<S> = Desk<Seat<Worker<Frame>, Frame>, S>;
 
 /// It reads its files and passes their messages on, and retires. Where it met a ticket past the
-/// limit, it retires at once, and keeps the value that came back.
+/// limit, it retires at once, and keeps the value that came back: as it asks no more whether all
+/// have retired, it wakes all others there, for it may be the last.
 pub fn produce<S: Source, G: Gate, T, W: Bell<T>>(
     desk: &mut WorkDesk<S>,
     alloc: Global,
@@ -45,13 +46,14 @@ pub fn produce<S: Source, G: Gate, T, W: Bell<T>>(
     ensures number { desk.new.worker.worker.pass.number ≡ desk.old.worker.worker.pass.number }
     ensures bell { but_wakes (W.seen stand.new) ≡ but_wakes (W.seen stand.old) }
     ensures rung { desk.new.worker.worker.pass.spent ≡ None
-        → HasRung (W.seen stand.old).worker job.now.workers desk.new.worker.worker.pass
+        → RingsEachSend (W.seen stand.old).worker job.now.workers desk.new.worker.worker.pass
         (W.seen stand.old).wakes (W.seen stand.new).wakes }
 {
     match pass_all_on(desk, alloc, job, queue, gate, bell, stand) {
-        Ok(()) => desk.worker.worker.retire(job, queue, bell, stand),
+        Ok(()) => desk.worker.worker.retire(queue),
         Err(at_limit) => {
-            desk.worker.worker.retire(job, queue, bell, stand);
+            desk.worker.worker.retire(queue);
+            bell.after_retire(stand, &desk.worker.worker.pass, job.workers);
             desk.worker.keep(at_limit);
         }
     }

@@ -10,7 +10,7 @@ mod gate;
 mod job;
 mod worker;
 
-pub use bell::{Bell, NoBell};
+pub use bell::{Bell, NoBell, wake_others};
 pub use desk::{WorkDesk, produce, run};
 pub use gate::{FreeGate, Gate, Point};
 pub use job::Job;

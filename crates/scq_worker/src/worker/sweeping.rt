@@ -1,9 +1,7 @@
 //! How a worker retires, and how it takes where it sweeps.
 ghost use Rattle.std.specs.Prelude.{◌≡◌, length, None};
 ghost use Rattle.scq_passes.specs.Exports.{after_retire};
-ghost use Rattle.scq_worker.specs.Bells.{but_wakes, others_more};
 
-use crate::bell::Bell;
 use crate::worker::Worker;
 use crate::{Gate, Job};
 use scq_block::Frame;
@@ -68,19 +66,14 @@ impl<'a, G: Gate> Taker<Takes<'a, G>, Frame> for Worker<Frame> {
 }
 
 impl<B: BufferMut> Worker<B> {
-    /// Retires, and wakes those who may rest.
-    pub fn retire<T, W: Bell<T>>(&mut self, job: &Job, queue: &Queue<B>, bell: &W, stand: &mut T)
+    /// Retires.
+    pub fn retire(&mut self, queue: &Queue<B>)
         requires pass { self.old.pass.queue ≡ queue.now }
         requires stays { self.old.pass.retired ≡ None }
-        requires bell { W.fits bell.now (but_wakes (W.seen stand.old)) job.now.workers }
         ensures pass { self.new.pass ≡ after_retire self.old.pass }
         ensures same { (self.new.members ≡ self.old.members)
             × (self.new.starved ≡ self.old.starved) × (self.new.number ≡ self.old.number) }
-        ensures bell { but_wakes (W.seen stand.new) ≡ but_wakes (W.seen stand.old) }
-        ensures rung { (W.seen stand.new).wakes
-            ≡ others_more (W.seen stand.old).worker job.now.workers (W.seen stand.old).wakes }
     {
         queue.retire(&mut self.pass);
-        bell.after_retire(stand, &self.pass, job.workers);
     }
 }

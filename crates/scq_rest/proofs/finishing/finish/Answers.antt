@@ -1,14 +1,14 @@
-use Rattle.std.proofs.Common.{None, ◌≡◌, ◌+◌, ◌∙◌, ap, sym, subst, arith, length}
+use Rattle.std.proofs.Common.{None, ◌≡◌, ◌==◌, ◌+◌, ◌∙◌, ap, sym, subst, arith, length}
 use Rattle.scq_block.specs.Exports.{bytes_of}
 use Rattle.scq_queue.specs.Exports.{PassStanding}
 use Rattle.scq_passes.specs.Exports.{IsReturn}
 use Rattle.scq_rest.specs.Exports.{HasSweptTold, HasWaited}
-use Rattle.scq_worker.specs.Exports.{IsToSweepAt, takes_behind}
+use Rattle.scq_worker.specs.Exports.{IsToSweepAt, takes_behind, others_more_where}
 use Rattle.scq_worker.specs.declared.worker.Worker.{Worker}
 use Rattle.scq_desk.proofs.Passes.{none-or}
 use Rattle.scq_passes.proofs.Kept.{taken-sends}
 use Rattle.scq_worker.proofs.Produced.{sweep-suits, swept-out, late-out}
-use Rattle.scq_rest.proofs.Waited.{waited-told, waited-spent}
+use Rattle.scq_rest.proofs.Waited.{waited-told, waited-spent, sweep-unasked}
 use Rattle.scq_rest.proofs.finishing.finish.Goals as goal
 use Rattle.scq_rest.proofs.finishing.finish.Goals.{In-None}
 
@@ -32,6 +32,9 @@ sweep_and_rest-requires-clause-suits g c κs within =
 pub sweep_and_rest-requires-clause-stand : goal.sweep_and_rest-requires-clause-stand
 sweep_and_rest-requires-clause-stand g c κs within = c.requires.stand.0
 
+pub sweep_and_rest-requires-clause-workers : goal.sweep_and_rest-requires-clause-workers
+sweep_and_rest-requires-clause-workers g c κs within = c.requires.workers
+
 pub returns-in-Ok-clause-run : goal.returns-in-Ok-clause-run
 returns-in-Ok-clause-run g c =
     let end = c.in-Ok.ensures in
@@ -50,6 +53,25 @@ returns-in-Ok-clause-waited g c =
     c.sweep_and_rest.new.taker c.args.desk.now.worker.kept (sweeps g (goal.at.returns-in-Ok-clause-waited g c).In-None) bytes_of
     c.args.stand.now.rests rests c.len-topics.result c.len-topics.ensures.value end.taken
     (subst (λ n. HasSweptTold bytes_of c.args.queue.now IsReturn (c.len-topics.result + 1) n was now) all end.swept.2) end.out.told end.out.vain
+
+-- it had asked nothing before, so if one question more was its last, it was its first
+pub returns-in-Ok-clause-rung : goal.returns-in-Ok-clause-rung
+returns-in-Ok-clause-rung g c awake =
+    let now = c.sweep_and_rest.new.taker.pass in
+    let none : c.args.desk.now.worker.worker.pass.gates ≡ 0 =
+    sweep-unasked c.args.queue.now c.args.job.now g.S.Source c.args.desk.now.files.items c.args.desk.now.worker.worker
+    c.args.desk.now.worker.worker c.args.desk.now.worker.kept (sweeps g (goal.at.returns-in-Ok-clause-rung g c).In-None) in
+    c.in-Ok.ensures.rung
+    ∙ ap (λ n. others_more_where (now.gates == n + 1) c.args.stand.now.worker c.args.job.now.workers c.args.stand.now.wakes) none
+
+pub returns-in-Err-clause-rung : goal.returns-in-Err-clause-rung
+returns-in-Err-clause-rung g c awake =
+    let left = c.in-Err.ensures.left 0 in
+    absurd (none-or c.sweep_and_rest.new.taker.pass.spent left.spent.0 left.spent.1 (subst (λ (w : Worker _ _). w.pass.spent ≡ None) c.keep.ensures.same awake))
+
+pub returns-in-Some-clause-rung : goal.returns-in-Some-clause-rung
+returns-in-Some-clause-rung g c awake =
+    absurd (none-or c.args.desk.now.worker.worker.pass.spent c.in-Some.field-0 (sym c.in-Some.ensures) awake)
 
 -- it sends nothing from then on
 pub returns-in-Ok-clause-unsent : goal.returns-in-Ok-clause-unsent

@@ -1,4 +1,4 @@
-use Rattle.std.proofs.Common.{◌≡◌, ◌+◌, ℕ}
+use Rattle.std.proofs.Common.{◌≡◌, ◌⊎◌, ◌+◌, ◌<◌, ℕ, true, false}
 use Rattle.scq_passes.specs.Exports.{AreSweeps, SweepsInVain, HasTakenFollowed}
 use Rattle.scq_rest.specs.Exports.{idle_sweeps}
 use Rattle.scq_rest.proofs.sweeping.sweep_and_rest.Given as goal
@@ -20,4 +20,5 @@ invariant-sweeps g l =
       crew : l.stand.crew ≡ l.fn.stand.crew;
       worker : l.stand.worker ≡ l.fn.stand.worker;
       wakes : l.stand.wakes ≡ l.fn.stand.wakes;
+      first : ((q.gates ≡ p.gates) × (l.first ≡ true)) ⊎ ((p.gates < q.gates) × (l.first ≡ false));
     }

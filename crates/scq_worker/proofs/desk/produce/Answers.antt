@@ -1,6 +1,6 @@
 use Rattle.std.proofs.Common.{◌∙◌, ap, sym, subst, []}
 use Rattle.scq_queue.specs.Exports.{PassStanding}
-use Rattle.scq_worker.specs.Exports.{same-worker, but_wakes, IsWorking}
+use Rattle.scq_worker.specs.Exports.{but_wakes, IsWorking}
 use Rattle.scq_worker.specs.declared.worker.Worker.{Worker}
 use Rattle.scq_worker.proofs.Gathered.{gathered-none}
 use Rattle.scq_desk.proofs.Passes.{none-or}
@@ -23,24 +23,21 @@ fits-at : (g : _) (c : After-pass_all_on g) → g.W.Bell.fits c.args.bell.now (b
 fits-at g c = subst (λ k. g.W.Bell.fits c.args.bell.now k c.args.job.now.workers) (sym c.pass_all_on.ensures.still.bell) c.requires.bell
 
 pub retire-requires-clause-pass : goal.retire-requires-clause-pass
-retire-requires-clause-pass g c κs within = c.in-Ok.ensures.gathered.goes.suits.queue
+retire-requires-clause-pass g c κs = c.in-Ok.ensures.gathered.goes.suits.queue
 
 pub retire-requires-clause-stays : goal.retire-requires-clause-stays
-retire-requires-clause-stays g c κs within = c.in-Ok.ensures.gathered.goes.stays
-
-pub retire-requires-clause-bell : goal.retire-requires-clause-bell
-retire-requires-clause-bell g c κs within = fits-at g (goal.at.retire-requires-clause-bell g c).After-pass_all_on
+retire-requires-clause-stays g c κs = c.in-Ok.ensures.gathered.goes.stays
 
 pub retire-requires-in-Err-clause-pass : goal.retire-requires-in-Err-clause-pass
-retire-requires-in-Err-clause-pass g c κs within =
+retire-requires-in-Err-clause-pass g c κs =
     (c.in-Err.ensures.stopped [] (begun g (goal.at.retire-requires-in-Err-clause-pass g c).After-pass_all_on)).queue
 
 pub retire-requires-in-Err-clause-stays : goal.retire-requires-in-Err-clause-stays
-retire-requires-in-Err-clause-stays g c κs within =
+retire-requires-in-Err-clause-stays g c κs =
     (c.in-Err.ensures.stopped [] (begun g (goal.at.retire-requires-in-Err-clause-stays g c).After-pass_all_on)).stays
 
-pub retire-requires-in-Err-clause-bell : goal.retire-requires-in-Err-clause-bell
-retire-requires-in-Err-clause-bell g c κs within = fits-at g (goal.at.retire-requires-in-Err-clause-bell g c).After-pass_all_on
+pub after_retire-requires-clause-fits : goal.after_retire-requires-clause-fits
+after_retire-requires-clause-fits g c = fits-at g (goal.at.after_retire-requires-clause-fits g c).After-pass_all_on
 
 pub returns-in-Ok : goal.returns-in-Ok
 returns-in-Ok g c =
@@ -68,10 +65,9 @@ returns-in-Ok g c =
           (its.gathered.goes.vain (vain-first q _ _ start.pass.number start.pass c.requires.fresh.pass)) c.retire.ensures.pass c.retire.ensures.same.0
           c.retire.ensures.same.1 (all.kept ∙ c.requires.fresh.kept);
       number = ap (λ (p : PassStanding _). p.number) c.retire.ensures.pass ∙ all.still.pass;
-      bell = c.retire.ensures.bell ∙ all.still.bell;
-      rung = λ awake. rung-retired first.worker job.workers q start.pass.number mid.worker start.pass was.pass now.pass
-          first.wakes mid.wakes (g.W.Bell.seen c.retire.new.stand).wakes
-          c.requires.fresh.pass its.gathered.goes.rung c.retire.ensures.pass (same-worker first mid all.still.bell) c.retire.ensures.rung;
+      bell = all.still.bell;
+      rung = λ awake. rung-retired first.worker job.workers q start.pass.number start.pass was.pass now.pass first.wakes mid.wakes
+          c.requires.fresh.pass its.gathered.goes.rung c.retire.ensures.pass;
     }
 
 -- at a ticket past the limit nothing is said of whom it woke
@@ -90,7 +86,7 @@ returns-in-Err g c =
           now.worker.pass now.worker.members now.worker.starved now.kept c.in-Err.at_limit.held its.files.read its.files.stops end retired
           c.keep.ensures.kept;
       number = ap (λ (p : PassStanding _). p.number) retired ∙ its.still.pass;
-      bell = c.retire-in-Err.ensures.bell ∙ its.still.bell;
+      bell = c.after_retire.ensures.kept ∙ its.still.bell;
       rung = λ awake.
           absurd (none-or now.worker.pass.spent end.spent.0 (ap (λ (p : PassStanding _). p.spent) retired ∙ end.spent.1) awake);
     }

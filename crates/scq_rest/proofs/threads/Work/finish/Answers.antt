@@ -11,6 +11,9 @@ finish-requires-clause-produced g c κs within = c.requires.begun.produced
 pub finish-requires-clause-stand : goal.finish-requires-clause-stand
 finish-requires-clause-stand g c κs within = (c.requires.begun.stand, c.requires.begun.unrested)
 
+pub finish-requires-clause-workers : goal.finish-requires-clause-workers
+finish-requires-clause-workers g c κs within = c.requires.begun.crew
+
 pub returns : goal.returns
 returns g c given one = record {
   run = c.finish.ensures.run;
@@ -22,6 +25,7 @@ returns g c given one = record {
   rung = λ awake.
       let its = c.finish.ensures.unsent awake in
       let t = task c.args.queue.now c.args.job.now c.args.crew.now g.S.Source in
-      rung-on given.stand.worker t.workers c.args.self.now.desk.worker.worker.pass c.finish.new.desk.worker.worker.pass given.stand.wakes
-      c.args.self.now.stand.wakes c.finish.new.stand.wakes its.1 c.finish.ensures.wakes (one.rung its.0);
+      rung-on given.stand.worker c.args.self.now.stand.worker t.workers c.args.self.now.desk.worker.worker.pass
+      c.finish.new.desk.worker.worker.pass given.stand.wakes c.args.self.now.stand.wakes c.finish.new.stand.wakes its.1
+      (ap (λ (p : Post). p.worker) one.stand) (c.finish.ensures.rung awake) (one.rung its.0);
 }

@@ -21,6 +21,7 @@ pub returns-clause-begun : goal.returns-clause-begun
 returns-clause-begun g c = record {
   begun = record {
     produced = c.produce.ensures.produced;
+    crew = c.requires.ready.crew;
     stand = ap (λ (p : Post). p.crew) c.produce.ensures.bell ∙ ap (λ (p : Post). p.crew) c.requires.given.stand;
     unrested = ap (λ (p : Post). p.rests) c.produce.ensures.bell ∙ ap (λ (p : Post). p.rests) c.requires.given.stand;
   };

@@ -3,7 +3,7 @@ use Rattle.std.specs.Prelude.{count_by}
 use Rattle.scq_collect.specs.declared.answered.Answered.{Answered}
 use Rattle.scq_passes.specs.Exports.{is_take, TookInVain, Suits, HasTaken, HasFoundFull, HasLeft}
 use Rattle.scq_queue.specs.Exports.{PassStanding}
-use Rattle.scq_worker.specs.Exports.{parts_of_load, IsLoad, takes_behind, Sends, RingsOn, IsSameWorker, HasSent, HasAnswered}
+use Rattle.scq_worker.specs.Exports.{parts_of_load, IsLoad, takes_behind, Sends, IsSameWorker, HasSent, HasAnswered}
 use Rattle.scq_worker.specs.declared.worker.load.Load.{Load}
 use Rattle.scq_worker.specs.declared.worker.load.Load.TheVariants.{Alone, Together}
 use Rattle.scq_passes.proofs.PassLemmas.{found-full, lent-and-sent, suits-taken}
