@@ -189,16 +189,16 @@ prove() {
     done
 }
 
-# Copies what was built of a crate, here or for a target, to where it is looked for. Never written into: whoever runs it keeps what he has.
+# Copies a file that was built of a crate to where it is looked for. Never written into: whoever runs it keeps what he has.
 put_out() {
-    local crate=$1 place=${2:+$2/}$(file_of "$1") made
+    local crate=$1 place=$2 made
     made=$top/crates/$crate/out/$place
     mkdir -p "$(dirname "$made")"
     cp "$(made_of "$crate")/$place" "$made.new" && mv "$made.new" "$made" || fail "can't write in $(dirname "$made")"
 }
 
-# Builds a proved program or static library, and a static library also for these targets. A program is run, with no
-# words, since only so rt leaves it in out/. Its status is the program's own, so what counts is that rt came to run it.
+# Builds a proved program or static library, and a static library also for these targets, each with the assembly text that it is made of. A program is
+# run, with no words, since only so rt leaves it in out/. Its status is the program's own, so what counts is that rt came to run it.
 build_one() {
     local crate=$1 verb=lib target words=()
     shift
@@ -208,21 +208,23 @@ build_one() {
     start "$crate" env -C "$rooms/$crate/crates/$crate" rt "$verb" --jobs "$(side_by_side)"
     wait "${running[$crate]}" || grep -q "^rt: running out/$crate;" "$rooms/$crate.log" ||
         report_end "$crate" "$(grep -q '^logic=proved' "$rooms/$crate.log" && echo built || echo proved)"
-    put_out "$crate"
+    put_out "$crate" "$(file_of "$crate")"
     for target; do
         say "building $crate for $target, $(so_far) so far"
         { echo "== $crate" && cat "$rooms/$crate.log"; } >>"$log"
         mkdir -p "$(made_of "$crate")/$target"
+        toolchain_that_keeps "$(made_of "$crate")/$target/$crate.s" "$rooms/$crate/toolchain-$target" || fail "can't write in $rooms"
         mapfile -t words < <(words_for "$crate" "$target")
         start "$crate" env -C "$rooms/$crate/crates/$crate" "${words[@]}"
         wait "${running[$crate]}" || report_end "$crate" "built for $target"
-        put_out "$crate" "$target"
+        put_out "$crate" "$target/$(file_of "$crate")"
+        put_out "$crate" "$target/$crate.s"
     done
     end "$crate"
 }
 
-# The command by which a static library is built for another target, a word on a line. rt builds for its own target alone, so this has the
-# words of rt, and the target. The libraries below are of no target; of the crate what is checked already is taken.
+# The command by which a static library is built for a target, a word on a line. rt builds for its own target alone and by its own toolchain, so this
+# has the words of rt, and these. The libraries below are of no target; of the crate what is checked already is taken.
 words_for() {
     local crate=$1 target=$2 of under
     printf '%s\n' "$kit_folder/bin/rattle" build --crate-name "$crate" src/lib.rt --extern "std=$kit_folder/rlibs/std.rlib"
@@ -235,15 +237,15 @@ words_for() {
     printf '%s\n' -L "dependency=$kit_folder/rlibs"
     for under in ${below[$crate]}; do printf '%s\n' -L "dependency=$rooms/$crate/crates/$under/out/rlib"; done
     printf '%s\n' --antt-project "$kit_folder/rattle/logic/antt-project.json" --logic-built "$kit_folder/logic_built" \
-        --jobs "$(side_by_side)" --links "$crate=" --crate-type staticlib --target "$target" --toolchain "$kit_folder/toolchain" \
+        --jobs "$(side_by_side)" --links "$crate=" --crate-type staticlib --target "$target" --toolchain "$rooms/$crate/toolchain-$target" \
         --backend llvm --incremental out/incremental -o "out/$target/$(file_of "$crate")"
 }
 
 # The name of what a crate is built to.
 file_of() { [ -e "$top/crates/$1/src/main.rt" ] && echo "$1" || echo "lib$1.a"; }
 
-# Proves these crates and builds what they are: of a program out/NAME, of a static library out/libNAME.a, and out/TARGET/libNAME.a for each target
-# that stands behind it, as NAME@TARGET@TARGET; then `kit_folder` is the kit's folder. `kit` is the kit's line.
+# Proves these crates and builds what they are: of a program out/NAME, of a static library out/libNAME.a, and out/TARGET/libNAME.a and out/TARGET/NAME.s for
+# each target that stands behind it, as NAME@TARGET@TARGET; then dist/library.bash was read and `kit_folder` is the kit's folder. `kit` is the kit's line.
 build() {
     local crate minutes crates by_chain libraries=() processors packing=()
     local -A below=() sums=() running=()

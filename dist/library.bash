@@ -1,5 +1,6 @@
-# How dist/make links the library, who read this file: for each processor the archive and the shared object, both of one object file. `kit_folder`
-# is the kit's folder, of which all tools are: its clang is also LLVM's linker, llvm-ar, llvm-nm and llvm-objcopy. dist/RECORD names its version.
+# How dist/make and packaging/from-assembly link the library, who read this file: for each processor the archive and the shared object, both of one
+# object file, which is made of the assembly text that stands beside them. `kit_folder` is the kit's folder, of which all tools are: its clang is also
+# LLVM's linker, llvm-ar, llvm-nm and llvm-objcopy. dist/RECORD names its version.
 
 # The version as dist/PACKAGE has it, and its first number: that of the soname, of the symbols' version and of SCQ_VERSION.
 version() { sed -n 's/^version: *//p' "$top/dist/PACKAGE"; }
@@ -16,6 +17,27 @@ target_of() { echo "${1%%-linux/*}-unknown-linux-gnu"; }
 # Compiles C or assembly for a target. There are no headers. Where a processor has atomic instructions beside loops, code that runs on all has loops.
 compile() { tool clang --target="$1" -x "$2" -std=c11 -O3 -fPIC -nostdinc -Wall -Wextra -Werror -Wno-unused-command-line-argument -c "$3" -o "$4"; }
 
+# A toolchain as the kit's in a folder that isn't there yet, whose clang leaves in a file the assembly that it makes of a module: `rattle build` takes
+# it for its own, and no other assembly comes of one. The text has no table of which addresses are taken, which other assemblers don't know.
+toolchain_that_keeps() {
+    local text=$1 folder=$2 of=$kit_folder/toolchain it
+    mkdir -p "$folder/bin" && ln -s "$of/lib" "$folder/lib" || return
+    for it in "$of"/bin/*; do [ "${it##*/}" = clang ] || ln -s "$it" "$folder/bin" || return; done
+    cat >"$folder/bin/clang" <<END_OF_FILE && chmod +x "$folder/bin/clang"
+#!/usr/bin/env bash
+words=()
+for word; do
+    case \$word in
+        -c) words+=(-S -fno-addrsig) ;;
+        *.o) words+=("$text") ;;
+        *) words+=("\$word") ;;
+    esac
+done
+case " \$* " in *' -c -x ir '*) "$of/bin/clang" "\${words[@]}" || exit ;; esac
+exec "$of/bin/clang" "\$@"
+END_OF_FILE
+}
+
 # The global names that an object file defines, and those that it asks for.
 globals_of() { tool llvm-nm -g --defined-only -j "$1"; }
 asked_by() { tool llvm-nm -u -j "$1"; }
@@ -29,7 +51,7 @@ memory_of() {
     esac
 }
 
-# One object file of all objects of these archives, in which the calls, whose names begin with scq_, are global and nothing else is: a program may
+# One object file of these object files and archives, whole, in which the calls, whose names begin with scq_, are global and nothing else is: a program may
 # have a rattle_alloc of its own.
 join() {
     local to=$1 others
@@ -89,12 +111,13 @@ shared() {
         --build-id=sha1 "$from" "$from.libc" -o "$to" && chmod 755 "$to"
 }
 
-# Writes the static library or the shared object for a target, by how the file is called, of this archive, with the calls for memory in it, which is
-# all that a program links.
+# Writes the static library or the shared object for a target, by how the file is called, of this assembly text, with the calls for memory in it, which
+# is all that a program links.
 link_library() {
-    local target=$1 made=$2 to=$3 room status
+    local target=$1 text=$2 to=$3 room status
     room=$(mktemp -d) || return
-    memory_of "$target" "$room/memory.a" && join "$room/joined.o" "$made" "$room/memory.a" && case $to in
+    compile "$target" assembler "$text" "$room/made.o" && memory_of "$target" "$room/memory.a" &&
+        join "$room/joined.o" "$room/made.o" "$room/memory.a" && case $to in
         *.a.new) archive "$target" "$room/joined.o" "$to" ;;
         *) shared "$target" "$room/joined.o" "$to" ;;
     esac

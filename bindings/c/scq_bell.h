@@ -213,6 +213,7 @@ static inline scq_lines scq_bell_rest(scq_lines lines) {
     return scq_lines_of(lines.set & (lines.set - 1));
 }
 
+/* Where the word of a line stands. */
 static inline uint64_t *scq_bell_inside(scq_bell *bell, uint32_t line) {
     return &bell->line[line].inside;
 }

@@ -1,7 +1,7 @@
 """Sends a message and takes it, by the shared object alone: neither header nor compiler is needed. So any language can that opens a shared
 object by name, as dlopen does.
 
-    python3 hello.py [libscq.so.3]
+    python3 by_name.py [libscq.so.3]
 
 The calls and what a caller has to uphold stand in scq(3).
 """
@@ -87,4 +87,5 @@ def main():
     print(f"{counts[0].sent} sent, {counts[1].taken} taken")
 
 
-main()
+if __name__ == "__main__":
+    main()

@@ -1,0 +1,3 @@
+module scq/v3
+
+go 1.19
