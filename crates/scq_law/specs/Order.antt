@@ -107,6 +107,9 @@ pub record IsOneOrder (run : Run) (r : ℕ) (order : List Ordered) : Type 0 wher
   -- the opening puts stand first
   pub first : (a b j seat number : ℕ) → slice_get order a ≡ Some (Opening j)
       → slice_get order b ≡ Some (Call seat number) → a < b
+  -- in the order of their numbers
+  pub ascend : (a b i j : ℕ) → i < j → slice_get order a ≡ Some (Opening i)
+      → slice_get order b ≡ Some (Opening j) → a < b
   -- a call that ended before another started stands before it
   pub real_time : (a b seat call k x : ℕ) → slice_get order a ≡ Some (Call seat (call + 1))
       → slice_get order b ≡ Some (Call k (x + 1))

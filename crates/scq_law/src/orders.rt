@@ -14,9 +14,9 @@ ghost use Rattle.scq_law.specs.Exports.{CallsApart};
 ghost use Rattle.scq_law.specs.RunSteps.{Run};
 
 /// In every run whose calls have all ended, the order of each ring has all its calls but those that
-/// ended with Spent, once, and the opening puts first; a call that ended before another started
-/// stands before it; each point lies between its call's first and last step; and each reply is what
-/// a plain queue replies.
+/// ended with Spent, once, and the opening puts first, in the order of their numbers; a call that
+/// ended before another started stands before it; each point lies between its call's first and last
+/// step; and each reply is what a plain queue replies.
 pub fn orders_are_plain_queues()
     ensures { (run : Run) (r : ℕ) (order : List Ordered) → IsFinishedRun run
         → IsLinearization run r order → IsOneOrder run r order }

@@ -231,6 +231,37 @@ module _ (run : Run) (fin : IsFinishedRun run) (r : ℕ) where
               ]
         ]
 
+    ascend : (a b i j : ℕ) → i < j → slice_get order a ≡ Some (Opening i) → slice_get order b ≡ Some (Opening j) → a < b
+    ascend a b i j low at_one at_two =
+        let one = keyed (Opening i) (a, at_one) in
+        let two = keyed (Opening j) (b, at_two) in
+        let one_is = (opening_of run r (Opening i) one.0 one.1 i refl).2 in
+        let two_is = (opening_of run r (Opening j) two.0 two.1 j refl).2 in
+        let one_point : one.0.point ≡ 0 = ap (λ (f : Key). f.point) one_is in
+        let two_point : two.0.point ≡ 0 = ap (λ (f : Key). f.point) two_is in
+        let one_kind : one.0.kind ≡ 1 = ap (λ (f : Key). f.kind) one_is in
+        let two_kind : two.0.kind ≡ 1 = ap (λ (f : Key). f.kind) two_is in
+        let one_place : one.0.place ≡ ring_slots run.setup + i = ap (λ (f : Key). f.place) one_is in
+        let two_place : two.0.place ≡ ring_slots run.setup + j = ap (λ (f : Key). f.place) two_is in
+        elim (cases_lt a b) [
+          | inl less ↦ less
+          | inr high ↦
+              elim (cases_eq a b) [
+                | inl same ↦
+                    let both : Some (Opening i) ≡ Some (Opening j) = sym at_one ∙ ap (slice_get order) same ∙ at_two in
+                    let equal : i ≡ j = cc in
+                    absurd (omega arith)
+                | inr other ↦
+                    elim (lin.sorted b a (Opening j) (Opening i) two.0 one.0 (omega arith) at_two at_one two.1 one.1).before [
+                      | inl back ↦ absurd (omega arith)
+                      | inr tie ↦ elim tie.1 [
+                        | inl kinds ↦ absurd (omega arith)
+                        | inr places ↦ (let less = places.1 in absurd (omega arith))
+                      ]
+                    ]
+              ]
+        ]
+
     real_time : (a b seat call k x : ℕ) → slice_get order a ≡ Some (Call seat (call + 1)) → slice_get order b ≡ Some (Call k (x + 1))
         → EndedBefore run seat call k x → a < b
     real_time a b seat call k x at_first at_second apart_in_time =
@@ -270,6 +301,7 @@ module _ (run : Run) (fin : IsFinishedRun run) (r : ℕ) where
               λ j at. (let mine = lin.only (Opening j) at in let is = opening_of run r (Opening j) mine.0 mine.1 j refl in (is.0, is.1));
           once = once;
           first = first;
+          ascend = ascend;
           real_time = real_time;
           points = λ seat call f has. points_within run fin.recorded fin.is_run r seat call f has;
           plain = plain_answers;
