@@ -678,10 +678,10 @@ static inline void scq_locate(const scq_port *port, uint32_t answer, scq_held *o
  *
  * Tested: that the port is open, and holds fewer buffers than it may.
  * Answers: SCQ_OK; SCQ_CLOSED; SCQ_NO_ROOM; SCQ_FULL where, at a moment of the call, each buffer
- * that was given back had been lent, or a lend under way may still get it; out->place is a number
- * that the head of the stock has reached: each buffer that was given back at a place below it has
- * been lent, or is being lent; SCQ_SPENT, and out->place is the ticket. Where it isn't SCQ_OK,
- * out->at is null and out->len 0. */
+ * that was free at first or given back had been lent, or a lend under way may still get it;
+ * out->place is a number that the stock's head has reached: each that came there at a place below
+ * it has been lent, or is being lent; SCQ_SPENT, and out->place is the ticket. Where it isn't
+ * SCQ_OK, out->at is null and out->len 0. */
 static inline SCQ_ANSWERED uint32_t scq_lend(scq_port *port, scq_held *out) {
     const uint32_t answer = scq_lend_index(port, out);
     scq_locate(port, answer, out);
