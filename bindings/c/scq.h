@@ -132,11 +132,11 @@ typedef struct scq_held {
     uint32_t begun;    /* for scq_pack: 0 where the first message begins the packing */
 } scq_held;
 
-/* What a port did so far. */
+/* What a port did so far: each up to 2^64 - 1. */
 typedef struct scq_counts {
-    uint64_t sent;  /* how many buffers it sent */
-    uint64_t taken; /* how many it took */
-    uint64_t full;  /* how often it was answered SCQ_FULL */
+    uint64_t sent;  /* buffers that it sent */
+    uint64_t taken; /* that it took */
+    uint64_t full;  /* answers SCQ_FULL */
 } scq_counts;
 
 /* What became of a queue when a port was closed. */
@@ -678,10 +678,10 @@ static inline void scq_locate(const scq_port *port, uint32_t answer, scq_held *o
  *
  * Tested: that the port is open, and holds fewer buffers than it may.
  * Answers: SCQ_OK; SCQ_CLOSED; SCQ_NO_ROOM; SCQ_FULL where, at a moment of the call, each buffer
- * that was given back had been lent, or a lend under way may still get it; out->place is a number
- * that the head of the stock has reached: each buffer that was given back at a place below it has
- * been lent, or is being lent; SCQ_SPENT, and out->place is the ticket. Where it isn't SCQ_OK,
- * out->at is null and out->len 0. */
+ * that was free at first or given back had been lent, or a lend under way may still get it;
+ * out->place is a number that the stock's head has reached: each that came there at a place below
+ * it has been lent, or is being lent; SCQ_SPENT, and out->place is the ticket. Where it isn't
+ * SCQ_OK, out->at is null and out->len 0. */
 static inline SCQ_ANSWERED uint32_t scq_lend(scq_port *port, scq_held *out) {
     const uint32_t answer = scq_lend_index(port, out);
     scq_locate(port, answer, out);
@@ -707,8 +707,9 @@ static inline SCQ_ANSWERED uint32_t scq_take(scq_port *port, uint32_t topic, scq
 
 /* Sends the buffer of this index on a topic, and writes to `place` at which place, if it isn't
  * null. Places of one topic rise in the order of sends that follow one another: of one port's at
- * each call, of all where scq_end tells of the last; then no two buffers of a topic have had the
- * same. Those of different topics can't be compared. (The exported call wants a `place`.)
+ * each call, of all as the machine draws them, which no clause says. Where scq_end tells of the
+ * last no two of a topic are the same. Those of different topics can't be compared. (The exported
+ * call wants a `place`.)
  *
  * Tested: that the port is open, the topic, that the port hasn't retired, and that it holds a
  * buffer of this index.
@@ -824,14 +825,14 @@ uint32_t scq_spent(scq_port *port, uint64_t *ticket);
  * holds; where its tickets have run out, what can't be given back stays with the queue, which lends
  * it to nobody (tested). The last port of a queue frees what the library took, with what stands on
  * the topics, and is told so: just one port is, and all others had closed by then (tested). Proved
- * of the port that is told so: its calls, and those of a record for each other port, but for those
- * that a test or a kept ticket refused, stand in one run of the machine, with their answers: each
- * buffer that was taken was sent on that topic at that place, no place of a topic was sent at or
- * taken at twice, what was sent less what was taken is what was left, and the calls of each topic,
- * and those of the free buffers, but for those answered SCQ_SPENT, stand in one order in which
- * every answer is a plain queue's. That these records are the other ports' calls is tested. Then
- * `counts` has what each port of the queue did, in the order in which they were opened: of the
- * first `n` of them. port->memory is left as it was.
+ * of that one: its lends, takes, sends and give-backs, and those of a record for each other port,
+ * but those that a test or a kept ticket refused, stand in one run of the machine, with their
+ * answers: each buffer taken was sent on that topic at that place, no place of a topic was sent at
+ * or taken at twice, what was sent less what was taken is what was left, and the calls of each
+ * topic, and of the free buffers, but those answered SCQ_SPENT, stand in one order in which every
+ * answer is a plain queue's. That these records are the other ports' calls is tested. Then `counts`
+ * has what each port of the queue did, in the order in which they were opened: of the first `n`.
+ * port->memory is left as it was.
  *
  * Tested: that the port is open.
  * Answers: SCQ_OK; SCQ_CLOSED. */
