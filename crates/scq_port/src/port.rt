@@ -158,7 +158,7 @@ impl Port {
         self.sends = 0;
     }
 
-    /// Whether all ports of its queue had retired, at this call's one step.
+    /// Whether the count of its queue's ports that are awake was read as 0, at this call's one step.
     pub fn all_retired(&mut self) -> bool
         ensures { (found : ℕ) × HasAsked found self.old self.new × (result ≡ (found == 0)) }
     {
@@ -201,7 +201,7 @@ impl Port {
 
     /// Closes the port, as dropping it does: retires it, gives back what it holds, and answers how
     /// it ended, for contracts alone. The last port of a queue that closes closes the queue, and is
-    /// told of all passes together.
+    /// told of all passes together. That some port is told no clause says.
     ///
     /// Where the pass keeps a spent ticket, or draws one, what can't be given back goes with it,
     /// and back to the queue where that closes.
