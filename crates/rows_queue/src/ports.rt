@@ -1,4 +1,6 @@
 //! Calls of the ports of a queue, each of which tests what a caller of the queue proves.
+ghost use Rattle.std.specs.Prelude.{◌≡◌, All};
+ghost use Rattle.scq_port.specs.Exports.{PortQueue};
 
 use anyhow::{Context, Result, ensure};
 use rows_text::field;
@@ -92,11 +94,31 @@ fn make(into: &mut String, ports: &mut Vec<Port>, call: &str) -> Result<()> {
     }
 }
 
-/// Two ports with one topic over two buffers, with this limit, each of which may hold so many.
+/// The first of a queue's ports and the last tell each other what they have seen: by a mark, which
+/// the last heeds, and by meeting.
+fn tell_each_other(ports: &mut Vec<Port>)
+    requires own { (queue : PortQueue) × All (λ p. p.pass.queue ≡ queue) ports.old.items }
+{
+    let Some(mut last) = ports.pop() else {
+        return;
+    };
+    if let Some(first) = ports.first_mut() {
+        let mark = first.mark();
+        last.heed(mark);
+        last.look();
+        first.meet(&mut last);
+    }
+    ports.push_reserved(last);
+}
+
+/// Two ports with one topic over two buffers, with this limit, each of which may hold so many. They
+/// have met.
 fn opened(alloc: Global, given: &str) -> Result<Vec<Port>> {
     let limit = field(given, 0).parse::<u64>()?;
     let setup = Setup::new(1, 2, 2, limit)?;
-    Ok(open(alloc, setup, number(given, 1))?)
+    let mut ports = open(alloc, setup, number(given, 1))?;
+    tell_each_other(&mut ports);
+    Ok(ports)
 }
 
 /// `LIMIT HOLD; PORT CALL ..; ..`, of two ports with one topic over two buffers, each of which may
