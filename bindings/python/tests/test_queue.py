@@ -155,6 +155,9 @@ class AsStandard(AsQueue):
     def test_each_once(self):
         self.each(64, 4, 4, COUNT // 100)
 
+    def test_interrupted(self):
+        """Not asked: where a handler raises while its Python code runs, its lock may stay taken."""
+
 
 class OfPackage(unittest.TestCase):
     def test_room(self):
