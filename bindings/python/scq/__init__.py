@@ -9,16 +9,20 @@
 
 An item stands in C's queue once put returns, and the order is that queue's. A thread that waits sleeps by a bell (scq_bell.h), without the interpreter's
 lock. All else is done with that lock held, so that the calls of one queue follow one another: so qsize, full and empty are right when they answer.
-A build of Python without that lock takes it as long as this module is loaded. A queue is of one interpreter and one process: after a fork the child's
-calls answer RuntimeError.
+A build of Python without that lock takes it from this module's import on; where PYTHON_GIL=0 forbids that, the import is refused. A queue is of one
+interpreter and one process: after a fork the child's calls answer RuntimeError.
 """
 
 import asyncio
 import os
+import sys
 from queue import Empty, Full
 
 from . import _scq
 from ._scq import ShutDown
+
+if not getattr(sys, "_is_gil_enabled", lambda: True)():
+    raise ImportError("scq takes the interpreter's lock, which PYTHON_GIL or -X gil has switched off")
 
 __all__ = ["Empty", "Full", "MAX_SIZE", "Queue", "ShutDown"]
 

@@ -1,4 +1,6 @@
-"""The package's tests: python3 -X dev test_queue.py. COUNT of the environment is how many items threads send."""
+"""The package's tests: python3 -X dev test_queue.py. COUNT of the environment is how many items threads send through each room. Where JUDGE names the
+program scq, it judges what threads do, as recorders/recorder.py, on PYTHONPATH, records it.
+"""
 
 import asyncio
 import gc
@@ -6,7 +8,9 @@ import logging
 import os
 import queue
 import signal
+import subprocess
 import sys
+import tempfile
 import threading
 import time
 import unittest
@@ -16,6 +20,9 @@ import scq
 
 logging.getLogger("asyncio").setLevel(logging.ERROR)  # on a busy machine -X dev tells of each slow step
 COUNT = int(os.environ.get("COUNT", "100000"))
+JUDGE = os.environ.get("JUDGE")
+if JUDGE:
+    import recorder
 
 
 class Thing:
@@ -119,9 +126,9 @@ class AsQueue(unittest.TestCase):
                 self.assertEqual(mine, sorted(mine))
 
     def test_each_once(self):
-        self.each(64, 4, 4, COUNT)
-        self.each(1, 2, 3, COUNT // 100)
-        self.each(3, 3, 2, COUNT // 100)
+        for room, putters, getters in ((64, 4, 4), (1, 2, 3), (3, 3, 2)):
+            with self.subTest(room=room):
+                self.each(room, putters, getters, COUNT)
 
     def test_interrupted(self):
         def handler(number, frame):
@@ -147,6 +154,9 @@ class AsStandard(AsQueue):
 
     def test_each_once(self):
         self.each(64, 4, 4, COUNT // 100)
+
+    def test_interrupted(self):
+        """Not asked: where a handler raises while its Python code runs, its lock may stay taken."""
 
 
 class OfPackage(unittest.TestCase):
@@ -333,6 +343,53 @@ class OfTasks(unittest.TestCase):
                 await full
 
         asyncio.run(main())
+
+
+class OfHistories(unittest.TestCase):
+    def recorded(self, room, folder):
+        """Records six threads, of which three put; the queue is shut down behind their puts."""
+        q, made, seats = scq.Queue(room), recorder.Recorder(), []
+
+        def put(seat):
+            for k in range(2000):
+                value = seat.put_start(0)
+                try:
+                    q.put(value, block=k % 3 != 0)
+                except queue.Full:
+                    seat.put_refused()
+                else:
+                    seat.put_done()
+
+        def get(seat):
+            for k in range(1000000):
+                seat.get_start(0)
+                try:
+                    seat.get_got(q.get(block=k % 3 != 0))
+                except (queue.Empty, scq.ShutDown) as error:
+                    seat.get_nothing()
+                    if isinstance(error, scq.ShutDown):
+                        return
+
+        for number in range(6):
+            seats.append(made.open(number, f"{folder}/{number}.log"))
+
+        def ended():
+            run(*(lambda seat=seat: put(seat) for seat in seats[:3]))
+            q.shutdown()
+
+        run(ended, *(lambda seat=seat: get(seat) for seat in seats[3:]))
+        for seat in seats:
+            seat.close()
+
+    @unittest.skipUnless(JUDGE, "there is no judge")
+    def test_histories_are_judged(self):
+        for room in (1, 3, 64):
+            with tempfile.TemporaryDirectory() as folder:
+                self.recorded(room, folder)
+                files = [f"{folder}/{name}" for name in sorted(os.listdir(folder))]
+                judged = subprocess.run([JUDGE, "judge", "--room", str(room), *files], capture_output=True, text=True)
+            for line in ("fresh", "once", "in order", "empty", "refused never got", "full"):
+                self.assertIn(f"{line} holds\n", judged.stdout, judged)
 
 
 if __name__ == "__main__":
