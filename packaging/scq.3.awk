@@ -1,7 +1,8 @@
-# Makes the manual page scq(3), or scq_bell(3), of the header and of its own frame, so that what stands in the header stands on the page:
+# Makes the manual page scq(3), scq_bell(3) or scq_ring(3), of the header and of its own frame, so that what stands in the header stands on the page:
 #
 #     awk -f scq.3.awk scq.h scq.3
 #     awk -f scq.3.awk scq_bell.h scq_bell.3
+#     awk -f scq.3.awk scq_ring.h scq_ring.3
 #
 # The frame's lines @HEAD@, @SYNOPSIS@, @TYPES@, @CALLS@ and @ANSWERS@ are filled by the header's first comment, its declarations with their
 # comments, its structs, and its enumeration. Of an inline function the head is taken, and not the body.

@@ -6,6 +6,8 @@
 //     port.put(value)         a free buffer is got, the value written into it, and it is sent; whether one was free
 //     port.get(value)         one is taken, its value read, and it is given back; whether one was
 //     port.flush()            sends and gives back what the port keeps, where messages go packed
+//     port.put_several(values, count), port.get_several(values, count)
+//                             of some: calls of several, which say how many went
 //
 // With -DBARE no byte is written, and the value that is got is the number of the buffer.
 #pragma once

@@ -3,7 +3,7 @@
 //     recorded FOLDER CALLS [counter]
 //
 // Each makes so many steps, of two puts for one get and the other way round in turn, so that the queue of 64 buffers
-// is full and empty now and then. By the processor's clock, or the counter.
+// is full and empty now and then. By the processor's clock, or the counter. With -DSEVERAL=4 a call has so many values.
 #include "recorder.h"
 #include "queue.hpp"
 #include QUEUE
@@ -13,8 +13,28 @@
 #ifndef RECORDED_THREADS
 #define RECORDED_THREADS 4
 #endif
+#ifndef SEVERAL
+#define SEVERAL 1
+#endif
 constexpr uint32_t ORDER = 6, THREADS = RECORDED_THREADS;
 
+#if SEVERAL > 1
+static void run(Port &port, scq_seat &seat, uint64_t calls) {
+    uint64_t values[SEVERAL];
+    for (uint64_t k = 0; k < calls / SEVERAL; k++) {
+        const bool fills = k / (512 / SEVERAL) % 2 == 0;
+        if (fills || k % 2) {
+            scq_puts_start(&seat, 0, values, SEVERAL);
+            scq_puts_end(&seat, SEVERAL, port.put_several(values, SEVERAL));
+        }
+        if (!fills || k % 2) {
+            scq_gets_start(&seat, 0, SEVERAL);
+            const size_t got = port.get_several(values, SEVERAL);
+            scq_gets_end(&seat, values, SEVERAL, got, SCQ_NOTHING);
+        }
+    }
+}
+#else
 static void run(Port &port, scq_seat &seat, uint64_t calls) {
     uint64_t value;
     for (uint64_t k = 0; k < calls; k++) {
@@ -29,6 +49,7 @@ static void run(Port &port, scq_seat &seat, uint64_t calls) {
         }
     }
 }
+#endif
 
 int main(int argc, char **argv) {
     if (argc < 3) return 2;
@@ -44,7 +65,7 @@ int main(int argc, char **argv) {
         threads.emplace_back([&, number] {
             Port port(queue, number);
             scq_seat &seat = seats[number];
-            if (!scq_seat_init(&seat, &recorder, number, 4 * calls)) fail("no memory");
+            if (!scq_lanes_init(&seat, &recorder, number * SEVERAL, SEVERAL, 4 * calls)) fail("no memory");
             waiting--;
             while (waiting) std::this_thread::yield();
             run(port, seat, calls);

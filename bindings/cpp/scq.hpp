@@ -531,8 +531,8 @@ class Port {
     detail::Shared shared_;
 };
 
-// What came of a call of several: how many buffers went, and Ok where all did, or why the next
-// didn't.
+// What came of a call of several: how many buffers, or values, went, and Ok where all did, or why
+// the next didn't.
 struct Several {
     Answer answer;
     std::size_t done;
@@ -837,12 +837,12 @@ template <class T> class Ring {
             Room(const Room &) = delete;
             Room &operator=(const Room &) = delete;
             ~Room() {
-                if (handle_ != nullptr) handle_->rooms_ = outer_;
                 if (is_held_) {
                     slot().end();
                     if (scq_give_back(&worker_->port, held_.index) == SCQ_OK)
                         worker_->tie.ring(detail::FreeLine);
                 }
+                if (handle_ != nullptr) handle_->rooms_ = outer_;
                 if (handle_ == nullptr && outer_ == nullptr) worker_->~Worker();
             }
 
@@ -978,6 +978,33 @@ template <class T> class Ring {
             return std::optional<T>(std::move(room.value()));
         }
 #endif
+
+        // Several at a time: the call of one value for each, in their order, until one is refused:
+        // how many went, and why that one didn't. For values whose moves don't throw.
+        //
+        // Moves the values from here to the end of the ring. Those that didn't go are there as they
+        // were.
+        SCQ_NODISCARD Several push_many(T *values, std::size_t count) noexcept {
+            static_assert(is_nothrow_pushed, "a move of several doesn't throw");
+            Several went{*this ? Answer::Ok : Answer::Closed, 0};
+            while (went && went.done < count) {
+                went.answer = push(std::move(values[went.done]));
+                if (went) went.done++;
+            }
+            return went;
+        }
+
+        // Moves the first values of the ring to here.
+        SCQ_NODISCARD Several pop_many(T *values, std::size_t count) noexcept {
+            static_assert(std::is_nothrow_move_assignable<T>::value,
+                          "a move of several doesn't throw");
+            Several came{*this ? Answer::Ok : Answer::Closed, 0};
+            while (came && came.done < count) {
+                came.answer = pop(values[came.done]);
+                if (came) came.done++;
+            }
+            return came;
+        }
 
         // How many values there is room for.
         std::size_t capacity() const noexcept { return *this ? worker_.share.get()->capacity : 0; }

@@ -2,7 +2,9 @@
 //! `bare` no byte is written, and the value that is got is the buffer's number.
 
 #[cfg_attr(feature = "array", path = "array.rs")]
-#[cfg_attr(not(feature = "array"), path = "scq.rs")]
+#[cfg_attr(feature = "one", path = "one.rs")]
+#[cfg_attr(feature = "ring", path = "ring.rs")]
+#[cfg_attr(feature = "scq", path = "scq.rs")]
 mod queue;
 
 use queue::Port;

@@ -1,9 +1,9 @@
-/* bells HANDS THREADS SECONDS SEED: hand-overs by a bell, in three ways, which have to end in their
- * time. In a ring of threads each takes from a topic of its own and sends on the next one's, with
- * as many tokens as the seed says, so that most of them sleep: where one wake is lost all stop.
- * Then senders and takers share topics over few buffers, so that they wait for buffers too; the
- * takers wait for one topic, for several, with and without an end of time; each message has to come
- * once. Then in each of many rounds three threads wait, for a topic, for another, and for either,
+/* bells HANDS THREADS SECONDS SEED: hand-overs by a bell, in three ways, of which one has to come
+ * in each so many seconds. In a ring of threads each takes from a topic of its own and sends on the
+ * next one's, with as many tokens as the seed says, so that most of them sleep: where one wake is
+ * lost all stop. Then senders and takers share topics over few buffers, so that they wait for
+ * buffers too; the takers wait for one topic, for several, with and without an end of time; each
+ * message has to come once. Then in each of many rounds three threads wait, for a topic, for another, and for either,
  * and two messages have to come to two of them.
  *
  * Compiled with -DPAUSES it pauses at random before each atomic step of the bell, before each call
@@ -67,6 +67,26 @@ static scq_port ports[2 * MOST];
 static uint64_t hands, seed;
 static uint32_t threads, topics;
 
+/* How many hand-overs there were, in each of the three ways. */
+static uint64_t handed, drawn, taken_of_all;
+
+/* Looks each so many seconds whether there were any since. */
+static uint64_t seen_before;
+static unsigned seconds;
+
+static void look(int signal) {
+    static const char text[] = "it hangs\n";
+    const uint64_t seen = __sync_add_and_fetch(&handed, 0) + __sync_add_and_fetch(&drawn, 0) +
+                          __sync_add_and_fetch(&taken_of_all, 0);
+    (void)signal;
+    if (seen == seen_before) {
+        if (write(2, text, sizeof text - 1) < 0) _exit(4);
+        _exit(3);
+    }
+    seen_before = seen;
+    alarm(seconds);
+}
+
 /* Numbers of a thread's own, by xorshift. */
 static uint64_t next(uint64_t *state) {
     *state ^= *state << 13;
@@ -90,13 +110,6 @@ static void pause_here(void) {
 }
 #endif
 
-static void ends_too_late(int signal) {
-    static const char text[] = "it hangs\n";
-    (void)signal;
-    if (write(2, text, sizeof text - 1) < 0) _exit(4);
-    _exit(3);
-}
-
 static void run_all(void *(*const *runs)(void *), uint32_t count) {
     pthread_t ids[2 * MOST];
     static uint32_t numbers[2 * MOST];
@@ -110,7 +123,6 @@ static void run_all(void *(*const *runs)(void *), uint32_t count) {
 /* -- A ring of threads: what is on its way at the end stays on the topics -------------------------
  */
 
-static uint64_t handed;
 static scq_watch watches[MOST];
 static sem_t flags[MOST];
 
@@ -185,7 +197,6 @@ static void ring_of_threads(void) {
 
 static uint32_t senders, senders_left;
 static unsigned char *came;
-static uint64_t drawn;
 
 /* What a message is. It is written and read as an atomic, as a checker of races doesn't see into
  * the library, which orders the two. */
@@ -266,7 +277,7 @@ static void senders_and_takers(void) {
 enum { ONE, OTHER };
 
 static pthread_barrier_t begin;
-static uint64_t rounds, taken_of_all;
+static uint64_t rounds;
 
 /* Waits for the lines of its number: both topics, or one. */
 static void *takes_one(void *handed_over) {
@@ -334,8 +345,9 @@ int main(int count, char **words) {
     threads = (uint32_t)strtoul(words[2], NULL, 10);
     seed = strtoull(words[4], NULL, 10);
     CHECK(threads >= 1 && threads <= MOST);
-    signal(SIGALRM, ends_too_late);
-    alarm((unsigned)strtoul(words[3], NULL, 10));
+    seconds = (unsigned)strtoul(words[3], NULL, 10);
+    signal(SIGALRM, look);
+    alarm(seconds);
     ring_of_threads();
     senders_and_takers();
     rounds_of_three();

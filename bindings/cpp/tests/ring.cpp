@@ -147,6 +147,37 @@ static void what_throws_is_handed_on() {
     }
 }
 
+// More than are handed on at once, up to the room and to what there is, and past both.
+static void several_at_a_time() {
+    {
+        Ring<Box> ring;
+        CHECK(ring.open(7, 2) == Answer::Ok);
+        auto one = ring.handle(), other = ring.handle();
+        for (std::size_t count = 0; count <= 200; count++) {
+            const std::size_t go = count < 128 ? count : 128;
+            std::vector<Box> in, out(200);
+            for (std::size_t k = 0; k < 200; k++) in.emplace_back(new Counted(k));
+            const scq::Several pushed = one.push_many(in.data(), count);
+            CHECK(pushed.done == go && pushed.answer == (count > 128 ? Answer::Full : Answer::Ok));
+            for (std::size_t k = 0; k < 200; k++) CHECK((k < go) == !in[k]);
+            const scq::Several first = other.pop_many(out.data(), go / 2);
+            CHECK(first && first.done == go / 2);
+            const scq::Several rest = one.pop_many(out.data() + go / 2, 200 - go / 2);
+            CHECK(rest.answer == Answer::Empty && rest.done == go - go / 2);
+            for (std::size_t k = 0; k < 200; k++)
+                CHECK(k < go ? out[k] && out[k]->number == k : !out[k]);
+            CHECK(alive == 200);
+        }
+        Ring<Box>::Handle none;
+        Box box(new Counted(7));
+        const scq::Several closed = none.push_many(&box, 1);
+        CHECK(closed.answer == Answer::Closed && closed.done == 0 && box);
+        CHECK(none.pop_many(&box, 1).answer == Answer::Closed && box);
+        CHECK(one.push_many(&box, 1) && !box); // which goes with the ring
+    }
+    CHECK(alive == 0);
+}
+
 // A value that can be neither copied nor assigned.
 struct Fixed {
     const std::uint64_t number;
@@ -181,6 +212,72 @@ static void tickets_run_out() {
     CHECK(alive == 0);
 }
 
+// The same several at a time: what is refused comes back, in its order.
+static void tickets_run_out_between() {
+    {
+        Ring<Box> ring;
+        CHECK(ring.open(2, 2, 32) == Answer::Ok);
+        Ring<Box>::Handle handles[2] = {ring.handle(), ring.handle()};
+        std::uint64_t pushed = 0, popped = 0;
+        for (int turn = 0, spent = 0; spent < 20; turn++) {
+            auto &handle = handles[turn % 2];
+            Box in[3], out[3];
+            for (std::uint64_t k = 0; k < 3; k++) in[k].reset(new Counted(pushed + k));
+            const scq::Several went = handle.push_many(in, 3);
+            for (std::uint64_t k = 0; k < 3; k++) {
+                CHECK((k < went.done) == !in[k]);
+                CHECK(!in[k] || in[k]->number == pushed + k);
+            }
+            pushed += went.done;
+            spent += went.answer == Answer::Spent ? 1 : 0;
+            const scq::Several came = handle.pop_many(out, 3);
+            for (std::uint64_t k = 0; k < came.done; k++) CHECK(out[k]->number == popped + k);
+            popped += came.done;
+            CHECK(turn < 1000);
+        }
+        CHECK(pushed >= 20 && popped <= pushed);
+    }
+    CHECK(alive == 0);
+}
+
+// A value whose end calls this, if it is there; one that it is assigned to leaves it there.
+struct Calls {
+    void (*at_end)() = nullptr;
+
+    Calls() = default;
+    Calls(Calls &&other) noexcept : at_end(other.at_end) { other.at_end = nullptr; }
+    Calls &operator=(Calls &&) noexcept { return *this; }
+    ~Calls() {
+        if (at_end != nullptr) at_end();
+    }
+};
+
+static Ring<Calls> *calling;
+static Ring<Calls>::Handle *called_by;
+
+static void a_value_that_ends_may_replace_the_handle() {
+    Ring<Calls> ring;
+    CHECK(ring.open(2, 1) == Answer::Ok);
+    auto handle = ring.handle();
+    calling = &ring;
+    called_by = &handle;
+    for (int turn = 0; turn < 100; turn++) {
+        Calls in[4], out[4];
+        in[1].at_end = [] {
+            *called_by = Ring<Calls>::Handle();
+            CHECK(!calling->handle()); // it is at work as long as the call
+        };
+        CHECK(handle.push_many(in, 4).done == 4);
+        for (std::size_t popped = 0; popped < 4;) {
+            const scq::Several came = handle.pop_many(out, turn % 2 == 0 ? 1 : 4);
+            CHECK(came.done > 0);
+            popped += came.done;
+            if (!handle) handle = ring.handle();
+            CHECK(handle);
+        }
+    }
+}
+
 struct alignas(128) Wide {
     unsigned char bytes[200];
 };
@@ -208,8 +305,9 @@ static void values_come_as_optional() {
 #endif
 }
 
-// Each of the threads pushes its boxes and pops what it finds, with a handle that it lets go of now
-// and then; some boxes are angry, so that their copies throw in between.
+// Each of the threads pushes its boxes and pops what it finds, one by one or several at a time,
+// with a handle that it lets go of now and then; some boxes are angry, so that their copies throw
+// in between.
 static void boxes_between_threads(std::uint64_t boxes, std::uint64_t threads) {
     Ring<Box> ring;
     Ring<Counted> copies;
@@ -221,27 +319,41 @@ static void boxes_between_threads(std::uint64_t boxes, std::uint64_t threads) {
         all.emplace_back([&, t] {
             auto thrown = copies.handle();
             std::uint64_t next = t;
-            Box mine;
+            Box mine[40], got[40];
+            std::size_t have = 0;
             for (; popped < boxes; std::this_thread::yield()) { // so that another gets the handle
                 auto handle = ring.handle();
                 for (int i = 0; handle && i < 1000 && popped < boxes; i++) {
-                    if (!mine && next < boxes) {
-                        mine.reset(new Counted(next));
-                        next += threads;
+                    for (; have < 40 && next < boxes; next += threads)
+                        mine[have++].reset(new Counted(next));
+                    const std::size_t at_once = i / 8 % 2 == 0 ? 1 : 40;
+                    scq::Several went{Answer::Ok, 0}, came{Answer::Ok, 0};
+                    if (at_once > 1) {
+                        went = handle.push_many(mine, have);
+                        came = handle.pop_many(got, at_once);
+                    } else {
+                        if (have != 0) went.answer = handle.push(std::move(mine[0]));
+                        went.done = have != 0 && went ? 1 : 0;
+                        came.answer = handle.pop(got[0]);
+                        came.done = came ? 1 : 0;
                     }
-                    const bool is_full = mine && handle.push(std::move(mine)) == Answer::Full;
-                    Box got;
-                    if (handle.pop(got) == Answer::Ok) {
-                        CHECK(seen[got->number].fetch_add(1) == 0);
+                    for (std::size_t k = went.done; k < have; k++)
+                        mine[k - went.done] = std::move(mine[k]);
+                    have -= went.done;
+                    const bool is_full = went.answer == Answer::Full;
+                    for (std::size_t k = 0; k < came.done; k++) {
+                        CHECK(seen[got[k]->number].fetch_add(1) == 0);
                         popped++;
-                        got->angry = got->number % 1000 == 7;
+                        got[k]->angry = got[k]->number % 1000 == 7;
                         try {
-                            CHECK(thrown.push(*got) == Answer::Ok);
-                            CHECK(thrown.pop(*got) == Answer::Ok);
+                            CHECK(thrown.push(*got[k]) == Answer::Ok);
+                            CHECK(thrown.pop(*got[k]) == Answer::Ok);
                         } catch (const std::runtime_error &) {
                             threw++;
                         }
-                    } else if (is_full || next >= boxes) {
+                        got[k].reset();
+                    }
+                    if (came.done == 0 && (is_full || next >= boxes)) {
                         std::this_thread::yield();
                     }
                 }
@@ -265,7 +377,10 @@ int main(int count, char **words) {
     what_is_left_ends_with_the_last_owner();
     what_throws_is_handed_on();
     CHECK(alive == 0);
+    several_at_a_time();
     tickets_run_out();
+    tickets_run_out_between();
+    a_value_that_ends_may_replace_the_handle();
     values_are_aligned();
     values_come_as_optional();
     boxes_between_threads(boxes, threads);

@@ -42,7 +42,7 @@ impl fmt::Display for Stopped {
 
 impl Error for Stopped {}
 
-/// How many buffers went, and why the next didn't, where one didn't.
+/// How many buffers, or values, went, and why the next didn't, where one didn't.
 #[derive(Clone, Copy, Debug, PartialEq, Eq, Hash)]
 #[must_use = "it says how many went"]
 pub struct Several {

@@ -1,4 +1,5 @@
 //! Rings: bounded queues of values of any type.
+use crate::batch::{Several, Stopped};
 use crate::error::{OpenError, Spent};
 use crate::port::Port;
 use crate::queue::{open_over, Setup};
@@ -235,6 +236,53 @@ impl<T> Handle<T> {
         value
     }
 
+    /// Puts values at the end, in their order, until one is refused: as many calls of
+    /// [`push`](Handle::push). Those that went are gone from the `Vec`; the others stand there, in
+    /// their order.
+    ///
+    /// Stopped by [`Stopped::Full`] or [`Stopped::Spent`].
+    ///
+    /// ```
+    /// use scq::{Ring, Stopped};
+    ///
+    /// let ring = Ring::new(1, 1)?;
+    /// let handle = ring.handle().unwrap();
+    /// let mut names = vec!["one", "two", "three"];
+    /// let pushed = handle.push_many(&mut names);
+    /// assert_eq!((pushed.done, pushed.stopped), (2, Some(Stopped::Full)));
+    /// assert_eq!(names, ["three"]);
+    /// # Ok::<(), scq::OpenError>(())
+    /// ```
+    pub fn push_many(&self, values: &mut Vec<T>) -> Several {
+        each_of(values, |value| {
+            self.push(value).map_err(|value| (value, self.stopped(Stopped::Full)))
+        })
+    }
+
+    /// Takes up to so many values off the front, and appends them to the `Vec`, in their order: as
+    /// many calls of [`pop`](Handle::pop).
+    ///
+    /// Stopped by [`Stopped::Empty`] or [`Stopped::Spent`].
+    ///
+    /// ```
+    /// let ring = scq::Ring::new(2, 1)?;
+    /// let handle = ring.handle().unwrap();
+    /// assert_eq!(handle.push_many(&mut vec![1, 2, 3]).all(), Ok(3));
+    /// let mut numbers = Vec::new();
+    /// assert_eq!(handle.pop_many(&mut numbers, 2).all(), Ok(2));
+    /// assert_eq!(handle.pop_many(&mut numbers, 2).all(), Err(scq::Stopped::Empty));
+    /// assert_eq!(numbers, [1, 2, 3]);
+    /// # Ok::<(), scq::OpenError>(())
+    /// ```
+    pub fn pop_many(&self, into: &mut Vec<T>, most: usize) -> Several {
+        up_to(into, most, || self.pop().ok_or_else(|| self.stopped(Stopped::Empty)))
+    }
+
+    /// Why a call was refused: for this, unless tickets have run out.
+    fn stopped(&self, else_for: Stopped) -> Stopped {
+        self.spent().map_or(else_for, |_| Stopped::Spent)
+    }
+
     /// Whether tickets have run out for this handle: each push gives its value back, and each pop
     /// answers that there is none.
     pub fn is_spent(&self) -> bool {
@@ -250,6 +298,44 @@ impl<T> Handle<T> {
     pub fn capacity(&self) -> usize {
         self.core.slots.len()
     }
+}
+
+/// Does this with each value, from the first on, until one comes back: that and those behind it
+/// stay.
+pub(crate) fn each_of<T>(
+    values: &mut Vec<T>,
+    mut push: impl FnMut(T) -> Result<(), (T, Stopped)>,
+) -> Several {
+    let mut went = Several { done: 0, stopped: None };
+    // The last of a `Vec` goes without a move of the others.
+    values.reverse();
+    while let Some(value) = values.pop() {
+        match push(value) {
+            Ok(()) => went.done += 1,
+            Err((value, why)) => {
+                values.push(value);
+                went.stopped = Some(why);
+                break;
+            }
+        }
+    }
+    values.reverse();
+    went
+}
+
+/// Appends up to so many values that this gives, until it gives none.
+pub(crate) fn up_to<T>(
+    into: &mut Vec<T>,
+    most: usize,
+    mut pop: impl FnMut() -> Result<T, Stopped>,
+) -> Several {
+    for done in 0..most {
+        match pop() {
+            Ok(value) => into.push(value),
+            Err(why) => return Several { done, stopped: Some(why) },
+        }
+    }
+    Several { done: most, stopped: None }
 }
 
 impl<T> fmt::Debug for Handle<T> {

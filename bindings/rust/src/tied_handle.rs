@@ -1,8 +1,9 @@
 //! Handles of a ring that are tied to a bell for their life.
+use crate::batch::{Several, Stopped};
 use crate::bell::{Bell, WaitError};
-use crate::error::Spent;
+use crate::error::{Refused, Spent};
 use crate::lines::{Lines, FREE};
-use crate::ring::Handle;
+use crate::ring::{each_of, up_to, Handle};
 use crate::ring_wait::{Pushing, VALUES};
 use crate::tied::Role;
 use std::fmt;
@@ -85,6 +86,15 @@ impl<B: Deref<Target = Bell>, T> TiedHandle<B, T> {
         self.bell.push_now(&self.handle, value)
     }
 
+    /// Puts values at the end of the ring as far as there is room at once, as
+    /// [`Handle::push_many`]; stopped by [`Stopped::Ended`] too, where nobody is to push any more.
+    pub fn try_push_many(&self, values: &mut Vec<T>) -> Several {
+        each_of(values, |value| {
+            self.try_push(value)
+                .map_err(|Refused { held, why }| (held, stopped(why, Stopped::Full)))
+        })
+    }
+
     /// Takes the first value off the ring, and waits until there is one.
     ///
     /// # Errors
@@ -112,6 +122,12 @@ impl<B: Deref<Target = Bell>, T> TiedHandle<B, T> {
         self.bell.pop_now(&self.handle)
     }
 
+    /// Takes up to so many values off the front of the ring that are there at once, as
+    /// [`Handle::pop_many`].
+    pub fn try_pop_many(&self, into: &mut Vec<T>, most: usize) -> Several {
+        up_to(into, most, || self.try_pop().map_err(|why| stopped(why, Stopped::Empty)))
+    }
+
     /// The handle. What is done with it alone rings nobody.
     pub fn handle(&self) -> &Handle<T> {
         &self.handle
@@ -127,6 +143,15 @@ impl<B: Deref<Target = Bell>, T> TiedHandle<B, T> {
         if count.fetch_sub(1, AcqRel) == 1 {
             self.bell.finish_lines(Lines::of(line));
         }
+    }
+}
+
+/// Why one of several was refused: for this where there may be something later.
+fn stopped(why: WaitError<Spent>, later: Stopped) -> Stopped {
+    match why {
+        WaitError::TimedOut => later,
+        WaitError::Ended => Stopped::Ended,
+        WaitError::Refused(_) => Stopped::Spent,
     }
 }
 

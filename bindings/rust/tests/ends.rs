@@ -1,5 +1,6 @@
 //! Ends that ring by themselves: a thread ends at a random call, by a panic or an early return, and
-//! whoever waits is told within 100 ms. `RUNS` of the environment says how many runs there are.
+//! whoever waits is told within 100 ms. `RUNS` of the environment says how many runs there are, and
+//! `AT_MOST` within how many milliseconds, as on a machine that does other things too.
 use scq::{
     bounded, Bell, Lines, OpenError, Port, Queue, Refused, Ring, Role, Setup, Tied, WaitError,
 };
@@ -10,8 +11,8 @@ use std::sync::{Arc, Mutex};
 use std::thread;
 use std::time::{Duration, Instant};
 
-/// In what time one who waits is told.
-const AT_MOST: Duration = Duration::from_millis(100);
+/// In what time one who waits is told, in milliseconds.
+const AT_MOST: u64 = 100;
 /// How often a run is made again in which one was told later.
 const TRIES: u64 = 10;
 /// How many messages a sender has, of which it sends all in some runs.
@@ -150,6 +151,7 @@ fn watch(made: Arc<AtomicU64>, last: u64) {
 fn runs(mut run: impl FnMut(&mut Dice) -> Vec<Duration>) {
     let (made, last) = (Arc::new(AtomicU64::new(0)), number("RUNS", 1000));
     watch(Arc::clone(&made), last);
+    let at_most = Duration::from_millis(number("AT_MOST", AT_MOST));
     let (mut told, mut again, mut longest) = (0, 0, Duration::ZERO);
     while made.load(SeqCst) < last {
         let mut tries = 0;
@@ -157,7 +159,7 @@ fn runs(mut run: impl FnMut(&mut Dice) -> Vec<Duration>) {
             let took = run(&mut Dice::new(made.load(SeqCst) + 1));
             told += took.len() as u64;
             let most = took.into_iter().max().unwrap_or_default();
-            if most <= AT_MOST || tries == TRIES {
+            if most <= at_most || tries == TRIES {
                 break most;
             }
             tries += 1;
@@ -168,7 +170,7 @@ fn runs(mut run: impl FnMut(&mut Dice) -> Vec<Duration>) {
     }
     println!("{last} runs, {told} were told, the last within {longest:?}, {again} runs again");
     assert!(told > last / 2, "{told} were told");
-    assert!(longest <= AT_MOST, "one was told within {longest:?}");
+    assert!(longest <= at_most, "one was told within {longest:?}");
 }
 
 /// Sends a number, or answers that nobody receives; receives one, or answers that nobody sends.

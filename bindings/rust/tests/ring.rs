@@ -1,6 +1,6 @@
 //! Rings: values of any type, each of which is dropped once. `BOXES` and `THREADS` of the
 //! environment say how many go between how many threads.
-use scq::{Handle, OpenError, Ring};
+use scq::{Bell, Handle, OpenError, Ring, Role, Stopped};
 use std::panic::{catch_unwind, AssertUnwindSafe};
 use std::sync::atomic::{AtomicI64, AtomicU64, AtomicU8, Ordering};
 use std::thread;
@@ -160,6 +160,99 @@ fn tickets_run_out_and_the_value_comes_back() {
     assert_eq!(alive.load(Ordering::Relaxed), 0);
 }
 
+/// More than are handed on at once, up to the room and to what there is, and past both.
+#[test]
+fn several_at_a_time() {
+    let alive = AtomicI64::new(0);
+    let ring = Ring::new(7, 2).unwrap();
+    let (one, other) = (ring.handle().unwrap(), ring.handle().unwrap());
+    let numbers = |values: &[Counted<'_>]| values.iter().map(|v| v.number).collect::<Vec<_>>();
+    for count in 0..=200 {
+        let go = count.min(128);
+        let mut given: Vec<_> = (0..count).map(|number| Counted::new(number, &alive)).collect();
+        let pushed = one.push_many(&mut given);
+        assert_eq!(pushed.done as u64, go);
+        assert_eq!(pushed.stopped, if count > 128 { Some(Stopped::Full) } else { None });
+        assert_eq!(numbers(&given), (go..count).collect::<Vec<_>>());
+        let mut came = Vec::with_capacity(200);
+        assert_eq!(other.pop_many(&mut came, go as usize / 2).all(), Ok(go as usize / 2));
+        let rest = one.pop_many(&mut came, 200 - go as usize / 2);
+        assert_eq!(rest.stopped, Some(Stopped::Empty));
+        assert_eq!(numbers(&came), (0..go).collect::<Vec<_>>());
+        assert_eq!(came.capacity(), 200);
+        assert_eq!(alive.load(Ordering::Relaxed), count as i64);
+    }
+    assert_eq!(one.push_many(&mut vec![Counted::new(0, &alive)]).all(), Ok(1));
+    drop((ring, one, other));
+    assert_eq!(alive.load(Ordering::Relaxed), 0);
+}
+
+#[test]
+fn tickets_run_out_between_several() {
+    let alive = AtomicI64::new(0);
+    let ring = Ring::with_limit(2, 2, 32).unwrap();
+    let handles = [ring.handle().unwrap(), ring.handle().unwrap()];
+    let (mut pushed, mut popped) = (0, 0);
+    for turn in 0.. {
+        let handle = &handles[turn % 2];
+        let mut given: Vec<_> = (0..3).map(|k| Counted::new(pushed + k, &alive)).collect();
+        let went = handle.push_many(&mut given);
+        pushed += went.done as u64;
+        assert_eq!(given.len(), 3 - went.done);
+        assert!(given.iter().zip(pushed..).all(|(value, number)| value.number == number));
+        let mut came = Vec::new();
+        let _ = handle.pop_many(&mut came, 3);
+        assert!(came.iter().zip(popped..).all(|(value, number)| value.number == number));
+        popped += came.len() as u64;
+        if handles.iter().all(Handle::is_spent) {
+            let mut one = vec![Counted::new(pushed, &alive)];
+            assert_eq!(handle.push_many(&mut one).stopped, Some(Stopped::Spent));
+            assert_eq!(one.len(), 1);
+            break;
+        }
+    }
+    assert!(pushed >= 20 && popped <= pushed);
+    drop((ring, handles));
+    assert_eq!(alive.load(Ordering::Relaxed), 0);
+}
+
+/// Each of several rings: nobody who waits sleeps on.
+#[test]
+fn several_by_tied_handles_ring() {
+    let (bell, ring) = (Bell::new(), Ring::new(4, 4).unwrap());
+    let (bell, ring) = (&bell, &ring);
+    let tied = |role| bell.tie_handle(ring.handle().unwrap(), role);
+    let (sends, sends_alone) = (tied(Role::Sends), tied(Role::Sends));
+    let takers = [tied(Role::Takes), tied(Role::Takes)];
+    let sum = thread::scope(|scope| {
+        let workers = takers.map(|taker| {
+            scope.spawn(move || {
+                let (mut sum, mut came) = (0, Vec::new());
+                while let Ok(number) = taker.pop() {
+                    let _ = taker.try_pop_many(&mut came, 3);
+                    sum += number + came.drain(..).sum::<u64>();
+                }
+                sum
+            })
+        });
+        scope.spawn(move || {
+            let mut numbers = Vec::new();
+            for number in 1..=10_000 {
+                numbers.push(number);
+                if numbers.len() == 5 {
+                    let _ = sends.try_push_many(&mut numbers);
+                    numbers.drain(..).for_each(|number| sends.push(number).unwrap());
+                }
+            }
+        });
+        drop(sends_alone);
+        workers.map(|worker| worker.join().unwrap()).iter().sum::<u64>()
+    });
+    assert_eq!(sum, 50_005_000);
+    let late = bell.tie_handle(ring.handle().unwrap(), Role::Sends);
+    assert_eq!(late.try_push_many(&mut vec![1]).stopped, Some(Stopped::Ended));
+}
+
 /// A handle may go to a thread, and is not cloned.
 #[test]
 fn a_handle_goes_from_thread_to_thread() {
@@ -192,7 +285,7 @@ fn boxes_between_threads() {
     let seen: Vec<_> = (0..boxes).map(|_| AtomicU8::new(0)).collect();
     let (popped, panicked) = (AtomicU64::new(0), AtomicU64::new(0));
     let work = |thread: u64| {
-        let mut mine = None;
+        let (mut mine, mut got) = (Vec::new(), Vec::new());
         let mut next = thread;
         while popped.load(Ordering::SeqCst) < boxes {
             // So that another thread gets the handle.
@@ -201,23 +294,34 @@ fn boxes_between_threads() {
                 Some(handle) => handle,
                 None => continue,
             };
-            for _ in 0..1000 {
-                if mine.is_none() && next < boxes {
-                    mine = Some(Box::new(Counted::new(next, &alive)));
+            for turn in 0..1000 {
+                while mine.len() < 40 && next < boxes {
+                    mine.push(Box::new(Counted::new(next, &alive)));
                     next += threads;
                 }
-                mine = mine.take().and_then(|value| handle.push(value).err());
-                if let Some(mut value) = handle.pop() {
+                // One by one, and several at a time.
+                if turn / 8 % 2 == 0 {
+                    if !mine.is_empty() {
+                        let refused = handle.push(mine.remove(0));
+                        refused.err().into_iter().for_each(|value| mine.insert(0, value));
+                    }
+                    got.extend(handle.pop());
+                } else {
+                    let _ = handle.push_many(&mut mine);
+                    let _ = handle.pop_many(&mut got, 40);
+                }
+                if got.is_empty() && (!mine.is_empty() || next >= boxes) {
+                    thread::yield_now();
+                    if popped.load(Ordering::SeqCst) >= boxes {
+                        break;
+                    }
+                }
+                for mut value in got.drain(..) {
                     assert_eq!(seen[value.number as usize].fetch_add(1, Ordering::SeqCst), 0);
                     popped.fetch_add(1, Ordering::SeqCst);
                     value.panics = value.number % 1000 == 7;
                     if catch_unwind(AssertUnwindSafe(|| drop(value))).is_err() {
                         panicked.fetch_add(1, Ordering::SeqCst);
-                    }
-                } else if mine.is_some() || next >= boxes {
-                    thread::yield_now();
-                    if popped.load(Ordering::SeqCst) >= boxes {
-                        break;
                     }
                 }
             }
