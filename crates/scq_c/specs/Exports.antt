@@ -7,3 +7,4 @@ pub use Rattle.scq_c.specs.Answers.{OfRetired, OfCount, ports_of, memories_of, I
 pub use Rattle.scq_c.specs.Answers.{OfOpen}
 pub use Rattle.scq_c.specs.Many.{InARow, none_yet, one_more, SlotCall, WentAt, OfMany, OfSlotSend}
 pub use Rattle.scq_c.specs.Many.{OfSlotGiveBack, OfSends, OfGiveBacks}
+pub use Rattle.scq_c.specs.Answered.{LendAnswered, TakeAnswered, SendAnswered, GiveBackAnswered}

@@ -5,11 +5,15 @@ ghost use Rattle.scq_queue.specs.Exports.{counts_of, lists_of};
 ghost use Rattle.scq_port.specs.Exports.{PortStanding, retired_port};
 ghost use Rattle.scq_c.specs.Answers.{OfLend, OfTake, OfSend, OfGiveBack, OfEnd, OfRetired};
 ghost use Rattle.scq_c.specs.Answers.{OfCount, shown_at};
+ghost use Rattle.scq_c.specs.Answered.{LendAnswered, TakeAnswered};
+ghost use Rattle.scq_c.specs.Answered.{SendAnswered, GiveBackAnswered};
 ghost use Rattle.scq_c.specs.Codes.{scq_ok, scq_spent, scq_closed};
 
 use crate::answers::{CLOSED, EMPTY, FULL, NO_ROOM, NO_TOPIC, NOT_HELD, OK, RETIRED, SPENT};
 use crate::handle::{Handle, put, taken};
+use crate::over::{give_back, give_back_over, lend, lend_over, send, send_over, take, take_over};
 use crate::tally::{Tally, write_out};
+use core::mem::replace_with;
 use scq_port::{Ended, GiveBackRefusal, LendRefusal, Port, SendRefusal, TakeRefusal};
 use std::alloc::Global;
 
@@ -51,26 +55,37 @@ fn show(index: u32, place: u64, out: &mut Held)
     out.index = index;
 }
 
+/// Tells what a lend was answered.
+#[inline(always)]
+pub(crate) fn tell_lend(answer: Result<u32, LendRefusal>, out: &mut Held) -> u32
+    ensures { (x y : PortStanding) → LendAnswered answer x y
+        → OfLend result out.old out.new x y }
+{
+    match answer {
+        Ok(index) => {
+            show(index, 0, out);
+            OK
+        }
+        Err(refusal) => match refusal {
+            LendRefusal::NoRoom => NO_ROOM,
+            LendRefusal::Full { head } => {
+                out.place = head;
+                FULL
+            }
+            LendRefusal::Spent { ticket } => {
+                out.place = ticket;
+                SPENT
+            }
+        },
+    }
+}
+
 /// Is lent a value, and tells its index.
 #[inline(always)]
 pub(crate) fn lend_into(port: &mut Port, out: &mut Held) -> u32
     ensures { OfLend result out.old out.new port.old port.new }
 {
-    match port.lend() {
-        Ok(index) => {
-            show(index, 0, out);
-            OK
-        }
-        Err(LendRefusal::NoRoom) => NO_ROOM,
-        Err(LendRefusal::Full { head }) => {
-            out.place = head;
-            FULL
-        }
-        Err(LendRefusal::Spent { ticket }) => {
-            out.place = ticket;
-            SPENT
-        }
-    }
+    tell_lend(lend(port), out)
 }
 
 /// Lends a buffer: tells its index.
@@ -81,12 +96,36 @@ pub extern "C" fn scq_lend_index(alloc: Global, handle: &mut Handle, out: &mut H
     ensures answered { (x : PortStanding) → handle.old.port ≡ Some x
         → (y : PortStanding) × (handle.new.port ≡ Some y) × OfLend result out.old out.new x y }
 {
-    let Some(mut port) = taken(handle, alloc) else {
-        return CLOSED;
-    };
-    let answer = lend_into(&mut port, out);
-    put(handle, port);
-    answer
+    match replace_with(handle, alloc, lend_over) {
+        Some(answer) => tell_lend(answer, out),
+        None => CLOSED,
+    }
+}
+
+/// Tells what a take was answered.
+#[inline(always)]
+pub(crate) fn tell_take(answer: Result<(u64, u32), TakeRefusal>, out: &mut Held) -> u32
+    ensures { (x y : PortStanding) (topic : ℕ) → TakeAnswered topic answer x y
+        → OfTake topic result out.old out.new x y }
+{
+    match answer {
+        Ok((place, index)) => {
+            show(index, place, out);
+            OK
+        }
+        Err(refusal) => match refusal {
+            TakeRefusal::NoTopic => NO_TOPIC,
+            TakeRefusal::NoRoom => NO_ROOM,
+            TakeRefusal::Empty { head } => {
+                out.place = head;
+                EMPTY
+            }
+            TakeRefusal::Spent { ticket } => {
+                out.place = ticket;
+                SPENT
+            }
+        },
+    }
 }
 
 /// Takes a value, and tells its index.
@@ -94,22 +133,7 @@ pub extern "C" fn scq_lend_index(alloc: Global, handle: &mut Handle, out: &mut H
 pub(crate) fn take_into(port: &mut Port, topic: u32, out: &mut Held) -> u32
     ensures { OfTake topic result out.old out.new port.old port.new }
 {
-    match port.take(topic) {
-        Ok((place, index)) => {
-            show(index, place, out);
-            OK
-        }
-        Err(TakeRefusal::NoTopic) => NO_TOPIC,
-        Err(TakeRefusal::NoRoom) => NO_ROOM,
-        Err(TakeRefusal::Empty { head }) => {
-            out.place = head;
-            EMPTY
-        }
-        Err(TakeRefusal::Spent { ticket }) => {
-            out.place = ticket;
-            SPENT
-        }
-    }
+    tell_take(take(port, topic), out)
 }
 
 /// Takes a buffer from a topic: tells its index.
@@ -126,12 +150,33 @@ pub extern "C" fn scq_take_index(
         → (y : PortStanding) × (handle.new.port ≡ Some y)
         × OfTake topic result out.old out.new x y }
 {
-    let Some(mut port) = taken(handle, alloc) else {
-        return CLOSED;
-    };
-    let answer = take_into(&mut port, topic, out);
-    put(handle, port);
-    answer
+    match replace_with(handle, (alloc, topic), take_over) {
+        Some(answer) => tell_take(answer, out),
+        None => CLOSED,
+    }
+}
+
+/// Tells what a send was answered.
+#[inline(always)]
+pub(crate) fn tell_send(answer: Result<u64, SendRefusal>, place: &mut u64) -> u32
+    ensures { (x y : PortStanding) (index topic : ℕ) → SendAnswered index topic answer x y
+        → OfSend index topic result place.old place.new x y }
+{
+    match answer {
+        Ok(at) => {
+            *place = at;
+            OK
+        }
+        Err(refusal) => match refusal {
+            SendRefusal::NoTopic => NO_TOPIC,
+            SendRefusal::Retired => RETIRED,
+            SendRefusal::NotHeld => NOT_HELD,
+            SendRefusal::Spent { ticket } => {
+                *place = ticket;
+                SPENT
+            }
+        },
+    }
 }
 
 /// Sends a value, and tells its place.
@@ -139,19 +184,7 @@ pub extern "C" fn scq_take_index(
 pub(crate) fn send_into(port: &mut Port, index: u32, topic: u32, place: &mut u64) -> u32
     ensures { OfSend index topic result place.old place.new port.old port.new }
 {
-    match port.send(index, topic) {
-        Ok(at) => {
-            *place = at;
-            OK
-        }
-        Err(SendRefusal::NoTopic) => NO_TOPIC,
-        Err(SendRefusal::Retired) => RETIRED,
-        Err(SendRefusal::NotHeld) => NOT_HELD,
-        Err(SendRefusal::Spent { ticket }) => {
-            *place = ticket;
-            SPENT
-        }
-    }
+    tell_send(send(port, index, topic), place)
 }
 
 /// Sends a buffer on a topic.
@@ -169,12 +202,25 @@ pub extern "C" fn scq_send(
         → (y : PortStanding) × (handle.new.port ≡ Some y)
         × OfSend index topic result place.old place.new x y }
 {
-    let Some(mut port) = taken(handle, alloc) else {
-        return CLOSED;
-    };
-    let answer = send_into(&mut port, index, topic, place);
-    put(handle, port);
-    answer
+    match replace_with(handle, (alloc, index, topic), send_over) {
+        Some(answer) => tell_send(answer, place),
+        None => CLOSED,
+    }
+}
+
+/// The answer of a give-back.
+#[inline(always)]
+pub(crate) fn tell_give_back(answer: Result<(), GiveBackRefusal>) -> u32
+    ensures { (x y : PortStanding) (index : ℕ) → GiveBackAnswered index answer x y
+        → OfGiveBack index result x y }
+{
+    match answer {
+        Ok(()) => OK,
+        Err(refusal) => match refusal {
+            GiveBackRefusal::NotHeld => NOT_HELD,
+            GiveBackRefusal::Spent { ticket: _ } => SPENT,
+        },
+    }
 }
 
 /// Gives a value back.
@@ -182,11 +228,7 @@ pub extern "C" fn scq_send(
 pub(crate) fn give_back_into(port: &mut Port, index: u32) -> u32
     ensures { OfGiveBack index result port.old port.new }
 {
-    match port.give_back(index) {
-        Ok(()) => OK,
-        Err(GiveBackRefusal::NotHeld) => NOT_HELD,
-        Err(GiveBackRefusal::Spent { ticket: _ }) => SPENT,
-    }
+    tell_give_back(give_back(port, index))
 }
 
 /// Gives a buffer back.
@@ -196,12 +238,10 @@ pub extern "C" fn scq_give_back(alloc: Global, handle: &mut Handle, index: u32) 
     ensures answered { (x : PortStanding) → handle.old.port ≡ Some x
         → (y : PortStanding) × (handle.new.port ≡ Some y) × OfGiveBack index result x y }
 {
-    let Some(mut port) = taken(handle, alloc) else {
-        return CLOSED;
-    };
-    let answer = give_back_into(&mut port, index);
-    put(handle, port);
-    answer
+    match replace_with(handle, (alloc, index), give_back_over) {
+        Some(answer) => tell_give_back(answer),
+        None => CLOSED,
+    }
 }
 
 /// Retires a port: it sends no more.

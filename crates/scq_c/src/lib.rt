@@ -13,4 +13,5 @@ mod handle;
 mod loose;
 mod many;
 mod opening;
+mod over;
 mod tally;

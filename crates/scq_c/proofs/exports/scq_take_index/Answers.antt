@@ -1,7 +1,16 @@
-use Rattle.scq_c.specs.Exports.{OfTake}
-use Rattle.scq_c.proofs.Somes.{answered}
+use Rattle.std.proofs.Common.{◌∙◌}
+use Rattle.scq_c.proofs.Somes.{some_and_at, none_and}
 use Rattle.scq_c.proofs.exports.scq_take_index.Goals as goal
 
-pub returns-clause-answered : goal.returns-clause-answered
-returns-clause-answered c x was =
-    answered (OfTake _ _ _ _) c.deref_mut.ensures.value c.in-Some.ensures.taken was c.put.ensures c.take_into-answer.ensures
+pub returns-in-Some-clause-closed : goal.returns-in-Some-clause-closed
+returns-in-Some-clause-closed c none = let got = c.replace_with.ensures.0 none in absurd (cc)
+
+pub returns-in-Some-clause-answered : goal.returns-in-Some-clause-answered
+returns-in-Some-clause-answered c x was =
+    let got = c.replace_with.ensures.1 x was in
+    (got.0, got.1, c.tell_take.ensures x got.0 _ (some_and_at _ _ _ got.2 c.in-Some.is))
+
+pub returns-in-None-clause-answered : goal.returns-in-None-clause-answered
+returns-in-None-clause-answered c x was =
+    let got = c.replace_with.ensures.1 x was in
+    absurd (none_and _ _ got.2 c.in-None.is)

@@ -1,0 +1,9 @@
+use Rattle.std.proofs.Common.{◌∙◌, ap, Some}
+use Rattle.scq_c.specs.Exports.{LendAnswered}
+use Rattle.scq_c.proofs.Somes.{answered}
+use Rattle.scq_c.proofs.over.lend_over.Goals as goal
+
+pub returns-clause-answered : goal.returns-clause-answered
+returns-clause-answered c x was =
+    answered (LendAnswered c.lend-answer.result) (c.deref_mut.ensures.value ∙ c.into_box-port.ensures) c.in-Some.ensures was
+    (c.of-2.ensures ∙ ap (λ p. Some p) c.of.ensures) c.lend-answer.ensures
