@@ -1,4 +1,3 @@
-use Rattle.std.proofs.Common.{◌∙◌}
 use Rattle.scq_c.proofs.Somes.{some_and_at, none_and}
 use Rattle.scq_c.proofs.exports.scq_lend_index.Goals as goal
 
