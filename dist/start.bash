@@ -29,6 +29,24 @@ is_command() {
     return 1
 }
 
+# A text as the program writes it: ASCII's control characters and the backslash as `\x` and two digits.
+shown() (
+    LC_ALL=C text=${1//\\/'\x5c'}
+    for code in {1..31} 127; do
+        printf -v escaped '\\x%02x' "$code"
+        printf -v byte "$escaped"
+        text=${text//"$byte"/"$escaped"}
+    done
+    printf '%s\n' "$text"
+)
+
+# Refuses words whose first is no command with the lines of the program, for which there are none where one isn't UTF-8.
+refuse() {
+    echo 'words not understood'
+    [ $# = 0 ] || ! printf '%s\n' "$@" | iconv -f UTF-8 -t UTF-16 >/dev/null 2>&1 || shown "word 1 is $1"
+    exit 2
+} >&2
+
 read_crates() {
     mapfile -t crates < <(crates_of "$crate")
     [ ${#crates[@]} -gt 0 ] || fail "no crates.txt beside this file names $crate"
@@ -131,10 +149,7 @@ is_built() {
     [ "$sum" = "${known[2]-}" ] && [ "$(sum_of_file "$program")" = "${known[3]-}" ]
 }
 
-is_command "${1-}" || {
-    echo 'words not understood' >&2
-    exit 2
-}
+is_command "${1-}" || refuse "$@"
 . "$top/dist/sources.bash" || exit 125
 sources=
 ! is_shipped || exec "$top/dist/$shipped" "$@"

@@ -115,8 +115,9 @@ impl Ending {
         }
     }
 
-    /// Whether the errors are those of the row, or a report that adds up to the messages that are
-    /// answered. Where parts share buffers, a report may count fewer of these than there are parts.
+    /// Whether the errors are those of the row, of which it may have the fault's line alone; or a
+    /// report that adds up to the messages that are answered. Where parts share buffers, a report
+    /// may count fewer of these than there are parts.
     fn has_errors(&self, wanted: &Wanted) -> bool {
         let errors = self.errors.bytes();
         if wanted.reports {
@@ -125,7 +126,8 @@ impl Ending {
         } else if wanted.batches && self.told.status == 0 {
             passed_in(errors) <= passed_in(wanted.errors.as_slice())
         } else {
-            errors == wanted.errors.as_slice()
+            let wanted = wanted.errors.as_slice();
+            errors == wanted || self.told.status != 0 && first_line(errors) == wanted
         }
     }
 }
@@ -173,6 +175,14 @@ fn counts_of(worked: &Option<Worked>, staged: &Option<Staged>) -> Option<[u64; 3
         full = full.saturating_add(each.full);
     }
     Some([sent, taken, full])
+}
+
+/// The first line, with its end.
+fn first_line(text: &[u8]) -> &[u8] {
+    match text.iter().position(|byte| *byte == b'\n') {
+        Some(at) => &text[..at + 1],
+        None => text,
+    }
 }
 
 fn last_line(text: &[u8]) -> Option<&str> {

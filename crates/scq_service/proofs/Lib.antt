@@ -2,6 +2,7 @@ pub mod Coming
 pub mod Completeness
 pub mod Files
 pub mod Merging
+pub mod Named
 pub mod OneFile
 pub mod ReportLines
 pub mod Seen

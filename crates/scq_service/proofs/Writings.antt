@@ -1,9 +1,9 @@
 -- What a sink has after one writing and another.
-use Rattle.std.proofs.Common.{arith, min, take, length, subst, sym, ◌∙◌, ◌+◌, ◌≡◌, refl, ap, List, ℕ, ◌++◌, Option, Some, None, append_assoc}
+use Rattle.std.proofs.Common.{[], arith, min, take, length, subst, sym, ◌∙◌, ◌+◌, ◌≡◌, refl, ap, List, ℕ, ◌++◌, Option, Some, None, append_assoc}
 use Rattle.std.specs.Prelude.{Result, Ok, Err}
 use Rattle.std.proofs.Math.Seq.{take-append-add}
 use Rattle.std.proofs.lemmas.Grind.{common_steps}
-use Rattle.std.proofs.lemmas.List.{take-append-le}
+use Rattle.std.proofs.lemmas.List.{append-nil, take-append-le}
 use Rattle.scq_outside.specs.Exports.{Rose}
 use Rattle.scq_service.specs.Exports.{SinkOf, written_with, WrotePart, HasWritten}
 
@@ -29,7 +29,7 @@ part-second old between new a b whole part = record {
       ∙ ap (written_with old) (sym (take-append-add a b part.count));
 }
 
-both : {K E : Type 0} (sink : SinkOf K) (old mid new : K) (a b : List ℕ) (last : Result (Unit {0}) E) → sink.written mid ≡ written_with (sink.written old) a
+pub both : {K E : Type 0} (sink : SinkOf K) (old mid new : K) (a b : List ℕ) (last : Result (Unit {0}) E) → sink.written mid ≡ written_with (sink.written old) a
     → sink.faults mid ≡ sink.faults old → HasWritten sink mid new b last → HasWritten sink old new (a ++ b) last
 both sink old mid new a b (Ok done) whole kept more = record {
   whole = more.whole ∙ ap (λ written. written_with written b) whole ∙ written-then (sink.written old) a b;
@@ -55,3 +55,20 @@ pub same-line : {K E X : Type 0} {sink : SinkOf K} {old new : K} {result : Resul
     → HasWritten sink old new (line y) result → HasWritten sink old new (line x) result
 same-line {sink = sink} {old = old} {new = new} {result = result} line same has =
     subst (λ x. HasWritten sink old new (line x) result) (sym same) has
+
+-- the first bytes were written as far as that came, and nothing behind them
+pub failed-first : {K E : Type 0} {sink : SinkOf K} {old new : K} {e : E} (a b : List ℕ) → HasWritten {K = K} {E = E} sink old new a (Err e)
+    → HasWritten sink old new (a ++ b) (Err e)
+failed-first a b has = record { whole = tt; part = part-first _ _ a b has.part; kept = tt; rose = has.rose }
+
+-- nothing was written where nothing was to be
+pub written-none : {K E : Type 0} {sink : SinkOf K} {new : K} {done : Unit {0}} → HasWritten {K = K} {E = E} sink new new [] (Ok done)
+written-none {sink = sink} {new = new} = record {
+  whole = sym (with-none (sink.written new));
+  part = record { count = 0; written = sym (with-none (sink.written new)) };
+  kept = refl;
+  rose = tt;
+} where
+  with-none : (written : Option (List ℕ)) → written_with written [] ≡ written
+  with-none None = refl
+  with-none (Some before) = ap Some (append-nil before)

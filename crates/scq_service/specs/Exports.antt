@@ -13,6 +13,12 @@ pub use Rattle.scq_service.specs.Faults.{status_of, file_line, entry_line, topic
 pub use Rattle.scq_service.specs.Faults.{limit_line, payload_line, text_line, place_line, run_line}
 pub use Rattle.scq_service.specs.Faults.{seat_line, shared_words, fault_line, fault_of_work}
 pub use Rattle.scq_service.specs.Faults.{bytes_of_large, fault_of_judge}
+pub use Rattle.scq_service.specs.Naming.{is_plain, shown_byte, shown, text_is}
+pub use Rattle.scq_service.specs.Naming.{is_line, name_of, name_line}
+pub use Rattle.scq_service.specs.Naming.{files_asked, option_is, option_line}
+pub use Rattle.scq_service.specs.Naming.{word_line, command_line, words_lines, fault_lines}
+pub use Rattle.scq_service.specs.Naming.{lines_behind}
+pub use Rattle.scq_service.specs.Names.{names_in}
 pub use Rattle.scq_service.specs.Writing.{written_with, WrotePart}
 pub use Rattle.scq_service.specs.Written.{HasWritten}
 pub use Rattle.scq_service.specs.Answers.{HaveCome, HaveAllCome, IsThereAt, WorkedAs, TellsWork}

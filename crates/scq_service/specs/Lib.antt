@@ -4,6 +4,8 @@ pub mod Causes
 pub mod Sources
 pub mod Ends
 pub mod Faults
+pub mod Naming
+pub mod Names
 pub mod Writing
 pub mod Written
 pub mod Telling

@@ -48,9 +48,9 @@ abbrev pub asks_report : Result Asked WordsFault → Bool
 asks_report (Ok (asks.run a)) = a.report
 asks_report asked = false
 
--- what is reported of the end: the fault's line; or, where they are asked for, the lines of the
--- workers
-abbrev pub reported : Bool → Option Fault → Option Worked → List ℕ
-reported asks (Some fault) worked = fault_line fault
-reported true None (Some w) = workers_report w.counts.items w.answered.items
-reported asks None worked = []
+-- what is reported of the end: the fault's line and the lines behind it; or, where they are asked
+-- for, the lines of the workers
+abbrev pub reported : Bool → (Fault → List ℕ) → Option Fault → Option Worked → List ℕ
+reported asks behind (Some fault) worked = fault_line fault ++ behind fault
+reported true behind None (Some w) = workers_report w.counts.items w.answered.items
+reported asks behind None worked = []

@@ -9,6 +9,7 @@
 mod commands;
 mod fault;
 mod job;
+mod naming;
 mod outcome;
 mod reading;
 mod reporting;

@@ -24,7 +24,7 @@ pub fn report<K: Sink>(sink: &mut K, fault: &Fault) -> Result<(), Failed>
     write_fault(sink, fault)
 }
 
-fn write_fault<K: Sink>(sink: &mut K, fault: &Fault) -> Result<(), Failed>
+pub(crate) fn write_fault<K: Sink>(sink: &mut K, fault: &Fault) -> Result<(), Failed>
     ensures { HasWritten K.Sink sink.old sink.new (fault_line fault.now) result }
 {
     match fault {
@@ -134,7 +134,7 @@ fn write_too_large<K: Sink>(sink: &mut K, file: u32, limit: u64) -> Result<(), F
     write_count(sink, limit, b" bytes\n")
 }
 
-fn write_about<K: Sink>(sink: &mut K, file: u32, what: &[u8]) -> Result<(), Failed>
+pub(crate) fn write_about<K: Sink>(sink: &mut K, file: u32, what: &[u8]) -> Result<(), Failed>
     ensures { HasWritten K.Sink sink.old sink.new (file_line file what.now) result }
 {
     write_numbered(sink, b"file ", file, what)

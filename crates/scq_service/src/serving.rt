@@ -4,11 +4,14 @@ ghost use Rattle.scq_words.specs.Exports.{asked, is_accepted};
 ghost use Rattle.scq_service.specs.Answers.{IsSeenAt, LeavesNothing, StagedAs, WorkedAs};
 ghost use Rattle.scq_service.specs.Ends.{EndsAs, inputs_of, wrote_of};
 ghost use Rattle.scq_service.specs.Faults.{status_of};
+ghost use Rattle.scq_service.specs.Names.{names_in};
+ghost use Rattle.scq_service.specs.Naming.{fault_lines, lines_behind};
 ghost use Rattle.scq_service.specs.Reports.{asks_report, reported};
 ghost use Rattle.scq_service.specs.Serving.{EndsWellWhereCalm, IsOutcomeOf, HasReported};
 
 use crate::commands::{run_files, run_judge, run_self, run_stages, run_text};
 use crate::job::{job_of, stage_job_of};
+use crate::naming::Names;
 use crate::worker_report::report_run;
 use crate::{Fault, Outcome};
 use scq_outside::{Files, Sink};
@@ -20,11 +23,12 @@ use std::thread::Threads;
 /// Runs what the words ask for: gets the sources of the files that they name, up to the first that
 /// isn't got, answers their messages, or takes them through stages, or answers those of a generated
 /// file, by as many workers as they ask for; or judges recordings, or checks or replays one text;
-/// and writes the output, or the summary, once it is whole. At a fault it writes one line to `err`.
-/// That this takes no memory, and that a failing `err` changes nothing, no clause says. Workers
-/// share a queue of buffers. Those of `run` and `self` call the gate, on which no clause depends.
-/// What each worker sent, took and answered directly is reported to `err` too, of `run` at status
-/// 0, where it is asked for.
+/// and writes the output, or the summary, once it is whole. At a fault it writes its line to `err`,
+/// and behind it lines that name the files, or the word or the text, that it is about. That this
+/// takes no memory, and that a failing `err` changes nothing, no clause says. Workers share a queue
+/// of buffers. Those of `run` and `self` call the gate, on which no clause depends. What each
+/// worker sent, took and answered directly is reported to `err` too, of `run` at status 0, where it
+/// is asked for.
 pub fn serve<R: Threads + Sync, F: Files, K: Sink, G: Gate + Sync>(
     rt: &R,
     alloc: Global,
@@ -57,34 +61,51 @@ pub fn serve<R: Threads + Sync, F: Files, K: Sink, G: Gate + Sync>(
         (inputs_of F.Files files.old files.new result.sources.items result.read)
         (wrote_of K.Sink out.old out.new) result }
 
-    // `err` gets the fault's line, or at status 0 the lines of the workers where they are asked
-    // for.
+    // `err` gets the fault's line and the lines behind it, or at status 0 the lines of the workers
+    // where they are asked for.
     ensures reported { HasReported (wrote_of K.Sink err.old err.new)
-        (reported (asks_report (asked (map string_bytes words.now))) result.fault result.worked) }
+        (reported (asks_report (asked (map string_bytes words.now)))
+        (lines_behind false (map string_bytes words.now)
+        (asked (map string_bytes words.now))) result.fault result.worked) }
 {
-    let Ran { outcome, report } = run(rt, alloc, words, files, out, gate);
-    report_run(err, &outcome.fault, &outcome.worked, report);
+    let Ran {
+        outcome,
+        report,
+        names,
+    } = run(rt, alloc, words, files, out, gate);
+    report_run(
+        err,
+        false,
+        words,
+        names.as_slice(),
+        &outcome.fault,
+        &outcome.worked,
+        report,
+    );
     outcome
 }
 
-/// How a run ended, and whether the words ask for the lines of the workers.
+/// How a run ended, whether the words ask for the lines of the workers, and the files' names.
 #[derive(Drop)]
 pub(crate) struct Ran<S> {
     pub outcome: Outcome<S>,
     pub report: bool,
+    pub names: Names,
 }
 
 impl<S> Ran<S> {
     ghost use Rattle.std.specs.Prelude.{◌≡◌, false};
 
-    /// A run whose workers are not reported.
-    pub fn quiet(outcome: Outcome<S>) -> Ran<S>
+    /// A run over files of these names whose workers are not reported.
+    pub fn quiet(outcome: Outcome<S>, names: Names) -> Ran<S>
         ensures outcome { result.outcome ≡ outcome }
         ensures report { result.report ≡ false }
+        ensures names { result.names ≡ names }
     {
         Ran {
             outcome,
             report: false,
+            names,
         }
     }
 }
@@ -124,6 +145,10 @@ fn run<R: Threads + Sync, F: Files, K: Sink, G: Gate + Sync>(
         → is_accepted (map string_bytes words.now) ≡ false }
     ensures report { result.outcome.fault ≡ None
         → result.report ≡ asks_report (asked (map string_bytes words.now)) }
+    ensures named { IfSome result.outcome.fault (λ fault.
+        fault_lines false (map string_bytes words.now) (names_in result.names) fault
+        ≡ lines_behind false (map string_bytes words.now) (asked (map string_bytes words.now))
+        fault) }
 {
     match read_words(alloc, words) {
         Ok(Request::Run(asked)) => {
@@ -138,6 +163,7 @@ fn run<R: Threads + Sync, F: Files, K: Sink, G: Gate + Sync>(
             Ran {
                 outcome: run_files(rt, alloc, &job, names, files, out, gate),
                 report: asked.report,
+                names: Names::These(asked.files),
             }
         }
         Ok(Request::SelfRun(asked)) => {
@@ -146,24 +172,42 @@ fn run<R: Threads + Sync, F: Files, K: Sink, G: Gate + Sync>(
                 lines,
                 workers,
             } = asked;
-            Ran::quiet(run_self(rt, alloc, seed, lines, workers, out, gate))
+            Ran::quiet(
+                run_self(rt, alloc, seed, lines, workers, out, gate),
+                Names::Nothing,
+            )
         }
         Ok(Request::Judge(asked)) => {
             let names = asked.files.as_slice();
-            Ran::quiet(run_judge(alloc, asked.room, names, files, out))
+            Ran::quiet(
+                run_judge(alloc, asked.room, names, files, out),
+                Names::These(asked.files),
+            )
         }
         Ok(Request::Text(asked)) => {
             let name = asked.file.as_str();
-            Ran::quiet(run_text(alloc, asked.command, name, files, out))
+            Ran::quiet(
+                run_text(alloc, asked.command, name, files, out),
+                Names::One(asked.file),
+            )
         }
         Ok(Request::Stages(asked)) => {
             let job = stage_job_of(asked.order, asked.size, asked.workers);
             let names = asked.files.as_slice();
-            Ran::quiet(run_stages(rt, alloc, &job, names, files, out))
+            Ran::quiet(
+                run_stages(rt, alloc, &job, names, files, out),
+                Names::These(asked.files),
+            )
         }
         Err(WordsError::Refused(fault)) => {
-            Ran::quiet(Outcome::at(Vec::new(alloc), Fault::Words(fault)))
+            Ran::quiet(
+                Outcome::at(Vec::new(alloc), Fault::Words(fault)),
+                Names::Nothing,
+            )
         }
-        Err(WordsError::NoMemory) => Ran::quiet(Outcome::at(Vec::new(alloc), Fault::NoMemory)),
+        Err(WordsError::NoMemory) => Ran::quiet(
+            Outcome::at(Vec::new(alloc), Fault::NoMemory),
+            Names::Nothing,
+        ),
     }
 }

@@ -1,14 +1,15 @@
 //! The service whose idle workers wait in place of leaving early.
 ghost use Rattle.std.specs.Prelude.{◌≡◌, None, Some, false, is_some, IfSome, IsSome, IsSomeAnd};
-ghost use Rattle.std.specs.Prelude.{OnSome, map, string_bytes};
+ghost use Rattle.std.specs.Prelude.{OnSome, map, string_bytes, true};
 ghost use Rattle.scq_words.specs.Exports.{asked_for_run, is_taken_for_run};
 ghost use Rattle.scq_service.specs.Exports.{IsSeenAt, LeavesNothing, WaitedAs, WorkedAs, EndsAs};
 ghost use Rattle.scq_service.specs.Exports.{inputs_of, wrote_of, status_of, asks_report, reported};
 ghost use Rattle.scq_service.specs.Exports.{EndsWellWhereCalm, WorkersWaited, IsOutcomeOf};
-ghost use Rattle.scq_service.specs.Exports.{HasReported};
+ghost use Rattle.scq_service.specs.Exports.{HasReported, fault_lines, lines_behind, names_in};
 
 use crate::commands::run_files_waiting;
 use crate::job::job_of;
+use crate::naming::Names;
 use crate::serving::Ran;
 use crate::worker_report::report_run;
 use crate::{Fault, Outcome};
@@ -49,14 +50,27 @@ pub fn serve_waiting<R: Threads + Wait + Sync, F: Files, K: Sink, G: Gate + Sync
         (inputs_of F.Files files.old files.new result.sources.items result.read)
         (wrote_of K.Sink out.old out.new) result }
 
-    // `err` gets the fault's line, or at status 0 the lines of the workers where they are asked
-    // for.
+    // `err` gets the fault's line and the lines behind it, or at status 0 the lines of the workers
+    // where they are asked for.
     ensures reported { HasReported (wrote_of K.Sink err.old err.new)
-        (reported (asks_report
+        (reported (asks_report (asked_for_run (map string_bytes words.now)))
+        (lines_behind true (map string_bytes words.now)
         (asked_for_run (map string_bytes words.now))) result.fault result.worked) }
 {
-    let Ran { outcome, report } = run_waiting(rt, alloc, words, files, out, gate);
-    report_run(err, &outcome.fault, &outcome.worked, report);
+    let Ran {
+        outcome,
+        report,
+        names,
+    } = run_waiting(rt, alloc, words, files, out, gate);
+    report_run(
+        err,
+        true,
+        words,
+        names.as_slice(),
+        &outcome.fault,
+        &outcome.worked,
+        report,
+    );
     outcome
 }
 
@@ -99,6 +113,10 @@ fn run_waiting<R: Threads + Wait + Sync, F: Files, K: Sink, G: Gate + Sync>(
         → is_taken_for_run (map string_bytes words.now) ≡ false }
     ensures report { result.outcome.fault ≡ None
         → result.report ≡ asks_report (asked_for_run (map string_bytes words.now)) }
+    ensures named { IfSome result.outcome.fault (λ fault.
+        fault_lines true (map string_bytes words.now) (names_in result.names) fault
+        ≡ lines_behind true (map string_bytes words.now)
+        (asked_for_run (map string_bytes words.now)) fault) }
 {
     match read_run_words(alloc, words) {
         Ok(asked) => {
@@ -113,11 +131,18 @@ fn run_waiting<R: Threads + Wait + Sync, F: Files, K: Sink, G: Gate + Sync>(
             Ran {
                 outcome: run_files_waiting(rt, alloc, &job, names, files, out, gate),
                 report: asked.report,
+                names: Names::These(asked.files),
             }
         }
         Err(WordsError::Refused(fault)) => {
-            Ran::quiet(Outcome::at(Vec::new(alloc), Fault::Words(fault)))
+            Ran::quiet(
+                Outcome::at(Vec::new(alloc), Fault::Words(fault)),
+                Names::Nothing,
+            )
         }
-        Err(WordsError::NoMemory) => Ran::quiet(Outcome::at(Vec::new(alloc), Fault::NoMemory)),
+        Err(WordsError::NoMemory) => Ran::quiet(
+            Outcome::at(Vec::new(alloc), Fault::NoMemory),
+            Names::Nothing,
+        ),
     }
 }

@@ -1,11 +1,13 @@
 ghost use Rattle.std.specs.Prelude.{◌≡◌, ◌⊎◌, ◌≤◌, ◌++◌, decimal, sum_by, OnOk, OnErr};
+ghost use Rattle.std.specs.Prelude.{map, string_bytes};
 ghost use Rattle.scq_outside.specs.Exports.{Rose};
 ghost use Rattle.scq_service.specs.Reports.{counts_line, directs_in, workers_report, reported};
+ghost use Rattle.scq_service.specs.Naming.{fault_lines};
 ghost use Rattle.scq_service.specs.Reports.{worker_line};
 ghost use Rattle.scq_service.specs.Writing.{written_with, WrotePart};
 
 use crate::Fault;
-use crate::reporting::report;
+use crate::naming::report_named;
 use crate::writing::write_all;
 use itoa::Buffer;
 use scq_collect::Answers;
@@ -42,17 +44,28 @@ pub fn report_workers<K: Sink>(
     write_counts(sink, sums.sent, sums.taken, directs_of(lists))
 }
 
-/// Reports how a run ended: its fault, where it has one, or else what the workers did, where that
-/// is asked for. Nothing depends on whether the sink takes it.
-pub fn report_run<K: Sink>(sink: &mut K, fault: &Option<Fault>, worked: &Option<Worked>, asks: bool)
+/// Reports how a run ended: its fault, where it has one, with the lines behind it; or else what the
+/// workers did, where that is asked for. Nothing depends on whether the sink takes it.
+pub fn report_run<K: Sink>(
+    sink: &mut K,
+    run_alone: bool,
+    words: &[String],
+    names: &[String],
+    fault: &Option<Fault>,
+    worked: &Option<Worked>,
+    asks: bool,
+)
     ensures reported { Rose (K.faults sink.old) (K.faults sink.new)
         ⊎ (K.written sink.new
-        ≡ written_with (K.written sink.old) (reported asks fault.now worked.now)) }
+        ≡ written_with (K.written sink.old)
+        (reported asks (fault_lines run_alone (map string_bytes words.now)
+        (map string_bytes names.now)) fault.now worked.now)) }
     ensures front { WrotePart (K.written sink.old) (K.written sink.new)
-        (reported asks fault.now worked.now) }
+        (reported asks (fault_lines run_alone (map string_bytes words.now)
+        (map string_bytes names.now)) fault.now worked.now) }
 {
     if let Some(fault) = fault {
-        let _ = report(sink, fault);
+        let _ = report_named(sink, run_alone, words, names, fault);
         return;
     }
     if let Some(worked) = worked

@@ -21,3 +21,4 @@ pub use Rattle.scq_words.specs.Parsing.{Answered, Parses}
 pub use Rattle.scq_words.specs.Ranges.{is_accepted, is_taken_for_run, IsRunInRange, IsStagesInRange}
 pub use Rattle.scq_words.specs.Ranges.{IsJudgeInRange, IsInRange}
 pub use Rattle.scq_words.specs.Asked.{numbers_tests, files_tests}
+pub use Rattle.scq_words.specs.Texts.{behind, text_after, option_text, is_command}

@@ -3,4 +3,5 @@ pub mod Commands
 pub mod Asked
 pub mod Parsing
 pub mod Ranges
+pub mod Texts
 pub mod Exports

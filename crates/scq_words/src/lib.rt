@@ -16,9 +16,11 @@ mod run_numbers;
 mod self_words;
 mod stages_words;
 mod text_request;
+mod texts;
 mod workers;
 
 pub use fault::{WordsError, WordsFault};
 pub use reading::{read_run_words, read_words};
 pub use request::{JudgeRequest, Request, RunRequest, SelfRequest, StagesRequest};
 pub use text_request::{TextCommand, TextRequest};
+pub use texts::{is_command, option_text};

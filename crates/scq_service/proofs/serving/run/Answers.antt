@@ -1,5 +1,9 @@
 -- What is seen of the queue of a run's workers, by what was asked.
-use Rattle.std.proofs.Common.{refl, ap, ◌∙◌, Err}
+use Rattle.std.proofs.Common.{refl, ap, ◌∙◌, false, map, string_bytes, Err}
+use Rattle.scq_words.specs.Exports.{asked}
+use Rattle.scq_service.specs.Exports.{names_in}
+use Rattle.scq_service.specs.declared.naming.Names.TheVariants.{These}
+use Rattle.scq_service.proofs.Named.{named-as, unnamed}
 use Rattle.scq_service.proofs.Seen.{unseen, none-seen}
 use Rattle.scq_service.proofs.serving.run.Goals as goal
 
@@ -50,3 +54,49 @@ returns-in-Ok-Stages-clause-seen g c =
 
 pub returns-in-Ok-Stages-clause-leaves : goal.returns-in-Ok-Stages-clause-leaves
 returns-in-Ok-Stages-clause-leaves g c = rw c.quiet-in-Ok-Stages.ensures.outcome c.run_stages.ensures.tells.leaves
+
+-- the names that are kept are those of the files that are asked for
+pub returns-in-Ok-Run-clause-named : goal.returns-in-Ok-Run-clause-named
+returns-in-Ok-Run-clause-named g c =
+    let words = map string_bytes c.args.words.now in
+    named-as false words (asked words) (names_in (These c.in-Ok-Run.asked.files)) c.run_files.result.fault
+    (rw (c.in-Ok-Run.ensures.request, c.in-Ok-Run.field-0-is) refl)
+
+pub returns-in-Ok-SelfRun-clause-named : goal.returns-in-Ok-SelfRun-clause-named
+returns-in-Ok-SelfRun-clause-named g c =
+    let words = map string_bytes c.args.words.now in
+    named-as false words (asked words) (names_in c.quiet.result.names) c.quiet.result.outcome.fault
+    (rw (c.in-Ok-SelfRun.ensures.request, c.in-Ok-SelfRun.field-0-is, c.quiet.ensures.names) refl)
+
+pub returns-in-Ok-Judge-clause-named : goal.returns-in-Ok-Judge-clause-named
+returns-in-Ok-Judge-clause-named g c =
+    let words = map string_bytes c.args.words.now in
+    named-as false words (asked words) (names_in c.quiet-in-Ok-Judge.result.names) c.quiet-in-Ok-Judge.result.outcome.fault
+    (rw (c.in-Ok-Judge.ensures.request, c.in-Ok-Judge.field-0-is, c.quiet-in-Ok-Judge.ensures.names) refl)
+
+pub returns-in-Ok-Text-clause-named : goal.returns-in-Ok-Text-clause-named
+returns-in-Ok-Text-clause-named g c =
+    let words = map string_bytes c.args.words.now in
+    named-as false words (asked words) (names_in c.quiet-in-Ok-Text.result.names) c.quiet-in-Ok-Text.result.outcome.fault
+    (rw (c.in-Ok-Text.ensures.request, c.in-Ok-Text.field-0-is, c.quiet-in-Ok-Text.ensures.names) refl)
+
+pub returns-in-Ok-Stages-clause-named : goal.returns-in-Ok-Stages-clause-named
+returns-in-Ok-Stages-clause-named g c =
+    let words = map string_bytes c.args.words.now in
+    named-as false words (asked words) (names_in c.quiet-in-Ok-Stages.result.names) c.quiet-in-Ok-Stages.result.outcome.fault
+    (rw (c.in-Ok-Stages.ensures.request, c.in-Ok-Stages.field-0-is, c.quiet-in-Ok-Stages.ensures.names) refl)
+
+pub returns-in-Err-Refused-clause-named : goal.returns-in-Err-Refused-clause-named
+returns-in-Err-Refused-clause-named g c =
+    let words = map string_bytes c.args.words.now in
+    named-as false words (asked words) (names_in c.quiet-in-Err-Refused.result.names) c.quiet-in-Err-Refused.result.outcome.fault
+    (rw (
+      c.read_words.ensures.refused c.in-Err-Refused.fault (c.in-Err-Refused.is ∙ ap Err c.in-Err-Refused.field-0-is),
+      c.quiet-in-Err-Refused.ensures.names,
+    ) refl)
+
+pub returns-in-Err-NoMemory-clause-named : goal.returns-in-Err-NoMemory-clause-named
+returns-in-Err-NoMemory-clause-named g c =
+    let words = map string_bytes c.args.words.now in
+    unnamed false words (asked words) (names_in c.quiet-in-Err-NoMemory.result.names) c.quiet-in-Err-NoMemory.result.outcome.fault
+    (rw c.quiet-in-Err-NoMemory.ensures.outcome c.at-in-Err-NoMemory.ensures.fault)

@@ -1,0 +1,103 @@
+-- What the lines behind a fault's line say: which text is meant by a name that stands in it.
+use Rattle.std.specs.Prelude.{ℕ, ◌+◌, ◌-◌, ◌/◌, ◌%◌, ◌||◌, ◌==◌, Bool, nat_lt, not, List, [], ◌∷◌}
+use Rattle.std.specs.Prelude.{◌++◌, Option, Some, None, Result, Ok, Err, codes, flat_map, slice_get}
+use Rattle.std.specs.Prelude.{if◌then◌else◌}
+use Rattle.scq_judge.specs.Telling.{hex_digit}
+use Rattle.scq_words.specs.Exports.{run, generated, judged, whole, staged, option_text}
+use Rattle.scq_words.specs.Exports.{is_command}
+use Rattle.scq_words.specs.Asked.{Asked}
+use Rattle.scq_words.specs.declared.fault.WordsFault.{WordsFault}
+use Rattle.scq_words.specs.declared.fault.WordsFault.TheVariants.{NotUnderstood, Workers, Order}
+use Rattle.scq_words.specs.declared.fault.WordsFault.TheVariants.{Size, Topics, Seed, Lines, Room}
+use Rattle.scq_service.specs.Faults.{file_line}
+use Rattle.scq_service.specs.declared.fault.Fault.{Fault}
+use Rattle.scq_service.specs.declared.fault.Fault.TheVariants.{Words, OpenFault, ReadFault, TooLong}
+use Rattle.scq_service.specs.declared.fault.Fault.TheVariants.{TooLarge, BadLineOf, SharedOf}
+use Rattle.scq_service.specs.declared.fault.Fault.TheVariants.{TwoRunsOf, UnlawfulOf}
+
+-- a byte that is written as it is: none of ASCII's control characters, nor the backslash
+abbrev pub is_plain : ℕ → Bool
+is_plain byte = not (nat_lt byte 32 || byte == 92 || byte == 127)
+
+-- a byte as it is written: as it is, or as `\x` and two digits
+abbrev pub shown_byte : ℕ → List ℕ
+shown_byte byte =
+    if is_plain byte then byte ∷ []
+    else 92 ∷ 120 ∷ hex_digit (byte / 16) ∷ hex_digit (byte % 16) ∷ []
+
+-- a text as it is written
+abbrev pub shown : List ℕ → List ℕ
+shown text = flat_map shown_byte text
+
+-- ` is TEXT`, and the same behind a name
+abbrev pub text_is : List ℕ → List ℕ
+text_is text = codes " is " ++ (shown text ++ codes "\n")
+
+abbrev pub is_line : List ℕ → List ℕ → List ℕ
+is_line name text = name ++ text_is text
+
+-- `file F is NAME`, where it is one of these
+abbrev pub name_of : Option (List ℕ) → ℕ → List ℕ
+name_of None file = []
+name_of (Some name) file = file_line file [] ++ text_is name
+
+abbrev pub name_line : List (List ℕ) → ℕ → List ℕ
+name_line names file = name_of (slice_get names (file - 1)) file
+
+-- the names of the files that are asked for, in their order
+abbrev pub files_asked : Result Asked WordsFault → List (List ℕ)
+files_asked (Err fault) = []
+files_asked (Ok (run a)) = a.files
+files_asked (Ok (generated a)) = []
+files_asked (Ok (judged a)) = a.files
+files_asked (Ok (whole a)) = a.file ∷ []
+files_asked (Ok (staged a)) = a.files
+
+-- `NAME is TEXT`, where the option is given
+abbrev pub option_is : List ℕ → Option (List ℕ) → List ℕ
+option_is name None = []
+option_is name (Some text) = is_line name text
+
+abbrev pub option_line : List ℕ → List ℕ → List (List ℕ) → List ℕ
+option_line name option words = option_is name (option_text option words)
+
+-- the first word, where it is no command
+abbrev pub word_line : Bool → List ℕ → List ℕ
+word_line run_alone word =
+    if is_command run_alone word then [] else is_line (codes "word 1") word
+
+abbrev pub command_line : Bool → List (List ℕ) → List ℕ
+command_line run_alone [] = []
+command_line run_alone (word ∷ words) = word_line run_alone word
+
+-- the line behind that of refused words: the text of the option that was tested
+abbrev pub words_lines : Bool → List (List ℕ) → WordsFault → List ℕ
+words_lines run_alone words NotUnderstood = command_line run_alone words
+words_lines run_alone words Workers = option_line (codes "workers") (codes "--workers") words
+words_lines run_alone words Order = option_line (codes "order") (codes "--order") words
+words_lines run_alone words Size = option_line (codes "size") (codes "--size") words
+words_lines run_alone words (Topics fault) = option_line (codes "topics") (codes "--topics") words
+words_lines run_alone words Seed = option_line (codes "seed") (codes "--seed") words
+words_lines run_alone words Lines = option_line (codes "lines") (codes "--lines") words
+words_lines run_alone words Room = option_line (codes "room") (codes "--room") words
+words_lines run_alone words _ = []
+
+-- the lines behind that of a fault, by the words and by the names of the files that they ask for:
+-- for each file that it numbers, its name
+abbrev pub fault_lines : Bool → List (List ℕ) → List (List ℕ) → Fault → List ℕ
+fault_lines run_alone words names (Words fault) = words_lines run_alone words fault
+fault_lines run_alone words names (OpenFault file) = name_line names file
+fault_lines run_alone words names (ReadFault file) = name_line names file
+fault_lines run_alone words names (TooLong file line len limit) = name_line names file
+fault_lines run_alone words names (TooLarge file limit) = name_line names file
+fault_lines run_alone words names (BadLineOf file line) = name_line names file
+fault_lines run_alone words names (SharedOf what file line other_file other_line) =
+    name_line names file ++ name_line names other_file
+fault_lines run_alone words names (TwoRunsOf file number other_file other_number) =
+    name_line names file ++ name_line names other_file
+fault_lines run_alone words names (UnlawfulOf file line) = name_line names file
+fault_lines run_alone words names _ = []
+
+-- the same by what is asked; `run_alone` says that no other command is understood
+abbrev pub lines_behind : Bool → List (List ℕ) → Result Asked WordsFault → Fault → List ℕ
+lines_behind run_alone words asked fault = fault_lines run_alone words (files_asked asked) fault
