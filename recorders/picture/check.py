@@ -67,6 +67,7 @@ def check(history, aspect):
         "empty": empty,
         "refused": refused,
         "full": full,
+        "opening in order": opening,
     }.get(aspect.rule)
     if rule is None:
         for it in events[1:]:
@@ -251,10 +252,27 @@ def refused(history, aspect, first, others, shown):
     )
 
 
+def opening(history, aspect, first, others, shown):
+    if not needs_got(first, shown):
+        return
+    seat, number = first.named
+    shown.claim(
+        seat is None and number > 0,
+        f"The get of seat {first.seat} took opening token {number} while one before it waited.",
+        f"Event {first.rank} took no opening token that has one before it.",
+    )
+
+
 def full(history, aspect, first, others, shown):
     for it in others:
         shown.mark(it, "named beside it")
     name = put_name(named_by(first) or (0, 0))
+    if first.reply == "done":
+        shown.says.append(
+            f"The queue took {name} though it held as many values as it has room for: the judge has"
+            " counted them, the picture doesn't."
+        )
+        return
     shown.claim(
         first.reply == "spent" and is_put(first.start),
         f"The queue refused {name} though a place was free: the judge has counted them, the picture"

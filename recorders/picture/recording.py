@@ -4,7 +4,7 @@ import os
 from check import Opening, check, named_by, put_name
 from history import content_of, is_put, queue_of
 from page import filled, page, plain
-from verdict import RULES, spelled
+from verdict import ENDINGS, RULES, spelled
 from window import Window
 
 LANES = 32  # with more seats, only those have lanes that have a call in the window
@@ -212,8 +212,9 @@ def row_of(aspect, found, show):
     name, rule = plain(aspect.name), plain(RULES.get(aspect.rule, ""))
     told = f"<br><code>{plain(aspect.text)}</code>"
     if aspect.holds:
-        told = "" if aspect.text == f"{aspect.name} holds" else told
-        return f"<tr><td><b>{name}</b></td><td>✓ holds</td><td>{rule}{told}</td></tr>"
+        word = "✓ holds" if aspect.tested else "– not tested"
+        told = "" if aspect.text == f"{aspect.name} {word[2:]}" else told
+        return f"<tr><td><b>{name}</b></td><td>{word}</td><td>{rule}{told}</td></tr>"
     says = " ".join(plain(it) for it in found.says)
     wrong = "".join(f'<p class="wrong">Not so: {plain(it)}</p>' for it in found.wrong)
     button = f'<button type="button" data-show="{show}" aria-pressed="false">✗ fails</button>'
@@ -262,7 +263,11 @@ def recording_page(history, aspects, counts, at=None, width=400):
             (counts.get("overlapping", 0), "overlapping call"),
         )
     )
+    head += "".join(f", {counts[word]:,} {word}" for word in ENDINGS if word in counts)
     title = "all aspects hold"
+    untested = [aspect.name for aspect in aspects if not aspect.tested]
+    if untested:
+        title = f"no aspect fails, not tested: {', '.join(untested)}"
     if fails:
         title = ", ".join(fails[:-1]) + (" and " if fails[1:] else "") + fails[-1]
         title += " fail" if fails[1:] else " fails"

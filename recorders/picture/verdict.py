@@ -7,8 +7,9 @@ import os
 import re
 
 COUNTS = ("events", "queues", "seats", "calls", "overlapping")
+ENDINGS = ("got", "nothing", "refused", "spent", "never ended")
 PLACE = re.compile(r"(?:(?<=\s)|^)(file )?(\S+) line (\d{1,19})\b")
-VERDICT = re.compile(r"(?P<name>[a-z][a-z ]*?) (?P<word>holds|fails)\b(?P<rest>.*)")
+VERDICT = re.compile(r"(?P<name>[a-z][a-z ]*?) (?P<word>holds|not tested|fails)\b(?P<rest>.*)")
 
 # What each aspect asks of a history, in a sentence.
 RULES = {
@@ -22,7 +23,8 @@ RULES = {
     " put was taken, or somebody was under way to take it.",
     "refused": "A value whose put was refused is never taken.",
     "full": "A put is refused only where at some moment of its call no place was free that nobody"
-    " had begun to take.",
+    " had begun to take, and a queue never holds more than it has room for.",
+    "opening in order": "The values that stood in the queue at the start are taken in their order.",
 }
 
 
@@ -38,8 +40,9 @@ class Aspect:
     """One line of a verdict, and `rule`, by which name it stands in RULES. `places` are (file,
     line), the file's number from 0; the first is that of the event that breaks the aspect."""
 
-    def __init__(self, name, holds, text, places):
-        self.name, self.holds, self.text, self.places = name, holds, text, places
+    def __init__(self, name, word, text, places):
+        self.name, self.text, self.places = name, text, places
+        self.holds, self.tested = word != "fails", word != "not tested"
         self.rule = NAMES.get(name, name)
         waiting = re.search(r"\b(\d{1,19}) waiting\b", text)
         self.waiting = int(waiting.group(1)) if waiting else None
@@ -69,21 +72,22 @@ def read_verdict(text, names):
     # Where each place says `file` and a number it is the number that the file has.
     is_numbered = all(prefix and word.isdigit() for row in found for prefix, word, _ in row)
     for line, row in zip(text.splitlines(), found):
-        count = re.fullmatch(r"([a-z]+) (\d{1,19})", line)
+        count = re.fullmatch(r"([a-z ]+) (\d{1,19})", line)
         verdict = VERDICT.fullmatch(line)
-        if count and count.group(1) in COUNTS:
+        if count and count.group(1) in COUNTS + ENDINGS:
             counts[count.group(1)] = int(count.group(2))
         elif verdict:
-            holds = verdict.group("word") == "holds"
+            said = verdict.group("word")
             places = []
             for _, word, at in row:
                 file = file_of(word, is_numbered, names)
                 if file is None:
                     raise Refusal(f"the verdict names a file that isn't here: {line[:200]}")
                 places.append((file, int(at)))
-            if not holds and not places:
+            if said == "fails" and not places:
                 raise Refusal(f"the verdict fails nowhere: {line[:200]}")
-            aspects.append(Aspect(verdict.group("name"), holds, line, [] if holds else places))
+            at = places if said == "fails" else []
+            aspects.append(Aspect(verdict.group("name"), said, line, at))
     if not aspects or "events" not in counts:
         raise Refusal("this is no report of scq judge")
     return aspects, counts

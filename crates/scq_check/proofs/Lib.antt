@@ -13,4 +13,6 @@ mod RefusedLemmas
 mod WaitingLemmas
 mod CounterpartLemmas
 mod FullLemmas
+mod TokenLemmas
+mod EndingLemmas
 mod EndedLemmas

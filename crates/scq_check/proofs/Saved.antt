@@ -7,17 +7,17 @@ use Rattle.scq_hist.specs.Exports.{IsFinishedAt, IsTally, IsFreshAt, IsOnceAt, I
 use Rattle.scq_hist.specs.declared.events.Call.TheVariants.{Put}
 use Rattle.scq_hist.specs.declared.events.Event.{Event}
 use Rattle.scq_hist.specs.declared.events.Event.TheVariants.{Start}
-use Rattle.scq_check.specs.Exports.{AreFailuresBefore, IsQueueOf, queue_in, AreQueuesAt, CountsAreSmall, AreTallies}
+use Rattle.scq_check.specs.Exports.{AreFailuresBefore, IsQueueOf, queue_in, AreQueuesAt, CountsAreSmall, AreTallies, IsTokenInOrderAt}
 use Rattle.scq_hist.specs.declared.tallies.Tally.{Tally}
 use Rattle.scq_check.specs.declared.queues.Queues.{Queues}
 use Rattle.scq_check.specs.declared.verdicts.Found.{Found}
 
-still : {X : Type 0} (xs : List X) (x : X) (k : ℕ) → k < length xs → slice_get (xs ++ x ∷ []) k ≡ slice_get xs k
+pub still : {X : Type 0} (xs : List X) (x : X) (k : ℕ) → k < length xs → slice_get (xs ++ x ∷ []) k ≡ slice_get xs k
 still {X} [] x k lt = absurd (omega arith)
 still {X} (y ∷ ys) x zero lt = refl
 still {X} (y ∷ ys) x (suc k) lt = still ys x k (omega arith)
 
-pushed : {X : Type 0} (xs : List X) (x : X) → slice_get (xs ++ x ∷ []) (length xs) ≡ Some x
+pub pushed : {X : Type 0} (xs : List X) (x : X) → slice_get (xs ++ x ∷ []) (length xs) ≡ Some x
 pushed {X} [] x = refl
 pushed {X} (y ∷ ys) x = pushed ys x
 
@@ -68,3 +68,4 @@ pub record AreFoundBefore (opening : List (List ℕ)) (events : List Event) (e :
   pub once : AreFailuresBefore (IsOnceAt events) e found.once
   pub in_order : AreFailuresBefore (IsInOrderAt opening events) e found.in_order
   pub empty_right : AreFailuresBefore (IsEmptyRightAt opening events) e found.empty_right
+  pub tokens : AreFailuresBefore (IsTokenInOrderAt opening events) e found.opening

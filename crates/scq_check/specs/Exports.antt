@@ -23,5 +23,10 @@ pub use Rattle.scq_check.specs.Counterparts.{IsRepeatOf, IsOfRefused, AtFirst}
 pub use Rattle.scq_check.specs.Full.{IsTaking, IsFreeing, HoldsBefore, held_at_start, MayBeFullAt}
 pub use Rattle.scq_check.specs.Full.{IsFullWithin, IsFullRightAt, NoPutAt}
 pub use Rattle.scq_check.specs.Full.{IsUsedUp, one_more_if, untouched, places_in, IsFullBy}
-pub use Rattle.scq_check.specs.Full.{ArePlacesOf, ArePlacesAt}
+pub use Rattle.scq_check.specs.Full.{ArePlacesOf, ArePlacesAt, IsFilling, IsGetting, IsEmptying}
+pub use Rattle.scq_check.specs.Full.{MayFitAt, IsFittingAt, KeepsRoomAt, NoGetAt, GetsBy}
+pub use Rattle.scq_check.specs.Full.{AreGetters, AreKnown, HasPlace}
+pub use Rattle.scq_check.specs.Endings.{EndsAs, EndsSo, AreEndings}
+pub use Rattle.scq_check.specs.Tokens.{IsTokenBelow, IsTokenInOrderAt, IsGetOfToken}
+pub use Rattle.scq_check.specs.Tokens.{AreTokenTallies}
 pub use Rattle.scq_check.specs.Found.{AreFoundOf, AreFound}

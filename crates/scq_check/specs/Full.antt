@@ -1,19 +1,21 @@
 -- A sixth verdict, where it is known for how many values each queue has room: a put that was
--- refused found no place free. Places are counted as tokens are: an opening token has one, a put
--- that wasn't refused takes one at the earliest when it starts, and a get that has got a put gives
--- one back at the latest when it ends
-use Rattle.std.specs.Prelude.{◌≡◌, ℕ, ◌+◌, ◌<◌, ◌≤◌, ◌⊎◌, ◌==◌, if◌then◌else◌, List, Some, length}
-use Rattle.std.specs.Prelude.{slice_get, unwrap_or, true, false, Bool}
+-- refused found no place free, and the queue never holds more. Places are counted as tokens are: an
+-- opening token has one, a put that wasn't refused takes one at the earliest when it starts, and a
+-- get that has got a put gives one back at the latest when it ends. A put that is answered Done has
+-- one at the latest when it ends, and a get gives one back at the earliest when it starts
+use Rattle.std.specs.Prelude.{◌≡◌, ◌↔◌, ℕ, suc, ◌+◌, ◌<◌, ◌≤◌, ◌⊎◌, ◌==◌, if◌then◌else◌, List, Some}
+use Rattle.std.specs.Prelude.{length, slice_get, slice_index_or, unwrap_or, true, false, Bool, IsTrue}
 use Rattle.std.specs.Ordering.{nat_cmp}
 use Rattle.std.specs.BTreeMap.{get}
-use Rattle.scq_hist.specs.Exports.{IsCall, IsPut, Names, IsCount}
+use Rattle.scq_hist.specs.Exports.{IsCall, IsPut, IsDoneAt, IsPending, Names, IsCount}
 use Rattle.scq_hist.specs.declared.events.Call.TheVariants.{Put, Get}
 use Rattle.scq_hist.specs.declared.events.Event.{Event}
 use Rattle.scq_hist.specs.declared.events.Event.TheVariants.{Start}
 use Rattle.scq_hist.specs.declared.events.PutName.{PutName}
 use Rattle.scq_hist.specs.declared.events.PutName.TheVariants.{Of}
 use Rattle.scq_hist.specs.declared.events.Reply.TheVariants.{Got, Spent}
-use Rattle.scq_check.specs.Refused.{IsRefused}
+use Rattle.scq_check.specs.Refused.{IsRefused, IsRefusals}
+use Rattle.scq_check.specs.declared.full.Known.{Known}
 use Rattle.scq_check.specs.declared.full.Places.{Places}
 use Rattle.scq_check.specs.declared.full.AllPlaces.{AllPlaces}
 
@@ -64,6 +66,48 @@ abbrev pub IsFullRightAt : ℕ → List (List ℕ) → List Event → ℕ → Ty
 IsFullRightAt room opening events e = (s seat queue : ℕ) (content : List ℕ)
     → IsCall events seat (Put queue content) s e Spent → IsFullWithin room opening events queue s e
 
+-- a put of this queue ends with Done at position e: from then on it has a place, or was got
+pub record IsFilling (events : List Event) (queue e : ℕ) : Type 0 where
+  pub seat : ℕ
+  pub number : ℕ
+  pub done : IsDoneAt events queue e seat number
+
+-- a get of this queue starts at position s that gets something
+pub record IsGetting (events : List Event) (queue s : ℕ) : Type 0 where
+  pub seat : ℕ
+  pub e : ℕ
+  pub name : PutName
+  pub content : List ℕ
+  pub call : IsCall events seat (Get queue) s e (Got name content)
+
+-- or one that never ends: from then on it may have given a place back
+abbrev pub IsEmptying : List Event → ℕ → ℕ → Type 0
+IsEmptying events queue s = IsGetting events queue s ⊎ IsPending events queue (suc s) s
+
+-- at moment m the queue may hold no more than it has room for: the places that were held at the
+-- start, and those of the puts that were answered Done by then, are at most its room and the gets
+-- that had begun by then and get something or never end
+pub record MayFitAt (room : ℕ) (opening : List (List ℕ)) (events : List Event)
+    (queue m : ℕ) : Type 0 where
+  pub done : ℕ
+  pub begun : ℕ
+  pub fills : IsCount (HoldsBefore (IsFilling events queue) m) done
+  pub empties : IsCount (HoldsBefore (IsEmptying events queue) m) begun
+  pub fits : held_at_start opening queue + done ≤ room + begun
+
+-- never over, for the put that is answered Done at position e: just after it the queue may hold no
+-- more than it has room for
+abbrev pub IsFittingAt : ℕ → List (List ℕ) → List Event → ℕ → Type 0
+IsFittingAt room opening events e =
+    (queue : ℕ) → IsFilling events queue e → MayFitAt room opening events queue (e + 1)
+
+-- the room is kept, for the event at position e: if a put is refused there, rightly, and if one is
+-- answered Done there, the queue isn't over-full
+pub record KeepsRoomAt (room : ℕ) (opening : List (List ℕ)) (events : List Event)
+    (e : ℕ) : Type 0 where
+  pub full : IsFullRightAt room opening events e
+  pub fits : IsFittingAt room opening events e
+
 -- For private calls: a put of this queue starts at position s by this seat; and none does
 pub record IsPutAt (events : List Event) (queue s seat : ℕ) : Type 0 where
   pub content : List ℕ
@@ -73,10 +117,40 @@ pub record NoPutAt (events : List Event) (queue s : ℕ) : Type 0 where
   pub none : (seat : ℕ) (content : List ℕ)
       → ¬ (slice_get events s ≡ Some (Start seat (Put queue content)))
 
+-- a get of this queue starts at position s by this seat; and none does
+pub record IsGetAt (events : List Event) (queue s seat : ℕ) : Type 0 where
+  pub starts : slice_get events s ≡ Some (Start seat (Get queue))
+
+pub record NoGetAt (events : List Event) (queue s : ℕ) : Type 0 where
+  pub none : (seat : ℕ) → ¬ (slice_get events s ≡ Some (Start seat (Get queue)))
+
+-- at position s a get starts that gets something by an End before position m
+pub record GetsBy (events : List Event) (m s : ℕ) : Type 0 where
+  pub queue : ℕ
+  pub getting : IsGetting events queue s
+  pub before : getting.e < m
+
+-- for each position whether such a get starts there
+pub record AreGetters (events : List Event) (m : ℕ) (flags : List Bool) : Type 0 where
+  pub many : length flags ≡ length events
+  pub each : (s : ℕ) → s < length events
+      → IsTrue (slice_index_or flags s false) ↔ GetsBy events m s
+
+-- what is looked up beside the tables
+pub record AreKnown (events : List Event) (known : Known) : Type 0 where
+  pub refusals : IsRefusals events (length events) known.refusals
+  pub getters : AreGetters events (length events) known.getters.items
+
 -- by its numbers no place of the queue is free for certain
 abbrev pub IsUsedUp : ℕ → List (List ℕ) → ℕ → Places → Type 0
 IsUsedUp room opening queue places =
     room + places.freed ≤ held_at_start opening queue + places.taken
+
+-- by its numbers the queue holds no more than it has room for, with one put more that is answered
+-- Done
+abbrev pub HasPlace : ℕ → List (List ℕ) → ℕ → Places → Type 0
+HasPlace room opening queue places =
+    held_at_start opening queue + places.done + 1 ≤ room + places.begun
 
 -- a number, or one more
 abbrev pub one_more_if : ℕ → Bool → ℕ
@@ -85,7 +159,7 @@ one_more_if n false = n
 
 -- before any event
 abbrev pub untouched : Places
-untouched = record { taken = 0; freed = 0; full_till = 0 }
+untouched = record { taken = 0; freed = 0; done = 0; begun = 0; full_till = 0 }
 
 -- what is kept of a queue
 abbrev pub places_in : AllPlaces → ℕ → Places
@@ -104,6 +178,10 @@ pub record ArePlacesOf (room : ℕ) (opening : List (List ℕ)) (events : List E
   pub frees : IsCount (HoldsBefore (IsFreeing events queue) m) places.freed
   pub few_taken : places.taken ≤ m
   pub few_freed : places.freed ≤ m
+  pub fills : IsCount (HoldsBefore (IsFilling events queue) m) places.done
+  pub empties : IsCount (HoldsBefore (IsEmptying events queue) m) places.begun
+  pub few_done : places.done ≤ m
+  pub few_begun : places.begun ≤ m
   pub full : 0 < places.full_till → IsFullBy room opening events queue m places.full_till
   pub last : (k : ℕ) → k ≤ m → MayBeFullAt room opening events queue k
       → (k ≤ places.full_till) ⊎ IsUsedUp room opening queue places

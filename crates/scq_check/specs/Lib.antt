@@ -12,5 +12,7 @@ pub mod Refused
 pub mod Waiting
 pub mod Counterparts
 pub mod Full
+pub mod Tokens
+pub mod Endings
 pub mod Found
 pub mod Exports

@@ -48,11 +48,12 @@ pub record IsRefusalAt (events : List Event) (e : ℕ) (put : EndedPut) : Type 0
   pub call : IsCall events put.seat (Put put.queue content) put.start e Spent
 
 -- the event at position e is of a call of this queue: so is a put that starts there and a get that
--- ends there, and no put of another queue ends with Done there, nor does a get of another start
--- there that never ends
+-- starts or ends there, and no put of another queue ends with Done there, nor does a get of another
+-- start there that never ends
 pub record IsQueueOf (events : List Event) (e queue : ℕ) : Type 0 where
   pub put : (seat q : ℕ) (content : List ℕ) → slice_get events e ≡ Some (Start seat (Put q content))
       → q ≡ queue
+  pub starts : (seat q : ℕ) → slice_get events e ≡ Some (Start seat (Get q)) → q ≡ queue
   pub get : (seat q s : ℕ) (reply : Reply) → IsCall events seat (Get q) s e reply → q ≡ queue
   pub no_done : (q : ℕ) → ¬ (q ≡ queue) → NoDoneAt events q e
   pub no_get : (q : ℕ) → ¬ (q ≡ queue) → ¬ IsPending events q (suc e) e

@@ -7,8 +7,10 @@ use Rattle.scq_hist.specs.Exports.{IsEmptyRightAt, IsEmptyRight, IsFirstFailing}
 use Rattle.scq_hist.specs.declared.events.Event.{Event}
 use Rattle.scq_check.specs.Counterparts.{AtFirst, IsOfOrigin, IsOriginWithin, IsRepeatOf}
 use Rattle.scq_check.specs.Counterparts.{IsOvertaking, IsEmptyBeside, IsOfRefused}
+use Rattle.scq_check.specs.Endings.{AreEndings}
 use Rattle.scq_check.specs.Failures.{AreFailures}
 use Rattle.scq_check.specs.Refused.{IsAcceptedAt}
+use Rattle.scq_check.specs.Tokens.{IsTokenInOrderAt}
 use Rattle.scq_check.specs.Waiting.{IsToldWithin}
 use Rattle.scq_check.specs.declared.verdicts.Breaches.{Breaches}
 use Rattle.scq_check.specs.declared.verdicts.Verdict.{Verdict}
@@ -48,7 +50,8 @@ pub record HaveCounterparts (opening : List (List ℕ)) (events : List Event)
       (IsEmptyBeside opening events) breaches.empty_right.first breaches.counterparts.empty_right
   pub accepted : AtFirst (IsOfRefused events) breaches.accepted.first breaches.counterparts.accepted
 
--- of a history: the events that break each aspect, and what the first of them stands against
+-- of a history: the events that break each aspect, what the first of them stands against, and how
+-- many calls end in each way
 pub record AreBreaches (opening : List (List ℕ)) (events : List Event)
     (breaches : Breaches) : Type 0 where
   pub accepted : AreFailures (IsAcceptedAt events) breaches.accepted
@@ -56,6 +59,8 @@ pub record AreBreaches (opening : List (List ℕ)) (events : List Event)
   pub once : AreFailures (IsOnceAt events) breaches.once
   pub in_order : AreFailures (IsInOrderAt opening events) breaches.in_order
   pub empty_right : AreFailures (IsEmptyRightAt opening events) breaches.empty_right
+  pub tokens : AreFailures (IsTokenInOrderAt opening events) breaches.opening
+  pub endings : AreEndings events breaches.endings
   pub against : HaveCounterparts opening events breaches
 
 -- each first event that breaks an aspect stands below position m, and so does what is told beside
@@ -66,6 +71,7 @@ pub record AreWithin (m : ℕ) (breaches : Breaches) : Type 0 where
   pub in_order : IfSome breaches.in_order.first (λ e. e < m)
   pub empty_right : IfSome breaches.empty_right.first (λ e. e < m)
   pub accepted : IfSome breaches.accepted.first (λ e. e < m)
+  pub opening : IfSome breaches.opening.first (λ e. e < m)
   pub origin : IfSome breaches.counterparts.fresh (IsOriginWithin m)
   pub named : IfSome breaches.counterparts.once (λ d. d < m)
   pub overtaken : IfSome breaches.counterparts.in_order (IsToldWithin m)

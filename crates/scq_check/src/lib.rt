@@ -10,6 +10,7 @@
 mod by_name;
 mod calls;
 mod counterparts;
+mod endings;
 mod failures;
 mod freshness;
 mod full;
@@ -22,12 +23,14 @@ mod puts;
 mod queues;
 mod refused;
 mod tables;
+mod tokens;
 mod verdicts;
 mod waiting;
 
 pub use counterparts::{Counterparts, Origin};
+pub use endings::{Ending, Endings};
 pub use failures::Failures;
-pub use full::find_wrong_refusals;
+pub use full::find_room_breaches;
 pub use history::{History, HistoryFault, read_history};
 pub use lawful::first_unlawful;
 pub use line::{Bounds, Line, read_fields};

@@ -12,12 +12,14 @@ ghost use Rattle.scq_check.specs.Verdicts.{aspect_line, verdict_lines};
 use crate::counterparts::{
     Counterparts, named_first, origin_of_first, overtaken, refused_first, waiting_beside,
 };
+use crate::endings::{Endings, count_endings};
 use crate::failures::Failures;
 use crate::freshness::{is_fresh_at, is_once_at};
 use crate::order::{is_empty_right_at, is_in_order_at, tallies_before};
 use crate::queues::Queues;
 use crate::refused::refused_gots;
 use crate::tables::Tables;
+use crate::tokens::{is_token_in_order_at, token_tallies};
 use itoa::Buffer;
 use scq_hist::Event;
 use scq_word::{Bytes, NoMemory};
@@ -38,7 +40,7 @@ pub struct Verdict {
     pub empty_right: Option<u64>,
 }
 
-/// What breaks each aspect of a history, and the events that name refused puts.
+/// What breaks each aspect of a history, the events that name refused puts, and how its calls end.
 #[derive(Clone, Copy)]
 pub struct Breaches {
     /// The Gots that name no put of their queue and content that is an opening token or began
@@ -52,20 +54,26 @@ pub struct Breaches {
     pub empty_right: Failures,
     /// The Gots that name puts which ended with Spent.
     pub accepted: Failures,
+    /// The Gots that are the gets of opening tokens before which others had to be claimed, and
+    /// weren't.
+    pub opening: Failures,
+    /// How many calls end in each way.
+    pub endings: Endings,
     /// What the first of each stands against.
     pub counterparts: Counterparts,
 }
 
-/// The events that break each of the four aspects.
+/// The events that break each of the four aspects, and the order of the opening tokens.
 #[derive(Clone, Copy)]
 pub(crate) struct Found {
     pub(crate) fresh: Failures,
     pub(crate) once: Failures,
     pub(crate) in_order: Failures,
     pub(crate) empty_right: Failures,
+    pub(crate) opening: Failures,
 }
 
-// The events that break each of the four aspects, by the tables of the history.
+// The events that break them, by the tables of the history.
 fn find(
     alloc: Global,
     tables: &Tables,
@@ -76,6 +84,7 @@ fn find(
     ensures { IfOk result (AreFound opening.now events.now) }
 {
     let tallies = tallies_before(alloc, tables, opening, events)?;
+    let tokens = token_tallies(alloc, tables, opening, events)?;
     let mut queues = Queues::new(alloc, tables, opening, events);
     let none = Failures::none();
     let mut found = Found {
@@ -83,14 +92,17 @@ fn find(
         once: none,
         in_order: none,
         empty_right: none,
+        opening: none,
     };
     for e in 0..events.len() {
         let in_order = is_in_order_at(tables, events, &tallies, &queues, e);
         let empty_right = is_empty_right_at(tables, events, &queues, e);
+        let token = is_token_in_order_at(tables, opening, events, &tokens, &queues, e);
         found.fresh = found.fresh.with(e, is_fresh_at(tables, opening, events, e));
         found.once = found.once.with(e, is_once_at(tables, events, e));
         found.in_order = found.in_order.with(e, in_order);
         found.empty_right = found.empty_right.with(e, empty_right);
+        found.opening = found.opening.with(e, token);
         queues.add(tables, events, e)?;
     }
     Ok(found)
@@ -139,14 +151,16 @@ fn breaches_by(
         in_order: found.in_order,
         empty_right: found.empty_right,
         accepted,
+        opening: found.opening,
+        endings: count_endings(tables, events),
         counterparts,
     })
 }
 
 /// Judges a lawful history (`first_unlawful` tests whether it is). `opening` has the contents of
-/// the tokens that stand in queue 0 before it. Gots of refused puts only `find_breaches` tells. It
-/// makes tables of the history, and goes over its events a few times: time grows little faster than
-/// the history's length.
+/// the tokens that stand in queue 0 before it. Gots of refused puts, and of opening tokens out of
+/// their order, only `find_breaches` tells. It makes tables of the history, and goes over its
+/// events a few times: time grows little faster than the history's length.
 pub fn judge(alloc: Global, opening: &[Bytes], events: &[Event]) -> Result<Verdict, NoMemory>
     requires { IsLawful events.now }
     ensures verdict { IfOk result (IsVerdictOf opening.now events.now) }

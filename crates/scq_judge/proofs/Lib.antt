@@ -6,3 +6,4 @@ pub mod CountLemmas
 pub mod JudgeLemmas
 pub mod ReaderLemmas
 pub mod TextLemmas
+mod RightLemmas

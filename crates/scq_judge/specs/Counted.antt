@@ -1,6 +1,6 @@
 -- What a report counts of a history
 use Rattle.std.specs.Prelude.{◌≡◌, ℕ, ◌+◌, ◌<◌, ◌≤◌, ◌⊎◌, ◌↔◌, Bool, IsTrue, List, Option, Some}
-use Rattle.std.specs.Prelude.{None, is_some, slice_get}
+use Rattle.std.specs.Prelude.{None, is_some, length, slice_get}
 use Rattle.std.specs.Ordering.{nat_cmp}
 use Rattle.std.specs.BTreeMap.{get}
 use Rattle.scq_hist.specs.Exports.{under_way, IsCount}
@@ -41,6 +41,10 @@ pub record IsBusy (events : List Event) (m seat : ℕ) : Type 0 where
 pub record Overlaps (events : List Event) (s : ℕ) : Type 0 where
   pub start : IsStartAt events s
   pub another : ((seat : ℕ) × IsBusy events s seat) ⊎ IsStartAt events (s + 1)
+
+-- the seat has a call under way at the end of the list: it never ends
+abbrev pub NeverEnds : List Event → ℕ → Type 0
+NeverEnds events seat = IsBusy events (length events) seat
 
 -- For private calls: what is true of a position before m
 abbrev pub Before : (ℕ → Type 0) → ℕ → ℕ → Type 0

@@ -16,12 +16,15 @@ pub use Rattle.scq_judge.specs.Seats.{HasSeatOfAnother, NoneBefore, IsSeatHome, 
 pub use Rattle.scq_judge.specs.Seats.{IsAway}
 pub use Rattle.scq_judge.specs.Runs.{AreOfOneRun, IsOfAnotherRun, AreOfRun}
 pub use Rattle.scq_judge.specs.Counted.{IsStarting, IsStartAt, named_by, IsNamed, IsBusy, Overlaps}
-pub use Rattle.scq_judge.specs.Counted.{Before, IsNamedBefore, is_seen, AreSeen, AreBusy}
+pub use Rattle.scq_judge.specs.Counted.{Before, IsNamedBefore, is_seen, AreSeen, AreBusy, NeverEnds}
 pub use Rattle.scq_judge.specs.Telling.{name_text, got_name_text, call_text, told_by}
 pub use Rattle.scq_judge.specs.Report.{verdict_text, event_text, put_text, got_text, waiting_text}
 pub use Rattle.scq_judge.specs.Report.{origin_text, overtaker_text, plain_line, origin_line}
 pub use Rattle.scq_judge.specs.Report.{beside_line, waiting_line, order_line, full_line, count_line}
-pub use Rattle.scq_judge.specs.Report.{report_lines}
+pub use Rattle.scq_judge.specs.Report.{report_lines, tests_gots, tests_order, tests_empty}
+pub use Rattle.scq_judge.specs.Report.{tests_refused, tests_opening, over_text, opening_line}
+pub use Rattle.scq_judge.specs.Report.{linearizable_line, count_lines, ending_lines, IsOrderTold}
+pub use Rattle.scq_judge.specs.Report.{unbroken_text, over_by}
 pub use Rattle.scq_judge.specs.Judged.{IsHistoryOf, IsReported, IsFirstUnlawful, IsSharing}
 pub use Rattle.scq_judge.specs.Judged.{IsCauseIn}
 pub use Rattle.scq_judge.specs.Judged.{IsJudged, AreSoundBefore, IsCause, IsUnlawfulAt}

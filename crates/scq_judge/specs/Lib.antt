@@ -8,5 +8,6 @@ pub mod Runs
 pub mod Counted
 pub mod Telling
 pub mod Report
+pub mod Right
 pub mod Judged
 pub mod Exports

@@ -5,15 +5,15 @@ ghost use Rattle.std.specs.Prelude.{OnOk, Some, length};
 ghost use Rattle.scq_hist.specs.Exports.{IsLawful, IsCount};
 ghost use Rattle.scq_hist.specs.declared.events.Event.TheVariants.{Start};
 ghost use Rattle.scq_judge.specs.Counted.{IsStartAt, IsNamed, Overlaps, Before, AreSeen, AreBusy};
-ghost use Rattle.scq_judge.specs.Counted.{named_by, is_seen};
+ghost use Rattle.scq_judge.specs.Counted.{NeverEnds, named_by, is_seen};
 
 use scq_hist::{Call, Event, call_started};
 use scq_word::NoMemory;
 use std::alloc::Global;
 use std::collections::BTreeMap;
 
-/// How many events, queues, seats and calls a history has, and how many of its calls overlap
-/// another.
+/// How many events, queues, seats and calls a history has, how many of its calls overlap another,
+/// and how many never end.
 #[derive(Clone, Copy)]
 pub struct Counts {
     pub events: usize,
@@ -21,6 +21,7 @@ pub struct Counts {
     pub seats: usize,
     pub calls: usize,
     pub overlapping: usize,
+    pub never_ended: usize,
 }
 
 /// What a Start names: the seat, or the queue of the call.
@@ -69,13 +70,17 @@ pub(crate) fn count(alloc: Global, events: &[Event]) -> Result<Counts, NoMemory>
     ensures seats { IfOk result (λ counts. IsCount (IsNamed Named.Seat events.now) counts.seats) }
     ensures calls { IfOk result (λ counts. IsCount (IsStartAt events.now) counts.calls) }
     ensures overlapping { IfOk result (λ counts. IsCount (Overlaps events.now) counts.overlapping) }
+    ensures never_ended { IfOk result (λ counts.
+        IsCount (NeverEnds events.now) counts.never_ended) }
 {
+    let (overlapping, never_ended) = count_overlapping(events);
     Ok(Counts {
         events: events.len(),
         queues: count_named(alloc, Named::Queue, events)?,
         seats: count_named(alloc, Named::Seat, events)?,
         calls: count_calls(events),
-        overlapping: count_overlapping(events),
+        overlapping,
+        never_ended,
     })
 }
 
@@ -200,10 +205,11 @@ fn busy_after(busy: usize, events: &[Event], e: usize) -> usize
     }
 }
 
-// How many calls overlap another.
-fn count_overlapping(events: &[Event]) -> usize
+// How many calls overlap another, and how many never end.
+fn count_overlapping(events: &[Event]) -> (usize, usize)
     requires { IsLawful events.now }
-    ensures { IsCount (Overlaps events.now) result }
+    ensures overlapping { IsCount (Overlaps events.now) result.0 }
+    ensures never_ended { IsCount (NeverEnds events.now) result.1 }
 {
     let mut busy = 0;
     let mut overlapping = 0;
@@ -211,7 +217,7 @@ fn count_overlapping(events: &[Event]) -> usize
         overlapping = overlapping_after(overlapping, events, busy, e);
         busy = busy_after(busy, events, e);
     }
-    overlapping
+    (overlapping, busy)
 }
 
 // From how many calls that start before position e overlap another to how many of those up to it

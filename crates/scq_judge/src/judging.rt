@@ -7,28 +7,72 @@ ghost use Rattle.scq_judge.specs.Runs.{AreOfOneRun};
 ghost use Rattle.scq_judge.specs.Seats.{EachSeatInOneFile};
 ghost use Rattle.scq_judge.specs.Judged.{shared_by, IsReported, IsReportOf};
 ghost use Rattle.scq_judge.specs.Judged.{IsCauseIn, IsUnlawfulAt};
-ghost use Rattle.scq_judge.specs.Report.{AreWrongRefusals, IsReport};
+ghost use Rattle.scq_judge.specs.Report.{AreRoomBreaches, IsReport};
 
 use crate::counting::{Counts, count};
+use crate::linearizable::is_linearizable;
 use crate::merging::{MergeFault, Merged, merge};
 use crate::recorded::{Place, Recorded};
 use crate::runs::first_other_run;
 use crate::seats::first_apart;
 use crate::teller::Teller;
 use crate::text::report_text;
-use scq_check::{Breaches, Failures, find_breaches, find_wrong_refusals, first_unlawful};
+use scq_check::{Breaches, Failures, find_breaches, find_room_breaches, first_unlawful};
 use scq_hist::Event;
 use scq_word::{Bytes, NoMemory};
 use std::alloc::{AllocError, Global};
 use thiserror::Error;
 
-/// What is said of a history: the events that break each aspect, where they are judged the refusals
-/// that found a place, and what it has.
+/// What is said of a history: the events that break each aspect, and, where it is known, the room;
+/// what it has, how many opening tokens among it, and where each call has ended whether it is
+/// linearizable.
 #[derive(Clone, Copy)]
 pub struct Report {
     pub breaches: Breaches,
     pub full: Option<Failures>,
     pub counts: Counts,
+    pub tokens: usize,
+    pub linearizable: Option<bool>,
+}
+
+impl Report {
+    ghost use Rattle.scq_judge.specs.Report.{tests_gots, tests_order, tests_empty, tests_refused};
+    ghost use Rattle.scq_judge.specs.Report.{tests_opening};
+
+    /// Whether a get got something.
+    pub(crate) fn tests_gots(&self) -> bool
+        ensures { result ≡ tests_gots self.now }
+    {
+        self.breaches.endings.got > 0
+    }
+
+    /// Whether a get got something, and where there are several seats calls ran side by side.
+    pub(crate) fn tests_order(&self) -> bool
+        ensures { result ≡ tests_order self.now }
+    {
+        self.tests_gots() && (self.counts.seats <= 1 || self.counts.overlapping > 0)
+    }
+
+    /// Whether a get found nothing.
+    pub(crate) fn tests_empty(&self) -> bool
+        ensures { result ≡ tests_empty self.now }
+    {
+        self.breaches.endings.nothing > 0
+    }
+
+    /// Whether a put was refused.
+    pub(crate) fn tests_refused(&self) -> bool
+        ensures { result ≡ tests_refused self.now }
+    {
+        self.breaches.endings.refused > 0
+    }
+
+    /// Whether a get got an opening token.
+    pub(crate) fn tests_opening(&self) -> bool
+        ensures { result ≡ tests_opening self.now }
+    {
+        self.breaches.endings.tokens > 0
+    }
 }
 
 /// What two events may not share: a stamp, or in two files a seat.
@@ -269,29 +313,33 @@ fn report_on(
     ensures full_within { IfOk result (λ report.
         IfSome report.full (λ full. IfSome full.first (λ e. e < length events.now))) }
 {
+    let breaches = find_breaches(alloc, opening, events)?;
+    let counts = count(alloc, events)?;
     Ok(Report {
-        breaches: find_breaches(alloc, opening, events)?,
-        full: wrong_refusals(alloc, room, opening, events)?,
-        counts: count(alloc, events)?,
+        breaches,
+        full: room_breaches(alloc, room, opening, events)?,
+        counts,
+        tokens: opening.len(),
+        linearizable: is_linearizable(&breaches, counts.never_ended),
     })
 }
 
-// The refusals that found a place, where it is known for how many values each queue has room.
-fn wrong_refusals(
+// The puts that break the room, where it is known for how many values each queue has it.
+fn room_breaches(
     alloc: Global,
     room: Option<u32>,
     opening: &[Bytes],
     events: &[Event],
 ) -> Result<Option<Failures>, NoMemory>
     requires { IsLawful events.now }
-    ensures told { IfOk result (AreWrongRefusals room opening.now events.now) }
+    ensures told { IfOk result (AreRoomBreaches room opening.now events.now) }
     ensures within { IfOk result (λ told.
         IfSome told (λ full. IfSome full.first (λ e. e < length events.now))) }
 {
     match room {
         None => Ok(None),
         Some(room) => {
-            let failures = find_wrong_refusals(alloc, room, opening, events)?;
+            let failures = find_room_breaches(alloc, room, opening, events)?;
             Ok(Some(failures))
         }
     }

@@ -2,14 +2,16 @@
 //! each with its stamp. Files are read one after the other, in pieces, their events merged in the
 //! order of the stamps and judged by tables, and of each aspect the report says how many events
 //! break it and where the first stands. It stands on `scq_check` for the lines and the verdicts, on
-//! `scq_hist` for the aspects, and on `scq_outside` for files. The layer above uses that what is
-//! read is `recording_of` the contents, that the merged list has the same events with rising
-//! stamps, and that the report counts what breaks each definition.
+//! `scq_hist` for the aspects, on `scq_order` for what they mean together, and on `scq_outside` for
+//! files. The layer above uses that what is read is `recording_of` the contents, that the merged
+//! list has the same events with rising stamps, that the report counts what breaks each definition,
+//! and that it tells of a complete history whether it is linearizable.
 #![tactic(auto)]
 
 mod counting;
 mod entry;
 mod judging;
+mod linearizable;
 mod merging;
 mod reader;
 mod reading;

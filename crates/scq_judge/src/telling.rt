@@ -117,7 +117,8 @@ fn add_call_at(text: &mut Vec<u8>, events: &[Event], e: usize) -> Result<(), NoM
     add_got_name(text, event_at(events, e))
 }
 
-fn event_at(events: &[Event], i: usize) -> &Event
+/// The event at this position.
+pub(crate) fn event_at(events: &[Event], i: usize) -> &Event
     requires { i < length events.now }
     ensures { slice_get events.now i ≡ Some result.now }
 {

@@ -6,18 +6,22 @@ ghost use Rattle.scq_check.specs.Exports.{IsOriginWithin, AreWithin, IsToldWithi
 ghost use Rattle.scq_judge.specs.Exports.{told_by, beside_line, count_line, full_line, got_text};
 ghost use Rattle.scq_judge.specs.Exports.{order_line, origin_line, origin_text, overtaker_text};
 ghost use Rattle.scq_judge.specs.Exports.{put_text, report_lines, verdict_text, waiting_line};
-ghost use Rattle.scq_judge.specs.Exports.{waiting_text};
+ghost use Rattle.scq_judge.specs.Exports.{waiting_text, over_by, over_text, opening_line};
+ghost use Rattle.scq_judge.specs.Exports.{count_lines, ending_lines, linearizable_line, tests_opening};
+ghost use Rattle.scq_judge.specs.Exports.{unbroken_text};
 
 use crate::counting::Counts;
 use crate::judging::Report;
 use crate::teller::Teller;
-use crate::telling::{add_event_at, add_number, add_token};
+use crate::telling::{add_event_at, add_number, add_token, event_at};
 use scq_check::{Failures, Origin, Waiting};
+use scq_hist::{Event, Reply};
 use scq_word::{Bytes, NoMemory};
 use std::alloc::Global;
 
-/// A report as text: a line for each aspect and one for each count. `NAME holds`, or `NAME fails at
-/// EVENT, COUNT in all`, and behind that what this event stands against.
+/// A report as text: a line for each aspect and one for each count, and one that tells whether the
+/// history is linearizable. `NAME holds`, `NAME not tested`, or `NAME fails at EVENT, COUNT in all`,
+/// and behind that what this event stands against.
 pub(crate) fn report_text(
     alloc: Global,
     teller: Teller<'_>,
@@ -30,12 +34,22 @@ pub(crate) fn report_text(
 {
     let breaches = &report.breaches;
     let told = &breaches.counterparts;
+    let gots = report.tests_gots();
+    let refused = report.tests_refused();
     let mut text = Vec::new(alloc);
-    add_origin(&mut text, b"fresh", teller, &breaches.fresh, told.fresh)?;
+    add_origin(
+        &mut text,
+        b"fresh",
+        teller,
+        gots,
+        &breaches.fresh,
+        told.fresh,
+    )?;
     add_beside(
         &mut text,
         b"once",
         teller,
+        gots,
         &breaches.once,
         b"; named before at ",
         told.once,
@@ -44,6 +58,7 @@ pub(crate) fn report_text(
         &mut text,
         b"in order",
         teller,
+        report.tests_order(),
         &breaches.in_order,
         told.in_order,
         told.overtaker,
@@ -52,6 +67,7 @@ pub(crate) fn report_text(
         &mut text,
         b"empty",
         teller,
+        report.tests_empty(),
         &breaches.empty_right,
         told.empty_right,
     )?;
@@ -59,12 +75,16 @@ pub(crate) fn report_text(
         &mut text,
         b"refused never got",
         teller,
+        refused,
         &breaches.accepted,
         b"; put refused at ",
         told.accepted,
     )?;
-    add_full(&mut text, teller, report.full)?;
+    add_full(&mut text, teller, refused, report.full)?;
+    add_opening(&mut text, teller, report)?;
     add_counts(&mut text, report.counts)?;
+    add_endings(&mut text, report)?;
+    add_linearizable(&mut text, report.linearizable)?;
     Ok(Bytes::from(text))
 }
 
@@ -73,15 +93,16 @@ fn add_origin(
     text: &mut Vec<u8>,
     name: &[u8],
     teller: Teller<'_>,
+    tested: bool,
     failures: &Failures,
     origin: Option<Origin>,
 ) -> Result<(), NoMemory>
     requires first { IfSome failures.now.first (λ e. e < length teller.events.now) }
     requires origin { IfSome origin (IsOriginWithin (length teller.events.now)) }
     ensures { OnOk result (text.new.items
-        ≡ text.old.items ++ origin_line name.now (told_by teller.entry) failures.now origin) }
+        ≡ text.old.items ++ origin_line name.now (told_by teller.entry) tested failures.now origin) }
 {
-    add_verdict(text, name, teller, failures)?;
+    add_verdict(text, name, teller, tested, failures)?;
     add_put_of(text, teller, origin)?;
     text.extend_from_slice(b"\n")?;
     Ok(())
@@ -116,14 +137,82 @@ fn add_put_of(
     }
 }
 
-// The line on refusals, where they are judged.
-fn add_full(text: &mut Vec<u8>, teller: Teller<'_>, full: Option<Failures>) -> Result<(), NoMemory>
+// The line on the room, where it is known.
+fn add_full(
+    text: &mut Vec<u8>,
+    teller: Teller<'_>,
+    tested: bool,
+    full: Option<Failures>,
+) -> Result<(), NoMemory>
     requires { IfSome full (λ full. IfSome full.first (λ e. e < length teller.events.now)) }
     ensures { OnOk result (text.new.items
-        ≡ text.old.items ++ full_line (told_by teller.entry) full) }
+        ≡ text.old.items ++ full_line (told_by teller.entry) tested full) }
 {
-    if let Some(failures) = full {
-        add_verdict(text, b"full", teller, &failures)?;
+    match full {
+        None => Ok(()),
+        Some(failures) => add_room(text, teller, tested, failures),
+    }
+}
+
+// The same, where it is.
+fn add_room(
+    text: &mut Vec<u8>,
+    teller: Teller<'_>,
+    tested: bool,
+    failures: Failures,
+) -> Result<(), NoMemory>
+    requires { IfSome failures.first (λ e. e < length teller.events.now) }
+    ensures { OnOk result (text.new.items
+        ≡ text.old.items ++ full_line (told_by teller.entry) tested (Some failures)) }
+{
+    add_verdict(text, b"full", teller, tested, &failures)?;
+    add_over(text, teller, failures.first)?;
+    text.extend_from_slice(b"\n")?;
+    Ok(())
+}
+
+// That there is no room for the put that is answered Done at this position.
+fn add_over(text: &mut Vec<u8>, teller: Teller<'_>, first: Option<usize>) -> Result<(), NoMemory>
+    requires { IfSome first (λ e. e < length teller.events.now) }
+    ensures { OnOk result (text.new.items
+        ≡ text.old.items ++ over_text (told_by teller.entry) first) }
+{
+    match first {
+        None => Ok(()),
+        Some(e) => add_over_by(text, event_at(teller.events, e)),
+    }
+}
+
+fn add_over_by(text: &mut Vec<u8>, event: &Event) -> Result<(), NoMemory>
+    ensures { OnOk result (text.new.items ≡ text.old.items ++ over_by (Some event.now)) }
+{
+    match event {
+        Event::End {
+            reply: Reply::Done,
+            ..
+        } => {
+            text.extend_from_slice(b"; there is no room for it")?;
+            Ok(())
+        }
+        _ => Ok(()),
+    }
+}
+
+// The line on opening tokens, where there are two or more.
+fn add_opening(text: &mut Vec<u8>, teller: Teller<'_>, report: &Report) -> Result<(), NoMemory>
+    requires { IfSome report.now.breaches.opening.first (λ e. e < length teller.events.now) }
+    ensures { OnOk result (text.new.items
+        ≡ text.old.items ++ opening_line (told_by teller.entry) (tests_opening report.now)
+        report.now.tokens report.now.breaches.opening) }
+{
+    if report.tokens > 1 {
+        add_verdict(
+            text,
+            b"opening in order",
+            teller,
+            report.tests_opening(),
+            &report.breaches.opening,
+        )?;
         text.extend_from_slice(b"\n")?;
     }
     Ok(())
@@ -134,6 +223,7 @@ fn add_beside(
     text: &mut Vec<u8>,
     name: &[u8],
     teller: Teller<'_>,
+    tested: bool,
     failures: &Failures,
     words: &[u8],
     event: Option<usize>,
@@ -142,9 +232,9 @@ fn add_beside(
     requires event { IfSome event (λ e. e < length teller.events.now) }
     ensures { OnOk result (text.new.items
         ≡ text.old.items
-        ++ beside_line name.now (told_by teller.entry) failures.now words.now event) }
+        ++ beside_line name.now (told_by teller.entry) tested failures.now words.now event) }
 {
-    add_verdict(text, name, teller, failures)?;
+    add_verdict(text, name, teller, tested, failures)?;
     if let Some(at) = event {
         text.extend_from_slice(words)?;
         add_event_at(text, teller, at)?;
@@ -158,15 +248,16 @@ fn add_waiting(
     text: &mut Vec<u8>,
     name: &[u8],
     teller: Teller<'_>,
+    tested: bool,
     failures: &Failures,
     waiting: Option<Waiting>,
 ) -> Result<(), NoMemory>
     requires first { IfSome failures.now.first (λ e. e < length teller.events.now) }
     requires waiting { IfSome waiting (IsToldWithin (length teller.events.now)) }
     ensures { OnOk result (text.new.items
-        ≡ text.old.items ++ waiting_line name.now (told_by teller.entry) failures.now waiting) }
+        ≡ text.old.items ++ waiting_line name.now (told_by teller.entry) tested failures.now waiting) }
 {
-    add_verdict(text, name, teller, failures)?;
+    add_verdict(text, name, teller, tested, failures)?;
     add_puts(text, teller, waiting)?;
     text.extend_from_slice(b"\n")?;
     Ok(())
@@ -177,6 +268,7 @@ fn add_order(
     text: &mut Vec<u8>,
     name: &[u8],
     teller: Teller<'_>,
+    tested: bool,
     failures: &Failures,
     waiting: Option<Waiting>,
     overtaker: Option<Origin>,
@@ -186,9 +278,9 @@ fn add_order(
     requires overtaker { IfSome overtaker (IsOriginWithin (length teller.events.now)) }
     ensures { OnOk result (text.new.items
         ≡ text.old.items
-        ++ order_line name.now (told_by teller.entry) failures.now waiting overtaker) }
+        ++ order_line name.now (told_by teller.entry) tested failures.now waiting overtaker) }
 {
-    add_verdict(text, name, teller, failures)?;
+    add_verdict(text, name, teller, tested, failures)?;
     add_puts(text, teller, waiting)?;
     add_overtaker(text, teller, overtaker)?;
     text.extend_from_slice(b"\n")?;
@@ -218,18 +310,16 @@ fn add_verdict(
     text: &mut Vec<u8>,
     name: &[u8],
     teller: Teller<'_>,
+    tested: bool,
     failures: &Failures,
 ) -> Result<(), NoMemory>
     requires { IfSome failures.now.first (λ e. e < length teller.events.now) }
     ensures { OnOk result (text.new.items
-        ≡ text.old.items ++ verdict_text name.now (told_by teller.entry) failures.now) }
+        ≡ text.old.items ++ verdict_text name.now (told_by teller.entry) tested failures.now) }
 {
     text.extend_from_slice(name)?;
     match failures.first {
-        None => {
-            text.extend_from_slice(b" holds")?;
-            Ok(())
-        }
+        None => add_unbroken(text, tested),
         Some(e) => {
             text.extend_from_slice(b" fails at ")?;
             add_event_at(text, teller, e)?;
@@ -239,6 +329,17 @@ fn add_verdict(
             Ok(())
         }
     }
+}
+
+fn add_unbroken(text: &mut Vec<u8>, tested: bool) -> Result<(), NoMemory>
+    ensures { OnOk result (text.new.items ≡ text.old.items ++ unbroken_text tested) }
+{
+    if tested {
+        text.extend_from_slice(b" holds")?;
+    } else {
+        text.extend_from_slice(b" not tested")?;
+    }
+    Ok(())
 }
 
 // How many puts wait, and of the one that is told where it was put and where it is got.
@@ -298,16 +399,37 @@ fn add_put(
 
 // The lines of the counts.
 fn add_counts(text: &mut Vec<u8>, counts: Counts) -> Result<(), NoMemory>
-    ensures { OnOk result (text.new.items ≡ text.old.items
-        ++ count_line (codes "events") counts.events ++ count_line (codes "queues") counts.queues
-        ++ count_line (codes "seats") counts.seats ++ count_line (codes "calls") counts.calls
-        ++ count_line (codes "overlapping") counts.overlapping) }
+    ensures { OnOk result (text.new.items ≡ text.old.items ++ count_lines counts) }
 {
     add_count(text, b"events", counts.events)?;
     add_count(text, b"queues", counts.queues)?;
     add_count(text, b"seats", counts.seats)?;
     add_count(text, b"calls", counts.calls)?;
     add_count(text, b"overlapping", counts.overlapping)?;
+    Ok(())
+}
+
+// The lines on how calls end.
+fn add_endings(text: &mut Vec<u8>, report: &Report) -> Result<(), NoMemory>
+    ensures { OnOk result (text.new.items ≡ text.old.items ++ ending_lines report.now) }
+{
+    let endings = report.breaches.endings;
+    add_count(text, b"got", endings.got)?;
+    add_count(text, b"nothing", endings.nothing)?;
+    add_count(text, b"refused", endings.refused)?;
+    add_count(text, b"spent", endings.spent)?;
+    add_count(text, b"never ended", report.counts.never_ended)?;
+    Ok(())
+}
+
+fn add_linearizable(text: &mut Vec<u8>, told: Option<bool>) -> Result<(), NoMemory>
+    ensures { OnOk result (text.new.items ≡ text.old.items ++ linearizable_line told) }
+{
+    match told {
+        Some(true) => text.extend_from_slice(b"linearizable yes\n")?,
+        Some(false) => text.extend_from_slice(b"linearizable no\n")?,
+        None => text.extend_from_slice(b"linearizable not told: calls never ended\n")?,
+    }
     Ok(())
 }
 

@@ -1,6 +1,6 @@
 use Rattle.scq_check.proofs.FailureLemmas.{failures_none, failures_more, failures_all}
-use Rattle.scq_check.proofs.FullLemmas.{all_start, full_right_past}
-use Rattle.scq_check.proofs.full.find_wrong_refusals.Goals as goal
+use Rattle.scq_check.proofs.FullLemmas.{all_start, room_past}
+use Rattle.scq_check.proofs.full.find_room_breaches.Goals as goal
 
 pub loop-e-init : goal.loop-e-init
 loop-e-init c = record {
@@ -11,8 +11,8 @@ loop-e-init c = record {
 pub loop-e-preserved : goal.loop-e-preserved
 loop-e-preserved c = record {
   places = c.in_ok-add.ensures;
-  failures = rw c.with-failures.ensures (failures_more _ _ _ _ c.is_full_right_at.ensures c.loop-e.invariant.failures);
+  failures = rw c.with-failures.ensures (failures_more _ _ _ _ c.keeps_room_at.ensures c.loop-e.invariant.failures);
 }
 
 pub returns-clause-failures : goal.returns-clause-failures
-returns-clause-failures c = failures_all _ _ _ _ c.loop-e-test.false c.loop-e.invariant.failures (full_right_past c.args.room c.args.opening.now c.args.events.now)
+returns-clause-failures c = failures_all _ _ _ _ c.loop-e-test.false c.loop-e.invariant.failures (room_past c.args.room c.args.opening.now c.args.events.now)
