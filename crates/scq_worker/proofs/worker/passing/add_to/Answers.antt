@@ -1,4 +1,4 @@
-use Rattle.std.proofs.Common.{◌≡◌, ◌^◌, ◌<◌, ◌++◌, ◌∷◌, ap, sym, subst, refl, arith, ℕ, List, [], length}
+use Rattle.std.proofs.Common.{◌≡◌, ◌^◌, ◌<◌, ap, sym, subst, refl, arith, ℕ, List, length}
 use Rattle.std.specs.List.{All}
 use Rattle.scq_frames.specs.Exports.{IsEncodable, Part, part_of}
 use Rattle.scq_frames.proofs.BatchLemmas.{encodable-view}
