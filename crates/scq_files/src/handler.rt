@@ -21,6 +21,9 @@ pub trait Handler<C, T> {
     /// The same where it stopped at the last of them.
     ghost stopped: { C → List TheMessage → T → Self → T → Self → Self.Stop → Type 0 };
 
+    /// What it put off of a message, where it goes on.
+    ghost puts_off: { C → TheMessage → Self → Self → Type 0 };
+
     /// Whether it wanted memory.
     ghost wanted: { Self → Bool };
 
@@ -33,6 +36,7 @@ pub trait Handler<C, T> {
         requires takes { takes with.now message.now }
         ensures handled { OnOk result
             (handled with.now (message.now ∷ []) beside.old self.old beside.new self.new) }
+        ensures put_off { OnOk result (puts_off with.now message.now self.old self.new) }
         ensures stopped { IfErr result
             (stopped with.now (message.now ∷ []) beside.old self.old beside.new self.new) };
 

@@ -34,6 +34,8 @@ fn handle_one<C, T, H: Handler<C, T>>(
     ensures stopped { IfErr result
         (H.stopped with.now (message.now ∷ []) beside.old handler.old beside.new handler.new) }
     ensures rested { IsTrue may_wait → OnOk result (H.rested handler.new) }
+    ensures put_off { (IsTrue may_wait → ⊥) → OnOk result
+        (H.puts_off with.now message.now handler.old handler.new) }
 {
     handler.handle(with, beside, message)?;
     if may_wait {

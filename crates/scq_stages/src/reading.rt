@@ -35,6 +35,8 @@ impl<'a> Handler<Calls<'a>, ()> for Worker<Frame> {
     ghost stopped = { λ c ms none old nothing new stop.
         HasStoppedAt c.queue.now ms old new stop.held };
 
+    ghost puts_off = { λ _ _ _ _. Unit {0} };
+
     ghost wanted = { λ w. w.starved };
 
     ghost rested = { λ _. Unit {0} };

@@ -10,6 +10,7 @@ use Rattle.std.proofs.lemmas.List.Sums.{length-filter, sum_by-append}
 use Rattle.scq_frames.specs.Exports.{Part, IsEncodable, message_bytes, batch_bytes}
 use Rattle.scq_frames.proofs.BatchLemmas.{length-message_bytes}
 use Rattle.scq_worker.specs.Exports.{open_on, IsOpen, AreOpen, NoneIsOpen, PartsAreGathered, IsBatch, parts_among, parts_on, AreBatchesOf}
+use Rattle.scq_worker.specs.Exports.{FitsBehind, IsOpenBehind, AreOpenBehind}
 
 -- those on their topic are all of them, and on another there are none
 on-own : (t : ℕ) (b : List Part) → All (λ p. p.topic ≡ t) b → parts_on t b ≡ b
@@ -99,6 +100,43 @@ closed-at t u old new now own = now ∙ rw (eq-eqb u t own) refl
 pub closed-still : (t u : ℕ) (old new : List Part) → new ≡ (if u == t then [] else old) → old ≡ [] → new ≡ []
 closed-still t u old new now none =
     ⊎_elim (λ (own : u ≡ t). now ∙ rw (eq-eqb u t own) refl) (λ (apart : u ≡ t → ⊥). now ∙ rw (ne_eqb u t apart) none) (cases_eq u t)
+
+-- a part that is open behind others, alone, or not at all
+pub open-behind : (most : ℕ) (old : List Part) (p : Part) (new : List Part) → FitsBehind most old p → new ≡ old ++ p ∷ [] → IsOpenBehind most old p new
+open-behind most old p new fits now = record {
+  behind = λ so. now;
+  first = λ full. absurd (full fits);
+  alone = λ full. absurd (full (All-nil (λ (q : Part). q.file ≡ p.file), omega (arith, fits.1)));
+}
+
+pub open-first : (most : ℕ) (old : List Part) (p : Part) (new : List Part) → (FitsBehind most old p → ⊥) → FitsBehind most [] p → new ≡ p ∷ []
+    → IsOpenBehind most old p new
+open-first most old p new full fits now = record { behind = λ so. absurd (full so); first = λ so then_. now; alone = λ so. absurd (so fits) }
+
+pub open-alone : (most : ℕ) (old : List Part) (p : Part) (new : List Part) → (FitsBehind most old p → ⊥) → (FitsBehind most [] p → ⊥) → new ≡ []
+    → IsOpenBehind most old p new
+open-alone most old p new full large now = record { behind = λ so. absurd (full so); first = λ so fits. absurd (large fits); alone = λ so. now }
+
+-- so parts go together
+pub fits-some : (most : ℕ) (ps : List Part) (p : Part) → FitsBehind most ps p → 0 < most
+fits-some most ps p fits = omega (arith, fits.1)
+
+-- one part more behind those before it
+pub behind-more : (most : ℕ) (old ps mid : List Part) (p : Part) (new : List Part) → AreOpenBehind most old ps mid → IsOpenBehind most mid p new
+    → AreOpenBehind most old (ps ++ p ∷ []) new
+behind-more most old [] mid p new are is = (new, subst (λ (l : List Part). IsOpenBehind most l p new) are is, refl)
+behind-more most old (q ∷ ps) mid p new are is = (are.0, are.1, behind-more most are.0 ps mid p new are.2 is)
+
+-- what is open on a topic where it was added to, and on another
+pub added-own : (t : ℕ) (old new more : List Part) → new ≡ old ++ (if t == t then more else []) → new ≡ old ++ more
+added-own t old new more now = now ∙ rw (eq-eqb t t refl) refl
+
+pub added-other : (t u : ℕ) (old new more : List Part) → new ≡ old ++ (if u == t then more else []) → (u ≡ t → ⊥) → new ≡ old
+added-other t u old new more now apart = now ∙ rw (ne_eqb u t apart) (append-nil old)
+
+-- or closed
+pub closed-other : (t u : ℕ) (old new : List Part) → new ≡ (if u == t then [] else old) → (u ≡ t → ⊥) → new ≡ old
+closed-other t u old new now apart = now ∙ rw (ne_eqb u t apart) refl
 
 module _ (most : ℕ) (parts : List Part) (bs opens : List (List Part)) (was : PartsAreGathered most parts bs opens) where
   -- as much is open

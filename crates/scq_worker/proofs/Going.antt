@@ -9,18 +9,34 @@ use Rattle.scq_band.specs.Exports.{Identity}
 use Rattle.scq_queue.specs.Exports.{HeldStanding, PassStanding}
 use Rattle.scq_passes.specs.Exports.{Suits, HelpsInVain}
 use Rattle.scq_worker.specs.Exports.{RingsOn, PartsAreGathered, AreOpen, open_on, takes_behind, KeepsCalling, goes-along, HasGathered, HasPassedOn}
-use Rattle.scq_worker.specs.Exports.{HasStoppedBehind, HasStoppedIn, IsSameWorker, IsWorking, HasTakenAll, KeepsItsOwn}
+use Rattle.scq_worker.specs.Exports.{HasStoppedBehind, HasStoppedIn, IsSameWorker, IsWorking, HasTakenAll, KeepsItsOwn, ClosesWhereFull, IsOpenBehind}
 use Rattle.scq_worker.specs.declared.job.Job.{Job}
 use Rattle.scq_worker.specs.declared.worker.Worker.{Worker}
 use Rattle.scq_passes.proofs.PassLemmas.{taken-along, taken-nothing}
-use Rattle.scq_worker.proofs.Gathered.{few-batches, gathered-added, gathered-alone}
+use Rattle.scq_worker.proofs.Gathered.{few-batches, gathered-added, gathered-alone, behind-more}
 use Rattle.scq_worker.proofs.PassedOn.{passed-as, stopped-more, working-as}
 use Rattle.scq_worker.proofs.WorkerSteps.{answered-along, answered-nothing}
 
 module _ {B Place : Type 0} where
-  pub still-as : (u v : Worker B Place) (p : Post) → v.starved ≡ u.starved → v.number ≡ u.number → v.pass ≡ u.pass → IsSameWorker u v p p
+  pub still-as : (u v : Worker B Place) (p : Post) → (v.starved ≡ false → u.starved ≡ false) → v.number ≡ u.number → v.pass ≡ u.pass
+      → IsSameWorker u v p p
   still-as u v p starved number pass =
-      record { starved = λ fed. sym starved ∙ fed; number = number; pass = ap (λ (x : PassStanding B). x.number) pass; bell = refl }
+      record { starved = starved; number = number; pass = ap (λ (x : PassStanding B). x.number) pass; bell = refl }
+
+  pub closes-nothing : (most topic : ℕ) (w : Worker B Place) → ClosesWhereFull most topic [] w w
+  closes-nothing most topic w = record { own = λ fed. refl; others = λ t apart. refl }
+
+  -- one part more
+  pub closes-more : (most topic : ℕ) (ps : List Part) (p : Part) (u v w : Worker B Place) → (w.starved ≡ false → v.starved ≡ false)
+      → ClosesWhereFull most topic ps u v → ClosesWhereFull most topic (p ∷ []) v w → ClosesWhereFull most topic (ps ++ p ∷ []) u w
+  closes-more most topic ps p u v w fed_before one more = record {
+    own = λ fed.
+        let last = more.own fed in
+        let mid = open_on topic v.opens.items in
+        behind-more most (open_on topic u.opens.items) ps mid p (open_on topic w.opens.items) (one.own (fed_before fed))
+        (subst (λ (l : List Part). IsOpenBehind most mid p l) (sym last.2) last.1);
+    others = λ t apart. more.others t apart ∙ one.others t apart;
+  }
 
   pub own-same : (w : Worker B Place) → KeepsItsOwn w w
   own-same w = record { starved = λ fed. fed; number = refl; opens = refl }
@@ -63,7 +79,7 @@ module _ {B Place : Type 0} (q : Identity B) (j : Job) where
   -- nothing that is open has changed
   pub gathered-still : (w v : Worker B Place) (was : Post) → Suits q (length j.topics) w.pass → w.pass.retired ≡ None
       → AreOpen j.most (length j.topics + 1) v.opens.items → ((t : ℕ) → open_on t v.opens.items ≡ open_on t w.opens.items)
-      → v.pass ≡ w.pass → v.members ≡ w.members → v.starved ≡ w.starved → HasGathered q j [] w v was was
+      → v.pass ≡ w.pass → v.members ≡ w.members → (v.starved ≡ false → w.starved ≡ false) → HasGathered q j [] w v was was
   gathered-still w v was suits stays opens same pass list starved = record {
     goes = goes-same w v was suits stays pass;
     opens = opens;
@@ -76,7 +92,7 @@ module _ {B Place : Type 0} (q : Identity B) (j : Job) where
   pub gathered-one : (p : Part) (w v : Worker B Place) (was : Post) → Suits q (length j.topics) w.pass → w.pass.retired ≡ None
       → AreOpen j.most (length j.topics + 1) v.opens.items → 0 < j.most
       → ((t : ℕ) → open_on t v.opens.items ≡ open_on t w.opens.items ++ (if t == p.topic then p ∷ [] else []))
-      → v.pass ≡ w.pass → v.members ≡ w.members → v.starved ≡ w.starved → HasGathered q j (p ∷ []) w v was was
+      → v.pass ≡ w.pass → v.members ≡ w.members → (v.starved ≡ false → w.starved ≡ false) → HasGathered q j (p ∷ []) w v was was
   gathered-one p w v was suits stays opens many added pass list starved = record {
     goes = goes-same w v was suits stays pass;
     opens = opens;

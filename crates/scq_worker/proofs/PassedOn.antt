@@ -108,16 +108,16 @@ module _ {B : Type 0} where
 
   -- the same pass and the same list
   pub passed-as : (topics : List (List ℕ × Kind)) (batches : List (List Part)) (p q : PassStanding B) (was is : List Answered) (before after : Bool)
-      → q ≡ p → is ≡ was → after ≡ before → HasPassed topics batches p was before → HasPassed topics batches q is after
-  passed-as topics batches p q was is before after pass list starved passed =
+      → q ≡ p → is ≡ was → (after ≡ false → before ≡ false) → HasPassed topics batches p was before → HasPassed topics batches q is after
+  passed-as topics batches p q was is before after pass list fed_before passed =
       subst (λ (x : PassStanding B). HasPassed topics batches x is after) (sym pass)
       (subst (λ (l : List Answered). HasPassed topics batches p l after) (sym list)
-      (subst (λ (s : Bool). HasPassed topics batches p was s) (sym starved) passed))
+      (record { producing = passed.producing; few_calls = passed.few_calls; listed = λ fed. passed.listed (fed_before fed) }))
 
   -- and as much open
   pub working-as : {Place : Type 0} (topics : List (List ℕ × Kind)) (most : ℕ) (parts : List Part) (w v : Worker B Place)
-      → ((t : ℕ) → open_on t v.opens.items ≡ open_on t w.opens.items) → v.pass ≡ w.pass → v.members ≡ w.members → v.starved ≡ w.starved
-      → IsWorking topics most parts w → IsWorking topics most parts v
+      → ((t : ℕ) → open_on t v.opens.items ≡ open_on t w.opens.items) → v.pass ≡ w.pass → v.members ≡ w.members
+      → (v.starved ≡ false → w.starved ≡ false) → IsWorking topics most parts w → IsWorking topics most parts v
   working-as topics most parts w v opens pass list starved was = record {
     batches = was.batches;
     gathered = gathered-same most parts was.batches w.opens.items was.gathered v.opens.items opens;

@@ -28,6 +28,25 @@ pub record IsOpen (most topic : ℕ) (parts : List Part) : Type 0 where
   pub on_topic : All (λ p. p.topic ≡ topic) parts
   pub fits : length (batch_bytes parts) ≤ most
 
+-- a part fits behind those that are open on its topic: it is of their file, and they have together
+-- at most `most` bytes
+abbrev pub FitsBehind : ℕ → List Part → Part → Type 0
+FitsBehind most parts p =
+    All (λ q. q.file ≡ p.file) parts × (length (batch_bytes parts) + 24 + length p.payload ≤ most)
+
+-- what is open once this part was passed on: it stays open behind what was, if it fits there, else
+-- alone, if it fits so
+pub record IsOpenBehind (most : ℕ) (old : List Part) (p : Part) (new : List Part) : Type 0 where
+  pub behind : FitsBehind most old p → new ≡ old ++ p ∷ []
+  pub first : (FitsBehind most old p → ⊥) → FitsBehind most [] p → new ≡ p ∷ []
+  pub alone : (FitsBehind most [] p → ⊥) → new ≡ []
+
+-- the same of parts, one after the other
+abbrev pub AreOpenBehind : ℕ → List Part → List Part → List Part → Type 0
+AreOpenBehind most old [] new = new ≡ old
+AreOpenBehind most old (p ∷ ps) new =
+    (mid : List Part) × IsOpenBehind most old p mid × AreOpenBehind most mid ps new
+
 -- on each of so many topics and on no other
 pub record AreOpen (most topics : ℕ) (opens : List (List Part)) : Type 0 where
   pub few : length opens ≤ topics

@@ -9,7 +9,7 @@ use Rattle.scq_park.specs.Exports.{Post}
 use Rattle.scq_queue.specs.Exports.{HeldStanding}
 use Rattle.scq_passes.specs.Exports.{Suits, HelpsInVain}
 use Rattle.scq_worker.specs.Bells.{but_wakes, RingsOn, rings-along}
-use Rattle.scq_worker.specs.Opening.{AreOpen, takes_behind}
+use Rattle.scq_worker.specs.Opening.{AreOpen, AreOpenBehind, open_on, takes_behind}
 use Rattle.scq_worker.specs.Working.{IsAtWork, HasPassed, HasStopped}
 use Rattle.scq_worker.specs.declared.job.Job.{Job}
 use Rattle.scq_worker.specs.declared.worker.Worker.{Worker}
@@ -19,6 +19,15 @@ abbrev pub IsWorking : {B Place : Type 0} → List (List ℕ × Kind) → ℕ �
     → Type 0
 IsWorking topics most parts w =
     IsAtWork topics most parts w.opens.items w.pass w.members w.starved
+
+-- where these parts of a topic went on, what was open there did only before one that didn't fit
+-- behind it, unless memory was wanted; and nothing that was open on another topic
+pub record ClosesWhereFull {B Place : Type 0} (most topic : ℕ) (parts : List Part)
+    (old new : Worker B Place) : Type 0 where
+  pub own : new.starved ≡ false
+      → AreOpenBehind most (open_on topic old.opens.items) parts (open_on topic new.opens.items)
+  pub others : (t : ℕ) → (t ≡ topic → ⊥)
+      → open_on t new.opens.items ≡ open_on t old.opens.items
 
 -- whatever came of it, a worker has its numbers still, its stand is as it was but for whom it woke,
 -- and where it wants no memory it wanted none before

@@ -2,6 +2,7 @@
 //! several in one value where they fit.
 ghost use Rattle.std.specs.Prelude.{◌≡◌, ◌≤◌, ◌<◌, ◌+◌, ◌++◌, ◌∷◌, ◌==◌, ℕ, true, false, []};
 ghost use Rattle.std.specs.Prelude.{count_by, length, max, None, IfErr, OnOk, All, if◌then◌else◌};
+ghost use Rattle.std.specs.Prelude.{◌↔◌, IfOk, IsTrue, OnErr};
 ghost use Rattle.scq_frames.specs.Exports.{IsNumbered, all_parts, parts_of as the_parts_of};
 ghost use Rattle.scq_frames.specs.Exports.{part_of};
 ghost use Rattle.scq_passes.specs.Exports.{is_take, Suits};
@@ -9,7 +10,7 @@ ghost use Rattle.scq_worker.specs.Exports.{parts_of_load, IsLoad, AreOpen, IsOpe
 ghost use Rattle.scq_worker.specs.Exports.{open_on, takes_behind, KeepsCalling, HasGathered};
 ghost use Rattle.scq_worker.specs.Exports.{HasPassedOn, HasStoppedBehind, HasStoppedIn};
 ghost use Rattle.scq_worker.specs.Exports.{IsSameWorker, HasLeftAt, HasTakenAll, KeepsItsOwn};
-ghost use Rattle.scq_worker.specs.Exports.{but_wakes};
+ghost use Rattle.scq_worker.specs.Exports.{but_wakes, FitsBehind, ClosesWhereFull};
 
 use crate::bell::Bell;
 use crate::worker::{Load, Worker};
@@ -17,24 +18,30 @@ use crate::{Gate, Job, Point};
 use scq_frames::{Batch, Message, parts_of, view_of};
 use scq_passes::AtLimit;
 use scq_queue::{LendRefusal, Queue};
-use scq_word::BufferMut;
+use scq_word::{BufferMut, NoMemory};
 use std::alloc::Global;
 use std::mem;
 
 /// Adds a part of a message to those that are open on its topic, where it is of the same file and
-/// fits behind them: whether it did.
-fn add_to(batch: &mut Batch, job: &Job, message: &Message, part: u32) -> bool
+/// fits behind them: whether it did. Where memory is wanted they stay as they were.
+fn add_to(batch: &mut Batch, job: &Job, message: &Message, part: u32) -> Result<bool, NoMemory>
     requires short { length message.now.payload ≤ job.now.longest }
     requires numbered { IsNumbered part (the_parts_of job.now.size message.now.payload) }
     requires opens { IsOpen job.now.most message.now.topic batch.old }
     ensures opens { IsOpen job.now.most message.now.topic batch.new }
-    ensures added { result ≡ true
+    ensures fits { IfOk result (λ added. IsTrue added
+        ↔ FitsBehind job.now.most batch.old (part_of job.now.size message.now part)) }
+    ensures added { result ≡ Ok true
         → batch.new ≡ batch.old ++ part_of job.now.size message.now part ∷ [] }
-    ensures none { result ≡ false → batch.new ≡ batch.old }
+    ensures none { result ≡ Ok false → batch.new ≡ batch.old }
+    ensures kept { OnErr result (batch.new ≡ batch.old) }
 {
     let view = view_of(message, job.size, part);
-    batch.has_room(view.file, view.payload.len(), job.most as usize)
-        && batch.push(message, job.size, part).is_ok()
+    if !batch.has_room(view.file, view.payload.len(), job.most as usize) {
+        return Ok(false);
+    }
+    batch.push(message, job.size, part)?;
+    Ok(true)
 }
 
 impl<B: BufferMut> Worker<B> {
@@ -142,6 +149,8 @@ impl<B: BufferMut> Worker<B> {
             (W.seen stand.old) (W.seen stand.new)) }
         ensures closed { OnOk result ((t : ℕ) → open_on t self.new.opens.items
             ≡ if t == topic then [] else open_on t self.old.opens.items) }
+        ensures whole { OnOk result (0 < length (open_on topic self.old.opens.items)
+            → HasPassedOn job.now (open_on topic self.old.opens.items) self.old self.new) }
         ensures left { IfErr result (λ l.
             HasStoppedIn queue.now job.now [] self.old self.new l.held) }
         ensures still { IsSameWorker self.old self.new (W.seen stand.old) (W.seen stand.new) }
@@ -202,7 +211,7 @@ impl<B: BufferMut> Worker<B> {
     }
 
     /// Adds a part of a message to those that are open on its topic, where it fits behind them:
-    /// whether it did.
+    /// whether it did. It doesn't where it wants memory.
     fn gather(&mut self, alloc: Global, job: &Job, message: &Message, part: u32) -> bool
         requires topic { message.now.topic ≤ length job.now.topics }
         requires short { length message.now.payload ≤ job.now.longest }
@@ -212,16 +221,32 @@ impl<B: BufferMut> Worker<B> {
         ensures added { result ≡ true → (t : ℕ) → open_on t self.new.opens.items
             ≡ open_on t self.old.opens.items
             ++ (if t == message.now.topic then part_of job.now.size message.now part ∷ [] else []) }
-        ensures many { result ≡ true → 0 < job.now.most }
+        ensures fits { result ≡ true → FitsBehind job.now.most
+            (open_on message.now.topic self.old.opens.items)
+            (part_of job.now.size message.now part) }
+        ensures full { result ≡ false → self.new.starved ≡ false → FitsBehind job.now.most
+            (open_on message.now.topic self.old.opens.items)
+            (part_of job.now.size message.now part) → ⊥ }
         ensures none { result ≡ false
             → (t : ℕ) → open_on t self.new.opens.items ≡ open_on t self.old.opens.items }
         ensures same { (self.new.pass ≡ self.old.pass) × (self.new.members ≡ self.old.members)
-            × (self.new.starved ≡ self.old.starved) × (self.new.number ≡ self.old.number) }
+            × (self.new.starved ≡ false → self.old.starved ≡ false)
+            × (self.new.number ≡ self.old.number) }
     {
-        if job.most == 0 || !self.begin_up_to(alloc, message.topic) {
+        if job.most == 0 {
             return false;
         }
-        add_to(&mut self.opens[message.topic as usize], job, message, part)
+        if !self.begin_up_to(alloc, message.topic) {
+            self.starved = true;
+            return false;
+        }
+        match add_to(&mut self.opens[message.topic as usize], job, message, part) {
+            Ok(added) => added,
+            Err(_) => {
+                self.starved = true;
+                false
+            }
+        }
     }
 
     /// Passes a part of a message on: gathers it with those that are open on its topic, or, where
@@ -249,6 +274,8 @@ impl<B: BufferMut> Worker<B> {
         ensures gathered { OnOk result (HasGathered queue.now job.now
             (part_of job.now.size message.now part ∷ []) self.old self.new
             (W.seen stand.old) (W.seen stand.new)) }
+        ensures closes { OnOk result (ClosesWhereFull job.now.most message.now.topic
+            (part_of job.now.size message.now part ∷ []) self.old self.new) }
         ensures left { IfErr result (λ l. HasStoppedIn queue.now job.now
             (part_of job.now.size message.now part ∷ []) self.old self.new l.held) }
         ensures still { IsSameWorker self.old self.new (W.seen stand.old) (W.seen stand.new) }
@@ -287,6 +314,8 @@ impl<B: BufferMut> Worker<B> {
         ensures gathered { OnOk result (HasGathered queue.now job.now
             (all_parts job.now.size message.now) self.old self.new
             (W.seen stand.old) (W.seen stand.new)) }
+        ensures closes { OnOk result (ClosesWhereFull job.now.most message.now.topic
+            (all_parts job.now.size message.now) self.old self.new) }
         ensures left { IfErr result (λ l. HasStoppedIn queue.now job.now
             (all_parts job.now.size message.now) self.old self.new l.held) }
         ensures still { IsSameWorker self.old self.new (W.seen stand.old) (W.seen stand.new) }

@@ -30,7 +30,7 @@ impl<'a, G: Gate, T, W: Bell<T>> Handler<Calls<'a, G, W>, T> for Worker<Frame> {
     ghost use Rattle.scq_worker.specs.Opening.{AreOpen, NoneIsOpen};
     ghost use Rattle.scq_worker.specs.Passing.{parts_in};
     ghost use Rattle.scq_worker.specs.Reading.{HasGathered, gathered-along, gathered-nothing};
-    ghost use Rattle.scq_worker.specs.Reading.{HasStoppedIn, stopped-along};
+    ghost use Rattle.scq_worker.specs.Reading.{HasStoppedIn, stopped-along, ClosesWhereFull};
     ghost use Rattle.scq_worker.specs.Reading.{IsSameWorker, still-along, still-same};
 
     type Stop = AtLimit<Frame>;
@@ -51,6 +51,9 @@ impl<'a, G: Gate, T, W: Bell<T>> Handler<Calls<'a, G, W>, T> for Worker<Frame> {
     ghost stopped = { λ c ms t old s new stop.
         HasStoppedIn c.queue.now c.job.now (parts_in c.job.now.size ms) old new stop.held
         × IsSameWorker old new (W.seen t) (W.seen s) };
+
+    ghost puts_off = { λ c m old new.
+        ClosesWhereFull c.job.now.most m.topic (all_parts c.job.now.size m) old new };
 
     ghost wanted = { λ w. w.starved };
 

@@ -5,9 +5,9 @@ use Rattle.std.proofs.lemmas.List.{length-append}
 use Rattle.std.proofs.lemmas.List.FromFn.{length-map-range_with_len, map-range_with_len_more}
 use Rattle.scq_frames.specs.declared.message.Message.{Message}
 use Rattle.scq_frames.specs.Exports.{Part, part_of, parts_of, all_parts}
-use Rattle.scq_worker.specs.Exports.{same-worker, HasGathered, gathered-along, gathered-nothing, still-along, still-same, stopped-along}
+use Rattle.scq_worker.specs.Exports.{same-worker, ClosesWhereFull, HasGathered, gathered-along, gathered-nothing, still-along, still-same, stopped-along}
 use Rattle.scq_files.proofs.Results.{err-of}
-use Rattle.scq_worker.proofs.Going.{stopped-within}
+use Rattle.scq_worker.proofs.Going.{closes-more, closes-nothing, stopped-within}
 use Rattle.scq_worker.proofs.worker.Worker.pass_on.Goals as goal
 
 -- the first parts of a message
@@ -30,6 +30,7 @@ pub parts-init : goal.parts-init
 parts-init g c = record {
   gathered = gathered-nothing c.args.queue.now c.args.job.now c.args.self.now (g.W.Bell.seen c.args.stand.now) c.requires.suits c.requires.stays
       c.requires.opens;
+  closes = closes-nothing c.args.job.now.most c.args.message.now.topic c.args.self.now;
   still = still-same c.args.self.now (g.W.Bell.seen c.args.stand.now);
 }
 
@@ -50,6 +51,9 @@ parts-preserved g c =
           (gathered-along q job (first job.size m c.parts.before) (part_of job.size m (c.parts.before + 1) ∷ []) start old now
           (wakes c.args.stand.now) (wakes c.parts.stand) (wakes c.pass_part.new.stand) (same-worker (wakes c.args.stand.now) (wakes c.parts.stand) inv.still.bell) inv.gathered
           c.in_ok-pass_part.ensures.gathered);
+      closes = subst (λ (l : List Part). ClosesWhereFull job.most m.topic l start now) (grown job.size c.parts.before m)
+          (closes-more job.most m.topic (first job.size m c.parts.before) (part_of job.size m (c.parts.before + 1)) start old now
+          c.pass_part.ensures.still.starved inv.closes c.in_ok-pass_part.ensures.closes);
       still = still-along start old now (kept c.args.stand.now) (kept c.parts.stand) (kept c.pass_part.new.stand) inv.still c.pass_part.ensures.still;
     }
 

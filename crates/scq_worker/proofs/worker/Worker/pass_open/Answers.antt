@@ -2,7 +2,7 @@ use Rattle.std.proofs.Common.{rules, ◌≡◌, ◌+◌, ◌<◌, ◌∙◌, ap,
 use Rattle.std.specs.Prelude.{slice_set}
 use Rattle.std.proofs.lemmas.List.{append-nil, get_or_read, length-append}
 use Rattle.scq_frames.specs.Exports.{Part}
-use Rattle.scq_worker.specs.Exports.{AreOpen, PartsAreGathered, open_on, gathered-nothing, still-same, HasPassed}
+use Rattle.scq_worker.specs.Exports.{AreOpen, PartsAreGathered, open_on, gathered-nothing, still-same, HasPassed, HasPassedOn}
 use Rattle.scq_files.proofs.Results.{err-of}
 use Rattle.scq_worker.proofs.Gathered.{gathered-passed, open-closed, few-with, set-closed, set-few}
 use Rattle.scq_worker.proofs.PassedOn.{stopped-more}
@@ -81,3 +81,8 @@ returns-clause-gathered g c =
             (c.in_ok-pass_load.ensures.passed was.batches was.passed);
       };
     }
+
+pub returns-clause-whole : goal.returns-clause-whole
+returns-clause-whole g c some_ =
+    let at = (goal.at.returns-clause-whole g c).After-replace-batch in
+    subst (λ (b : List Part). HasPassedOn c.args.job.now b c.args.self.now c.pass_load.new.self) (out-at g at) c.in_ok-pass_load.ensures.passed

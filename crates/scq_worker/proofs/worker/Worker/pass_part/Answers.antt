@@ -1,8 +1,8 @@
-use Rattle.std.proofs.Common.{rules, ◌≡◌, ◌∙◌, false, refl, arith, List, [], ◌∷◌}
+use Rattle.std.proofs.Common.{rules, ◌≡◌, ◌∙◌, ◌++◌, ap, sym, subst, false, refl, arith, ℕ, List, [], ◌∷◌}
 use Rattle.scq_frames.specs.Exports.{Part, part_of}
-use Rattle.scq_worker.specs.Exports.{same-worker, open_on, HasGathered, IsSameWorker, gathered-along, still-along, stopped-along}
+use Rattle.scq_worker.specs.Exports.{same-worker, open_on, FitsBehind, HasGathered, IsSameWorker, gathered-along, still-along, stopped-along}
 use Rattle.scq_files.proofs.Results.{err-of}
-use Rattle.scq_worker.proofs.Gathered.{closed-at}
+use Rattle.scq_worker.proofs.Gathered.{added-other, added-own, closed-at, closed-other, fits-some, open-alone, open-behind, open-first}
 use Rattle.scq_worker.proofs.Going.{gathered-one, gathered-still, gone-alone, still-as, stopped-alone, stopped-within}
 use Rattle.scq_worker.proofs.worker.Worker.pass_part.Goals as goal
 use Rattle.scq_worker.proofs.worker.Worker.pass_part.Goals.{After-pass_open, After-gather-2}
@@ -13,7 +13,7 @@ returns-then-gather-clause-gathered g c =
     let job = c.args.job.now in
     let its = c.gather.ensures in
     gathered-one c.args.queue.now job (part_of job.size c.args.message.now c.args.part) c.args.self.now c.gather.new.self
-    (g.W.Bell.seen c.args.stand.now) c.requires.suits c.requires.stays its.opens (its.many c.if-gather.true) (its.added c.if-gather.true)
+    (g.W.Bell.seen c.args.stand.now) c.requires.suits c.requires.stays its.opens (fits-some job.most (open_on c.args.message.now.topic c.args.self.now.opens.items) (part_of job.size c.args.message.now c.args.part) (its.fits c.if-gather.true)) (its.added c.if-gather.true)
     its.same.0 its.same.1 its.same.2
 
 pub returns-then-gather-clause-still : goal.returns-then-gather-clause-still
@@ -94,7 +94,7 @@ returns-then-gather-2-clause-gathered g c =
     let first = gathered-open g at in
     let is = g.W.Bell.seen c.pass_open.new.stand in
     gathered-along q job [] (p ∷ []) c.args.self.now old now (g.W.Bell.seen c.args.stand.now) is is (same-worker (g.W.Bell.seen c.args.stand.now) is c.pass_open.ensures.still.bell) first
-    (gathered-one q job p old now is first.goes.suits first.goes.stays then_.opens (then_.many c.if-gather-2.true) (then_.added c.if-gather-2.true)
+    (gathered-one q job p old now is first.goes.suits first.goes.stays then_.opens (fits-some job.most (open_on c.args.message.now.topic old.opens.items) p (then_.fits c.if-gather-2.true)) (then_.added c.if-gather-2.true)
     then_.same.0 then_.same.1 then_.same.2)
 
 pub returns-then-gather-2-clause-still : goal.returns-then-gather-2-clause-still
@@ -158,3 +158,79 @@ returns-clause-still g c =
     let kept = g.W.Bell.seen in
     still-along c.args.self.now c.gather-2.new.self c.pass_load.new.self (kept c.args.stand.now) (kept c.pass_open.new.stand)
     (kept c.pass_load.new.stand) (still-later g at) c.pass_load.ensures.still
+
+-- what is open then: the part behind what was
+pub returns-then-gather-clause-closes : goal.returns-then-gather-clause-closes
+returns-then-gather-clause-closes g c =
+    let job = c.args.job.now in
+    let topic = c.args.message.now.topic in
+    let p : Part = part_of job.size c.args.message.now c.args.part in
+    let old = c.args.self.now.opens.items in
+    let new = c.gather.new.self.opens.items in
+    let its = c.gather.ensures in
+    let added = its.added c.if-gather.true in
+    let one : List Part = p ∷ [] in
+    record {
+      own = λ fed. (
+        open_on topic new,
+        open-behind job.most (open_on topic old) p (open_on topic new) (its.fits c.if-gather.true)
+            (added-own topic (open_on topic old) (open_on topic new) one (added topic)),
+        refl,
+      );
+      others = λ t apart. added-other topic t (open_on t old) (open_on t new) one (added t) apart;
+    }
+
+-- or alone, once what was is passed on
+pub returns-then-gather-2-clause-closes : goal.returns-then-gather-2-clause-closes
+returns-then-gather-2-clause-closes g c =
+    let job = c.args.job.now in
+    let topic = c.args.message.now.topic in
+    let p : Part = part_of job.size c.args.message.now c.args.part in
+    let old = c.args.self.now.opens.items in
+    let first = c.gather.new.self.opens.items in
+    let mid = c.pass_open.new.self.opens.items in
+    let now = c.gather-2.new.self.opens.items in
+    let one : List Part = p ∷ [] in
+    let shut = c.in_ok-pass_open.ensures.closed in
+    let none : open_on topic mid ≡ [] = closed-at topic topic (open_on topic first) (open_on topic mid) (shut topic) refl in
+    let then_ = c.gather-2.ensures in
+    let added = then_.added c.if-gather-2.true in
+    record {
+      own = λ fed.
+          let full = c.gather.ensures.full c.if-gather.false (c.pass_open.ensures.still.starved (then_.same.2 fed)) in
+          let fits = subst (λ (l : List Part). FitsBehind job.most l p) none (then_.fits c.if-gather-2.true) in
+          let alone = added-own topic (open_on topic mid) (open_on topic now) one (added topic) ∙ ap (λ (l : List Part). l ++ one) none in
+          (open_on topic now, open-first job.most (open_on topic old) p (open_on topic now) full fits alone, refl);
+      others = λ t apart.
+          added-other topic t (open_on t mid) (open_on t now) one (added t) apart ∙ closed-other topic t (open_on t first) (open_on t mid) (shut t) apart
+          ∙ c.gather.ensures.none c.if-gather.false t;
+    }
+
+pub returns-clause-closes : goal.returns-clause-closes
+returns-clause-closes g c =
+    let job = c.args.job.now in
+    let topic = c.args.message.now.topic in
+    let p : Part = part_of job.size c.args.message.now c.args.part in
+    let old = c.args.self.now.opens.items in
+    let first = c.gather.new.self.opens.items in
+    let mid = c.pass_open.new.self.opens.items in
+    let later = c.gather-2.new.self.opens.items in
+    let now = c.pass_load.new.self.opens.items in
+    let shut = c.in_ok-pass_open.ensures.closed in
+    let none : open_on topic mid ≡ [] = closed-at topic topic (open_on topic first) (open_on topic mid) (shut topic) refl in
+    let then_ = c.gather-2.ensures in
+    let same : (t : ℕ) → open_on t now ≡ open_on t mid =
+    λ t. ap (λ o. open_on t o.items) c.pass_load.ensures.opens ∙ then_.none c.if-gather-2.false t in
+    record {
+      own = λ fed.
+          let fed_later = c.pass_load.ensures.still.starved fed in
+          let full = c.gather.ensures.full c.if-gather.false (c.pass_open.ensures.still.starved (then_.same.2 fed_later)) in
+          let large = then_.full c.if-gather-2.false fed_later in (
+            open_on topic now,
+            open-alone job.most (open_on topic old) p (open_on topic now) full
+                (λ fits. large (subst (λ (l : List Part). FitsBehind job.most l p) (sym none) fits)) (same topic ∙ none),
+            refl,
+          );
+      others = λ t apart.
+          same t ∙ closed-other topic t (open_on t first) (open_on t mid) (shut t) apart ∙ c.gather.ensures.none c.if-gather.false t;
+    }
