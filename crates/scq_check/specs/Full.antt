@@ -4,7 +4,8 @@
 -- get that has got a put gives one back at the latest when it ends. A put that is answered Done has
 -- one at the latest when it ends, and a get gives one back at the earliest when it starts
 use Rattle.std.specs.Prelude.{◌≡◌, ◌↔◌, ℕ, suc, ◌+◌, ◌<◌, ◌≤◌, ◌⊎◌, ◌==◌, if◌then◌else◌, List, Some}
-use Rattle.std.specs.Prelude.{length, slice_get, slice_index_or, unwrap_or, true, false, Bool, IsTrue}
+use Rattle.std.specs.Prelude.{length, slice_get, slice_index_or, unwrap_or, true, false, Bool}
+use Rattle.std.specs.Prelude.{IsTrue}
 use Rattle.std.specs.Ordering.{nat_cmp}
 use Rattle.std.specs.BTreeMap.{get}
 use Rattle.scq_hist.specs.Exports.{IsCall, IsPut, IsDoneAt, IsPending, Names, IsCount}

@@ -17,7 +17,8 @@ IsTokenInOrderAt opening events e = (s j : ℕ) → j < length opening
     → IsGetOf events (Opening j) s e → AllClaimed events 0 e (IsTokenBelow j)
 
 -- For private calls: the get that ends at position e has got the opening token of this number
-pub record IsGetOfToken (opening : List (List ℕ)) (events : List Event) (e number : ℕ) : Type 0 where
+pub record IsGetOfToken (opening : List (List ℕ)) (events : List Event) (e number : ℕ)
+    : Type 0 where
   pub token : number < length opening
   pub s : ℕ
   pub get : IsGetOf events (Opening number) s e

@@ -20,8 +20,8 @@ use scq_word::{Bytes, NoMemory};
 use std::alloc::Global;
 
 /// A report as text: a line for each aspect and one for each count, and one that tells whether the
-/// history is linearizable. `NAME holds`, `NAME not tested`, or `NAME fails at EVENT, COUNT in all`,
-/// and behind that what this event stands against.
+/// history is linearizable. `NAME holds`, `NAME not tested`, or `NAME fails at EVENT, COUNT in
+/// all`, and behind that what this event stands against.
 pub(crate) fn report_text(
     alloc: Global,
     teller: Teller<'_>,
@@ -99,8 +99,8 @@ fn add_origin(
 ) -> Result<(), NoMemory>
     requires first { IfSome failures.now.first (λ e. e < length teller.events.now) }
     requires origin { IfSome origin (IsOriginWithin (length teller.events.now)) }
-    ensures { OnOk result (text.new.items
-        ≡ text.old.items ++ origin_line name.now (told_by teller.entry) tested failures.now origin) }
+    ensures { OnOk result (text.new.items ≡ text.old.items
+        ++ origin_line name.now (told_by teller.entry) tested failures.now origin) }
 {
     add_verdict(text, name, teller, tested, failures)?;
     add_put_of(text, teller, origin)?;
@@ -254,8 +254,8 @@ fn add_waiting(
 ) -> Result<(), NoMemory>
     requires first { IfSome failures.now.first (λ e. e < length teller.events.now) }
     requires waiting { IfSome waiting (IsToldWithin (length teller.events.now)) }
-    ensures { OnOk result (text.new.items
-        ≡ text.old.items ++ waiting_line name.now (told_by teller.entry) tested failures.now waiting) }
+    ensures { OnOk result (text.new.items ≡ text.old.items
+        ++ waiting_line name.now (told_by teller.entry) tested failures.now waiting) }
 {
     add_verdict(text, name, teller, tested, failures)?;
     add_puts(text, teller, waiting)?;

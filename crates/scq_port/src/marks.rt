@@ -11,8 +11,8 @@ use crate::port::Port;
 use scq_queue::Mark;
 
 impl Port {
-    /// Shows the port the run of all ports as it is now. All that it had seen are prefixes of it; that
-    /// it has calls of ports that told this one nothing no clause says.
+    /// Shows the port the run of all ports as it is now. All that it had seen are prefixes of it;
+    /// that it has calls of ports that told this one nothing no clause says.
     pub fn look(&mut self)
         ensures same { self.new ≡ port_having_seen self.new.pass.seen self.old }
         ensures moment { IsMomentInRun self.old.pass.queue.setup

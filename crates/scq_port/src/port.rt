@@ -158,7 +158,8 @@ impl Port {
         self.sends = 0;
     }
 
-    /// Whether the count of its queue's ports that are awake was read as 0, at this call's one step.
+    /// Whether the count of its queue's ports that are awake was read as 0, at this call's one
+    /// step.
     pub fn all_retired(&mut self) -> bool
         ensures { (found : ℕ) × HasAsked found self.old self.new × (result ≡ (found == 0)) }
     {
