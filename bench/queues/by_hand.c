@@ -10,6 +10,9 @@
 #include <stdatomic.h>
 #include <stdbool.h>
 
+// The exported call itself is written here.
+#undef scq_send
+
 #ifndef GUESSING
 #define GUESSING 0
 #endif
