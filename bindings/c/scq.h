@@ -1,6 +1,6 @@
 /* scq: fixed buffers that threads pass to one another, without locks.
  *
- * A queue has 2^order buffers of the same size and up to 17 topics, each a first-in-first-out queue
+ * A queue has 2^order buffers of the same size and up to 31 topics, each a first-in-first-out queue
  * of its own over these buffers. A thread makes its calls with a port of its own: it is lent a
  * buffer, writes it where it lies and sends it on a topic; or it takes one from a topic, reads it
  * and gives it back. No lend, take, send or give-back takes a lock or waits for another thread's;
@@ -155,8 +155,8 @@ enum {
     SCQ_NO_TOPIC = 6,    /* there are not so many topics */
     SCQ_NO_ROOM = 7,     /* the port holds as many buffers as it may */
     SCQ_NO_MEMORY = 8,   /* no memory was found for the queue */
-    SCQ_BAD_ORDER = 9,   /* the order isn't from 1 to 12 */
-    SCQ_BAD_TOPICS = 10, /* the topics aren't from 1 to 17 */
+    SCQ_BAD_ORDER = 9,   /* the order isn't from 1 to SCQ_MAX_ORDER */
+    SCQ_BAD_TOPICS = 10, /* the topics aren't from 1 to SCQ_MAX_TOPICS */
     SCQ_BAD_PORTS = 11,  /* the ports aren't from 1 to 4096 */
     SCQ_BAD_LIMIT = 12,  /* the limit isn't from 8 * 2^order to SCQ_MAX_LIMIT */
     SCQ_BAD_SIZE = 13,   /* a buffer has no bytes, or more than lie between it and the next */
@@ -170,8 +170,9 @@ enum {
 /* The largest limit. A billion tickets a second come to it after 36 years. */
 #define SCQ_MAX_LIMIT (UINT64_C(1) << 60)
 
-/* The largest order. */
-#define SCQ_MAX_ORDER 12
+/* The largest order, and the most topics. */
+#define SCQ_MAX_ORDER 16
+#define SCQ_MAX_TOPICS 31
 
 /* A line of the processor's cache, in bytes. scq_open begins each buffer at a line of its own, so
  * that threads that write neighbouring buffers don't write in one line. */
@@ -192,8 +193,8 @@ static inline const char *scq_text(uint32_t answer) {
     case SCQ_NO_TOPIC: return "there are not so many topics";
     case SCQ_NO_ROOM: return "the port holds as many buffers as it may";
     case SCQ_NO_MEMORY: return "no memory for the queue";
-    case SCQ_BAD_ORDER: return "the order isn't from 1 to 12";
-    case SCQ_BAD_TOPICS: return "the topics aren't from 1 to 17";
+    case SCQ_BAD_ORDER: return "the order isn't from 1 to 16";
+    case SCQ_BAD_TOPICS: return "the topics aren't from 1 to 31";
     case SCQ_BAD_PORTS: return "the ports aren't from 1 to 4096";
     case SCQ_BAD_LIMIT: return "the limit isn't from 8 * 2^order to 2^60";
     case SCQ_BAD_SIZE: return "a buffer has no bytes, or more than lie between it and the next";
@@ -297,7 +298,7 @@ uint32_t scq_version(void);
 /* Makes a queue of 2^order buffers, with `topics` topics, and opens `n` ports, each of which may
  * hold up to `hold` buffers at a time. Each topic, and the stock of free buffers, counts its puts
  * and its gets by tickets up to `limit`; SCQ_MAX_LIMIT is the plain choice. A port takes some 1,860
- * bytes, and 12 for each buffer of the queue.
+ * bytes, and 9 for each buffer of the queue.
  *
  * The buffers lie where *memory says, in memory of the caller's: huge pages, a pool, a mapping. It
  * may be reused once all ports are closed. A buffer begins with the bytes that stand there. This is
@@ -469,7 +470,7 @@ uint32_t scq_capacity(scq_port *port, uint32_t *out);
 SCQ_ANSWERED uint32_t scq_count(scq_port *port, uint32_t topic, uint32_t *out);
 
 /* A buffer is named to the tools by an address of its own, base + index, at which nobody reads; an
- * index that is no buffer's gives one at most 4,095 past the base. What a port holds that is closed
+ * index that is no buffer's gives one at most 65,535 past the base. What a port holds that is closed
  * is named by the base, and what a port did that has retired. */
 
 static inline void scq_tell_got(const scq_port *port, uint32_t answer, uint32_t index) {

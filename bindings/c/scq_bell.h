@@ -85,9 +85,10 @@ extern "C" {
 #define SCQ_NULL NULL
 #endif
 
-/* The stock of free buffers, where a topic is asked for; and how many lines there are. */
-#define SCQ_FREE 17
-#define SCQ_LINES 18
+/* The stock of free buffers, where a topic is asked for: the number behind the last topic that a
+ * queue may have. And how many lines there are: a set of them has a bit for each of its 32. */
+#define SCQ_FREE SCQ_MAX_TOPICS
+#define SCQ_LINES (SCQ_FREE + 1)
 
 /* So many nanoseconds never end. */
 #define SCQ_FOREVER UINT64_MAX
@@ -97,10 +98,10 @@ typedef struct scq_lines {
     uint32_t set; /* a bit for each */
 } scq_lines;
 
-/* These lines, by their bits; what is no line is left out. */
+/* These lines, by their bits. */
 static inline scq_lines scq_lines_of(uint32_t set) {
     scq_lines lines;
-    lines.set = set & ((UINT32_C(1) << SCQ_LINES) - 1);
+    lines.set = set;
     return lines;
 }
 

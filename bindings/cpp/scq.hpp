@@ -146,7 +146,7 @@ class TieRef {
 };
 
 // The line of a bell for those who wait for a free buffer.
-constexpr std::uint32_t FreeLine = 17;
+constexpr std::uint32_t FreeLine = SCQ_MAX_TOPICS;
 
 // The library's handle of a port, which stays where it is while the port and the guards of its
 // buffers are moved, and lasts as long as one of them. Between two of them lies a line of the

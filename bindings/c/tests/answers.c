@@ -54,15 +54,15 @@ static void openings(void) {
     scq_port *many = calloc(4097, sizeof *many);
     CHECK(many != NULL);
     CHECK(open_(0, 1, 8, 2, most, ports, 3) == SCQ_BAD_ORDER);
-    CHECK(open_(13, 1, 8, 2, most, ports, 3) == SCQ_BAD_ORDER);
+    CHECK(open_(17, 1, 8, 2, most, ports, 3) == SCQ_BAD_ORDER);
     CHECK(open_(UINT32_MAX, 1, 8, 2, most, ports, 3) == SCQ_BAD_ORDER);
     CHECK(open_(1, 0, 8, 2, most, ports, 3) == SCQ_BAD_TOPICS);
-    CHECK(open_(1, 18, 8, 2, most, ports, 3) == SCQ_BAD_TOPICS);
+    CHECK(open_(1, 32, 8, 2, most, ports, 3) == SCQ_BAD_TOPICS);
     CHECK(open_(1, UINT32_MAX, 8, 2, most, ports, 3) == SCQ_BAD_TOPICS);
     CHECK(open_(1, 1, 0, 2, most, ports, 3) == SCQ_BAD_SIZE);
     CHECK(open_(1, 1, 8, 0, most, ports, 3) == SCQ_BAD_HOLD);
     CHECK(open_(1, 1, 8, 3, most, ports, 3) == SCQ_BAD_HOLD);
-    CHECK(open_(12, 1, 8, 4097, most, ports, 3) == SCQ_BAD_HOLD);
+    CHECK(open_(16, 1, 8, 65537, most, ports, 3) == SCQ_BAD_HOLD);
     CHECK(open_(1, 1, 8, 2, 15, ports, 3) == SCQ_BAD_LIMIT);
     CHECK(open_(1, 1, 8, 2, most + 1, ports, 3) == SCQ_BAD_LIMIT);
     CHECK(open_(1, 1, 8, 2, UINT64_MAX, ports, 3) == SCQ_BAD_LIMIT);
@@ -71,7 +71,7 @@ static void openings(void) {
     CHECK(open_(1, 1, 8, 2, most, ports, SIZE_MAX) ==
           SCQ_BAD_PORTS); /* none of them is looked at */
     for (int i = 0; i < 3; i++) CHECK(ports[i].at == NULL);
-    CHECK(open_(12, 17, 1, 4096, most, many, 4096) == SCQ_OK);
+    CHECK(open_(12, 31, 1, 4096, most, many, 4096) == SCQ_OK);
     for (int i = 0; i < 4096; i++) CHECK(close_(&many[i]) == SCQ_OK);
     CHECK(open_(1, 1, 1, 1, 16, &ports[1], 1) == SCQ_OK);
     void *was = ports[1].at;

@@ -104,7 +104,7 @@ static void send_bad_index(void) {
     open_plain();
     CHECK(scq_send(&p[0], UINT32_MAX, 0, &place) == SCQ_NOT_HELD);
     CHECK(scq_send(&p[0], 4, 0, &place) == SCQ_NOT_HELD);
-    CHECK(scq_give_back(&p[0], 4096) == SCQ_NOT_HELD);
+    CHECK(scq_give_back(&p[0], 65536) == SCQ_NOT_HELD);
     close_both();
 }
 
@@ -215,10 +215,10 @@ static void topic_past(void) {
 
 static void bad_numbers(void) {
     CHECK(scq_open(0, 1, 64, 1, SCQ_MAX_LIMIT, p, 1) == SCQ_BAD_ORDER);
-    CHECK(scq_open(13, 1, 64, 1, SCQ_MAX_LIMIT, p, 1) == SCQ_BAD_ORDER);
+    CHECK(scq_open(17, 1, 64, 1, SCQ_MAX_LIMIT, p, 1) == SCQ_BAD_ORDER);
     CHECK(scq_open(64, 1, 64, 1, SCQ_MAX_LIMIT, p, 1) == SCQ_BAD_ORDER);
     CHECK(scq_open(2, 0, 64, 1, SCQ_MAX_LIMIT, p, 1) == SCQ_BAD_TOPICS);
-    CHECK(scq_open(2, 18, 64, 1, SCQ_MAX_LIMIT, p, 1) == SCQ_BAD_TOPICS);
+    CHECK(scq_open(2, 32, 64, 1, SCQ_MAX_LIMIT, p, 1) == SCQ_BAD_TOPICS);
     CHECK(scq_open(2, 1, 0, 1, SCQ_MAX_LIMIT, p, 1) == SCQ_BAD_SIZE);
     CHECK(scq_open(2, 1, 64, 0, SCQ_MAX_LIMIT, p, 1) == SCQ_BAD_HOLD);
     CHECK(scq_open(2, 1, 64, 5, SCQ_MAX_LIMIT, p, 1) == SCQ_BAD_HOLD);
@@ -239,7 +239,7 @@ static void ports_past_array_4097(void) {
 }
 
 static void huge_size(void) {
-    CHECK(scq_open(12, 1, UINT32_MAX, 1, SCQ_MAX_LIMIT, p, 1) == SCQ_NO_MEMORY && p[0].at == NULL);
+    CHECK(scq_open(16, 1, UINT32_MAX, 1, SCQ_MAX_LIMIT, p, 1) == SCQ_NO_MEMORY && p[0].at == NULL);
 }
 
 static void no_room(void) {

@@ -29,14 +29,14 @@ static void closed_and_out_of_range(void) {
     done = 77;
     CHECK(scq_ring_pop_many(&ring, two, 0, &done) == SCQ_CLOSED && done == 0);
     CHECK(two[0] == &ring && two[1] == &ring);
-    for (order = 13; order <= 64; order++)
+    for (order = 17; order <= 64; order++)
         CHECK(scq_ring_open(order, most, &ring, 1) == SCQ_BAD_ORDER);
     CHECK(scq_ring_open(0, most, &ring, 1) == SCQ_BAD_ORDER);
     CHECK(scq_ring_open(1, most, &ring, 0) == SCQ_BAD_PORTS);
     CHECK(scq_ring_open(1, 15, &ring, 1) == SCQ_BAD_LIMIT);
-    CHECK(scq_ring_open(12, most, &ring, 1) == SCQ_OK);
-    CHECK(scq_ring_open(12, most, &ring, 1) == SCQ_IS_OPEN);
-    CHECK(scq_capacity(&ring.port, &order) == SCQ_OK && order == 4096);
+    CHECK(scq_ring_open(16, most, &ring, 1) == SCQ_OK);
+    CHECK(scq_ring_open(16, most, &ring, 1) == SCQ_IS_OPEN);
+    CHECK(scq_capacity(&ring.port, &order) == SCQ_OK && order == 65536);
     CHECK(scq_ring_push_many(&ring, two, 0, &done) == SCQ_OK && done == 0);
     CHECK(scq_ring_pop_many(&ring, two, 0, &done) == SCQ_OK && done == 0);
     CHECK(scq_ring_close(&ring) == SCQ_OK && ring.port.at == NULL);

@@ -74,10 +74,10 @@ static void answers() {
     CHECK(!port && port.close() == Answer::Closed && port.lend().answer() == Answer::Closed &&
           port.take(0).answer() == Answer::Closed);
     Setup setup = small();
-    setup.order = 13;
+    setup.order = 17;
     CHECK(Queue::open(setup, &port, 1) == Answer::BadOrder && !port);
     setup = small();
-    setup.topics = 18;
+    setup.topics = 32;
     CHECK(Queue::open(setup, &port, 1) == Answer::BadTopics);
     setup = small();
     setup.size = 0;

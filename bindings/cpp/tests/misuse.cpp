@@ -223,7 +223,7 @@ static void channels() {
     second.receiver = scq::Receiver<int>();
     CHECK(sender.send(1) == Answer::Ended && sender.try_send(1) == Answer::Ended);
     CHECK(second.receiver.begin() == second.receiver.end());
-    CHECK(scq::channel<int>(0).answer == Answer::BadOrder && !scq::channel<int>(13).sender);
+    CHECK(scq::channel<int>(0).answer == Answer::BadOrder && !scq::channel<int>(17).sender);
     CHECK(scq::channel<int>(1, 5000).answer == Answer::BadPorts);
 }
 

@@ -92,11 +92,11 @@ static void first_in_first_out() {
 
 static void what_is_out_of_range_is_refused() {
     Ring<int> ring, wide;
-    CHECK(ring.open(0, 1) == Answer::BadOrder && ring.open(13, 1) == Answer::BadOrder);
+    CHECK(ring.open(0, 1) == Answer::BadOrder && ring.open(17, 1) == Answer::BadOrder);
     CHECK(ring.open(1, 0) == Answer::BadPorts && ring.open(1, 4097) == Answer::BadPorts);
     CHECK(ring.open(1, 1, 15) == Answer::BadLimit);
     CHECK(ring.open(1, 4096) == Answer::Ok && ring.capacity() == 2);
-    CHECK(wide.open(12, 1) == Answer::Ok && wide.capacity() == 4096);
+    CHECK(wide.open(16, 1) == Answer::Ok && wide.capacity() == 65536);
 }
 
 static void what_is_left_ends_with_the_last_owner() {

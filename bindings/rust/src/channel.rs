@@ -12,7 +12,7 @@ use std::sync::{Arc, Mutex, PoisonError};
 /// How many ends of a channel have a handle of their own, where nothing else is asked for.
 const ENDS: usize = 16;
 
-/// Makes a channel for at least so many values, from 1 to 4,096, as `std::sync::mpsc` and
+/// Makes a channel for at least so many values, from 1 to 65,536, as `std::sync::mpsc` and
 /// `crossbeam-channel` have them: its first [`Sender`] and its first [`Receiver`], of which both
 /// are cloned. There is room for the next power of two, and for two values at least.
 ///
@@ -45,7 +45,7 @@ pub fn bounded<T>(capacity: usize) -> Result<(Sender<T>, Receiver<T>), OpenError
 }
 
 /// The same with a handle of its own for each of the first `ends` ends, from 2 to 4,096. A handle
-/// takes some 1,860 bytes, and 12 for each value that there is room for: where channels are made
+/// takes some 1,860 bytes, and 9 for each value that there is room for: where channels are made
 /// often, as one for each answer, 2 make it the cheapest.
 ///
 /// # Errors

@@ -20,7 +20,7 @@ pub enum OpenError {
     Size,
     /// `hold` is out of range.
     Hold,
-    /// The capacity of a channel isn't from 1 to 4,096.
+    /// The capacity of a channel isn't from 1 to 65,536.
     Capacity,
     /// The library that was linked is of another version than this crate.
     Version {
@@ -33,15 +33,15 @@ impl fmt::Display for OpenError {
     fn fmt(&self, f: &mut fmt::Formatter<'_>) -> fmt::Result {
         match self {
             OpenError::NoMemory => f.write_str("no memory for the queue"),
-            OpenError::Order => f.write_str("the order isn't from 1 to 12"),
-            OpenError::Topics => f.write_str("the topics aren't from 1 to 17"),
+            OpenError::Order => f.write_str("the order isn't from 1 to 16"),
+            OpenError::Topics => f.write_str("the topics aren't from 1 to 31"),
             OpenError::Ports => f.write_str("the ports aren't from 1 to 4096"),
             OpenError::Limit => f.write_str("the limit isn't from 8 times the buffers to 2^60"),
             OpenError::Size => f.write_str("a buffer has no bytes"),
             OpenError::Hold => {
                 f.write_str("what a port may hold isn't from 1 to the number of buffers")
             }
-            OpenError::Capacity => f.write_str("the capacity isn't from 1 to 4,096"),
+            OpenError::Capacity => f.write_str("the capacity isn't from 1 to 65,536"),
             OpenError::Version { found } => write!(f, "libscq.a is of version {found}"),
         }
     }

@@ -2,8 +2,8 @@
 //! Rust.
 //!
 //! Use it where `crossbeam::queue::ArrayQueue` nearly fits, but messages should be written and read
-//! where they lie, and a thread that stops should hold up nobody. A queue has 2 to 4,096 buffers,
-//! up to 17 topics, and a [`Port`] for each thread. A thread is [lent](Port::lend) a buffer, writes
+//! where they lie, and a thread that stops should hold up nobody. A queue has 2 to 65,536 buffers,
+//! up to 31 topics, and a [`Port`] for each thread. A thread is [lent](Port::lend) a buffer, writes
 //! it in place and [sends](Lent::send) it on a topic; or it [takes](Port::take) one from a topic
 //! and reads it. A [`Lent`] or [`Taken`] that is dropped is given back. A [`Batch`] has several
 //! buffers, which are got, sent and given back together. A [`Ring`] has values of any type in place

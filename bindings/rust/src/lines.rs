@@ -1,11 +1,12 @@
 //! Sets of the lines that one can wait for.
+use crate::queue::Setup;
 use std::fmt;
 use std::ops::{BitOr, BitOrAssign};
 
-/// The stock of free buffers, as a line beside those of the topics.
-pub(crate) const FREE: u32 = 17;
-/// How many lines there are.
-pub(crate) const LINES: usize = 18;
+/// The stock of free buffers, as a line behind those of the topics.
+pub(crate) const FREE: u32 = Setup::MAX_TOPICS;
+/// How many lines there are: 32, of which a set has a bit each.
+pub(crate) const LINES: usize = FREE as usize + 1;
 
 /// A set of lines of a [`Bell`](crate::Bell): topics, and the stock of free buffers. Sets are
 /// joined by `|`; where a call asks for one, topics can be named in an array too.
@@ -37,14 +38,14 @@ impl Lines {
     /// All topics.
     pub const ALL_TOPICS: Lines = Lines::topics(FREE);
     /// All topics, and the stock of free buffers.
-    pub const ALL: Lines = Lines((1 << LINES) - 1);
+    pub const ALL: Lines = Lines(u32::MAX);
 
-    /// A topic; of one that no queue has, from 17 on, no line.
+    /// A topic; of one that no queue has, from 31 on, no line.
     ///
     /// ```
     /// # use scq::Lines;
-    /// assert!(Lines::ALL_TOPICS.contains(Lines::topic(16)));
-    /// assert!(Lines::topic(17).is_empty());
+    /// assert!(Lines::ALL_TOPICS.contains(Lines::topic(30)));
+    /// assert!(Lines::topic(31).is_empty());
     /// ```
     pub const fn topic(topic: u32) -> Lines {
         if topic < FREE {

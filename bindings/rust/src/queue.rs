@@ -13,9 +13,9 @@ use std::vec;
 /// ```
 #[derive(Clone, Copy, Debug, PartialEq, Eq, Hash)]
 pub struct Setup {
-    /// There are 2^`order` buffers: from 1 to 12.
+    /// There are 2^`order` buffers: from 1 to 16.
     pub order: u32,
-    /// How many topics there are, each a queue of its own over the same buffers: from 1 to 17.
+    /// How many topics there are, each a queue of its own over the same buffers: from 1 to 31.
     pub topics: u32,
     /// How many bytes each buffer has: from 1. A buffer begins at a multiple of 64, so as many as
     /// the next one are taken for it.
@@ -31,7 +31,9 @@ impl Setup {
     /// The largest limit. A billion tickets a second come to it after 36 years.
     pub const MAX_LIMIT: u64 = 1 << 60;
     /// The largest order.
-    pub const MAX_ORDER: u32 = 12;
+    pub const MAX_ORDER: u32 = 16;
+    /// The most topics.
+    pub const MAX_TOPICS: u32 = 31;
     /// The most ports of a queue.
     pub const MAX_PORTS: usize = 4096;
 }

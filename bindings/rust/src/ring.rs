@@ -67,7 +67,7 @@ impl<T> Drop for Core<T> {
 }
 
 impl<T> Ring<T> {
-    /// Makes a ring for 2^`order` values, `order` from 1 to 12, with so many handles, from 1 to
+    /// Makes a ring for 2^`order` values, `order` from 1 to 16, with so many handles, from 1 to
     /// 4096.
     ///
     /// After this nothing takes memory.

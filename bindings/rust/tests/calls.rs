@@ -66,10 +66,10 @@ fn a_stream_ends_and_the_last_port_has_all_counts() {
 #[test]
 fn a_setup_out_of_range_is_refused() {
     let refused = |setup, ports| Queue::new(setup, ports).expect_err("it is refused");
-    for order in [0, 13, u32::MAX] {
+    for order in [0, 17, u32::MAX] {
         assert_eq!(refused(Setup { order, ..SMALL }, 1), OpenError::Order);
     }
-    for topics in [0, 18, u32::MAX] {
+    for topics in [0, 32, u32::MAX] {
         assert_eq!(refused(Setup { topics, ..SMALL }, 1), OpenError::Topics);
     }
     for hold in [0, 3, u32::MAX] {
@@ -101,7 +101,7 @@ fn buffers_lie_apart_and_at_lines() {
 
 #[test]
 fn more_bytes_than_there_are_is_refused() {
-    let refused = Queue::new(Setup { order: 12, size: u32::MAX, hold: 1, ..SMALL }, 1)
+    let refused = Queue::new(Setup { order: 16, size: u32::MAX, hold: 1, ..SMALL }, 1)
         .expect_err("it is refused");
     assert_eq!(refused, OpenError::NoMemory);
 }

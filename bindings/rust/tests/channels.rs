@@ -20,7 +20,7 @@ fn soon() -> Duration {
 
 #[test]
 fn there_is_room_for_the_next_power_of_two() {
-    for (asked, room) in [(1, 2), (2, 2), (3, 4), (64, 64), (65, 128), (4096, 4096)] {
+    for (asked, room) in [(1, 2), (2, 2), (3, 4), (64, 64), (65, 128), (4096, 4096), (65_536, 65_536)] {
         let (sender, receiver) = bounded(asked).unwrap();
         assert_eq!((sender.capacity(), receiver.capacity()), (room, room));
         for number in 0..room {
@@ -33,7 +33,7 @@ fn there_is_room_for_the_next_power_of_two() {
 
 #[test]
 fn what_is_out_of_range_is_refused() {
-    for capacity in [0, 4097, usize::MAX] {
+    for capacity in [0, 65_537, usize::MAX] {
         assert_eq!(bounded::<u8>(capacity).map(drop), Err(OpenError::Capacity));
     }
     for ends in [0, 1, 4097, usize::MAX] {

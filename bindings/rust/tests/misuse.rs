@@ -87,9 +87,9 @@ const ROWS: &[Row] = &[
         "a topic is rung, and finished, that no queue has",
         || {
             let bell = Bell::new();
-            bell.ring(17);
+            bell.ring(31);
             bell.ring(u32::MAX);
-            bell.finish(&[17, u32::MAX]);
+            bell.finish(&[31, u32::MAX]);
             said((bell.is_finished(&[0]), bell.is_finished(Lines::FREE)))
         },
         "(false, false)",

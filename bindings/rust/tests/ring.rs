@@ -54,7 +54,7 @@ fn first_in_first_out() {
 
 #[test]
 fn what_is_out_of_range_is_refused() {
-    for order in [0, 13, u32::MAX] {
+    for order in [0, 17, u32::MAX] {
         assert_eq!(Ring::<u8>::new(order, 1).unwrap_err(), OpenError::Order);
     }
     for handles in [0, 4097, usize::MAX] {
@@ -62,7 +62,7 @@ fn what_is_out_of_range_is_refused() {
     }
     assert_eq!(Ring::<u8>::with_limit(1, 1, 15).unwrap_err(), OpenError::Limit);
     assert_eq!(Ring::<u8>::new(1, 4096).unwrap().capacity(), 2);
-    assert_eq!(Ring::<u8>::new(12, 1).unwrap().capacity(), 4096);
+    assert_eq!(Ring::<u8>::new(16, 1).unwrap().capacity(), 65_536);
 }
 
 #[test]

@@ -4,7 +4,7 @@ ghost use Rattle.std.specs.Prelude.{◌^◌, ◌≤◌, None};
 use crate::row::Row;
 use rows_text::field;
 use scq_frames::{Framer, Message, decode, encode, parts_of};
-use scq_outside::{Failed, Source};
+use scq_outside::{Cause, Failed, Source};
 use scq_topics::Topics;
 use scq_word::Bytes;
 
@@ -24,6 +24,12 @@ impl Source for Pieces<'_> {
     ghost ends = { λ s. s.ends };
 
     ghost left = { λ _. None };
+
+    ghost cause = { λ _. None };
+
+    fn cause(&self) -> Option<Cause> {
+        None
+    }
 
     fn read(&mut self, into: &mut [u8]) -> Result<usize, Failed> {
         if self.reads == 0 {

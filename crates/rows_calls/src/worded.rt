@@ -97,12 +97,15 @@ fn put_stages(row: &mut Row, stages: &StagesRequest) {
     put_files(row, &stages.files);
 }
 
-/// The room, if any, and the files.
+/// The room, if any, whether the run is strict, and the files.
 fn put_judge(row: &mut Row, judge: &JudgeRequest) {
     row.put("judge");
     if let Some(room) = judge.room {
         row.put(" room ");
         row.put_value(&room);
+    }
+    if judge.strict {
+        row.put(" strict");
     }
     put_files(row, &judge.files);
 }

@@ -5,7 +5,7 @@ ghost use Rattle.scq_outside.specs.Exports.{are_pieces};
 use crate::gates::RowGate;
 use anyhow::{Context, Result};
 use rows_text::add_line;
-use scq_outside::{Failed, Files, MemSink, MemSource, Source};
+use scq_outside::{Cause, Failed, Files, MemSink, MemSource, Source};
 use scq_word::NoMemory;
 use std::alloc::Global;
 
@@ -125,6 +125,12 @@ impl Source for RowSource<'_> {
 
     ghost left = { λ s. if s.endless then None else Some s.content.left };
 
+    ghost cause = { λ _. None };
+
+    fn cause(&self) -> Option<Cause> {
+        None
+    }
+
     fn read(&mut self, into: &mut [u8]) -> Result<usize, Failed> {
         if let Some((gate, first)) = self.gate.take() {
             gate.at_first_read(first);
@@ -203,6 +209,12 @@ impl<'a> Files for RowFiles<'a> {
     ghost faults = { λ f. f.faults };
 
     ghost table = { λ _. None };
+
+    ghost cause = { λ _. None };
+
+    fn cause(&self) -> Option<Cause> {
+        None
+    }
 
     fn source(&mut self, name: &str) -> Result<RowSource<'a>, Failed> {
         match self.source_of(name) {

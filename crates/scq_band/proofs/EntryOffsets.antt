@@ -6,7 +6,7 @@ use Rattle.std.specs.Int.Bits.{bit_and}
 use Rattle.std.proofs.Math.Nat.{div-lt_iff_lt-mul, mod-eq_of_lt, mul-le-mul_right}
 use Rattle.std.proofs.lemmas.Bool.{cases_Bool, cases_lt, lt-leb}
 use Rattle.std.proofs.lemmas.Nat.{pow_pos, pow_below, div-mul-add, mod-mul-add, div-add-mod', mod_below, and_mask}
-use Rattle.scq_word.specs.Exports.{slots_of, slot_of, in_columns}
+use Rattle.scq_word.specs.Exports.{slots_of, slot_of, in_columns, most_order}
 use Rattle.scq_word.proofs.ColumnLemmas.{in_columns_small, in_columns_apart, columns_of}
 use Rattle.scq_word.proofs.EntryLemmas.{slots_of-pow}
 use Rattle.scq_word.proofs.TicketLemmas.{some_slots_of, slot_of-masked, slot_of-onto, same_slot}
@@ -77,15 +77,15 @@ pub in_eight_columns : (order : ℕ) → largest_lined_order < order → column_
 unfolding column_bits
 in_eight_columns order high = rw (lt-leb order largest_lined_order high) refl
 
-pub columns_few : (order : ℕ) → order ≤ 12 → 2 ^ column_bits order ≤ 2 ^ 11
+pub columns_few : (order : ℕ) → order ≤ most_order → 2 ^ column_bits order ≤ 2 ^ 14
 unfolding column_bits
 columns_few order few =
     elim (cases_Bool (nat_le order largest_lined_order)) [
       | inl low ↦
           let least = leb-true order largest_lined_order low in
-          let small : order + 1 ≤ 11 = omega (arith, least) in
+          let small : order + 1 ≤ 14 = omega (arith, least) in
           rw low (pow_mono small)
-      | inr high ↦ let small : order + 1 - 3 ≤ 11 = omega (arith, few) in rw high (pow_mono small)
+      | inr high ↦ let small : order + 1 - 3 ≤ 14 = omega (arith, few) in rw high (pow_mono small)
     ]
 
 remainder_low : (order s : ℕ) → s < slots_of order → remainder_of order s < 8 * 2 ^ column_bits order

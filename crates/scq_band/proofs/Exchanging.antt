@@ -1,37 +1,32 @@
 -- What a seat keeps, after its slots were turned, and after an exchange of the buffer in the first.
-use Rattle.std.proofs.Common.{◌≡◌, ℕ, ◌<◌, List, [], ◌∷◌, length, refl, sym, ◌∙◌, ap, subst, arith, eq-eqb}
+use Rattle.std.proofs.Common.{◌≡◌, ℕ, ◌<◌, ◌≤◌, Bool, List, [], ◌∷◌, refl, sym, ◌∙◌, ap, subst, arith, eq-eqb}
 use Rattle.std.specs.Prelude.{Some, Option}
 use Rattle.atomic_table.specs.Seated.{TableId}
 use Rattle.atomic_table.specs.Table.{Me, rest}
+use Rattle.scq_word.specs.Exports.{n_of}
 use Rattle.scq_law.specs.Exports.{times}
-use Rattle.scq_band.specs.Exports.{Seen, changed, my, front_index, in_hand, with_buffer, IsAsGiven, in_order, buffer_in, hand_of, standing_from}
+use Rattle.scq_band.specs.Exports.{Seen, changed, my, front_index, in_hand, with_buffer, IsAsGiven, indices_of, buffer_in, hand_of, standing_from}
 use Rattle.scq_band.specs.Exports.{AllGiven, IsKept, IsRotation}
 use Rattle.scq_band.specs.declared.numbers.Numbers.{Numbers}
 use Rattle.scq_band.specs.Slots.{SlotStanding}
 use Rattle.scq_band.specs.declared.rule.Key.{Key}
 use Rattle.scq_band.specs.Known.{Known}
 use Rattle.scq_band.specs.Standing.{Standing}
-use Rattle.scq_band.proofs.Slots.{fronted, held_times, times-rotated, length-rotated, buffer-rotated, given-rotated, exchanged_hand}
+use Rattle.scq_band.proofs.Slots.{noted_once, noted_low, fronted, held_times, times-rotated, buffer-rotated, given-rotated, exchanged_hand}
 
 module _ {B : Type 0} (IsSame : B → B → Type 0) where
   -- after a turn
-  pub kept_turned : (key : Key B) (me : Me (SlotStanding B) Known) (v : Known) (ms : List (ℕ × SlotStanding B)) (indices later : List ℕ) (room room' : ℕ)
+  pub kept_turned : (key : Key B) (me : Me (SlotStanding B) Known) (v : Known) (ms : List (ℕ × SlotStanding B)) (notes : List Bool)
       (numbers : List Numbers) (spent : Option ℕ)
-      → IsKept IsSame key me indices room numbers spent → v ≡ me.0 → IsRotation me.1 ms → later ≡ in_order ms → room' ≡ room
-      → IsKept IsSame key (v, ms) later room' numbers spent
-  kept_turned key me v ms indices later room room' numbers spent kept same is order space =
-      let size : (i : ℕ) → times i later ≡ times i indices = λ i. ap (times i) order ∙ times-rotated i me.1 ms is ∙ ap (times i) (sym kept.order) in
-      let long : length later ≡ length indices = ap length order ∙ length-rotated me.1 ms is ∙ ap length (sym kept.order) in
-      subst (λ (u : Known). IsKept IsSame key (u, ms) later room' numbers spent) (sym same) (
+      → IsKept IsSame key me notes numbers spent → v ≡ me.0 → IsRotation me.1 ms → IsKept IsSame key (v, ms) notes numbers spent
+  kept_turned key me v ms notes numbers spent kept same is =
+      subst (λ (u : Known). IsKept IsSame key (u, ms) notes numbers spent) (sym same) (
       record {
         alone = kept.alone;
         idle = kept.idle;
-        order = order;
-        same = λ i. size i ∙ kept.same i;
-        count = long ∙ kept.count;
-        once = λ i. let s = size i in let o = kept.once i in omega arith;
-        low = λ i there. kept.low i (let s = size i in omega (arith, s, there));
-        holds_all = let h = kept.holds_all in omega arith;
+        slots = λ i. times-rotated i me.1 ms is ∙ kept.slots i;
+        each = kept.each;
+        same = λ i. times-rotated i me.1 ms is ∙ kept.same i;
         numbers = kept.numbers;
         rings = kept.rings;
         small = kept.small;
@@ -40,20 +35,17 @@ module _ {B : Type 0} (IsSame : B → B → Type 0) where
       })
 
   -- after an exchange of the buffer in the first slot
-  pub kept_exchanged : (key : Key B) (v : Known) (i : ℕ) (x y : SlotStanding B) (others : List (ℕ × SlotStanding B)) (indices : List ℕ)
-      (room : ℕ) (numbers : List Numbers) (spent : Option ℕ)
-      → IsKept IsSame key (v, (i, x) ∷ others) indices room numbers spent → ((b : B) → y.buffer ≡ Some b → IsAsGiven IsSame key.given.value.items i b)
-      → IsKept IsSame key (v, (i, y) ∷ others) indices room numbers spent
-  kept_exchanged key v i x y others indices room numbers spent kept new =
+  pub kept_exchanged : (key : Key B) (v : Known) (i : ℕ) (x y : SlotStanding B) (others : List (ℕ × SlotStanding B)) (notes : List Bool)
+      (numbers : List Numbers) (spent : Option ℕ)
+      → IsKept IsSame key (v, (i, x) ∷ others) notes numbers spent → ((b : B) → y.buffer ≡ Some b → IsAsGiven IsSame key.given.value.items i b)
+      → IsKept IsSame key (v, (i, y) ∷ others) notes numbers spent
+  kept_exchanged key v i x y others notes numbers spent kept new =
       record {
         alone = kept.alone;
         idle = kept.idle;
-        order = kept.order;
+        slots = kept.slots;
+        each = kept.each;
         same = kept.same;
-        count = kept.count;
-        once = kept.once;
-        low = kept.low;
-        holds_all = kept.holds_all;
         numbers = kept.numbers;
         rings = kept.rings;
         small = kept.small;
@@ -61,13 +53,25 @@ module _ {B : Type 0} (IsSame : B → B → Type 0) where
         given = (new, kept.given.1);
       }
 
-  -- an index in the hand is among those that the seat keeps
-  pub held : (key : Key B) (me : Me (SlotStanding B) Known) (indices : List ℕ) (room : ℕ) (numbers : List Numbers) (spent : Option ℕ) (i : ℕ) (o : Option B)
-      → IsKept IsSame key me indices room numbers spent → in_hand (hand_of me.1 (my me.0).part.hand) i ≡ Some o → 0 < times i indices
-  held key me indices room numbers spent i o kept is =
+  -- each index stands once among the slots
+  pub kept_once : (key : Key B) (me : Me (SlotStanding B) Known) (notes : List Bool) (numbers : List Numbers) (spent : Option ℕ)
+      → IsKept IsSame key me notes numbers spent → (i : ℕ) → times i (indices_of me.1) ≤ 1
+  kept_once key me notes numbers spent kept i = let is = kept.slots i in let once = noted_once notes i in omega (arith, is, once)
+
+  -- and is one of a ring
+  pub kept_low : (key : Key B) (me : Me (SlotStanding B) Known) (notes : List Bool) (numbers : List Numbers) (spent : Option ℕ)
+      → IsKept IsSame key me notes numbers spent → (i : ℕ) → 0 < times i (indices_of me.1) → i < n_of key.setup.order
+  kept_low key me notes numbers spent kept i there =
+      let is = kept.slots i in
+      subst (λ n. i < n) kept.each (noted_low notes i (omega (arith, is, there)))
+
+  -- an index in the hand stands among the slots
+  pub held : (key : Key B) (me : Me (SlotStanding B) Known) (notes : List Bool) (numbers : List Numbers) (spent : Option ℕ) (i : ℕ) (o : Option B)
+      → IsKept IsSame key me notes numbers spent → in_hand (hand_of me.1 (my me.0).part.hand) i ≡ Some o → 0 < times i (indices_of me.1)
+  held key me notes numbers spent i o kept is =
       let some = (held_times me.1 (my me.0).part.hand i o is).0 in
       let same = kept.same i in
-      omega arith
+      omega (arith, some, same)
 
   -- the slot of an index in the hand, once it was turned to the front
   pub record Brought (me : Me (SlotStanding B) Known) (given : List B) (ms : List (ℕ × SlotStanding B)) (i : ℕ) (o : Option B) : Type 0 where
@@ -78,17 +82,17 @@ module _ {B : Type 0} (IsSame : B → B → Type 0) where
     pub same : (j : ℕ) → buffer_in ms j ≡ buffer_in me.1 j
     pub given_so : (b : B) → slot.buffer ≡ Some b → IsAsGiven IsSame given i b
 
-  pub brought : (key : Key B) (me : Me (SlotStanding B) Known) (ms : List (ℕ × SlotStanding B)) (indices : List ℕ) (room : ℕ) (numbers : List Numbers)
+  pub brought : (key : Key B) (me : Me (SlotStanding B) Known) (ms : List (ℕ × SlotStanding B)) (notes : List Bool) (numbers : List Numbers)
       (spent : Option ℕ) (i : ℕ)
       (o : Option B)
-      → IsKept IsSame key me indices room numbers spent → IsRotation me.1 ms → front_index ms ≡ i → in_hand (hand_of me.1 (my me.0).part.hand) i ≡ Some o
+      → IsKept IsSame key me notes numbers spent → IsRotation me.1 ms → front_index ms ≡ i → in_hand (hand_of me.1 (my me.0).part.hand) i ≡ Some o
       → Brought me key.given.value.items ms i o
-  brought key me ms indices room numbers spent i o kept turned first is =
-      let there = held key me indices room numbers spent i o kept is in
-      let here : 0 < times i (in_order ms) = let same = times-rotated i me.1 ms turned ∙ ap (times i) (sym kept.order) in omega (arith, same, there) in
+  brought key me ms notes numbers spent i o kept turned first is =
+      let there = held key me notes numbers spent i o kept is in
+      let here : 0 < times i (indices_of ms) = let same = times-rotated i me.1 ms turned in omega (arith, same, there) in
       let front = fronted i ms here first in
       let same : (j : ℕ) → buffer_in ms j ≡ buffer_in me.1 j =
-      λ j. buffer-rotated j me.1 ms turned (let once = kept.once j in let order = ap (times j) kept.order in omega (arith, once, order)) in
+      λ j. buffer-rotated j me.1 ms turned (kept_once key me notes numbers spent kept j) in
       let alone : buffer_in ((i, front.slot) ∷ front.others) i ≡ front.slot.buffer = rw (eq-eqb i i refl) refl in
       record {
         slot = front.slot;
@@ -102,17 +106,17 @@ module _ {B : Type 0} (IsSame : B → B → Type 0) where
       }
 
   -- after a turn, and an exchange of the buffer in the first slot
-  pub kept_lent : (key : Key B) (me me' : Me (SlotStanding B) Known) (v : Known) (ms : List (ℕ × SlotStanding B)) (indices later : List ℕ) (room room' : ℕ)
+  pub kept_lent : (key : Key B) (me me' : Me (SlotStanding B) Known) (v : Known) (ms : List (ℕ × SlotStanding B)) (notes : List Bool)
       (numbers : List Numbers) (spent : Option ℕ) (i : ℕ) (o : Option B) (y : SlotStanding B)
-      → IsKept IsSame key me indices room numbers spent → v ≡ me.0 → IsRotation me.1 ms → later ≡ in_order ms → room' ≡ room
+      → IsKept IsSame key me notes numbers spent → v ≡ me.0 → IsRotation me.1 ms
       → Brought me key.given.value.items ms i o → ((b : B) → y.buffer ≡ Some b → IsAsGiven IsSame key.given.value.items i b) → me' ≡ (v, (i, y) ∷ rest ms)
-      → IsKept IsSame key me' later room' numbers spent
-  kept_lent key me me' v ms indices later room room' numbers spent i o y kept same turned order space b new now =
-      let turned_so = kept_turned key me v ms indices later room room' numbers spent kept same turned order space in
-      let front = subst (λ (l : List (ℕ × SlotStanding B)). IsKept IsSame key (v, l) later room' numbers spent) b.is turned_so in
+      → IsKept IsSame key me' notes numbers spent
+  kept_lent key me me' v ms notes numbers spent i o y kept same turned b new now =
+      let turned_so = kept_turned key me v ms notes numbers spent kept same turned in
+      let front = subst (λ (l : List (ℕ × SlotStanding B)). IsKept IsSame key (v, l) notes numbers spent) b.is turned_so in
       let others : rest ms ≡ b.others = ap rest b.is in
-      subst (λ (m : Me (SlotStanding B) Known). IsKept IsSame key m later room' numbers spent) (sym (now ∙ ap (λ (l : List (ℕ × SlotStanding B)). (v, (i, y) ∷ l)) others))
-      (kept_exchanged key v i b.slot y b.others later room' numbers spent front new)
+      subst (λ (m : Me (SlotStanding B) Known). IsKept IsSame key m notes numbers spent) (sym (now ∙ ap (λ (l : List (ℕ × SlotStanding B)). (v, (i, y) ∷ l)) others))
+      (kept_exchanged key v i b.slot y b.others notes numbers spent front new)
 
 module _ {B : Type 0} where
   -- what contracts see of a seat in whose hand alone something changed

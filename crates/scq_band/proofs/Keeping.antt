@@ -1,10 +1,10 @@
 -- What a seat keeps after a call.
-use Rattle.std.proofs.Common.{◌≡◌, ◌⊎◌, ℕ, zero, suc, ◌+◌, ◌^◌, ◌<◌, ◌≤◌, true, List, [], ◌∷◌, ◌++◌, length, refl, sym, ◌∙◌, ap, subst, inl, inr, arith, eq-eqb, ne_eqb}
+use Rattle.std.proofs.Common.{◌≡◌, ◌≢◌, ◌⊎◌, ℕ, zero, suc, ◌+◌, ◌^◌, ◌<◌, ◌≤◌, Bool, true, false, List, [], ◌∷◌, ◌++◌, length, refl, sym, ◌∙◌, ap, subst, inl, inr, arith, eq-eqb, ne_eqb}
 use Rattle.std.specs.Prelude.{Some, None, Option, IfSome, max, slice_set, slice_get, slice_index_or}
 use Rattle.std.specs.List.{Contains}
 use Rattle.std.proofs.lemmas.Bool.{cases_eq, cases_lt}
 use Rattle.std.proofs.Math.Nat.{max-eq_left, max-eq_right}
-use Rattle.std.proofs.lemmas.List.{length-append, length-set}
+use Rattle.std.proofs.lemmas.List.{length-set}
 use Rattle.atomic_table.specs.Seated.{TableId}
 use Rattle.atomic_table.specs.Table.{Me, rest}
 use Rattle.scq_core.specs.Exports.{SeatPart, Location, hand_without, ends}
@@ -23,15 +23,15 @@ use Rattle.scq_band.specs.Exports.{IsReadingInRun, IsMomentInRun, WasFoundInRun,
 use Rattle.scq_band.specs.Exports.{HasGotAfter, with_part, seated, put_at, got_at, nothing_at, none_at, drew_head, drawn_spent, spent_at}
 use Rattle.scq_band.specs.Exports.{HasFoundNone, HasSpentGet, Fronts, LiesIn, opening_of, Identity, in_hand, laid_bytes, bytes_in_hand, having_seen}
 use Rattle.scq_band.specs.Exports.{caller_of, seat_after_put, seat_after_get, seat_after_nothing, seat_after_spent_put, seat_after_spent_get}
-use Rattle.scq_band.specs.Exports.{SeatHasTaken, in_order, buffer_in, hand_of, identity_of, standing_from, standing_of, AllGiven, IsSmall, AreSmall}
+use Rattle.scq_band.specs.Exports.{SeatHasTaken, indices_of, noted, buffer_in, hand_of, identity_of, standing_from, standing_of, AllGiven, IsSmall, AreSmall}
 use Rattle.scq_band.specs.Exports.{IsKept}
 use Rattle.scq_band.specs.Known.{Known}
 use Rattle.scq_band.specs.Standing.{Standing}
-use Rattle.scq_band.proofs.Slots.{times-append, times-without, length-without, put_hand}
+use Rattle.scq_band.proofs.Slots.{times-append, times-without, noted_low, noted_here, noted_else, put_hand}
 use Rattle.scq_law.proofs.Aspects.EmptyCalls.{empty_at_call}
 use Rattle.scq_band.proofs.DelayedCalls.{call_delayed}
 use Rattle.scq_band.proofs.RunShown.{began}
-use Rattle.scq_band.proofs.Exchanging.{Brought}
+use Rattle.scq_band.proofs.Exchanging.{Brought, kept_once}
 use Rattle.scq_band.proofs.Gates.{none_awake, some_awake, ones_gone, gone_ones}
 
 -- what is known of a ring where it was written, or another one
@@ -111,48 +111,52 @@ max_above a b =
 
 module _ {B : Type 0} (IsSame : B → B → Type 0) where
   -- after a put of the first index
-  pub kept_put : (key : Key B) (me' : Me (SlotStanding B) Known) (v : Known) (i : ℕ) (x : SlotStanding B) (others : List (ℕ × SlotStanding B)) (later popped : List ℕ) (room room' : ℕ)
+  pub kept_put : (key : Key B) (me' : Me (SlotStanding B) Known) (v : Known) (i : ℕ) (x : SlotStanding B) (others : List (ℕ × SlotStanding B)) (notes notes' : List Bool)
       (numbers numbers' : List Numbers) (spent : Option ℕ) (r p : ℕ) (w : List ℕ)
-      → IsKept IsSame key (v, (i, x) ∷ others) later room numbers spent → popped ≡ in_order others → room' ≡ room
+      → IsKept IsSame key (v, (i, x) ∷ others) notes numbers spent → notes' ≡ slice_set notes i false
       → numbers' ≡ changed (finishes p) r v.numbers → p < 2 ^ 60 → me' ≡ (put_at r i p w v, others)
-      → IsKept IsSame key me' popped room' numbers' spent
-  kept_put key me' v i x others later popped room room' numbers numbers' spent r p w kept order space new small now =
-      let split : (j : ℕ) → times j later ≡ times j popped + times j (i ∷ []) =
-      λ j. ap (times j) kept.order ∙ times-append j (in_order others) (i ∷ []) ∙ ap (λ n. n + times j (i ∷ [])) (ap (times j) (sym order)) in
+      → IsKept IsSame key me' notes' numbers' spent
+  kept_put key me' v i x others notes notes' numbers numbers' spent r p w kept less new small now =
+      let me : Me (SlotStanding B) Known = (v, (i, x) ∷ others) in
+      let split : (j : ℕ) → times j (indices_of me.1) ≡ times j (i ∷ []) + times j (indices_of others) =
+      λ j. times-append j (i ∷ []) (indices_of others) in
       let one : times i (i ∷ []) ≡ 1 = rw (eq-eqb i i refl) refl in
+      let none : times i (indices_of others) ≡ 0 =
+      let s = split i in let once = kept_once IsSame key me notes numbers spent kept i in omega (arith, s, one, once) in
+      let there : i < length notes = let s = split i in let is = kept.slots i in noted_low notes i (omega (arith, s, one, is)) in
+      let away : (j : ℕ) → j ≢ i → times j (i ∷ []) ≡ 0 = λ j other. rw (ne_eqb i j (λ e. other (sym e))) refl in
       let hand = (my v).part.hand in
-      subst (λ (m : Me (SlotStanding B) Known). IsKept IsSame key m popped room' numbers' spent) (sym now) (
+      subst (λ (m : Me (SlotStanding B) Known). IsKept IsSame key m notes' numbers' spent) (sym now) (
       record {
         alone = record { seats = refl; out = kept.alone.out };
         idle = refl;
-        order = order;
-        same =
+        slots =
             λ j.
-            let was = kept.same j in
-            let less = kept.once j in
             let s = split j in
+            let was = kept.slots j in
             elim (cases_eq j i) [
               | inl same ↦
-                  let none : times j (hand_without i hand) ≡ 0 = times-without i j hand ∙ rw (eq-eqb j i same) refl in
-                  let alone : times j (i ∷ []) ≡ 1 = rw same one in
-                  omega (arith, s, less, alone, none)
+                  let gone : noted notes' i ≡ 0 = ap (λ (l : List Bool). noted l i) less ∙ noted_here notes i false there in
+                  rw same (none ∙ sym gone)
+              | inr other ↦
+                  let still : noted notes' j ≡ noted notes j = ap (λ (l : List Bool). noted l j) less ∙ noted_else notes i j false other in
+                  let no = away j other in
+                  omega (arith, s, was, still, no)
+            ];
+        each = ap length less ∙ length-set notes i false ∙ kept.each;
+        same =
+            λ j.
+            let s = split j in
+            let was = kept.same j in
+            elim (cases_eq j i) [
+              | inl same ↦
+                  let gone : times i (hand_without i hand) ≡ 0 = times-without i i hand ∙ rw (eq-eqb i i refl) refl in
+                  rw same (none ∙ sym gone)
               | inr other ↦
                   let rest : times j (hand_without i hand) ≡ times j hand = times-without i j hand ∙ rw (ne_eqb j i other) refl in
-                  let away : times j (i ∷ []) ≡ 0 = rw (ne_eqb i j (λ e. other (sym e))) refl in
-                  omega (arith, s, was, rest, away)
+                  let no = away j other in
+                  omega (arith, s, was, rest, no)
             ];
-        count =
-            let long = ap length kept.order ∙ length-append (in_order others) (i ∷ []) in
-            let short = ap length order in
-            let was = kept.count in
-            let gone = length-without i hand in
-            let s = split i in
-            let less = kept.once i in
-            let same = kept.same i in
-            omega (arith, one);
-        once = λ j. let s = split j in let less = kept.once j in omega arith;
-        low = λ j there. kept.low j (let s = split j in omega (arith, s, there));
-        holds_all = let h = kept.holds_all in omega arith;
         numbers = new;
         rings = ap length new ∙ length-set v.numbers r _ ∙ ap length (sym kept.numbers) ∙ kept.rings;
         small =
@@ -163,23 +167,20 @@ module _ {B : Type 0} (IsSame : B → B → Type 0) where
       })
 
   -- after a call that left the hand as it was
-  pub kept_still : (key : Key B) (me' : Me (SlotStanding B) Known) (v u : Known) (ms : List (ℕ × SlotStanding B)) (later : List ℕ) (room room' : ℕ)
+  pub kept_still : (key : Key B) (me' : Me (SlotStanding B) Known) (v u : Known) (ms : List (ℕ × SlotStanding B)) (notes : List Bool)
       (numbers numbers' : List Numbers)
       (spent spent' : Option ℕ)
-      → IsKept IsSame key (v, ms) later room numbers spent → room' ≡ room → IsAlone u → (my u).part.phase ≡ Idle → (my u).part.hand ≡ (my v).part.hand
+      → IsKept IsSame key (v, ms) notes numbers spent → IsAlone u → (my u).part.phase ≡ Idle → (my u).part.hand ≡ (my v).part.hand
       → numbers' ≡ u.numbers → length numbers' ≡ length numbers → AreSmall numbers' → spent' ≡ (my u).part.spent → me' ≡ (u, ms)
-      → IsKept IsSame key me' later room' numbers' spent'
-  kept_still key me' v u ms later room room' numbers numbers' spent spent' kept space alone idle hand new long small keeps now =
-      subst (λ (m : Me (SlotStanding B) Known). IsKept IsSame key m later room' numbers' spent') (sym now) (
+      → IsKept IsSame key me' notes numbers' spent'
+  kept_still key me' v u ms notes numbers numbers' spent spent' kept alone idle hand new long small keeps now =
+      subst (λ (m : Me (SlotStanding B) Known). IsKept IsSame key m notes numbers' spent') (sym now) (
       record {
         alone = alone;
         idle = idle;
-        order = kept.order;
+        slots = kept.slots;
+        each = kept.each;
         same = λ j. kept.same j ∙ ap (times j) (sym hand);
-        count = kept.count ∙ ap length (sym hand);
-        once = kept.once;
-        low = kept.low;
-        holds_all = let h = kept.holds_all in omega arith;
         numbers = new;
         rings = long ∙ kept.rings;
         small = small;
@@ -246,21 +247,29 @@ module _ {B : Type 0} where
 
 module _ {B : Type 0} (contents : B → List ℕ) (IsSame : B → B → Type 0) where
   -- after a get
-  pub kept_got : (key : Key B) (me me' : Me (SlotStanding B) Known) (indices later : List ℕ) (room room' : ℕ) (numbers numbers' : List Numbers) (spent : Option ℕ)
+  pub kept_got : (key : Key B) (me me' : Me (SlotStanding B) Known) (notes notes' : List Bool) (numbers numbers' : List Numbers) (spent : Option ℕ)
       (r h i : ℕ)
-      → IsKept IsSame key me indices room numbers spent → HasGotAfter (LiesIn contents IsSame key.given.value.items) key.setup r h i me me'
-      → later ≡ indices ++ i ∷ [] → room' ≡ room → numbers' ≡ changed (λ x. sees h (passes (h + 1) x)) r numbers
-      → IsKept IsSame key me' later room' numbers' spent
-  kept_got key me me' indices later room room' numbers numbers' spent r h i kept gets more space new =
+      → IsKept IsSame key me notes numbers spent → HasGotAfter (LiesIn contents IsSame key.given.value.items) key.setup r h i me me'
+      → notes' ≡ slice_set notes i true → numbers' ≡ changed (λ x. sees h (passes (h + 1) x)) r numbers
+      → IsKept IsSame key me' notes' numbers' spent
+  kept_got key me me' notes notes' numbers numbers' spent r h i kept gets more new =
       let got = gets.got in
       let hand = (my me.0).part.hand in
       let view = got.view in
       let come = got.slots.come in
       let held_now : (my me'.0).part.hand ≡ hand ++ i ∷ [] = ap (λ (u : Known). (my u).part.hand) view in
-      let size : (j : ℕ) → times j later ≡ times j (my me'.0).part.hand =
+      let split : (j : ℕ) → times j (indices_of me'.1) ≡ times j (i ∷ []) + times j (indices_of me.1) =
+      λ j. ap (λ (l : List (ℕ × SlotStanding B)). times j (indices_of l)) come ∙ times-append j (i ∷ []) (indices_of me.1) in
+      let size : (j : ℕ) → times j (indices_of me'.1) ≡ times j (my me'.0).part.hand =
       λ j.
-      ap (times j) more ∙ times-append j indices (i ∷ []) ∙ ap (λ n. n + times j (i ∷ [])) (kept.same j) ∙ sym (times-append j hand (i ∷ []))
-      ∙ ap (times j) (sym held_now) in
+      let s = split j in
+      let was = kept.same j in
+      let now = ap (times j) held_now ∙ times-append j hand (i ∷ []) in
+      omega (arith, s, was, now) in
+      let one : times i (i ∷ []) ≡ 1 = rw (eq-eqb i i refl) refl in
+      let come_once : times i (indices_of me'.1) ≡ 1 =
+      let s = split i in let is = size i in let once = got.once i in omega (arith, s, is, once, one) in
+      let there : i < length notes = subst (λ n. i < n) (sym kept.each) got.low in
       let known : numbers' ≡ me'.0.numbers = new ∙ sym (changed_twice (sees h) (passes (h + 1)) r numbers)
       ∙ ap (λ (ns : List Numbers). changed (sees h) r (changed (passes (h + 1)) r ns)) kept.numbers ∙ ap (λ (u : Known). u.numbers) (sym view) in
       record {
@@ -269,24 +278,21 @@ module _ {B : Type 0} (contents : B → List ℕ) (IsSame : B → B → Type 0) 
           out = ap (λ (u : Known). (my u).brought) view ∙ kept.alone.out;
         };
         idle = ap (λ (u : Known). (my u).part.phase) view;
-        order = more ∙ ap (λ (l : List ℕ). l ++ i ∷ []) kept.order ∙ ap in_order (sym come);
-        same = size;
-        count =
-            let a = ap length more ∙ length-append indices (i ∷ []) in
-            let b = ap length held_now ∙ length-append hand (i ∷ []) in
-            let was = kept.count in
-            omega arith;
-        once = λ j. let s = size j in let o = got.once j in omega arith;
-        low =
-            λ j some.
+        slots =
+            λ j.
             elim (cases_eq j i) [
-              | inl same ↦ rw same got.low
+              | inl same ↦
+                  let is : noted notes' i ≡ 1 = ap (λ (l : List Bool). noted l i) more ∙ noted_here notes i true there in
+                  rw same (come_once ∙ sym is)
               | inr other ↦
+                  let s = split j in
+                  let was = kept.slots j in
                   let away : times j (i ∷ []) ≡ 0 = rw (ne_eqb i j (λ e. other (sym e))) refl in
-                  let s = ap (times j) more ∙ times-append j indices (i ∷ []) in
-                  kept.low j (omega (arith, s, away, some))
+                  let still : noted notes' j ≡ noted notes j = ap (λ (l : List Bool). noted l j) more ∙ noted_else notes i j true other in
+                  omega (arith, s, was, away, still)
             ];
-        holds_all = let all = kept.holds_all in omega arith;
+        each = ap length more ∙ length-set notes i true ∙ kept.each;
+        same = size;
         numbers = known;
         rings = ap length new ∙ length-set numbers r _ ∙ kept.rings;
         small = subst AreSmall (sym new) (small_changed (λ x. sees h (passes (h + 1) x)) r numbers (λ y small. (small.0, let up = max_above y.seen h in omega (arith, small, up))) kept.small);
@@ -406,14 +412,14 @@ if_drawn P None holds = tt
 if_drawn P (Some t) holds = holds t refl
 
 module _ {B : Type 0} (IsSame : B → B → Type 0) where
-  pub kept_none : (key : Key B) (me me' : Me (SlotStanding B) Known) (indices : List ℕ) (room : ℕ) (numbers numbers' : List Numbers) (spent : Option ℕ) (r : ℕ)
+  pub kept_none : (key : Key B) (me me' : Me (SlotStanding B) Known) (notes : List Bool) (numbers numbers' : List Numbers) (spent : Option ℕ) (r : ℕ)
       (drawn : Option ℕ)
-      → IsKept IsSame key me indices room numbers spent → me'.0 ≡ none_at r drawn me.0 → me'.1 ≡ me.1
+      → IsKept IsSame key me notes numbers spent → me'.0 ≡ none_at r drawn me.0 → me'.1 ≡ me.1
       → numbers' ≡ changed (λ x. empties (drew drawn x)) r numbers
-      → IsKept IsSame key me' indices room numbers' spent
-  kept_none key me me' indices room numbers numbers' spent r drawn kept none same new =
+      → IsKept IsSame key me' notes numbers' spent
+  kept_none key me me' notes numbers numbers' spent r drawn kept none same new =
       let f : Numbers → Numbers = λ x. empties (drew drawn x) in
-      kept_still IsSame key me' me.0 (none_at r drawn me.0) me.1 indices room room numbers numbers' spent spent kept refl
+      kept_still IsSame key me' me.0 (none_at r drawn me.0) me.1 notes numbers numbers' spent spent kept
       (record { seats = refl; out = kept.alone.out }) refl refl (new ∙ ap (changed f r) kept.numbers) (ap length new ∙ length-set numbers r _)
       (subst AreSmall (sym new) (small_changed f r numbers (none_small drawn) kept.small)) kept.spent
       (ap (λ (u : Known). (u, me'.1)) none ∙ ap (λ (l : List (ℕ × SlotStanding B)). (none_at r drawn me.0, l)) same)
@@ -427,12 +433,12 @@ module _ {B : Type 0} (IsSame : B → B → Type 0) where
 
 module _ {B : Type 0} (IsSame : B → B → Type 0) where
   -- after a get that drew a ticket at or past the limit
-  pub kept_spent_get : (key : Key B) (c : Setup) (me me' : Me (SlotStanding B) Known) (indices : List ℕ) (room : ℕ) (numbers numbers' : List Numbers) (spent : Option ℕ)
-      (r t : ℕ) → IsKept IsSame key me indices room numbers spent → HasSpentGet c r t me me' → numbers' ≡ changed (passes (t + 1)) r numbers
-      → IsKept IsSame key me' indices room numbers' (Some t)
-  kept_spent_get key c me me' indices room numbers numbers' spent r t kept drew new =
+  pub kept_spent_get : (key : Key B) (c : Setup) (me me' : Me (SlotStanding B) Known) (notes : List Bool) (numbers numbers' : List Numbers) (spent : Option ℕ)
+      (r t : ℕ) → IsKept IsSame key me notes numbers spent → HasSpentGet c r t me me' → numbers' ≡ changed (passes (t + 1)) r numbers
+      → IsKept IsSame key me' notes numbers' (Some t)
+  kept_spent_get key c me me' notes numbers numbers' spent r t kept drew new =
       let f : Numbers → Numbers = passes (t + 1) in
-      kept_still IsSame key me' me.0 (drawn_spent r t me.0) me.1 indices room room numbers numbers' spent (Some t) kept refl
+      kept_still IsSame key me' me.0 (drawn_spent r t me.0) me.1 notes numbers numbers' spent (Some t) kept
       (record { seats = refl; out = kept.alone.out }) refl refl (new ∙ ap (changed f r) kept.numbers) (ap length new ∙ length-set numbers r _)
       (subst AreSmall (sym new) (small_changed f r numbers (λ x small. small) kept.small)) refl
       (ap (λ (u : Known). (u, me'.1)) drew.view ∙ ap (λ (l : List (ℕ × SlotStanding B)). (drawn_spent r t me.0, l)) drew.slots)

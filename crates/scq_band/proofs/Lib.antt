@@ -46,6 +46,7 @@ pub mod SpentLimits
 pub mod SeatsSent
 pub mod StartWords
 pub mod Slots
+pub mod Rows
 pub mod Starting
 pub mod Exchanging
 pub mod Keeping

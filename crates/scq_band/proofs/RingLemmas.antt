@@ -2,6 +2,7 @@
 use Rattle.std.proofs.Common.{◌≡◌, ℕ, ◌*◌, ◌^◌, ◌<◌, ◌≤◌, arith}
 use Rattle.std.proofs.Math.Nat.{mul-le-mul_right}
 use Rattle.scq_word.specs.declared.setup.Setup.{Setup}
+use Rattle.scq_word.specs.Exports.{most_rings}
 use Rattle.scq_core.specs.Exports.{Location, tail_of, head_of, threshold_of}
 use Rattle.scq_band.specs.declared.ring.Ring.{Ring}
 use Rattle.scq_band.specs.Exports.{ring_words, distance, word_count, at, entry_at, IsLocation, IsRing}
@@ -14,7 +15,7 @@ pub few_words : (c : Setup) → word_count c < 2 ^ 32
 few_words c =
     let few = columns_few c.order c.order_in_range.1 in
     let rings = c.rings_in_range in
-    let le : c.rings * ring_words distance c ≤ 18 * ring_words distance c = mul-le-mul_right (ring_words distance c) (omega arith) in
+    let le : c.rings * ring_words distance c ≤ most_rings * ring_words distance c = mul-le-mul_right (ring_words distance c) (omega arith) in
     omega arith
 
 pub tail_fits : (c : Setup) (ring : Ring) → IsRing c ring → ring.tail < 2 ^ 32

@@ -1,12 +1,12 @@
 -- What a seat keeps is what it needs to go home, and what contracts see of it is in the view that it leaves.
-use Rattle.std.proofs.Common.{◌≡◌, ℕ, zero, suc, ◌+◌, ◌<◌, ◌≤◌, Bool, true, false, List, [], ◌∷◌, ◌++◌, map, length, refl, sym, ◌∙◌, ap, subst, inl, inr, arith, append-nil, eq-eqb, ne_eqb}
+use Rattle.std.proofs.Common.{◌≡◌, ℕ, zero, suc, ◌+◌, ◌<◌, ◌≤◌, Bool, true, false, List, [], ◌∷◌, ◌++◌, map, length, refl, sym, ◌∙◌, ap, subst, inl, inr, arith, eq-eqb, ne_eqb}
 use Rattle.std.specs.Prelude.{Option, Some, None, is_none, if◌then◌else◌, slice_get, min}
 use Rattle.std.specs.List.{Contains}
 use Rattle.std.proofs.lemmas.Bool.{cases_eq, cases_Bool}
 use Rattle.atomic_table.specs.Seated.{TableId}
 use Rattle.atomic_table.specs.Table.{Me}
 use Rattle.scq_law.specs.Exports.{times}
-use Rattle.scq_band.specs.Exports.{Seen, raised_by, larger, Member, lower_gate, both_of, my, in_order, buffer_in, hand_of, standing_from, AllGiven}
+use Rattle.scq_band.specs.Exports.{Seen, raised_by, larger, Member, lower_gate, both_of, my, buffer_in, hand_of, standing_from, AllGiven}
 use Rattle.scq_band.specs.Exports.{IsKept, indices_of, lifted_of, full_slot, times_lifted, WentHome, OutOrHome, AllOutGiven, MayLeave, IsMemberOf}
 use Rattle.scq_band.specs.Exports.{AreHoles, AreMembersOf, HeadsKnown, GatesKnown, HasAll}
 use Rattle.scq_band.specs.declared.numbers.Numbers.{Numbers}
@@ -14,7 +14,8 @@ use Rattle.scq_band.specs.declared.rule.Key.{Key}
 use Rattle.scq_band.specs.Slots.{SlotStanding}
 use Rattle.scq_band.specs.Known.{Known}
 use Rattle.scq_band.specs.Standing.{Standing}
-use Rattle.scq_band.proofs.GoingHome.{times-append, contains_behind, contained_cases, contains_none}
+use Rattle.scq_band.proofs.Exchanging.{kept_once}
+use Rattle.scq_band.proofs.GoingHome.{contains_behind, contained_cases, contains_none}
 use Rattle.scq_band.proofs.Views.{joined_length}
 
 -- an index that stands in a list has something beside it there
@@ -44,14 +45,6 @@ same_if true n l m k e left right = left ∙ e ∙ sym right
 same_if false n l m k e left right = left ∙ e
 
 module _ {B : Type 0} where
-  -- the order of the slots changes nothing of how often an index stands
-  times-in_order : (slots : List (ℕ × SlotStanding B)) (i : ℕ) → times i (in_order slots) ≡ times i (indices_of slots)
-  times-in_order [] i = refl
-  times-in_order (x ∷ xs) i =
-      let rest = times-in_order xs i in
-      let split = times-append i (in_order xs) (x.0 ∷ []) in
-      omega arith
-
   -- the slot in which the buffer of an index lies
   slot_of_buffer : (slots : List (ℕ × SlotStanding B)) (i : ℕ) (b : B) → buffer_in slots i ≡ Some b → Contains slots (i, full_slot b)
   slot_of_buffer [] i b is = absurd (cc)
@@ -133,38 +126,30 @@ module _ {B : Type 0} where
             ]
       ]
 
-  module _ (IsSame : B → B → Type 0) (key : Key B) (me : Me (SlotStanding B) Known) (indices : List ℕ) (room : ℕ) (known : List Numbers) (spent : Option ℕ)
-      (kept : IsKept IsSame key me indices room known spent) where
-    -- the indices of the slots are those of the hand
-    times-hand : (i : ℕ) → times i (indices_of me.1) ≡ times i (my me.0).part.hand
-    times-hand i = sym (times-in_order me.1 i) ∙ ap (times i) (sym kept.order) ∙ kept.same i
-
+  module _ (IsSame : B → B → Type 0) (key : Key B) (me : Me (SlotStanding B) Known) (notes : List Bool) (known : List Numbers) (spent : Option ℕ)
+      (kept : IsKept IsSame key me notes known spent) where
     pub lifted_as : (i : ℕ) → times i (lifted_of (hand_of me.1 (my me.0).part.hand)) ≡ times_lifted i me.1
     lifted_as i =
-        let hand = times-hand i in
-        let order : times i indices ≡ times i (indices_of me.1) = ap (times i) kept.order ∙ times-in_order me.1 i in
-        let once : times i (indices_of me.1) ≤ 1 = let one = kept.once i in omega (arith, order, one) in
-        lifted-hand_of me.1 (my me.0).part.hand i ∙ ap (λ (n : ℕ). if is_none (buffer_in me.1 i) then n else 0) (sym hand)
-        ∙ sym (lifted_slots me.1 i once)
+        lifted-hand_of me.1 (my me.0).part.hand i ∙ ap (λ (n : ℕ). if is_none (buffer_in me.1 i) then n else 0) (sym (kept.same i))
+        ∙ sym (lifted_slots me.1 i (kept_once IsSame key me notes known spent kept i))
 
     -- where each buffer of its hand is lifted its slots are holes
     pub are_holes : ((i : ℕ) → times i (lifted_of (hand_of me.1 (my me.0).part.hand)) ≡ times i (indices_of (hand_of me.1 (my me.0).part.hand)))
         → AreHoles me.1
     are_holes lifted i =
-        sym (lifted_as i) ∙ lifted i ∙ ap (times i) (indices-hand_of me.1 (my me.0).part.hand) ∙ sym (times-hand i)
+        sym (lifted_as i) ∙ lifted i ∙ ap (times i) (indices-hand_of me.1 (my me.0).part.hand) ∙ sym (kept.same i)
 
     -- the seat may go home
     pub may_leave : (buffers : List B) (out : List (ℕ × B)) → buffers ≡ key.given.value.items → AllOutGiven IsSame buffers out
         → ((i : ℕ) → times i (lifted_of (hand_of me.1 (my me.0).part.hand)) ≤ times i (indices_of out))
-        → MayLeave IsSame buffers me indices out
+        → MayLeave IsSame buffers me out
     may_leave buffers out are given lifted =
         record {
           seats = kept.alone.seats;
-          order = kept.order;
           held = λ i. let same = kept.same i in omega (arith, same);
           once =
               λ i.
-              let one = kept.once i in
+              let one = kept_once IsSame key me notes known spent kept i in
               let none : times i (indices_of (my me.0).brought) ≡ 0 = ap (λ (h : List (ℕ × List ℕ)). times i (indices_of h)) kept.alone.out in
               omega (arith, one, none);
           given = subst (λ (bs : List B). AllGiven IsSame bs me.1) (sym are) kept.given;
@@ -194,12 +179,10 @@ module _ {B : Type 0} where
             brought =
                 λ i some.
                 let part : times i (my next.0).part.hand ≡ times i (my me.0).part.hand = ap (λ (v : Known). times i (my v).part.hand) went.view in
-                let hand = times-hand i in
-                let all : indices_of went.gone ≡ indices_of me.1 =
-                sym (append-nil (indices_of went.gone)) ∙ ap (λ (ys : List (ℕ × SlotStanding B)). indices_of went.gone ++ indices_of ys) (sym none)
-                ∙ went.are.indices in
-                let same = ap (times i) all in
-                let there = contains_times went.gone i (omega (arith, part, hand, same, some)) in
+                let hand = kept.same i in
+                let all = went.are.indices i in
+                let no_more : times i (indices_of next.1) ≡ 0 = ap (λ (ys : List (ℕ × SlotStanding B)). times i (indices_of ys)) none in
+                let there = contains_times went.gone i (omega (arith, part, hand, all, no_more, some)) in
                 (there.0, subst (λ (h : List (ℕ × List ℕ)). Contains h (i, there.0)) (sym has_brought) there.1);
             laid =
                 λ i b has.

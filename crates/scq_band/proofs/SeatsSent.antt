@@ -6,7 +6,7 @@ use denote.Param.Send.{IsSend, sendable, recorded_send, enum_send, view_send}
 use denote.Param.SendFields.{as_row_send, declared_send}
 use denote.Struct.Field.{row_field}
 use Rattle.scq_word.specs.declared.buffer.Buffer.{Ghosts}
-use denote.Builtin.{u32, u64}
+use denote.Builtin.{bool, u32, u64}
 use Rattle.std.proofs.Crossing as crossing
 use Rattle.std.proofs.vec.Vec.TheSendSync as heaped
 use Rattle.std.specs.contracts.vec.Vec as vec
@@ -41,6 +41,9 @@ slot_sent B P buffer sends = view_send (slot_inside.the_row B P buffer) _ _ _ _ 
 pub u32_sent : IsSend u32
 u32_sent = search sendable
 
+bool_sent : IsSend bool
+bool_sent = search sendable
+
 pub u64_sent : IsSend u64
 u64_sent = search sendable
 
@@ -59,7 +62,7 @@ inside_sent B P buffer sends =
       (
         snapshot_sent (key.the_row B),
         (
-          vec_sent u32 u32_sent,
+          vec_sent bool bool_sent,
           (vec_sent numbers.the_row numbers_sent, (option_sent u64 u64_sent, tt)),
         ),
       ),

@@ -2,7 +2,7 @@
 use denote.RattleType.{RattleType}
 use denote.Enum.Enum.{Enum}
 use denote.Enum.Declared.{shape}
-use denote.Builtin.{u32, u64, usize}
+use denote.Builtin.{bool, u64, usize}
 use denote.Param.Send.{IsSend, IsSync, sendable, recorded_sync, enum_sync, view_sync, part_keyless}
 use denote.Param.SendFields.{declared_sync}
 use Rattle.scq_word.specs.declared.buffer.Buffer.{Ghosts}
@@ -33,8 +33,8 @@ use Rattle.scq_band.specs.contracts.seat.Seat.TheInside as seat_inside
 use Rattle.scq_band.specs.contracts.band.Band as band
 use Rattle.scq_band.specs.contracts.band.Band.TheInside as band_inside
 
-u32_sync : IsSync u32
-u32_sync = search sendable
+bool_sync : IsSync bool
+bool_sync = search sendable
 
 u64_sync : IsSync u64
 u64_sync = search sendable
@@ -68,7 +68,7 @@ seat_sync B P buffer sends =
       (
         snapshot_sync (key.the_row B),
         (
-          vec_sync u32 u32_sync,
+          vec_sync bool bool_sync,
           (vec_sync numbers.the_row numbers_sync, (option_sync u64 u64_sync, tt)),
         ),
       ),

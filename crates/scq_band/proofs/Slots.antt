@@ -1,31 +1,17 @@
 -- The slots that a seat holds, by their indices: how often an index stands among them, the buffer in its slot, and what a turn, an
 -- exchange, a slot that comes and one that goes leave of that.
-use Rattle.std.proofs.Common.{◌≡◌, ◌≢◌, ℕ, ◌+◌, ◌-◌, ◌<◌, ◌≤◌, true, ◌==◌, List, [], ◌∷◌, ◌++◌, length, take, drop, refl, sym, ◌∙◌, ap, subst, inl, inr, arith, eq-eqb, ne_eqb}
-use Rattle.std.specs.Prelude.{Some, None, Option, if◌then◌else◌, slice_index_or}
-use Rattle.std.proofs.lemmas.Bool.{cases_eq}
-use Rattle.std.proofs.lemmas.List.{length-append, append_assoc, append-nil}
-use Rattle.atomic_table.specs.Table.{turned}
+use Rattle.std.proofs.Common.{◌≡◌, ◌≢◌, ℕ, zero, suc, ◌+◌, ◌<◌, ◌≤◌, Bool, true, false, ◌==◌, List, [], ◌∷◌, ◌++◌, length, refl, sym, ◌∙◌, ap, subst, inl, inr, arith, eq-eqb, ne_eqb}
+use Rattle.std.specs.Prelude.{Some, None, Option, if◌then◌else◌, slice_index_or, slice_set}
+use Rattle.std.proofs.lemmas.Bool.{cases_eq, cases_Bool}
 use Rattle.scq_core.specs.Exports.{hand_without, holds_index}
 use Rattle.scq_law.specs.Exports.{times}
 use Rattle.scq_band.specs.Slots.{SlotStanding}
-use Rattle.scq_band.specs.Exports.{front_index, in_hand, without_index, with_buffer, in_order, buffer_in, hand_of, AllGiven, IsRotation}
+use Rattle.scq_band.specs.Exports.{front_index, in_hand, without_index, with_buffer, indices_of, noted, buffer_in, hand_of}
+use Rattle.scq_band.specs.Exports.{AllGiven, IsRotation}
 
 pub times-append : (i : ℕ) (xs ys : List ℕ) → times i (xs ++ ys) ≡ times i xs + times i ys
 times-append i [] ys = omega arith
 times-append i (x ∷ xs) ys = let rest = times-append i xs ys in omega (arith, rest)
-
--- an element of a list, and the lists before and behind a place
-middle_of : (ys : List ℕ) (a : ℕ) (zs : List ℕ) (d : ℕ) → slice_index_or ((ys ++ a ∷ []) ++ zs) (length ys) d ≡ a
-middle_of [] a zs d = refl
-middle_of (y ∷ ys) a zs d = middle_of ys a zs d
-
-drop_front : (ys zs : List ℕ) → drop (length ys) (ys ++ zs) ≡ zs
-drop_front [] zs = refl
-drop_front (y ∷ ys) zs = drop_front ys zs
-
-pub take_front : (ys zs : List ℕ) → take (length ys) (ys ++ zs) ≡ ys
-take_front [] zs = refl
-take_front (y ∷ ys) zs = ap (λ (l : List ℕ). y ∷ l) (take_front ys zs)
 
 none_more : (n : ℕ) → 0 + n ≡ n
 none_more n = omega arith
@@ -57,15 +43,6 @@ times-without i j (x ∷ xs) =
           ])
     ]
 
-pub length-without : (i : ℕ) (hand : List ℕ) → length (hand_without i hand) + times i hand ≡ length hand
-length-without i [] = refl
-length-without i (x ∷ xs) =
-    let rest = length-without i xs in
-    elim (cases_eq x i) [
-      | inl here ↦ rw (eq-eqb x i here) (omega (arith, rest))
-      | inr away ↦ rw (ne_eqb x i away) (omega (arith, rest))
-    ]
-
 pub holds_times : (i : ℕ) (hand : List ℕ) → 0 < times i hand → holds_index hand i ≡ true
 holds_times i [] there = absurd (omega arith)
 holds_times i (x ∷ xs) there =
@@ -76,112 +53,73 @@ holds_times i (x ∷ xs) there =
           rw (ne_eqb x i away) (holds_times i xs (omega (arith, some)))
     ]
 
+-- what is noted of an index: at most once; of one that is written, and of the others
+pub noted_once : (held : List Bool) (i : ℕ) → noted held i ≤ 1
+noted_once held i =
+    elim (cases_Bool (slice_index_or held i false)) [ inl t ↦ rw t (omega arith) | inr f ↦ rw f (omega arith) ]
+
+pub noted_low : (held : List Bool) (i : ℕ) → 0 < noted held i → i < length held
+noted_low [] i some = let none : noted [] i ≡ 0 = refl in absurd (omega (arith, none, some))
+noted_low (b ∷ bs) zero some = omega arith
+noted_low (b ∷ bs) (suc i) some = let low = noted_low bs i some in omega (arith, low)
+
+written : (held : List Bool) (i : ℕ) (b : Bool) → i < length held → slice_index_or (slice_set held i b) i false ≡ b
+written [] i b low = absurd (omega arith)
+written (x ∷ xs) zero b low = refl
+written (x ∷ xs) (suc i) b low = written xs i b (omega arith)
+
+pub noted_here : (held : List Bool) (i : ℕ) (b : Bool) → i < length held → noted (slice_set held i b) i ≡ (if b then 1 else 0)
+noted_here held i b low = ap (λ (t : Bool). if t then 1 else 0) (written held i b low)
+
+pub noted_else : (held : List Bool) (i j : ℕ) (b : Bool) → j ≢ i → noted (slice_set held i b) j ≡ noted held j
+noted_else [] i j b other = refl
+noted_else (x ∷ xs) zero zero b other = absurd (other refl)
+noted_else (x ∷ xs) zero (suc j) b other = refl
+noted_else (x ∷ xs) (suc i) zero b other = refl
+noted_else (x ∷ xs) (suc i) (suc j) b other = noted_else xs i j b (λ e. other (ap suc e))
+
+-- what is read of an index
+pub noted_read : (held : List Bool) (i : ℕ) (b : Bool) → i < length held → b ≡ slice_index_or held i b → noted held i ≡ (if b then 1 else 0)
+noted_read [] i b low is = absurd (omega arith)
+noted_read (x ∷ xs) zero b low is = ap (λ (t : Bool). if t then 1 else 0) (sym is)
+noted_read (x ∷ xs) (suc i) b low is = noted_read xs i b (omega arith) is
+
+pub noted_none : (held : List Bool) (i : ℕ) (b : Bool) → i < length held → b ≡ slice_index_or held i b → b ≡ false → noted held i ≡ 0
+noted_none held i b low is none = noted_read held i b low is ∙ ap (λ (t : Bool). if t then 1 else 0) none
+
 module _ {S : Type 0} where
-  pub in_order-append : (xs ys : List (ℕ × S)) → in_order (xs ++ ys) ≡ in_order ys ++ in_order xs
-  in_order-append [] ys = sym (append-nil (in_order ys))
-  in_order-append (x ∷ xs) ys = ap (λ l. l ++ x.0 ∷ []) (in_order-append xs ys) ∙ append_assoc (in_order ys) (in_order xs) (x.0 ∷ [])
+  pub indices-append : (xs ys : List (ℕ × S)) → indices_of (xs ++ ys) ≡ indices_of xs ++ indices_of ys
+  indices-append [] ys = refl
+  indices-append (x ∷ xs) ys = ap (λ (l : List ℕ). x.0 ∷ l) (indices-append xs ys)
 
-  pub times-turned : (i : ℕ) (xs ys : List (ℕ × S)) → times i (in_order (ys ++ xs)) ≡ times i (in_order (xs ++ ys))
+  pub times-turned : (i : ℕ) (xs ys : List (ℕ × S)) → times i (indices_of (ys ++ xs)) ≡ times i (indices_of (xs ++ ys))
   times-turned i xs ys =
-      ap (times i) (in_order-append ys xs) ∙ times-append i (in_order xs) (in_order ys)
-      ∙ (let a = times-append i (in_order ys) (in_order xs) in let b = ap (times i) (in_order-append xs ys) in omega (arith, a, b))
+      ap (times i) (indices-append ys xs) ∙ times-append i (indices_of ys) (indices_of xs)
+      ∙ (let a = times-append i (indices_of xs) (indices_of ys) in let b = ap (times i) (indices-append xs ys) in omega (arith, a, b))
 
-  -- the slots, turned so often that none of those that went behind has the index
-  pub record Sought (i : ℕ) (slots ms : List (ℕ × S)) (turns : ℕ) : Type 0 where
-    pub passed : List (ℕ × S)
-    pub first : ℕ × S
+  -- the slot of an index that stands among the slots, with what stands before and behind it
+  pub record Sought (i : ℕ) (slots : List (ℕ × S)) : Type 0 where
+    pub front : List (ℕ × S)
+    pub slot : S
     pub behind : List (ℕ × S)
-    pub was : slots ≡ passed ++ first ∷ behind
-    pub now : ms ≡ (first ∷ behind) ++ passed
-    pub count : length passed ≡ turns
-    pub there : 0 < times i (in_order (first ∷ behind))
+    pub was : slots ≡ front ++ (i, slot) ∷ behind
 
-  pub sought_first : (i : ℕ) (slots : List (ℕ × S)) → 0 < times i (in_order slots) → Sought i slots slots 0
-  sought_first i [] there = absurd (omega arith)
-  sought_first i (x ∷ xs) there =
-      record { passed = []; first = x; behind = xs; was = refl; now = sym (append-nil (x ∷ xs)); count = refl; there = there }
+  pub sought : (i : ℕ) (slots : List (ℕ × S)) → 0 < times i (indices_of slots) → Sought i slots
+  sought i [] there = absurd (omega arith)
+  sought i (x ∷ xs) there =
+      elim (cases_eq x.0 i) [
+        | inl here ↦ record { front = []; slot = x.1; behind = xs; was = ap (λ (j : ℕ). (j, x.1) ∷ xs) here }
+        | inr away ↦
+            let both = times-append i (x.0 ∷ []) (indices_of xs) in
+            let none : times i (x.0 ∷ []) ≡ 0 = rw (ne_eqb x.0 i away) refl in
+            let s = sought i xs (omega (arith, both, none, there)) in
+            record { front = x ∷ s.front; slot = s.slot; behind = s.behind; was = ap (λ (l : List (ℕ × S)). x ∷ l) s.was }
+      ]
 
-  -- one more turn, where the first has another index
-  pub sought_next : (i : ℕ) (slots ms : List (ℕ × S)) (turns : ℕ) → (s : Sought i slots ms turns) → s.first.0 ≢ i → Sought i slots (turned ms) (turns + 1)
-  sought_next i slots ms turns s apart = go s.passed s.first s.behind s.was s.now s.count s.there apart
-    where
-      go : (passed : List (ℕ × S)) (x : ℕ × S) (behind : List (ℕ × S)) → slots ≡ passed ++ x ∷ behind → ms ≡ (x ∷ behind) ++ passed → length passed ≡ turns
-          → 0 < times i (in_order (x ∷ behind)) → x.0 ≢ i → Sought i slots (turned ms) (turns + 1)
-      go passed x behind was now count there away =
-          let both = times-append i (in_order behind) (x.0 ∷ []) in
-          let none : times i (x.0 ∷ []) ≡ 0 = rw (ne_eqb x.0 i away) refl in
-          next behind was now (omega (arith, both, none, there))
-        where
-          next : (behind : List (ℕ × S)) → slots ≡ passed ++ x ∷ behind → ms ≡ (x ∷ behind) ++ passed → 0 < times i (in_order behind)
-              → Sought i slots (turned ms) (turns + 1)
-          next [] was now there = absurd (omega arith)
-          next (y ∷ ys) was now there =
-              record {
-                passed = passed ++ x ∷ [];
-                first = y;
-                behind = ys;
-                was = was ∙ sym (append_assoc passed (x ∷ []) (y ∷ ys));
-                now = ap turned now ∙ append_assoc (y ∷ ys) passed (x ∷ []);
-                count = let more = length-append passed (x ∷ []) in omega (arith, more, count);
-                there = there;
-              }
-
-  -- where a slot stands first, there is an index
-  pub some_in_order : (ms : List (ℕ × S)) (i : ℕ) (x : S) (others : List (ℕ × S)) → ms ≡ (i, x) ∷ others → (hs : List ℕ) → hs ≡ in_order ms → 0 < length hs
-  some_in_order ms i x others is hs order =
-      let l = ap length (order ∙ ap in_order is) in
-      let m = length-append (in_order others) (i ∷ []) in
-      omega (arith, l, m)
-
-  length-in_order : (xs : List (ℕ × S)) → length (in_order xs) ≡ length xs
-  length-in_order [] = refl
-  length-in_order (x ∷ xs) = let rest = length-in_order xs in let more = length-append (in_order xs) (x.0 ∷ []) in omega (arith, rest, more)
-
-  -- what the hand is then, which has the indices in the other order: the index of the first, before it as many as stand behind
-  pub record SoughtHand (i n turns : ℕ) (hs : List ℕ) (ms : List (ℕ × S)) : Type 0 where
-    pub low : turns < n
-    pub top : (d : ℕ) → slice_index_or hs (n - 1 - turns) d ≡ front_index ms
-    pub rotated : drop (n - turns) hs ++ take (n - turns) hs ≡ in_order ms
-
-  pub sought_hand : (i n turns : ℕ) (slots ms : List (ℕ × S)) (hs : List ℕ) → hs ≡ in_order slots → n ≡ length hs → Sought i slots ms turns
-      → SoughtHand i n turns hs ms
-  sought_hand i n turns slots ms hs order many s =
-      let ys = in_order s.behind in
-      let a = s.first.0 in
-      let zs = in_order s.passed in
-      let here : hs ≡ (ys ++ a ∷ []) ++ zs = order ∙ ap in_order s.was ∙ in_order-append s.passed (s.first ∷ s.behind) in
-      let size : n ≡ length ys + 1 + turns =
-      let l = many ∙ ap length here ∙ length-append (ys ++ a ∷ []) zs in
-      let m = length-append ys (a ∷ []) in
-      let k = length-in_order s.passed ∙ s.count in
-      omega (arith, l, m, k) in
-      let at : n - 1 - turns ≡ length ys = omega (arith, size) in
-      let cut : n - turns ≡ length (ys ++ a ∷ []) = let m = length-append ys (a ∷ []) in omega (arith, size, m) in
-      record {
-        low = omega (arith, size);
-        top = λ d. rw (at, here) (middle_of ys a zs d) ∙ ap front_index (sym s.now);
-        rotated =
-            rw (cut, here) (ap (λ (l : List ℕ). l ++ take (length (ys ++ a ∷ [])) ((ys ++ a ∷ []) ++ zs)) (drop_front (ys ++ a ∷ []) zs)
-            ∙ ap (λ (l : List ℕ). zs ++ l) (take_front (ys ++ a ∷ []) zs))
-            ∙ sym (in_order-append (s.first ∷ s.behind) s.passed) ∙ ap in_order (sym s.now);
-      }
-
-  pub times-rotated : (i : ℕ) (slots ms : List (ℕ × S)) → IsRotation slots ms → times i (in_order ms) ≡ times i (in_order slots)
+  pub times-rotated : (i : ℕ) (slots ms : List (ℕ × S)) → IsRotation slots ms → times i (indices_of ms) ≡ times i (indices_of slots)
   times-rotated i slots ms is =
-      ap (λ (l : List (ℕ × S)). times i (in_order l)) is.turned ∙ times-turned i is.front is.behind
-      ∙ ap (λ (l : List (ℕ × S)). times i (in_order l)) (sym is.was)
-
-  length-order : (xs ys : List (ℕ × S)) → length (in_order (xs ++ ys)) ≡ length (in_order xs) + length (in_order ys)
-  length-order xs ys =
-      let a = ap length (in_order-append xs ys) in
-      let b = length-append (in_order ys) (in_order xs) in
-      omega (arith, a, b)
-
-  pub length-rotated : (slots ms : List (ℕ × S)) → IsRotation slots ms → length (in_order ms) ≡ length (in_order slots)
-  length-rotated slots ms is =
-      let a = ap (λ (l : List (ℕ × S)). length (in_order l)) is.turned ∙ length-order is.behind is.front in
-      let b = ap (λ (l : List (ℕ × S)). length (in_order l)) is.was ∙ length-order is.front is.behind in
-      omega (arith, a, b)
+      ap (λ (l : List (ℕ × S)). times i (indices_of l)) is.turned ∙ times-turned i is.front is.behind
+      ∙ ap (λ (l : List (ℕ × S)). times i (indices_of l)) (sym is.was)
 
   -- an index that stands among the slots, and that of the first, has the first
   pub record Fronted (i : ℕ) (ms : List (ℕ × S)) : Type 0 where
@@ -189,18 +127,18 @@ module _ {S : Type 0} where
     pub others : List (ℕ × S)
     pub is : ms ≡ (i, slot) ∷ others
 
-  pub fronted : (i : ℕ) (ms : List (ℕ × S)) → 0 < times i (in_order ms) → front_index ms ≡ i → Fronted i ms
+  pub fronted : (i : ℕ) (ms : List (ℕ × S)) → 0 < times i (indices_of ms) → front_index ms ≡ i → Fronted i ms
   fronted i [] there first = absurd (omega arith)
   fronted i (x ∷ xs) there first = record { slot = x.1; others = xs; is = ap (λ k. (k, x.1) ∷ xs) first }
 
 module _ {B : Type 0} where
-  buffer_left : (j : ℕ) (xs ys : List (ℕ × SlotStanding B)) → times j (in_order ys) ≡ 0 → buffer_in (xs ++ ys) j ≡ buffer_in xs j
+  buffer_left : (j : ℕ) (xs ys : List (ℕ × SlotStanding B)) → times j (indices_of ys) ≡ 0 → buffer_in (xs ++ ys) j ≡ buffer_in xs j
   buffer_left j [] ys none = nothing ys none
     where
-      nothing : (ys : List (ℕ × SlotStanding B)) → times j (in_order ys) ≡ 0 → buffer_in ys j ≡ None
+      nothing : (ys : List (ℕ × SlotStanding B)) → times j (indices_of ys) ≡ 0 → buffer_in ys j ≡ None
       nothing [] none = refl
       nothing (y ∷ ys) none =
-          let both = times-append j (in_order ys) (y.0 ∷ []) in
+          let both = times-append j (y.0 ∷ []) (indices_of ys) in
           elim (cases_eq y.0 j) [
             | inl same ↦
                 let one : times j (y.0 ∷ []) ≡ 1 = rw (eq-eqb y.0 j same) refl in
@@ -209,10 +147,10 @@ module _ {B : Type 0} where
           ]
   buffer_left j (x ∷ xs) ys none = ap (λ b. if x.0 == j then x.1.buffer else b) (buffer_left j xs ys none)
 
-  buffer_right : (j : ℕ) (xs ys : List (ℕ × SlotStanding B)) → times j (in_order xs) ≡ 0 → buffer_in (xs ++ ys) j ≡ buffer_in ys j
+  buffer_right : (j : ℕ) (xs ys : List (ℕ × SlotStanding B)) → times j (indices_of xs) ≡ 0 → buffer_in (xs ++ ys) j ≡ buffer_in ys j
   buffer_right j [] ys none = refl
   buffer_right j (x ∷ xs) ys none =
-      let both = times-append j (in_order xs) (x.0 ∷ []) in
+      let both = times-append j (x.0 ∷ []) (indices_of xs) in
       elim (cases_eq x.0 j) [
         | inl same ↦
             let one : times j (x.0 ∷ []) ≡ 1 = rw (eq-eqb x.0 j same) refl in
@@ -221,14 +159,14 @@ module _ {B : Type 0} where
       ]
 
   -- a turn leaves each index its buffer
-  pub buffer-rotated : (j : ℕ) (slots ms : List (ℕ × SlotStanding B)) → IsRotation slots ms → times j (in_order slots) ≤ 1 → buffer_in ms j ≡ buffer_in slots j
+  pub buffer-rotated : (j : ℕ) (slots ms : List (ℕ × SlotStanding B)) → IsRotation slots ms → times j (indices_of slots) ≤ 1 → buffer_in ms j ≡ buffer_in slots j
   buffer-rotated j slots ms is once =
-      let size = ap (times j) (ap in_order is.was ∙ in_order-append is.front is.behind) ∙ times-append j (in_order is.behind) (in_order is.front) in
+      let size = ap (times j) (ap indices_of is.was ∙ indices-append is.front is.behind) ∙ times-append j (indices_of is.front) (indices_of is.behind) in
       ap (λ (l : List (ℕ × SlotStanding B)). buffer_in l j) is.turned
-      ∙ elim (cases_eq (times j (in_order is.front)) 0) [
+      ∙ elim (cases_eq (times j (indices_of is.front)) 0) [
         | inl none ↦ buffer_left j is.behind is.front none ∙ sym (buffer_right j is.front is.behind none)
         | inr some ↦
-            let none : times j (in_order is.behind) ≡ 0 = omega (arith, some, size, once) in
+            let none : times j (indices_of is.behind) ≡ 0 = omega (arith, some, size, once) in
             buffer_right j is.behind is.front none ∙ sym (buffer_left j is.front is.behind none)
       ]
       ∙ ap (λ (l : List (ℕ × SlotStanding B)). buffer_in l j) (sym is.was)

@@ -1,17 +1,17 @@
 -- What a band is made with: its first seats, and the slots of its buffers.
-use Rattle.std.proofs.Common.{◌≡◌, ℕ, zero, suc, ◌^◌, ◌<◌, List, [], ◌∷◌, ◌++◌, map, length, refl, sym, ◌∙◌, ap, subst, inl, inr, arith, eq-eqb, ne_eqb, ◌⊎◌}
-use Rattle.std.proofs.lemmas.List.{length-append}
-use Rattle.std.specs.Prelude.{Some, None, Option, All, slice_get, slice_index_or, vec_capacity}
+use Rattle.std.proofs.Common.{◌≡◌, ℕ, zero, suc, ◌^◌, ◌<◌, Bool, false, replicate, List, [], ◌∷◌, ◌++◌, map, length, refl, sym, ◌∙◌, ap, subst, inl, inr, arith, eq-eqb, ne_eqb, ◌⊎◌}
+use Rattle.std.proofs.lemmas.List.{length-append, length-replicate, get_or-replicate}
+use Rattle.std.specs.Prelude.{Some, None, Option, All, if◌then◌else◌, slice_get, slice_index_or}
 use Rattle.std.proofs.lemmas.Bool.{cases_eq, cases_lt}
 use mathlib.Core.Option.{some}
-use lib.ListN.{get_elem?}
+use lib.ListN.{get_elem?, get_or-eq_default}
 use Rattle.scq_word.specs.declared.setup.Setup.{Setup}
-use Rattle.scq_law.specs.Exports.{times}
+use Rattle.scq_word.specs.Exports.{n_of}
 use Rattle.scq_band.specs.declared.numbers.Numbers.{Numbers}
 use Rattle.scq_band.specs.declared.rule.Key.{Key}
 use Rattle.scq_band.specs.declared.making.Room.{Room}
 use Rattle.scq_band.specs.Exports.{known_of, before_places, first_numbers_of, first_numbers, first_of, LiesIn, Has, Identity, in_hand, first_standing}
-use Rattle.scq_band.specs.Exports.{first_standings, IsKept, AreSmall, full_slot, IsRoom, first_below}
+use Rattle.scq_band.specs.Exports.{first_standings, IsKept, AreSmall, full_slot, noted, HoldsNone, IsRoom, first_below}
 use Rattle.scq_band.specs.Standing.{Standing}
 use Rattle.scq_band.proofs.Opening.{numbers_length}
 
@@ -38,20 +38,31 @@ first_small c (suc n) r =
       | inr new ↦ rw new (small_place c n, omega arith)
     ]
 
+-- so many are noted as not held
+pub holds_none : (c : Setup) (n : ℕ) (held : List Bool) → n ≡ n_of c.order → held ≡ replicate n false → HoldsNone c held
+holds_none c n held size is =
+    record {
+      each = ap length is ∙ length-replicate n false ∙ size;
+      none =
+          λ i.
+          ap (λ (l : List Bool). noted l i) is ∙ ap (λ (b : Bool). if b then 1 else 0)
+          (elim (cases_lt i n) [
+            | inl low ↦ get_or-replicate n i false false low
+            | inr high ↦ get_or-eq_default (replicate n false) false (let size_is = length-replicate n false in omega (arith, high, size_is))
+          ]);
+    }
+
 module _ {B : Type 0} (IsSame : B → B → Type 0) where
   -- a seat that was just split off
   pub first_kept : (key : Key B) (k : ℕ) (room : Room) → IsRoom key.setup room
-      → IsKept IsSame key (first_of (first_below key.setup (suc k)), []) room.hand.items (vec_capacity room.hand) room.numbers.items None
+      → IsKept IsSame key (first_of (first_below key.setup (suc k)), []) room.held.items room.numbers.items None
   first_kept key k room is =
       record {
         alone = record { seats = refl; out = refl };
         idle = refl;
-        order = is.empty;
-        same = λ i. ap (λ l. times i l) is.empty;
-        count = ap length is.empty;
-        once = λ i. rw is.empty (omega arith);
-        low = λ i there. absurd (let none = ap (λ l. times i l) is.empty in omega (arith, none, there));
-        holds_all = is.holds_all;
+        slots = λ i. sym (is.held.none i);
+        each = is.held.each;
+        same = λ i. refl;
         numbers = is.known;
         rings = ap length is.known ∙ numbers_length key.setup key.setup.rings;
         small = λ r. rw is.known (first_small key.setup key.setup.rings r);

@@ -42,8 +42,9 @@ pub use Rattle.scq_band.specs.Standing.{seat_after_put, seat_after_get, seat_aft
 pub use Rattle.scq_band.specs.Standing.{seat_after_spent_put, seat_after_spent_get, IsAsGiven}
 pub use Rattle.scq_band.specs.Standing.{SeatHasTaken, SeatHasPut, SeatHasDequeued}
 pub use Rattle.scq_band.specs.Standing.{SeatFoundEmpty, SeatFoundNone, MarkStanding}
-pub use Rattle.scq_band.specs.Kept.{in_order, buffer_in, hand_of, identity_of, standing_from}
+pub use Rattle.scq_band.specs.Kept.{noted, AreNoted, buffer_in, hand_of, identity_of, standing_from}
 pub use Rattle.scq_band.specs.Kept.{standing_of, AllGiven, IsSmall, AreSmall, IsKept, IsRotation}
+pub use Rattle.scq_band.specs.Kept.{StandsFirst}
 pub use Rattle.scq_band.specs.Kept.{note_with, note_sight_with, seen_in}
 pub use Rattle.scq_band.specs.Homes.{at_home, IsBrought, MayBring, full_slot, times_lifted}
 pub use Rattle.scq_band.specs.Homes.{IsLaidBack, AreHoles, AreHome, WentHome, OutOrHome}
@@ -61,5 +62,5 @@ pub use Rattle.scq_band.specs.Closing.{AllRetiredWhereClosed, EachSeenRetiredHas
 pub use Rattle.scq_band.specs.Closing.{all_hands, all_known, all_spent, callers_of, AreTheLifted}
 pub use Rattle.scq_band.specs.Closing.{IsOneRun, StandsAtItsPut, IsOneRunToTheEnd}
 pub use Rattle.scq_band.specs.SeenCalls.{EachSeenCallComesFirst, EachCallInARunSeenComesFirst}
-pub use Rattle.scq_band.specs.Making.{AllLaid, lifted, IsRoom, WordsAreOpened, first_below}
-pub use Rattle.scq_band.specs.Making.{sight_below}
+pub use Rattle.scq_band.specs.Making.{AllLaid, lifted, HoldsNone, IsRoom, WordsAreOpened}
+pub use Rattle.scq_band.specs.Making.{first_below, sight_below}

@@ -13,7 +13,7 @@ use Rattle.scq_band.specs.Known.{Member, Known}
 use Rattle.scq_band.specs.Steps.{my, front_index}
 use Rattle.scq_band.specs.Turns.{Fronts}
 use Rattle.scq_band.specs.Standing.{Standing, IsAsGiven}
-use Rattle.scq_band.specs.Kept.{in_order, AllGiven}
+use Rattle.scq_band.specs.Kept.{AllGiven}
 use Rattle.scq_band.specs.Closing.{indices_of}
 
 -- the view of a seat after the slots of these indices have gone home, with buffers of these bytes
@@ -67,7 +67,8 @@ module _ {B : Type 0} where
   pub record AreHome (contents : B
       → List ℕ) (gone : List (ℕ × List ℕ)) (slots later : List (ℕ × SlotStanding B))
       (out left : List (ℕ × B)) : Type 0 where
-    pub indices : indices_of gone ++ indices_of later ≡ indices_of slots
+    pub indices : (i : ℕ)
+        → times i (indices_of gone) + times i (indices_of later) ≡ times i (indices_of slots)
     pub laid : (i : ℕ) (b : B) → Contains slots (i, full_slot b)
         → Contains later (i, full_slot b) ⊎ Contains gone (i, contents b)
     pub lifted : (o : ℕ × B) → Contains out o → Contains left o ⊎ Contains gone (o.0, contents o.1)
@@ -89,16 +90,15 @@ module _ {B : Type 0} where
   abbrev pub AllOutGiven : (B → B → Type 0) → List B → List (ℕ × B) → Type 0
   AllOutGiven IsSame buffers out = (o : ℕ × B) → Contains out o → IsAsGiven IsSame buffers o.0 o.1
 
-  -- a seat stands alone, with the indices of its slots, which are of its hand and not of those that
-  -- it has brought home, each once; their buffers are the ones that were given, and those that are
-  -- lifted are out
+  -- a seat stands alone; the indices of its slots are of its hand and not of those that it has
+  -- brought home, each once; their buffers are the ones that were given, and those that are lifted
+  -- are out
   pub record MayLeave (IsSame : B → B
-      → Type 0) (buffers : List B) (me : Me (SlotStanding B) Known) (indices : List ℕ)
-      (out : List (ℕ × B)) : Type 0 where
+      → Type 0) (buffers : List B) (me : Me (SlotStanding B) Known) (out : List (ℕ × B))
+      : Type 0 where
     pub seats : me.0.seats ≡ my me.0 ∷ []
-    pub order : indices ≡ in_order me.1
-    pub held : (i : ℕ) → times i indices ≤ times i (my me.0).part.hand
-    pub once : (i : ℕ) → times i (indices_of (my me.0).brought) + times i indices ≤ 1
+    pub held : (i : ℕ) → times i (indices_of me.1) ≤ times i (my me.0).part.hand
+    pub once : (i : ℕ) → times i (indices_of (my me.0).brought) + times i (indices_of me.1) ≤ 1
     pub given : AllGiven IsSame buffers me.1
     pub out_given : AllOutGiven IsSame buffers out
     pub lifted : (i : ℕ) → times_lifted i me.1 ≤ times i (indices_of out)

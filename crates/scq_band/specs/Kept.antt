@@ -1,7 +1,7 @@
 -- For private calls: what contracts see of a band and of a seat, out of the table, and what a seat
 -- keeps beside its token.
-use Rattle.std.specs.Prelude.{◌≡◌, ℕ, ◌<◌, ◌≤◌, ◌^◌, ◌==◌, if◌then◌else◌, List, [], ◌∷◌, ◌++◌, map}
-use Rattle.std.specs.Prelude.{length, take, Option, Some, None}
+use Rattle.std.specs.Prelude.{◌≡◌, ℕ, ◌<◌, ◌≤◌, ◌^◌, ◌==◌, Bool, false, if◌then◌else◌, List, []}
+use Rattle.std.specs.Prelude.{◌∷◌, ◌++◌, map, length, take, Option, Some, None, slice_index_or}
 use Rattle.atomic_table.specs.Seated.{TableId}
 use Rattle.atomic_table.specs.Table.{Me}
 use Rattle.scq_word.specs.declared.setup.Setup.{Setup}
@@ -18,14 +18,18 @@ use Rattle.scq_band.specs.Layout.{word_count}
 use Rattle.scq_band.specs.RunSeen.{Seen, nothing_seen}
 use Rattle.scq_band.specs.Known.{Known}
 use Rattle.scq_band.specs.Sights.{Sight, known_me, mark_with}
-use Rattle.scq_band.specs.Steps.{my}
+use Rattle.scq_band.specs.Steps.{my, front_index}
 use Rattle.scq_band.specs.Seats.{IsAlone}
 use Rattle.scq_band.specs.Standing.{Identity, Standing, IsAsGiven}
+use Rattle.scq_band.specs.Closing.{indices_of}
 
--- the indices of the slots that a seat holds, that of the one that stands first at the end
-abbrev pub in_order : {S : Type 0} → List (ℕ × S) → List ℕ
-in_order [] = []
-in_order (x ∷ xs) = in_order xs ++ x.0 ∷ []
+-- how often a seat has an index, where it is noted of each whether it has it
+abbrev pub noted : List Bool → ℕ → ℕ
+noted held i = if slice_index_or held i false then 1 else 0
+
+-- these slots are those of the indices that are noted as held, each once
+abbrev pub AreNoted : {S : Type 0} → List Bool → List (ℕ × S) → Type 0
+AreNoted held slots = (i : ℕ) → times i (indices_of slots) ≡ noted held i
 
 module _ {B : Type 0} where
   -- the buffer in the slot of an index
@@ -72,21 +76,17 @@ IsSmall x = (x.finished < 2 ^ 60) × (x.finished ≤ x.seen)
 abbrev pub AreSmall : List Numbers → Type 0
 AreSmall numbers = (r : ℕ) → IsSmall (known_of numbers r)
 
--- what a seat keeps: its indices in the order of its slots, with room for all; its numbers; its
--- spent ticket
+-- what a seat keeps: of each index whether it holds its slot; its numbers; its spent ticket
 pub record IsKept {B : Type 0} (IsSame : B → B
-    → Type 0) (key : Key B) (me : Me (SlotStanding B) Known) (indices : List ℕ) (room : ℕ)
+    → Type 0) (key : Key B) (me : Me (SlotStanding B) Known) (held : List Bool)
     (known : List Numbers)
     (kept : Option ℕ) : Type 0 where
   pub alone : IsAlone me.0
   pub idle : (my me.0).part.phase ≡ Idle
-  pub order : indices ≡ in_order me.1
-  -- they are the indices of its hand, each once
-  pub same : (i : ℕ) → times i indices ≡ times i (my me.0).part.hand
-  pub count : length indices ≡ length (my me.0).part.hand
-  pub once : (i : ℕ) → times i indices ≤ 1
-  pub low : (i : ℕ) → 0 < times i indices → i < n_of key.setup.order
-  pub holds_all : n_of key.setup.order ≤ room
+  pub slots : AreNoted held me.1
+  pub each : length held ≡ n_of key.setup.order
+  -- they are the slots of the indices in its hand
+  pub same : (i : ℕ) → times i (indices_of me.1) ≡ times i (my me.0).part.hand
   pub numbers : known ≡ me.0.numbers
   pub rings : length known ≡ key.setup.rings
   pub small : AreSmall known
@@ -113,6 +113,12 @@ pub record IsRotation {S : Type 0} (slots later : List (ℕ × S)) : Type 0 wher
   pub behind : List (ℕ × S)
   pub was : slots ≡ front ++ behind
   pub turned : later ≡ behind ++ front
+
+-- the slots were turned, and that of the index i stands first
+pub record StandsFirst {S V : Type 0} (i : ℕ) (me later : Me S V) : Type 0 where
+  pub view : later.0 ≡ me.0
+  pub slots : IsRotation me.1 later.1
+  pub first : front_index later.1 ≡ i
 
 -- the view of a note with these numbers
 abbrev pub note_with : List Numbers → Known

@@ -1,5 +1,5 @@
 -- For private calls: what a band is made of.
-use Rattle.std.specs.Prelude.{◌≡◌, ◌⊎◌, ℕ, ◌<◌, ◌≤◌, List, [], ◌∷◌, length, All, slice_index}
+use Rattle.std.specs.Prelude.{◌≡◌, ◌⊎◌, ℕ, ◌<◌, ◌≤◌, Bool, List, [], ◌∷◌, length, All, slice_index}
 use Rattle.std.specs.Prelude.{Option, Some, None, vec_capacity}
 use Rattle.scq_word.specs.declared.setup.Setup.{Setup}
 use Rattle.scq_word.specs.Exports.{n_of}
@@ -13,6 +13,7 @@ use Rattle.scq_band.specs.Known.{Known}
 use Rattle.scq_band.specs.Shown.{first_view, first_members}
 use Rattle.scq_band.specs.Numbers.{first_numbers}
 use Rattle.scq_band.specs.Rings.{AreRings}
+use Rattle.scq_band.specs.Kept.{noted}
 use Rattle.scq_band.specs.RunSeen.{nothing_seen}
 use Rattle.scq_band.specs.Sights.{Sight}
 
@@ -33,10 +34,14 @@ abbrev pub lifted : {B : Type 0} → List (SlotStanding B) → List B
 lifted [] = []
 lifted (x ∷ xs) = lifted_from x.buffer (lifted xs)
 
+-- of each index it is noted that it isn't held
+pub record HoldsNone (c : Setup) (held : List Bool) : Type 0 where
+  pub each : length held ≡ n_of c.order
+  pub none : (i : ℕ) → noted held i ≡ 0
+
 -- the room of one seat
 pub record IsRoom (c : Setup) (room : Room) : Type 0 where
-  pub empty : room.hand.items ≡ []
-  pub holds_all : n_of c.order ≤ vec_capacity room.hand
+  pub held : HoldsNone c room.held.items
   pub known : room.numbers.items ≡ first_numbers c c.rings
 
 -- a location of a ring before r, or in r one of the first o of Tail, Head, Threshold and the

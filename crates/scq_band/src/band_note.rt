@@ -9,18 +9,18 @@ use crate::numbers::Numbers;
 use crate::seat::Seat;
 use crate::view::View;
 use atomic_table::Badge;
-use scq_word::Buffer;
+use scq_word::{Buffer, MOST_RINGS};
 use std::marker::Model;
 
-// No setup has more rings.
-const MOST_RINGS: usize = 18;
+// A note has room for the numbers of so many rings.
+const ROOM: usize = MOST_RINGS as usize;
 
 /// What a seat knew of the rings when the note was made. It may be dropped.
 #[derive(Drop)]
 pub struct BandNote {
     badge: Badge<View>,
     rings: usize,
-    numbers: [Numbers; MOST_RINGS],
+    numbers: [Numbers; ROOM],
 }
 
 impl Model for BandNote {
@@ -42,16 +42,16 @@ impl Model for BandNote {
 }
 
 // A copy of the numbers of each ring.
-fn copied(numbers: &Vec<Numbers>) -> [Numbers; MOST_RINGS]
-    requires { vec_len numbers.now ≤ MOST_RINGS }
+fn copied(numbers: &Vec<Numbers>) -> [Numbers; ROOM]
+    requires { vec_len numbers.now ≤ ROOM }
     ensures copied { take (vec_len numbers.now) result ≡ numbers.now.items }
-    ensures room { length result ≡ MOST_RINGS }
+    ensures room { length result ≡ ROOM }
 {
     let mut copy = [Numbers {
         finished: 0,
         seen: 0,
         head: 0,
-    }; MOST_RINGS];
+    }; ROOM];
     let mut ring = 0;
     while ring < numbers.len() {
         copy[ring] = numbers[ring];

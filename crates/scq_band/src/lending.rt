@@ -53,7 +53,7 @@ impl<B: Buffer> Band<B> {
         ensures lifted { seat.new
             ≡ record seat.old { hand = with_buffer index None seat.old.hand } }
     {
-        bring_to_front(&mut seat.token, &mut seat.hand, index);
+        bring_to_front(&mut seat.token, index);
         lift_first(&self.table.shared, &mut seat.token, index)
     }
 
@@ -66,7 +66,7 @@ impl<B: Buffer> Band<B> {
         ensures laid { seat.new
             ≡ record seat.old { hand = with_buffer index (Some buffer) seat.old.hand } }
     {
-        bring_to_front(&mut seat.token, &mut seat.hand, index);
+        bring_to_front(&mut seat.token, index);
         lay_first(&self.table.shared, &mut seat.token, index, buffer);
     }
 }

@@ -5,7 +5,7 @@ ghost use Rattle.scq_core.specs.Exports.{read, threshold_of, start_cells};
 ghost use Rattle.scq_band.specs.Numbers.{first_numbers};
 ghost use Rattle.scq_band.specs.Homes.{full_slot};
 ghost use Rattle.scq_band.specs.Rings.{AreRings};
-ghost use Rattle.scq_band.specs.Making.{lifted, AllLaid, IsRoom, IsMemory, IsOfStart};
+ghost use Rattle.scq_band.specs.Making.{lifted, AllLaid, HoldsNone, IsRoom, IsMemory, IsOfStart};
 ghost use Rattle.scq_band.specs.Making.{WordsAreOpened};
 
 use crate::layout::{GATE, head_word, slot_word, tail_word, threshold_word, word_count};
@@ -20,10 +20,10 @@ use std::alloc::Global;
 // of 64 bytes, so that no seat writes in a line that another uses.
 const APART: usize = 8;
 
-/// The room of one seat: an empty list for its indices, and what it knows at the start.
+/// The room of one seat: which indices it has at the start, none, and what it knows then.
 #[derive(Drop)]
 pub struct Room {
-    pub hand: Vec<u32>,
+    pub held: Vec<bool>,
     pub numbers: Vec<Numbers>,
 }
 
@@ -60,11 +60,21 @@ fn rings(alloc: Global, setup: &Setup) -> Result<Vec<Ring>, NoMemory>
     Ok(rings)
 }
 
+// A note for each index, and each says that the seat doesn't hold it.
+fn none_held(alloc: Global, setup: &Setup) -> Result<Vec<bool>, NoMemory>
+    ensures { IfOk result (λ v. HoldsNone setup.now v.items) }
+{
+    let n = setup.shape().n() as usize;
+    let mut held = Vec::with_capacity(alloc, n + 32 * APART)?;
+    held.resize(n, false)?;
+    Ok(held)
+}
+
 fn one_room(alloc: Global, setup: &Setup) -> Result<Room, NoMemory>
     ensures { IfOk result (IsRoom setup.now) }
 {
     Ok(Room {
-        hand: Vec::with_capacity(alloc, setup.shape().n() as usize + 8 * APART)?,
+        held: none_held(alloc, setup)?,
         numbers: first_numbers(alloc, setup)?,
     })
 }

@@ -9,20 +9,18 @@ use std::snapshot::Snapshot;
 
 /// A seat of a band. One call at a time is made with it, by whichever thread has it.
 ///
-/// `hand` has the indices of the slots that its token holds, that of the one that stands first at
-/// the end, with room for all; `numbers` what it knows of each ring; `spent` the ticket that it
-/// keeps.
+/// `held` notes of each index whether the seat has it; `numbers` what it knows of each ring;
+/// `spent` the ticket that it keeps.
 #[derive(Drop)]
 pub struct Seat<B: Buffer> {
     pub(crate) token: Token<B>,
     pub(crate) key: Snapshot<Key<B>>,
-    pub(crate) hand: Vec<u32>,
+    pub(crate) held: Vec<bool>,
     pub(crate) numbers: Vec<Numbers>,
     pub(crate) spent: Option<u64>,
 }
 
 impl<B: Buffer> Model for Seat<B> {
-    ghost use Rattle.std.specs.Prelude.{vec_capacity};
     ghost use Rattle.scq_band.specs.Standing.{Standing};
 
     ghost Value = { Standing B };
@@ -32,8 +30,8 @@ impl<B: Buffer> Model for Seat<B> {
 
     ghost view = { λ s. standing_of s.token.table_id s.key.value s.token.me };
 
-    ghost invariant = { λ s. IsKept B.IsSameBuffer s.key.value (known_me s.token.me) s.hand.items
-        (vec_capacity s.hand) s.numbers.items s.spent };
+    ghost invariant = { λ s. IsKept B.IsSameBuffer s.key.value (known_me s.token.me) s.held.items
+        s.numbers.items s.spent };
 }
 
 impl<B: Buffer> Seat<B> {

@@ -36,11 +36,11 @@ fn peel<B: Buffer>(words: &Words<B>, rest: &mut Token<B>, key: &Key<B>, room: Ro
         → (rest.new.me.0 ≡ sight_below key.now.setup k)
         × (result ≡ first_standing (identity_of words.now.table_id key.now) k) }
 {
-    let Room { hand, numbers } = room;
+    let Room { held, numbers } = room;
     Seat {
         token: words.split_seat::<Peels>(rest),
         key: Snapshot::of(key),
-        hand,
+        held,
         numbers,
         spent: None,
     }

@@ -4,7 +4,7 @@
 use Rattle.std.specs.Prelude.{◌≡◌, ℕ, suc, ◌+◌, ◌*◌, ◌^◌, ◌<◌, ◌≤◌, ◌⊎◌, List, map, length, Option}
 use Rattle.std.specs.Prelude.{Some, None, All}
 use Rattle.scq_word.specs.declared.setup.Setup.{Setup}
-use Rattle.scq_word.specs.Exports.{n_of, IsOutside}
+use Rattle.scq_word.specs.Exports.{n_of, most_order, most_topics, IsOutside}
 use Rattle.scq_queue.specs.Exports.{counts_of, PassStanding, lists_of}
 use Rattle.scq_port.specs.Exports.{PortStanding, IsLent, ValueIsTaken, IsSent, ValueIsGivenBack}
 use Rattle.scq_port.specs.Exports.{WasFull, WasEmpty, IsSpentGet, IsSpentPut, HasNoRoom, HasTopic}
@@ -123,8 +123,8 @@ pub record OfOpen (order topics hold limit : ℕ) (memory : Memory) (code : ℕ)
   pub opened : code ≡ scq_ok → HaveOpened order topics hold limit memory before after
   pub refused : (code ≡ scq_ok → ⊥)
       → (ports_of after ≡ ports_of before) × (memories_of after ≡ memories_of before)
-  pub bad_order : code ≡ scq_bad_order → IsOutside 1 12 order
-  pub bad_topics : code ≡ scq_bad_topics → IsOutside 1 17 topics
+  pub bad_order : code ≡ scq_bad_order → IsOutside 1 most_order order
+  pub bad_topics : code ≡ scq_bad_topics → IsOutside 1 most_topics topics
   pub bad_ports : code ≡ scq_bad_ports → IsOutside 1 4096 (length before)
   pub bad_limit : code ≡ scq_bad_limit → IsOutside (8 * n_of order) (2 ^ 60) limit
   pub bad_size : code ≡ scq_bad_size → (memory.len ≡ 0) ⊎ (memory.stride < memory.len)

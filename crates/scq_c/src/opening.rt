@@ -1,7 +1,7 @@
 //! How C opens a queue.
 ghost use Rattle.std.specs.Prelude.{◌≡◌, ℕ, ◌+◌, ◌*◌, ◌^◌, ◌≤◌, map, length, true, false, Some};
 ghost use Rattle.std.specs.Prelude.{None, Err, IfOk, IfSome, All, vec_len};
-ghost use Rattle.scq_word.specs.Exports.{IsOutside, n_of};
+ghost use Rattle.scq_word.specs.Exports.{IsOutside, n_of, most_order, most_topics};
 ghost use Rattle.scq_port.specs.Exports.{AreOpened};
 ghost use Rattle.scq_c.specs.Answers.{OfOpen, IsClosed, ports_of, memories_of};
 
@@ -11,11 +11,8 @@ use crate::answers::{
 use crate::c_port::{CPort, Memory};
 use crate::handle::{is_open, put};
 use scq_port::{Port, open as open_ports};
-use scq_word::{Setup, SetupFault};
+use scq_word::{MOST_TOPICS, Setup, SetupFault};
 use std::alloc::Global;
-
-/// The most topics that a queue may have.
-const MOST_TOPICS: u32 = 17;
 
 /// Whether one of these ports is open.
 fn any_open(ports: &mut [CPort], alloc: Global) -> bool
@@ -40,8 +37,8 @@ fn setup_of(order: u32, topics: u32, ports: usize, limit: u64) -> Result<Setup, 
         (setup.order ≡ order) × (setup.rings ≡ topics + 1) × (setup.seats ≡ ports)
         × (setup.limit ≡ limit)
         × (2 ≤ setup.rings)) }
-    ensures bad_order { result ≡ Err SetupFault.BadOrder → IsOutside 1 12 order }
-    ensures bad_topics { result ≡ Err SetupFault.BadRings → IsOutside 1 17 topics }
+    ensures bad_order { result ≡ Err SetupFault.BadOrder → IsOutside 1 most_order order }
+    ensures bad_topics { result ≡ Err SetupFault.BadRings → IsOutside 1 most_topics topics }
     ensures bad_ports { result ≡ Err SetupFault.BadSeats → IsOutside 1 4096 ports }
     ensures bad_limit { result ≡ Err SetupFault.BadLimit
         → IsOutside (8 * n_of order) (2 ^ 60) limit }

@@ -95,9 +95,13 @@ said bounds (word ∷ field ∷ more) =
     else None
 said bounds _ = None
 
--- the bounds of a history that is read whole
+-- the last queue that a history may name which is read whole
+abbrev pub last_queue : ℕ
+last_queue = 17
+
+-- its bounds
 abbrev pub small : Bounds
-small = record { seat = 4095; queue = 17; token = 4095 }
+small = record { seat = 4095; queue = last_queue; token = 4095 }
 
 -- what a line of it says
 abbrev pub line_of : List ℕ → Option Line

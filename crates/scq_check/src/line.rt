@@ -20,10 +20,13 @@ pub struct Bounds {
     pub token: u32,
 }
 
-/// The bounds of a history that is read whole: as many queues as a setup may have rings.
+/// The last queue that a history may name which is read whole.
+const LAST_QUEUE: u32 = 17;
+
+/// The bounds of a history that is read whole.
 pub(crate) const SMALL: Bounds = Bounds {
     seat: 4095,
-    queue: 17,
+    queue: LAST_QUEUE,
     token: 4095,
 };
 

@@ -2,7 +2,7 @@
 use Rattle.std.proofs.Common.{◌≡◌, ◌≢◌, ℕ, ◌+◌, ◌*◌, ◌^◌, ◌<◌, ◌≤◌, true, false, refl, inl, inr, arith, eq-eqb, ne_eqb, eqb-true, pow_mono}
 use Rattle.std.proofs.lemmas.Bool.{cases_Bool, cases_eq, eqb-false}
 use Rattle.scq_word.specs.declared.setup.Setup.{Setup}
-use Rattle.scq_word.specs.Exports.{n_of, packed, mark_of, index_in, safe_in, cycle_in, is_none_in, rank_in, reset_value}
+use Rattle.scq_word.specs.Exports.{n_of, packed, mark_of, index_in, safe_in, cycle_in, is_none_in, rank_in, reset_value, most_order}
 use Rattle.scq_word.proofs.WordLemmas.{index_in-packed, safe_in-packed, cycle_in-packed, safe_in_bit, index_in_small, rank_in-empty, rank_in-safe, rank_in-unsafe, rank_in_range, packed-parts}
 use Rattle.scq_word.proofs.TicketLemmas.{ticket_parts}
 use Rattle.scq_word.proofs.BoundLemmas as bounds
@@ -13,9 +13,9 @@ use Rattle.scq_core.specs.Exports.{ring_slots, cycle, passed, zero_level, IsAbov
 pub some_indices : (c : Setup) → 2 ≤ n_of c.order
 some_indices c = let o = c.order_in_range in let low : 2 ^ 1 ≤ 2 ^ c.order = pow_mono o.0 in omega arith
 
--- and at most 4096
-pub few_indices : (c : Setup) → n_of c.order ≤ 4096
-few_indices c = let o = c.order_in_range in let high : 2 ^ c.order ≤ 2 ^ 12 = pow_mono o.1 in omega arith
+-- and at most 65,536
+pub few_indices : (c : Setup) → n_of c.order ≤ 2 ^ most_order
+few_indices c = let o = c.order_in_range in pow_mono o.1
 
 pub some_slots : (c : Setup) → 0 < ring_slots c
 some_slots c = omega (arith, some_indices c)
@@ -154,7 +154,7 @@ reset_covers c = bounds.reset_covers c.order c.seats c.order_in_range.0
 pub reset_reaches : (c : Setup) → ring_slots c + c.seats ≤ reset_value c.order c.seats + 1
 reset_reaches c = bounds.reset_reaches c.order c.seats
 
-pub reset_small : (c : Setup) → reset_value c.order c.seats < 2 ^ 16
+pub reset_small : (c : Setup) → reset_value c.order c.seats < 2 ^ 18
 reset_small c = bounds.reset_small c.order c.seats c.order_in_range.1 (few_seats c)
 
 -- the cycle of a ticket below the limit, times the slots, is below the limit

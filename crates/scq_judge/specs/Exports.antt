@@ -25,6 +25,7 @@ pub use Rattle.scq_judge.specs.Report.{report_lines, tests_gots, tests_order, te
 pub use Rattle.scq_judge.specs.Report.{tests_refused, tests_opening, over_text, opening_line}
 pub use Rattle.scq_judge.specs.Report.{linearizable_line, count_lines, ending_lines, IsOrderTold}
 pub use Rattle.scq_judge.specs.Report.{unbroken_text, over_by}
+pub use Rattle.scq_judge.specs.Findings.{worst_finding}
 pub use Rattle.scq_judge.specs.Judged.{IsHistoryOf, IsReported, IsFirstUnlawful, IsSharing}
 pub use Rattle.scq_judge.specs.Judged.{IsCauseIn}
 pub use Rattle.scq_judge.specs.Judged.{IsJudged, AreSoundBefore, IsCause, IsUnlawfulAt}

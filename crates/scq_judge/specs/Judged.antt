@@ -9,7 +9,9 @@ use Rattle.scq_judge.specs.Merged.{IsMergeOf, HasStampOfAnother}
 use Rattle.scq_judge.specs.Recording.{Recording, recording_of}
 use Rattle.scq_judge.specs.Runs.{AreOfOneRun, IsOfAnotherRun}
 use Rattle.scq_judge.specs.Seats.{EachSeatInOneFile, HasSeatOfAnother}
+use Rattle.scq_judge.specs.Findings.{worst_finding}
 use Rattle.scq_judge.specs.Report.{IsReport, report_lines}
+use Rattle.scq_judge.specs.declared.judging.Judged.{Judged}
 use Rattle.scq_judge.specs.declared.judging.JudgeFault.{JudgeFault}
 use Rattle.scq_judge.specs.declared.judging.JudgeFault.TheVariants.{BadLine, Shared as SharedBy}
 use Rattle.scq_judge.specs.declared.judging.JudgeFault.TheVariants.{TwoRuns, Unlawful, ReadFault}
@@ -29,25 +31,28 @@ pub record IsHistoryOf (recorded : Recording) (opening : List (List ℕ)) (event
   pub merged : IsMergeOf recorded.events events places
 
 -- the history is lawful, and the text is that of its report, which tells of files by these names,
--- and of refusals where it is known for how many values each queue has room
+-- and of refusals where it is known for how many values each queue has room; the finding is the
+-- worst of the text's lines
 pub record IsReportOf (names : List (List ℕ)) (room : Option ℕ) (opening : List (List ℕ))
-    (events : List Event) (places : List Place) (text : List ℕ) : Type 0 where
+    (events : List Event) (places : List Place) (judged : Judged) : Type 0 where
   pub lawful : IsLawful events
   pub report : Report
   pub is_report : IsReport room opening events report
-  pub said : text ≡ report_lines (record { names = names; places = places; events = events }) report
+  pub said : judged.text
+      ≡ report_lines (record { names = names; places = places; events = events }) report
+  pub found : judged.worst ≡ worst_finding report
 
--- the text is the report of the history that what was read is merged to: the files that tell their
--- run tell the same one, and each seat's events stand in one file
+-- this is the report of the history that what was read is merged to: the files that tell their run
+-- tell the same one, and each seat's events stand in one file
 pub record IsReported (names : List (List ℕ)) (room : Option ℕ) (recorded : Recording)
-    (text : List ℕ) : Type 0 where
+    (judged : Judged) : Type 0 where
   pub runs : AreOfOneRun recorded.runs
   pub seats : EachSeatInOneFile recorded.events
   pub opening : List (List ℕ)
   pub events : List Event
   pub places : List Place
   pub history : IsHistoryOf recorded opening events places
-  pub reported : IsReportOf names room opening events places text
+  pub reported : IsReportOf names room opening events places judged
 
 -- the event of this place is the first of the merged history that is unlawful
 pub record IsFirstUnlawful (recorded : Recording) (place : Place) : Type 0 where
@@ -83,11 +88,11 @@ IsCauseIn recorded _ = ⊥
 -- recordings of files with these names and contents, of which none has too many bytes, are read,
 -- and tell this report
 pub record IsJudged (names : List (List ℕ)) (room : Option ℕ) (contents : List (List ℕ))
-    (text : List ℕ) : Type 0 where
+    (judged : Judged) : Type 0 where
   pub small : NoneIsLarge contents
   pub recorded : Recording
   pub read : recording_of (length names == 1) contents ≡ Ok recorded
-  pub reported : IsReported names room recorded text
+  pub reported : IsReported names room recorded judged
 
 -- or are at fault so
 pub record IsCaused (lone : Bool) (contents : List (List ℕ)) (fault : JudgeFault) : Type 0 where

@@ -8,6 +8,7 @@ pub mod Runs
 pub mod Counted
 pub mod Telling
 pub mod Report
+pub mod Findings
 pub mod Right
 pub mod Judged
 pub mod Exports

@@ -10,6 +10,7 @@ ghost use Rattle.scq_judge.specs.Judged.{IsCauseIn, IsUnlawfulAt};
 ghost use Rattle.scq_judge.specs.Report.{AreRoomBreaches, IsReport};
 
 use crate::counting::{Counts, count};
+use crate::finding::Finding;
 use crate::linearizable::is_linearizable;
 use crate::merging::{MergeFault, Merged, merge};
 use crate::recorded::{Place, Recorded};
@@ -33,6 +34,13 @@ pub struct Report {
     pub counts: Counts,
     pub tokens: usize,
     pub linearizable: Option<bool>,
+}
+
+/// A report as text, and the worst that one of its lines says.
+#[derive(Drop)]
+pub struct Judged {
+    pub text: Bytes,
+    pub worst: Finding,
 }
 
 impl Report {
@@ -175,13 +183,13 @@ fn sharing(what: Shared, place: Place, other: Place) -> JudgeFault
     }
 }
 
-// The report of what was read, as text.
+// The report of what was read.
 pub(crate) fn judge_recorded(
     alloc: Global,
     room: Option<u32>,
     names: &[String],
     recorded: Recorded,
-) -> Result<Bytes, JudgeFault>
+) -> Result<Judged, JudgeFault>
     ensures reported { IfOk result (IsReported (map string_bytes names.now) room recorded) }
     ensures refused { IfErr result (IsCauseIn recorded) }
 {
@@ -202,7 +210,7 @@ fn judge_one_run(
     room: Option<u32>,
     names: &[String],
     recorded: Recorded,
-) -> Result<Bytes, JudgeFault>
+) -> Result<Judged, JudgeFault>
     requires { AreOfOneRun recorded.runs }
     ensures reported { IfOk result (IsReported (map string_bytes names.now) room recorded) }
     ensures refused { IfErr result (IsCauseIn recorded) }
@@ -220,7 +228,7 @@ fn judge_apart(
     room: Option<u32>,
     names: &[String],
     recorded: Recorded,
-) -> Result<Bytes, JudgeFault>
+) -> Result<Judged, JudgeFault>
     requires runs { AreOfOneRun recorded.runs }
     requires seats { EachSeatInOneFile recorded.events }
     ensures reported { IfOk result (IsReported (map string_bytes names.now) room recorded) }
@@ -232,13 +240,13 @@ fn judge_apart(
     }
 }
 
-// The report of a merged history, as text.
+// The report of a merged history.
 fn judge_merged(
     alloc: Global,
     room: Option<u32>,
     names: &[String],
     merged: &Merged,
-) -> Result<Bytes, JudgeFault>
+) -> Result<Judged, JudgeFault>
     requires { length merged.now.places.items ≡ length merged.now.events.items }
     ensures reported { IfOk result
         (IsReportOf (map string_bytes names.now) room merged.now.opening.items
@@ -258,13 +266,13 @@ fn judge_merged(
     judge_history(alloc, room, opening, teller)
 }
 
-// The report of a history, as text.
+// The report of a history.
 fn judge_history(
     alloc: Global,
     room: Option<u32>,
     opening: &[Bytes],
     teller: Teller<'_>,
-) -> Result<Bytes, JudgeFault>
+) -> Result<Judged, JudgeFault>
     ensures reported { IfOk result
         (IsReportOf (map string_bytes teller.entry.names.now) room opening.now
         teller.entry.events.now teller.entry.places.now) }
@@ -282,13 +290,13 @@ fn judge_history(
     }
 }
 
-// The report of a lawful history, as text.
+// The report of a lawful history.
 fn judge_lawful(
     alloc: Global,
     room: Option<u32>,
     opening: &[Bytes],
     teller: Teller<'_>,
-) -> Result<Bytes, JudgeFault>
+) -> Result<Judged, JudgeFault>
     requires { IsLawful teller.events.now }
     ensures reported { IfOk result
         (IsReportOf (map string_bytes teller.entry.names.now) room opening.now
@@ -297,7 +305,10 @@ fn judge_lawful(
 {
     let report = report_on(alloc, room, opening, teller.events)?;
     let text = report_text(alloc, teller, &report)?;
-    Ok(text)
+    Ok(Judged {
+        text,
+        worst: report.worst(),
+    })
 }
 
 // What is said of a lawful history.

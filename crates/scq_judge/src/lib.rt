@@ -10,6 +10,7 @@
 
 mod counting;
 mod entry;
+mod finding;
 mod judging;
 mod linearizable;
 mod merging;
@@ -23,6 +24,7 @@ mod telling;
 mod text;
 
 pub use counting::Counts;
-pub use judging::{JudgeFault, Report, Shared};
+pub use finding::Finding;
+pub use judging::{JudgeFault, Judged, Report, Shared};
 pub use reader::Reader;
 pub use recorded::{Place, RunOf};

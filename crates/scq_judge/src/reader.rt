@@ -6,11 +6,10 @@ ghost use Rattle.scq_judge.specs.Judged.{IsCauseIn, IsReported};
 ghost use Rattle.scq_judge.specs.Reads.{HaveBeenRead, ReadingStopped};
 ghost use Rattle.scq_judge.specs.Recording.{nothing};
 
-use crate::judging::{JudgeFault, judge_recorded};
+use crate::judging::{JudgeFault, Judged, judge_recorded};
 use crate::reading::Reading;
 use crate::recorded::Recorded;
 use scq_outside::Source;
-use scq_word::Bytes;
 use std::alloc::Global;
 use std::marker::Model;
 
@@ -68,7 +67,7 @@ impl Reader {
         Ok(())
     }
 
-    /// The report of the history that the recordings are merged to, as text. Where it is told for
+    /// The report of the history that the recordings are merged to. Where it is told for
     /// how many values each queue has room, refused puts are judged too. Files are told by these
     /// names, in the order in which they were read. Of faults only Shared, TwoRuns, Unlawful and
     /// NoMemory come. No clause says that memory and time grow little faster than the number of
@@ -78,7 +77,7 @@ impl Reader {
         alloc: Global,
         room: Option<u32>,
         names: &[String],
-    ) -> Result<Bytes, JudgeFault>
+    ) -> Result<Judged, JudgeFault>
         ensures reported { IfOk result
             (IsReported (map string_bytes names.now) room self.recorded) }
         ensures refused { IfErr result (IsCauseIn self.recorded) }

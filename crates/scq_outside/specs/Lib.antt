@@ -1,4 +1,5 @@
 pub mod Calls
+pub mod Causes
 pub mod Counts
 pub mod Memory
 pub mod Readable

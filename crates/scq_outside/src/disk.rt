@@ -1,9 +1,11 @@
-ghost use Rattle.std.specs.Prelude.{◌≡◌, ◌⊎◌, ◌<◌, ◌≤◌, None, Ok, length, IfOk, IsErr};
+ghost use Rattle.std.specs.Prelude.{◌≡◌, ◌⊎◌, ◌<◌, ◌≤◌, None, Ok, length, IfOk, OnOk, IsErr};
+ghost use Rattle.std.specs.IoError.{error_kind};
+ghost use Rattle.scq_outside.specs.Causes.{cause_of};
 ghost use Rattle.scq_outside.specs.Counts.{Rose, RoseWhere, last_count};
 
 use crate::tried::Tried;
 use crate::uninterrupted::read_uninterrupted;
-use crate::{Failed, Files, Source};
+use crate::{Cause, Failed, Files, Source};
 use std::fs::File;
 use std::io::{self, Read};
 use std::os::fd::AsFd;
@@ -19,6 +21,7 @@ pub struct DiskFiles<R: rt::Files + Drop> {
     system: R,
     stdin: Stdin,
     faults: u64,
+    cause: Option<Cause>,
 }
 
 impl<R: rt::Files<File = File> + Drop> DiskFiles<R> {
@@ -29,7 +32,19 @@ impl<R: rt::Files<File = File> + Drop> DiskFiles<R> {
             system,
             stdin,
             faults: 0,
+            cause: None,
         }
+    }
+
+    /// Counts a file that could not be opened, and keeps what the system says of it.
+    fn count(&mut self, error: &io::Error) -> Failed
+        ensures counted { Rose self.old.faults self.new.faults
+            × (self.old.faults ≤ self.new.faults) }
+        ensures told { self.new.cause ≡ cause_of (error_kind error.now) }
+    {
+        self.faults = self.faults.saturating_add(1);
+        self.cause = Cause::of(error.kind());
+        Failed
     }
 
     /// The file of this name, or standard input where the name is its and can't be opened anew.
@@ -53,6 +68,12 @@ impl<R: rt::Files<File = File> + Drop> Files for DiskFiles<R> {
 
     ghost table = { λ _. None };
 
+    ghost cause = { λ files. files.cause };
+
+    fn cause(&self) -> Option<Cause> {
+        self.cause
+    }
+
     fn source(&mut self, name: &str) -> Result<DiskSource<DiskFile>, Failed> {
         match self.open(name) {
             Ok(file) => Ok(DiskSource {
@@ -60,10 +81,7 @@ impl<R: rt::Files<File = File> + Drop> Files for DiskFiles<R> {
                 faults: 0,
                 ends: 0,
             }),
-            Err(_) => {
-                self.faults = self.faults.saturating_add(1);
-                Err(Failed)
-            }
+            Err(error) => Err(self.count(&error)),
         }
     }
 }
@@ -101,6 +119,12 @@ impl<F: Read + Send + Drop> Source for DiskSource<F> {
 
     ghost left = { λ _. None };
 
+    ghost cause = { λ source. source.file.cause };
+
+    fn cause(&self) -> Option<Cause> {
+        self.file.cause()
+    }
+
     /// Of the tries that a call makes one was not interrupted: its answer is the call's.
     fn read(&mut self, into: &mut [u8]) -> Result<usize, Failed>
         requires { 0 < length into.old }
@@ -108,6 +132,7 @@ impl<F: Read + Send + Drop> Source for DiskSource<F> {
         ensures ended { RoseWhere (result ≡ Ok 0) self.old.ends self.new.ends }
         ensures counted { RoseWhere (IsErr result) self.old.faults self.new.faults
             × (self.old.faults ≤ self.new.faults) }
+        ensures told { OnOk result (self.new.file.cause ≡ self.old.file.cause) }
         ensures once { Rose self.old.file.settled self.new.file.settled
             ⊎ (IsErr result × (self.new.file.settled ≡ self.old.file.settled)
             × (last_count ≤ self.new.file.interrupted)) }

@@ -2,8 +2,9 @@ ghost use Rattle.std.specs.Prelude.{◌≡◌, ℕ, ◌≤◌, Option, IsSome, I
 ghost use Rattle.std.specs.Option.{option_map};
 ghost use Rattle.scq_outside.specs.Counts.{RoseWhere};
 ghost use Rattle.scq_outside.specs.Table.{Table, without_name};
+ghost use Rattle.scq_outside.specs.declared.cause.Cause.{Cause as TheCause};
 
-use crate::{Failed, Source};
+use crate::{Cause, Failed, Source};
 
 /// Where sources come from, by name.
 pub trait Files {
@@ -15,6 +16,12 @@ pub trait Files {
     /// For each name that is there its content, where the table is visible.
     ghost table: { Self → Option Table };
 
+    /// What the last source that was not got failed by, where that is known.
+    ghost cause: { Self → Option TheCause };
+
+    fn cause(&self) -> Option<Cause>
+        ensures { result ≡ cause self.now };
+
     /// The source of this name. Where the table is visible, it comes exactly where the name is in
     /// it, has the name's content left, and the name leaves the table.
     fn source(&mut self, name: &str) -> Result<Self::Src, Failed>
@@ -24,6 +31,9 @@ pub trait Files {
             IsSome (files name.now) × (Self.Src.left source ≡ files name.now))) }
         ensures given { OnOk result (table self.new
             ≡ option_map (without_name name.now) (table self.old)) }
+
+        // What is known of a fault stays known.
+        ensures told { OnOk result (cause self.new ≡ cause self.old) }
 
         // After a fault the table is what it was. Faults are counted, and nothing else is.
         ensures missing { OnErr result (IfSome (table self.old) (λ files. files name.now ≡ None)) }

@@ -6,6 +6,7 @@
 //! is trusted.
 #![tactic(auto)]
 
+mod cause;
 mod disk;
 mod files;
 mod mem_files;
@@ -21,6 +22,7 @@ mod tried;
 mod uninterrupted;
 mod whole;
 
+pub use cause::Cause;
 pub use disk::{DiskFile, DiskFiles, DiskSource};
 pub use files::Files;
 pub use mem_files::MemFiles;

@@ -1,10 +1,10 @@
-ghost use Rattle.std.specs.Prelude.{◌≡◌, ◌≤◌, ℕ, List, Some, if◌then◌else◌, IfOk, OnOk};
+ghost use Rattle.std.specs.Prelude.{◌≡◌, ◌≤◌, ℕ, List, None, Some, if◌then◌else◌, IfOk, OnOk};
 ghost use Rattle.std.specs.Prelude.{OnErr, IsErr};
 ghost use Rattle.scq_outside.specs.Counts.{RoseWhere};
 ghost use Rattle.scq_outside.specs.Readable.{Readable};
 ghost use Rattle.std.specs.Str.{bytes_eq};
 
-use crate::{Failed, Files, MemSource};
+use crate::{Cause, Failed, Files, MemSource};
 use scq_word::NoMemory;
 use std::alloc::Global;
 use std::collections::HashMap;
@@ -71,6 +71,12 @@ impl Files for MemFiles {
     ghost faults = { faults_of };
 
     ghost table = { λ files. Some (table_of files) };
+
+    ghost cause = { λ _. None };
+
+    fn cause(&self) -> Option<Cause> {
+        None
+    }
 
     fn source(&mut self, name: &str) -> Result<MemSource, Failed>
         ensures same { IfOk result (λ source. source_in self.old name.now ≡ Some source) }

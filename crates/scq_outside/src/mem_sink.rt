@@ -1,11 +1,11 @@
 ghost use Rattle.std.specs.Prelude.{◌≡◌, ◌⊎◌, ◌+◌, ◌<◌, ◌≤◌, ◌++◌, [], Some, IsTrue, false, length};
-ghost use Rattle.std.specs.Prelude.{take, min, vec_capacity, IfOk, OnErr, IsErr, ◌↔◌};
+ghost use Rattle.std.specs.Prelude.{None, take, min, vec_capacity, IfOk, OnErr, IsErr, ◌↔◌};
 ghost use Rattle.scq_outside.specs.Calls.{are_pieces, first_call, next_call, fails_next, granted};
 ghost use Rattle.scq_outside.specs.Counts.{RoseWhere};
 ghost use Rattle.scq_outside.specs.Written.{Written};
 
 use crate::script::Script;
-use crate::{Failed, Sink};
+use crate::{Cause, Failed, Sink};
 use scq_word::NoMemory;
 use std::alloc::Global;
 use std::marker::Model;
@@ -68,6 +68,12 @@ impl Sink for MemSink {
     ghost faults = { λ s. s.faults };
 
     ghost written = { λ s. Some s.bytes };
+
+    ghost cause = { λ _. None };
+
+    fn cause(&self) -> Option<Cause> {
+        None
+    }
 
     fn write(&mut self, piece: &[u8]) -> Result<usize, Failed>
         requires { 0 < length piece.now }

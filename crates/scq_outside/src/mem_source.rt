@@ -1,11 +1,11 @@
 ghost use Rattle.std.specs.Prelude.{◌≡◌, ℕ, ◌<◌, ◌≤◌, ◌++◌, List, [], Some, Ok, IsTrue, false};
-ghost use Rattle.std.specs.Prelude.{length, take, drop, min, IfOk, OnErr, IsErr, ◌↔◌};
+ghost use Rattle.std.specs.Prelude.{None, length, take, drop, min, IfOk, OnErr, IsErr, ◌↔◌};
 ghost use Rattle.scq_outside.specs.Calls.{are_pieces, first_call, next_call, fails_next, granted};
 ghost use Rattle.scq_outside.specs.Counts.{RoseWhere};
 ghost use Rattle.scq_outside.specs.Readable.{Readable};
 
 use crate::script::Script;
-use crate::{Failed, PlainSource, Source};
+use crate::{Cause, Failed, PlainSource, Source};
 use std::marker::Model;
 
 /// A source in memory whose reads go as the caller says: read number k, from 1, fails where k is
@@ -51,6 +51,12 @@ impl Source for MemSource {
     ghost ends = { λ s. s.ends };
 
     ghost left = { λ s. Some s.left };
+
+    ghost cause = { λ _. None };
+
+    fn cause(&self) -> Option<Cause> {
+        None
+    }
 
     fn read(&mut self, into: &mut [u8]) -> Result<usize, Failed>
         requires { 0 < length into.old }

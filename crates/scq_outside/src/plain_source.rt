@@ -1,9 +1,9 @@
 ghost use Rattle.std.specs.Prelude.{◌≡◌, ℕ, ◌<◌, ◌≤◌, ◌++◌, List, [], Some, Ok, length, take};
-ghost use Rattle.std.specs.Prelude.{drop, min, IfOk};
+ghost use Rattle.std.specs.Prelude.{None, drop, min, IfOk};
 ghost use Rattle.scq_outside.specs.Counts.{RoseWhere};
 ghost use Rattle.scq_outside.specs.Readable.{Plain};
 
-use crate::{Failed, Source};
+use crate::{Cause, Failed, Source};
 use std::marker::Model;
 
 /// A source in memory that gives as many bytes as it is asked for and never fails. Contracts see
@@ -42,6 +42,12 @@ impl Source for PlainSource {
     ghost ends = { λ s. s.ends };
 
     ghost left = { λ s. Some s.left };
+
+    ghost cause = { λ _. None };
+
+    fn cause(&self) -> Option<Cause> {
+        None
+    }
 
     fn read(&mut self, into: &mut [u8]) -> Result<usize, Failed>
         requires { 0 < length into.old }

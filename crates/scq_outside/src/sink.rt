@@ -1,9 +1,10 @@
 ghost use Rattle.std.specs.Prelude.{◌≡◌, ℕ, ◌<◌, ◌≤◌, ◌++◌, List, Option, length, take, IfOk};
-ghost use Rattle.std.specs.Prelude.{OnErr, IsErr};
+ghost use Rattle.std.specs.Prelude.{OnOk, OnErr, IsErr};
 ghost use Rattle.std.specs.Option.{option_map};
 ghost use Rattle.scq_outside.specs.Counts.{RoseWhere};
+ghost use Rattle.scq_outside.specs.declared.cause.Cause.{Cause as TheCause};
 
-use crate::Failed;
+use crate::{Cause, Failed};
 
 /// What bytes are written to, piece by piece.
 pub trait Sink {
@@ -13,6 +14,12 @@ pub trait Sink {
     /// The bytes that were written, where they are visible.
     ghost written: { Self → Option (List ℕ) };
 
+    /// What the last write that failed failed by, where that is known.
+    ghost cause: { Self → Option TheCause };
+
+    fn cause(&self) -> Option<Cause>
+        ensures { result ≡ cause self.now };
+
     /// Writes some of the piece, from its front, and answers how many bytes: at least 1. A device
     /// that takes nothing of the piece has failed.
     fn write(&mut self, piece: &[u8]) -> Result<usize, Failed>
@@ -21,6 +28,9 @@ pub trait Sink {
         ensures within { IfOk result (λ k. k ≤ length piece.now) }
         ensures appended { IfOk result (λ k.
             written self.new ≡ option_map (λ bytes. bytes ++ take k piece.now) (written self.old)) }
+
+        // What is known of a fault stays known.
+        ensures told { OnOk result (cause self.new ≡ cause self.old) }
 
         // After a fault the sink has what it had. Faults are counted, and nothing else is.
         ensures unwritten { OnErr result (written self.new ≡ written self.old) }

@@ -1,9 +1,9 @@
-ghost use Rattle.std.specs.Prelude.{◌≡◌, ◌⊎◌, ◌<◌, ◌≤◌, None, length, IfOk, IsErr};
+ghost use Rattle.std.specs.Prelude.{◌≡◌, ◌⊎◌, ◌<◌, ◌≤◌, None, length, IfOk, OnOk, IsErr};
 ghost use Rattle.scq_outside.specs.Counts.{Rose, RoseWhere, last_count};
 
 use crate::tried::Tried;
 use crate::uninterrupted::write_uninterrupted;
-use crate::{Failed, Sink};
+use crate::{Cause, Failed, Sink};
 use std::io::{self, Stderr, Stdout, Write};
 
 /// Standard output or standard error, as one type.
@@ -46,12 +46,28 @@ impl<W: Write + Drop> StdSink<W> {
             faults: 0,
         }
     }
+
+    /// Counts a write that failed.
+    fn count(&mut self) -> Failed
+        ensures counted { Rose self.old.faults self.new.faults
+            × (self.old.faults ≤ self.new.faults) }
+        ensures stream { self.new.stream ≡ self.old.stream }
+    {
+        self.faults = self.faults.saturating_add(1);
+        Failed
+    }
 }
 
 impl<W: Write + Drop> Sink for StdSink<W> {
     ghost faults = { λ sink. sink.faults };
 
     ghost written = { λ _. None };
+
+    ghost cause = { λ sink. sink.stream.cause };
+
+    fn cause(&self) -> Option<Cause> {
+        self.stream.cause()
+    }
 
     /// Of the tries that a call makes one was not interrupted: its answer is the call's.
     fn write(&mut self, piece: &[u8]) -> Result<usize, Failed>
@@ -60,16 +76,18 @@ impl<W: Write + Drop> Sink for StdSink<W> {
         ensures within { IfOk result (λ k. k ≤ length piece.now) }
         ensures counted { RoseWhere (IsErr result) self.old.faults self.new.faults
             × (self.old.faults ≤ self.new.faults) }
+        ensures told { OnOk result (self.new.stream.cause ≡ self.old.stream.cause) }
         ensures once { Rose self.old.stream.settled self.new.stream.settled
             ⊎ (IsErr result × (self.new.stream.settled ≡ self.old.stream.settled)
             × (last_count ≤ self.new.stream.interrupted)) }
     {
         match write_uninterrupted(&mut self.stream, piece) {
             Ok(count) if count > 0 => Ok(count),
-            _ => {
-                self.faults = self.faults.saturating_add(1);
-                Err(Failed)
+            Ok(_) => {
+                self.stream.keep(None);
+                Err(self.count())
             }
+            Err(_) => Err(self.count()),
         }
     }
 }

@@ -1,10 +1,12 @@
 //! A read and a write of std that are made again where a signal interrupts them, and nowhere else.
-ghost use Rattle.std.specs.Prelude.{◌≢◌, take, IfOk, IfErr, OnErr};
+ghost use Rattle.std.specs.Prelude.{◌≡◌, ◌≢◌, take, IfOk, IfErr, OnErr};
 ghost use Rattle.std.specs.Io.{ReadsAtMost, WritesAtMost};
 ghost use Rattle.std.specs.Io.KnownBytes.{Keeps, Appends, Consumes};
 ghost use Rattle.std.specs.IoError.{error_kind};
+ghost use Rattle.scq_outside.specs.Causes.{cause_after};
 ghost use Rattle.scq_outside.specs.Tries.{SettlesOnce};
 
+use crate::Cause;
 use crate::tried::Tried;
 use std::io::{self, Error, ErrorKind, Read, Write};
 
@@ -18,6 +20,7 @@ pub fn read_uninterrupted<R: Read>(reader: &mut Tried<R>, into: &mut [u8]) -> io
         (Keeps (R.remaining reader.old.device) (R.remaining reader.new.device)) }
     ensures again { IfErr result (λ error. error_kind error ≢ ErrorKind.Interrupted) }
     ensures once { SettlesOnce result reader.old reader.new }
+    ensures told { reader.new.cause ≡ cause_after result reader.old.cause }
 {
     'tries: for _try in 0..u64::MAX {
         match reader.try_read(into) {
@@ -25,6 +28,7 @@ pub fn read_uninterrupted<R: Read>(reader: &mut Tried<R>, into: &mut [u8]) -> io
             done => return done,
         }
     }
+    reader.keep(Cause::of(ErrorKind::TimedOut));
     Err(Error::from(ErrorKind::TimedOut))
 }
 
@@ -38,6 +42,7 @@ pub fn write_uninterrupted<W: Write>(writer: &mut Tried<W>, piece: &[u8]) -> io:
         (Keeps (W.contents writer.old.device) (W.contents writer.new.device)) }
     ensures again { IfErr result (λ error. error_kind error ≢ ErrorKind.Interrupted) }
     ensures once { SettlesOnce result writer.old writer.new }
+    ensures told { writer.new.cause ≡ cause_after result writer.old.cause }
 {
     'tries: for _try in 0..u64::MAX {
         match writer.try_write(piece) {
@@ -45,5 +50,6 @@ pub fn write_uninterrupted<W: Write>(writer: &mut Tried<W>, piece: &[u8]) -> io:
             done => return done,
         }
     }
+    writer.keep(Cause::of(ErrorKind::TimedOut));
     Err(Error::from(ErrorKind::TimedOut))
 }

@@ -7,7 +7,7 @@ use Rattle.std.proofs.lemmas.List.{length-map, get_or-map}
 use Rattle.std.proofs.lemmas.List.Concat.{length-flat_map}
 use Rattle.std.proofs.lemmas.List.Sums.{sum_by-cons, get_or-le-sum_by}
 use Rattle.scq_word.specs.declared.setup.Setup.{Setup}
-use Rattle.scq_word.specs.Exports.{n_of, reset_value, limit_for}
+use Rattle.scq_word.specs.Exports.{n_of, reset_value, limit_for, most_order}
 use Rattle.scq_core.proofs.Entries.{few_seats}
 use Rattle.scq_law.specs.Exports.{tally, was_put}
 use Rattle.scq_band.proofs.ClosedCounts.{sum_by-map}
@@ -16,18 +16,18 @@ use Rattle.scq_passes.specs.Exports.{all_sends, all_takes, NoneSpent, IsBounded,
 use Rattle.scq_passes.proofs.SendsAndTakes.{few-takes}
 
 -- what a get may cost is low
-low-factor : (order seats : ℕ) → n_of order ≤ 2 ^ 12 → seats ≤ 4096 → reset_value order seats + 1 + seats ≤ 2 ^ 14
+low-factor : (order seats : ℕ) → n_of order ≤ 2 ^ most_order → seats ≤ 4096 → reset_value order seats + 1 + seats ≤ 2 ^ 18
 unfolding reset_value
 low-factor order seats n_small few = omega arith
 
--- the limit for so few puts is below 2 ^ 53
-few-tickets : (c : Setup) (puts : ℕ) → puts ≤ 2 ^ 38 → limit_for c.order c.seats puts < 2 ^ 53
+-- the limit for so few puts is below 2 ^ 57
+few-tickets : (c : Setup) (puts : ℕ) → puts ≤ 2 ^ 38 → limit_for c.order c.seats puts < 2 ^ 57
 few-tickets c puts low =
-    let n_small : n_of c.order ≤ 2 ^ 12 = pow_mono c.order_in_range.1 in
+    let n_small : n_of c.order ≤ 2 ^ most_order = pow_mono c.order_in_range.1 in
     let few = few_seats c in
     let factor = low-factor c.order c.seats n_small few in
-    let more : puts + n_of c.order + 1 ≤ 2 ^ 38 + 4097 = omega arith in
-    let times : (puts + n_of c.order + 1) * (reset_value c.order c.seats + 1 + c.seats) ≤ (2 ^ 38 + 4097) * 2 ^ 14 = mul-le-mul more factor in
+    let more : puts + n_of c.order + 1 ≤ 2 ^ 38 + 65537 = omega arith in
+    let times : (puts + n_of c.order + 1) * (reset_value c.order c.seats + 1 + c.seats) ≤ (2 ^ 38 + 65537) * 2 ^ 18 = mul-le-mul more factor in
     omega arith
 
 -- a sum of numbers, each at most one more than another

@@ -1,6 +1,7 @@
 //! The queue of workers is made over the frames of one block.
 ghost use Rattle.std.specs.Prelude.{◌≡◌, ◌+◌, ◌^◌, ◌≤◌, length, vec_len, IfOk};
 ghost use Rattle.std.specs.List.{All};
+ghost use Rattle.scq_word.specs.Exports.{most_run_order};
 ghost use Rattle.scq_block.specs.Exports.{AreAllOf};
 ghost use Rattle.scq_queue.specs.Exports.{first_passes};
 
@@ -15,7 +16,8 @@ const HEADER: u32 = 24;
 /// The frames of a queue, with the block that they are carved from: each has room for a part of so
 /// many bytes.
 fn make_frames(alloc: Global, setup: Setup, size: u32) -> Result<(Block, Vec<Frame>), NoMemory>
-    requires { size ≤ 65536 }
+    requires order { setup.order ≤ most_run_order }
+    requires fits { size ≤ 65536 }
     ensures count { IfOk result (λ made. vec_len made.1 ≡ 2 ^ setup.order) }
     ensures room { IfOk result (λ made. All (λ f. size + 24 ≤ length f.bytes.items) made.1.items) }
     ensures all { IfOk result (λ made. AreAllOf made.0 made.1.items) }
@@ -24,12 +26,13 @@ fn make_frames(alloc: Global, setup: Setup, size: u32) -> Result<(Block, Vec<Fra
 }
 
 /// A queue over the frames of one block, with its passes: each frame has room for a part of so many
-/// bytes.
+/// bytes. The order is in `1..=MOST_RUN_ORDER`.
 pub fn make_queue(
     alloc: Global,
     setup: Setup,
     size: u32,
 ) -> Result<(Block, Queue<Frame>, Vec<Pass<Frame>>), NoMemory>
+    requires order { setup.order ≤ most_run_order }
     requires rings { 2 ≤ setup.rings }
     requires fits { size ≤ 65536 }
     ensures made { IfOk result (λ made. made.1.setup ≡ setup) }

@@ -24,11 +24,19 @@ setup_said (word ∷ order ∷ rings ∷ seats ∷ limit ∷ []) =
     else None
 setup_said _ = None
 
--- the line says this setup, of an order of at most 4
+-- the highest order of a schedule, and the most rings
+abbrev pub most_order : ℕ
+most_order = 4
+
+abbrev pub most_rings : ℕ
+most_rings = 18
+
+-- the line says this setup, within these
 pub record IsSetupLine (line : List ℕ) (c : Setup) : Type 0 where
   pub says : setup_said (fields_of line)
       ≡ Some (record { order = c.order; rings = c.rings; seats = c.seats; limit = c.limit })
-  pub small : c.order ≤ 4
+  pub small : c.order ≤ most_order
+  pub few : c.rings ≤ most_rings
 
 -- the step of this name, where it stands alone: `E1` draws a next ticket
 abbrev pub bare_step : List ℕ → Option Step

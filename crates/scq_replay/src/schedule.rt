@@ -15,6 +15,9 @@ use std::alloc::Global;
 // The highest order of a schedule.
 const MOST_ORDER: u64 = 4;
 
+// The most rings of a schedule.
+const MOST_RINGS: u64 = 18;
+
 // The most bytes of a content.
 const MOST_CONTENT: u32 = 16;
 
@@ -46,7 +49,7 @@ pub(crate) fn read_setup(line: &[u8]) -> Option<Setup>
         seats,
         limit,
     } = numbers;
-    if order > MOST_ORDER || rings > u64::from(u32::MAX) || seats > u64::from(u32::MAX) {
+    if order > MOST_ORDER || rings > MOST_RINGS || seats > u64::from(u32::MAX) {
         return None;
     }
     match Setup::new(order as u32, rings as u32, seats as u32, limit) {

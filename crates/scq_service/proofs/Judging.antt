@@ -1,19 +1,23 @@
 -- The sources of recordings that were got, and their contents.
-use Rattle.std.proofs.Common.{◌≡◌, ◌∙◌, refl, sym, ap, subst, arith, ℕ, suc, zero, ◌+◌, ◌<◌, Bool, List, [], ◌∷◌, ◌++◌, length, length-append, take, slice_get, Option, Some, None, Result, Ok, Err, IfOk, IfSome}
+use Rattle.std.proofs.Common.{◌≡◌, ◌∙◌, ◌⊎◌, inl, inr, refl, sym, ap, subst, arith, ℕ, suc, zero, ◌+◌, ◌<◌, Bool, true, false, List, [], ◌∷◌, ◌++◌, length, length-append, take, slice_get, Option, Some, None, Result, Ok, Err, IfOk, IfSome}
 use Rattle.std.specs.Prelude.{slice_index_or, ◌==◌}
 use Rattle.std.specs.Option.{option_map}
 use Rattle.std.proofs.Math.Seq.{take-length}
 use Rattle.scq_outside.specs.Table.{Table}
 use Rattle.scq_judge.specs.Exports.{HaveContents, AreSoundBefore, IsCause, IsCauseIn, IsJudged, AreReadUntil, AreReadWhole, HasGiven, ReadingStopped}
 use Rattle.scq_judge.specs.Exports.{HaveBeenRead, IsOfOneFile, OfEach, Progress, recording_of}
+use Rattle.scq_judge.specs.declared.finding.Finding.{Finding}
+use Rattle.scq_judge.specs.declared.finding.Finding.TheVariants as says
+use Rattle.scq_judge.specs.declared.judging.Judged.{Judged}
 use Rattle.scq_judge.specs.declared.judging.JudgeFault.{JudgeFault}
 use Rattle.scq_judge.specs.declared.judging.JudgeFault.TheVariants as judge
 use Rattle.scq_judge.proofs.JudgeLemmas.{cause_of_recorded, sound_all, until_recorded}
 use Rattle.scq_files.specs.Exports.{HasMoved, all_left}
 use Rattle.scq_service.specs.Exports.{FilesOf, SourceOf, HaveCome, IsMissing, without_names, Change, Wrote, HasGotSources, HasMissed, HaveAll}
-use Rattle.scq_service.specs.Exports.{EndsJudged, IfTold, ReportMeets, IsUnchanged, JudgeMissesFile, IsUnwritten, inputs_of, fault_of_judge}
+use Rattle.scq_service.specs.Exports.{EndsJudged, EndsUnjudged, WroteReport, IsWritten, end_of_report, IfTold, ReportMeets, IsUnchanged, JudgeMissesFile, IsUnwritten}
+use Rattle.scq_service.specs.Exports.{Inputs, inputs_of, fault_of_judge, written_with, WrotePart}
 use Rattle.scq_service.specs.declared.fault.Fault.{Fault}
-use Rattle.scq_service.specs.declared.fault.Fault.TheVariants.{OpenFault}
+use Rattle.scq_service.specs.declared.fault.Fault.TheVariants.{OpenFault, WriteFault, AspectFails, NotTested}
 use Rattle.scq_service.proofs.Coming.{SourceIsGot, IsMissed, IsNextName, come-got, come-missed, has-missed}
 use Rattle.scq_service.proofs.Files.{parts}
 use Rattle.scq_service.proofs.Working.{has-got}
@@ -82,9 +86,9 @@ module _ {S : Type 0} (src : SourceOf S) (names : List (List ℕ)) (table : Chan
     read = refl;
   }
 
-  module _ (room : Option ℕ) (w : Wrote) (fault : JudgeFault) (kept : IsUnchanged misses) (unwritten : IsUnwritten w) where
+  module _ (fault : JudgeFault) (kept : IsUnchanged misses) where
     abbrev Ends : JudgeFault → Type 0
-    Ends f = EndsJudged src room names olds (record { table = table; misses = misses; sources = news; read = 0 }) w (Some (fault_of_judge f))
+    Ends f = EndsUnjudged src names olds (record { table = table; misses = misses; sources = news; read = 0 }) (fault_of_judge f)
 
     -- a file is at fault
     pub ends_stopped : ReadingStopped src.faults src.ends src.left (length names == 1) olds news fault → Ends fault
@@ -92,15 +96,15 @@ module _ {S : Type 0} (src : SourceOf S) (names : List (List ℕ)) (table : Chan
       by : (fault : JudgeFault) → IsOfOneFile fault → ((contents : List (List ℕ)) → HaveContents src.left olds contents → IsCause (length names == 1) contents fault)
           → AreReadUntil src.faults src.ends src.left olds news fault → Ends fault
       by (judge.BadLine file line) own cause until =
-          ((judge.BadLine file line, refl, record { got_for = (kept, refl); until = until; cause = told_of src.left olds _ cause }), unwritten)
+          (judge.BadLine file line, refl, record { got_for = (kept, refl); until = until; cause = told_of src.left olds _ cause })
       by (judge.ReadFault file) own cause until =
-          ((judge.ReadFault file, refl, record { got_for = (kept, refl); until = until; cause = told_of src.left olds _ cause }), unwritten)
+          (judge.ReadFault file, refl, record { got_for = (kept, refl); until = until; cause = told_of src.left olds _ cause })
       by (judge.TooLarge file) own cause until =
-          ((judge.TooLarge file, refl, record { got_for = (kept, refl); until = until; cause = told_of src.left olds _ cause }), unwritten)
+          (judge.TooLarge file, refl, record { got_for = (kept, refl); until = until; cause = told_of src.left olds _ cause })
       by (judge.Shared what file line g m) own cause until = absurd own
       by (judge.TwoRuns file run g s) own cause until = absurd own
       by (judge.Unlawful file line) own cause until = absurd own
-      by judge.NoMemory own cause until = (omega (arith, come.within, stop.many), until, refl, unwritten)
+      by judge.NoMemory own cause until = (omega (arith, come.within, stop.many), until, refl)
 
     -- what all files say is at fault
     pub ends_refused : (reader : Progress) → HaveBeenRead src.faults src.ends src.left olds news reader → reader.lone ≡ (length names == 1) → length olds ≡ length names
@@ -120,28 +124,77 @@ module _ {S : Type 0} (src : SourceOf S) (names : List (List ℕ)) (table : Chan
           by (judge.ReadFault file) h cause until = absurd h
           by (judge.TooLarge file) h cause until = absurd h
           by (judge.Shared what file line g m) h cause until =
-              ((judge.Shared what file line g m, refl, record { got_for = have; until = until; cause = told_of src.left olds _ cause }), unwritten)
+              (judge.Shared what file line g m, refl, record { got_for = have; until = until; cause = told_of src.left olds _ cause })
           by (judge.TwoRuns file run g s) h cause until =
-              ((judge.TwoRuns file run g s, refl, record { got_for = have; until = until; cause = told_of src.left olds _ cause }), unwritten)
+              (judge.TwoRuns file run g s, refl, record { got_for = have; until = until; cause = told_of src.left olds _ cause })
           by (judge.Unlawful file line) h cause until =
-              ((judge.Unlawful file line, refl, record { got_for = have; until = until; cause = told_of src.left olds _ cause }), unwritten)
-          by judge.NoMemory h cause until = (omega (arith, come.within, had.many), until, refl, unwritten)
+              (judge.Unlawful file line, refl, record { got_for = have; until = until; cause = told_of src.left olds _ cause })
+          by judge.NoMemory h cause until = (omega (arith, come.within, had.many), until, refl)
 
--- what is so where a report was made, of which this was written
+-- no fault of a judge is one of what was written
+abbrev is_of_writing : Fault → Bool
+is_of_writing WriteFault = true
+is_of_writing AspectFails = true
+is_of_writing NotTested = true
+is_of_writing _ = false
+
+of-reading : (refused : JudgeFault) → is_of_writing (fault_of_judge refused) ≡ false
+of-reading (judge.BadLine file line) = refl
+of-reading (judge.Shared what file line g m) = refl
+of-reading (judge.TwoRuns file run g s) = refl
+of-reading (judge.Unlawful file line) = refl
+of-reading (judge.ReadFault file) = refl
+of-reading (judge.TooLarge file) = refl
+of-reading judge.NoMemory = refl
+
+-- how a run ends over these recordings that made no report, or wrote it
+module _ {S : Type 0} (src : SourceOf S) (room : Option ℕ) (strict : Bool) (names : List (List ℕ)) (got : List S) (r : Inputs S) (w : Wrote) where
+  abbrev EndsSo : Option Fault → Type 0
+  EndsSo end = EndsJudged src room strict names got r w end
+
+  of_writing : (fault : Fault) → is_of_writing fault ≡ true → (refused : JudgeFault) → fault ≡ fault_of_judge refused → ⊥
+  of_writing fault writes refused is = let apart : true ≡ false = sym writes ∙ ap is_of_writing is ∙ of-reading refused in cc
+
+  pub unjudged-ends : (fault : Fault) → EndsUnjudged src names got r fault → IsUnwritten w → EndsSo (Some fault)
+  unjudged-ends WriteFault end unwritten = absurd (of_writing WriteFault refl end.0 end.1)
+  unjudged-ends AspectFails end unwritten = absurd (of_writing AspectFails refl end.0 end.1)
+  unjudged-ends NotTested end unwritten = absurd (of_writing NotTested refl end.0 end.1)
+  unjudged-ends fault end unwritten = (end, unwritten)
+
+  pub written-ends : (judged : Judged) (end : Option Fault) → HaveAll names r → AreReadWhole src.faults src.ends src.left (length names) got r.sources
+      → ((P : Judged → Type 0) → P judged → ReportMeets src.left names room got P) → IsWritten strict judged w end → EndsSo end
+  written-ends judged end all whole meets (inr h) =
+      subst EndsSo (sym h.0) (record { all = all; whole = whole; rose = h.1; report = meets (λ j. WrotePart w.written.old w.written.new j.text) h.2 })
+  written-ends judged end all whole meets (inl h) = subst EndsSo (sym h.2) (by strict judged.worst refl) where
+    wrote : (s : Bool) (worst : Finding) → judged.worst ≡ worst → WroteReport src room s names got r w (end_of_report s worst)
+    wrote s worst is = record {
+      all = all;
+      whole = whole;
+      faults = h.1;
+      report = meets (λ j. (w.written.new ≡ written_with w.written.old j.text) × (end_of_report s worst ≡ end_of_report s j.worst)) (h.0, ap (end_of_report s) (sym is));
+    }
+
+    by : (s : Bool) (worst : Finding) → judged.worst ≡ worst → EndsJudged src room s names got r w (end_of_report s worst)
+    by true says.Fails is = (refl, wrote true says.Fails is)
+    by true says.NotTested is = (refl, wrote true says.NotTested is)
+    by true says.Holds is = wrote true says.Holds is
+    by false says.Fails is = wrote false says.Fails is
+    by false says.NotTested is = wrote false says.NotTested is
+    by false says.Holds is = wrote false says.Holds is
+
+-- how a run ends where this report was made, and written
 module _ {F S : Type 0} (fs : FilesOf F S) (src : SourceOf S) (names : List (List ℕ)) (room : Option ℕ) (was now : F) (got sources : List S) where
-  pub reported : (report : Result (List ℕ) Fault) (text : List ℕ) → report ≡ Ok text → IfOk report (λ _. HaveAll names (inputs_of fs was now sources 0))
+  pub report-ends : (report : Result Judged Fault) (judged : Judged) → report ≡ Ok judged → IfOk report (λ _. HaveAll names (inputs_of fs was now sources 0))
       → IfOk report (λ _. AreReadWhole src.faults src.ends src.left (length names) got sources)
-      → IfOk report (λ text. (contents : List (List ℕ)) → HaveContents src.left got contents → IsJudged names room contents text)
-      → (P : List ℕ → Type 0) → P text
-      → HaveAll names (inputs_of fs was now sources 0) × AreReadWhole src.faults src.ends src.left (length names) got sources × ReportMeets src.left names room got P
-  reported (Ok own) text is all whole judged P p =
-      let same : text ≡ own = cc in (
-        all,
-        whole,
-        told_of src.left got (λ contents. (text : List ℕ) × IsJudged names room contents text × P text)
-            (λ contents have. (own, judged contents have, subst P same p)),
-      )
-  reported (Err fault) text is all whole judged P p = absurd (cc)
+      → IfOk report (λ judged. (contents : List (List ℕ)) → HaveContents src.left got contents → IsJudged names room contents judged)
+      → (strict : Bool) (w : Wrote) (end : Option Fault) → IsWritten strict judged w end
+      → EndsJudged src room strict names got (inputs_of fs was now sources 0) w end
+  report-ends (Ok own) judged is all whole told strict w end written =
+      let same : judged ≡ own = cc in
+      written-ends src room strict names got (inputs_of fs was now sources 0) w judged end all whole
+      (λ P p. told_of src.left got (λ contents. (judged : Judged) × IsJudged names room contents judged × P judged)
+      (λ contents have. (own, told contents have, subst P same p))) written
+  report-ends (Err fault) judged is all whole told strict w end written = absurd cc
 
 -- So far recordings of these names were got and read: the first files, as many as the index, of which the last has this number. Files were these
 -- before any was got, and are these now
@@ -181,13 +234,11 @@ module _ {F S : Type 0} {fs : FilesOf F S} {src : SourceOf S} {names : List (Lis
       got_after src names (tables after) (counts after) olds news (come-missed was miss so.come) so.read.many so.read.given
       (λ all. absurd (omega (arith, all, next.more)))
 
-  pub missed-ends : {name : List ℕ} {after : F} (room : Option ℕ) (w : Wrote) → IsNextName names olds name → IsMissed fs name now after → IsUnwritten w
-      → EndsJudged src room names olds (inputs_of fs was after news 0) w (Some (OpenFault (file + 1)))
-  missed-ends {name} {after} room w next miss unwritten = (
-    unopened src names (tables after) (counts after) olds news (come-missed was miss so.come) reader (file + 1) so.read so.lone
-        (ap (λ n. n + 1) (so.number ∙ sym so.count)) next.more (has-missed was next miss so.come so.kept),
-    unwritten,
-  )
+  pub missed-ends : {name : List ℕ} {after : F} → IsNextName names olds name → IsMissed fs name now after
+      → EndsUnjudged src names olds (inputs_of fs was after news 0) (OpenFault (file + 1))
+  missed-ends {name} {after} next miss =
+      unopened src names (tables after) (counts after) olds news (come-missed was miss so.come) reader (file + 1) so.read so.lone
+      (ap (λ n. n + 1) (so.number ∙ sym so.count)) next.more (has-missed was next miss so.come so.kept)
 
   -- it was got, and is at fault
   pub stopped-got : {name : List ℕ} {after : F} {source : S} (new : S) {fault : JudgeFault} → IsNextName names olds name → SourceIsGot fs src name now after source
@@ -200,18 +251,17 @@ module _ {F S : Type 0} {fs : FilesOf F S} {src : SourceOf S} {names : List (Lis
       (got_after src names (tables after) (counts after) (olds ++ source ∷ []) (news ++ new ∷ []) (come-got was next got so.come) stop.many stop.given
       (λ all. got.kept ∙ so.kept)))
 
-  pub stopped-ends : {name : List ℕ} {after : F} {source : S} (new : S) {fault : JudgeFault} (room : Option ℕ) (w : Wrote) → IsNextName names olds name
-      → SourceIsGot fs src name now after source
-      → ReadingStopped src.faults src.ends src.left reader.lone (olds ++ source ∷ []) (news ++ new ∷ []) fault → IsUnwritten w
+  pub stopped-ends : {name : List ℕ} {after : F} {source : S} (new : S) {fault : JudgeFault} → IsNextName names olds name → SourceIsGot fs src name now after source
+      → ReadingStopped src.faults src.ends src.left reader.lone (olds ++ source ∷ []) (news ++ new ∷ []) fault
       → (gots sources : List S) (end : Fault) → gots ≡ olds ++ source ∷ [] → sources ≡ news ++ new ∷ [] → end ≡ fault_of_judge fault
-      → EndsJudged src room names gots (inputs_of fs was after sources 0) w (Some end)
-  stopped-ends {name} {after} {source} new {fault} room w next got stop unwritten gots sources end is_got are is_end =
+      → EndsUnjudged src names gots (inputs_of fs was after sources 0) end
+  stopped-ends {name} {after} {source} new {fault} next got stop gots sources end is_got are is_end =
       let H : Bool → Type 0 = λ lone. ReadingStopped src.faults src.ends src.left lone (olds ++ source ∷ []) (news ++ new ∷ []) fault in
-      let E : List S → List S → Fault → Type 0 = λ a b f. EndsJudged src room names a (inputs_of fs was after b 0) w (Some f) in
+      let E : List S → List S → Fault → Type 0 = λ a b f. EndsUnjudged src names a (inputs_of fs was after b 0) f in
       subst (λ a. E a sources end) (sym is_got) (subst (λ b. E (olds ++ source ∷ []) b end) (sym are)
       (subst (λ f. E (olds ++ source ∷ []) (news ++ new ∷ []) f) (sym is_end)
-      (ends_stopped src names (tables after) (counts after) (olds ++ source ∷ []) (news ++ new ∷ []) (come-got was next got so.come) room w fault
-      (got.kept ∙ so.kept) unwritten (subst H so.lone stop))))
+      (ends_stopped src names (tables after) (counts after) (olds ++ source ∷ []) (news ++ new ∷ []) (come-got was next got so.come) fault
+      (got.kept ∙ so.kept) (subst H so.lone stop))))
 
   -- no name is behind them
   pub all-got : HasGotSources src names olds (inputs_of fs was now news 0)
@@ -223,7 +273,6 @@ module _ {F S : Type 0} {fs : FilesOf F S} {src : SourceOf S} {names : List (Lis
   pub all-read : length olds ≡ length names → AreReadWhole src.faults src.ends src.left (length names) olds news
   all-read all = let W : ℕ → Type 0 = λ n. AreReadWhole src.faults src.ends src.left n olds news in subst W all so.read.whole
 
-  pub all-ends : (fault : JudgeFault) (room : Option ℕ) (w : Wrote) → length olds ≡ length names → IsCauseIn reader.recorded fault → IsUnwritten w
-      → EndsJudged src room names olds (inputs_of fs was now news 0) w (Some (fault_of_judge fault))
-  all-ends fault room w all cause unwritten =
-      ends_refused src names (tables now) (counts now) olds news so.come room w fault so.kept unwritten reader so.read so.lone all cause
+  pub all-ends : (fault : JudgeFault) → length olds ≡ length names → IsCauseIn reader.recorded fault
+      → EndsUnjudged src names olds (inputs_of fs was now news 0) (fault_of_judge fault)
+  all-ends fault all cause = ends_refused src names (tables now) (counts now) olds news so.come fault so.kept reader so.read so.lone all cause

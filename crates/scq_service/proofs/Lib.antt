@@ -10,3 +10,4 @@ mod Rows
 pub mod Working
 pub mod Writings
 mod Judging
+mod Told

@@ -1,6 +1,7 @@
 -- How a run ends, up to what is reported of it, case by case. It knows contents, topics and
 -- settings alone, and neither how the work is done nor by whom.
-use Rattle.std.specs.Prelude.{◌≡◌, ◌⊎◌, false, ℕ, ◌+◌, ◌-◌, ◌^◌, ◌<◌, ◌≤◌, List, [], Option, Some}
+use Rattle.std.specs.Prelude.{◌≡◌, ◌⊎◌, Bool, true, false, ℕ, ◌+◌, ◌-◌, ◌^◌, ◌<◌, ◌≤◌, List, []}
+use Rattle.std.specs.Prelude.{Option, Some}
 use Rattle.std.specs.Prelude.{None, IsSome, IfSome, IsSomeAnd, Result, Ok, Err, length, take}
 use Rattle.std.specs.Prelude.{slice_get, slice_index_or, ◌==◌}
 use Rattle.std.specs.List.{All}
@@ -13,6 +14,9 @@ use Rattle.scq_lines.specs.Exports.{lines_of}
 use Rattle.scq_self.specs.Exports.{self_summary}
 use Rattle.scq_judge.specs.Exports.{AreSoundBefore, IsJudged, IsCause, AreQuiet, AreReadUntil}
 use Rattle.scq_judge.specs.Exports.{AreReadWhole}
+use Rattle.scq_judge.specs.declared.finding.Finding.{Finding}
+use Rattle.scq_judge.specs.declared.finding.Finding.TheVariants as says
+use Rattle.scq_judge.specs.declared.judging.Judged.{Judged}
 use Rattle.scq_judge.specs.declared.judging.JudgeFault.{JudgeFault}
 use Rattle.scq_judge.specs.declared.judging.JudgeFault.TheVariants as judge
 use Rattle.scq_stages.specs.Exports.{one_thread_stage_output}
@@ -32,7 +36,8 @@ use Rattle.scq_service.specs.declared.fault.Fault.TheVariants.{Words, OpenFault,
 use Rattle.scq_service.specs.declared.fault.Fault.TheVariants.{TooLarge, WriteFault, BadLine}
 use Rattle.scq_service.specs.declared.fault.Fault.TheVariants.{NotEnabled, Unlawful, Unfinished}
 use Rattle.scq_service.specs.declared.fault.Fault.TheVariants.{BadLineOf, SharedOf, TwoRunsOf}
-use Rattle.scq_service.specs.declared.fault.Fault.TheVariants.{UnlawfulOf, NoMemory}
+use Rattle.scq_service.specs.declared.fault.Fault.TheVariants.{UnlawfulOf, AspectFails, NotTested}
+use Rattle.scq_service.specs.declared.fault.Fault.TheVariants.{NoMemory}
 
 -- a count or what is visible of an object, before a call and after it
 pub record Change (A : Type 0) : Type 0 where
@@ -195,6 +200,8 @@ ReadsOver size src names got r (Some (BadLineOf file line)) = ⊥
 ReadsOver size src names got r (Some (SharedOf what file line g m)) = ⊥
 ReadsOver size src names got r (Some (TwoRunsOf file n g s)) = ⊥
 ReadsOver size src names got r (Some (UnlawfulOf file line)) = ⊥
+ReadsOver size src names got r (Some AspectFails) = ⊥
+ReadsOver size src names got r (Some NotTested) = ⊥
 ReadsOver size src names got r (Some (Words fault)) = ⊥
 
 -- how a run over files of these names ends: each was read and the text written, or, where out
@@ -322,9 +329,9 @@ pub record HaveAll {S : Type 0} (names : List (List ℕ)) (r : Inputs S) : Type 
 -- what recordings of files with these names tell of queues with this room, where that is known,
 -- meets P, where each source told its own when it was got
 abbrev pub ReportMeets : {S : Type 0} → (S → Option (List ℕ)) → List (List ℕ) → Option ℕ → List S
-    → (List ℕ → Type 0) → Type 0
+    → (Judged → Type 0) → Type 0
 ReportMeets left names room got P =
-    IfTold left got (λ contents. (text : List ℕ) × IsJudged names room contents text × P text)
+    IfTold left got (λ contents. (judged : Judged) × IsJudged names room contents judged × P judged)
 
 -- what was asked for before this fault: the files of all names where it is of several files, or of
 -- the merged history. Where it is of one file each that was asked for was there; that its own was
@@ -352,26 +359,64 @@ pub record JudgeMissesFile {S : Type 0} (src : SourceOf S) (names : List (List �
   pub sound : IfTold src.left got (λ contents. AreSoundBefore (length names == 1) contents file)
   pub read : r.read ≡ 0
 
--- how a run over recordings of these names ends. With its report every source was read to its end,
--- and no read failed
-abbrev pub EndsJudged : {S : Type 0} → SourceOf S → Option ℕ → List (List ℕ) → List S → Inputs S
-    → Wrote → Option Fault → Type 0
-EndsJudged src room names got r w None =
-    HaveAll names r × AreReadWhole src.faults src.ends src.left (length names) got r.sources
-    × IsUnchanged w.faults
-    × ReportMeets src.left names room got (λ text. w.written.new ≡ written_with w.written.old text)
-EndsJudged src room names got r w (Some WriteFault) =
-    HaveAll names r × AreReadWhole src.faults src.ends src.left (length names) got r.sources
-    × Rose w.faults.old w.faults.new
-    × ReportMeets src.left names room got (λ text. WrotePart w.written.old w.written.new text)
-EndsJudged src room names got r w (Some (OpenFault file)) =
-    JudgeMissesFile src names got r file × IsUnwritten w
-EndsJudged src room names got r w (Some NoMemory) =
+-- at which fault a run over recordings of these names ends that made no report of them
+abbrev pub EndsUnjudged : {S : Type 0} → SourceOf S → List (List ℕ) → List S → Inputs S → Fault
+    → Type 0
+EndsUnjudged src names got r (OpenFault file) = JudgeMissesFile src names got r file
+EndsUnjudged src names got r NoMemory =
     (length r.sources ≤ length names) × AreQuiet src.faults got r.sources × (r.read ≡ 0)
-    × IsUnwritten w
-EndsJudged src room names got r w (Some fault) =
-    ((refused : JudgeFault) × (fault ≡ fault_of_judge refused)
-    × IsRefusedBy src names got r refused) × IsUnwritten w
+EndsUnjudged src names got r fault =
+    (refused : JudgeFault) × (fault ≡ fault_of_judge refused) × IsRefusedBy src names got r refused
+
+-- how a run ends whose report was written, by the worst that a line of it says: a strict one with a
+-- fault where a line fails, or none does and one isn't tested
+abbrev pub end_of_report : Bool → Finding → Option Fault
+end_of_report true says.Fails = Some AspectFails
+end_of_report true says.NotTested = Some NotTested
+end_of_report strict worst = None
+
+-- every source was read to its end, no read failed, and the whole report was written, which makes
+-- the run end so
+pub record WroteReport {S : Type 0} (src : SourceOf S) (room : Option ℕ) (strict : Bool)
+    (names : List (List ℕ)) (got : List S) (r : Inputs S) (w : Wrote) (end : Option Fault)
+    : Type 0 where
+  pub all : HaveAll names r
+  pub whole : AreReadWhole src.faults src.ends src.left (length names) got r.sources
+  pub faults : IsUnchanged w.faults
+  pub report : ReportMeets src.left names room got (λ judged.
+      (w.written.new ≡ written_with w.written.old judged.text)
+      × (end ≡ end_of_report strict judged.worst))
+
+-- so, but that a write failed behind a front of the report
+pub record WroteReportPart {S : Type 0} (src : SourceOf S) (room : Option ℕ)
+    (names : List (List ℕ)) (got : List S) (r : Inputs S) (w : Wrote) : Type 0 where
+  pub all : HaveAll names r
+  pub whole : AreReadWhole src.faults src.ends src.left (length names) got r.sources
+  pub rose : Rose w.faults.old w.faults.new
+  pub report : ReportMeets src.left names room got (λ judged.
+      WrotePart w.written.old w.written.new judged.text)
+
+-- For private calls: the report was written, which makes the run end so, or a write failed behind a
+-- front of it
+abbrev pub IsWritten : Bool → Judged → Wrote → Option Fault → Type 0
+IsWritten strict made w end =
+    ((w.written.new ≡ written_with w.written.old made.text) × IsUnchanged w.faults
+    × (end ≡ end_of_report strict made.worst))
+    ⊎ ((end ≡ Some WriteFault) × Rose w.faults.old w.faults.new
+    × WrotePart w.written.old w.written.new made.text)
+
+-- how a run over recordings of these names ends
+abbrev pub EndsJudged : {S : Type 0} → SourceOf S → Option ℕ → Bool → List (List ℕ) → List S
+    → Inputs S → Wrote → Option Fault → Type 0
+EndsJudged src room strict names got r w None = WroteReport src room strict names got r w None
+EndsJudged src room strict names got r w (Some AspectFails) =
+    (strict ≡ true) × WroteReport src room strict names got r w (Some AspectFails)
+EndsJudged src room strict names got r w (Some NotTested) =
+    (strict ≡ true) × WroteReport src room strict names got r w (Some NotTested)
+EndsJudged src room strict names got r w (Some WriteFault) =
+    WroteReportPart src room names got r w
+EndsJudged src room strict names got r w (Some fault) =
+    EndsUnjudged src names got r fault × IsUnwritten w
 
 -- nothing was got, and nothing that was asked for was missing, but where the count of misses stands
 -- still
@@ -393,7 +438,7 @@ EndsAs src (Ok (generated a)) got r w end =
     NoSourceCame r × EndsWithoutFiles (self_summary a.seed a.lines) w end
 EndsAs src (Ok (judged a)) got r w end =
     HasGotSources src a.files got r
-    × EndsJudged src a.room a.files got r w end
+    × EndsJudged src a.room a.strict a.files got r w end
 EndsAs src (Ok (whole a)) got r w end =
     EndsWhole a.command src a.file got r w end
 EndsAs src (Ok (staged a)) got r w end =

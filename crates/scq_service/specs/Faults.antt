@@ -15,7 +15,8 @@ use Rattle.scq_service.specs.declared.fault.Fault.TheVariants.{Words, OpenFault,
 use Rattle.scq_service.specs.declared.fault.Fault.TheVariants.{TooLarge, WriteFault, BadLine}
 use Rattle.scq_service.specs.declared.fault.Fault.TheVariants.{NotEnabled, Unlawful, Unfinished}
 use Rattle.scq_service.specs.declared.fault.Fault.TheVariants.{BadLineOf, SharedOf, TwoRunsOf}
-use Rattle.scq_service.specs.declared.fault.Fault.TheVariants.{UnlawfulOf, NoMemory}
+use Rattle.scq_service.specs.declared.fault.Fault.TheVariants.{UnlawfulOf, AspectFails, NotTested}
+use Rattle.scq_service.specs.declared.fault.Fault.TheVariants.{NoMemory}
 use Rattle.scq_outside.specs.declared.read_all_fault.ReadAllFault.{ReadAllFault}
 use Rattle.scq_outside.specs.declared.read_all_fault.ReadAllFault.TheVariants as whole
 use Rattle.scq_check.specs.declared.history.HistoryFault.{HistoryFault}
@@ -43,6 +44,8 @@ status_of_fault (BadLineOf file line) = 8
 status_of_fault (SharedOf what file line other_file other_line) = 8
 status_of_fault (TwoRunsOf file run other_file other_run) = 8
 status_of_fault (UnlawfulOf file line) = 10
+status_of_fault AspectFails = 12
+status_of_fault NotTested = 13
 status_of_fault NoMemory = 5
 
 -- the status that the program ends with
@@ -126,6 +129,8 @@ fault_line (SharedOf what file line other_file other_line) =
 fault_line (TwoRunsOf file run other_file other_run) =
     run_line file run (codes ", ") ++ run_line other_file other_run (codes "\n")
 fault_line (UnlawfulOf file line) = place_line file line (codes ": event out of place\n")
+fault_line AspectFails = codes "an aspect fails\n"
+fault_line NotTested = codes "an aspect was not tested\n"
 fault_line NoMemory = codes "out of memory\n"
 
 -- a fault of the workers, where a payload may have `size` bytes

@@ -2,7 +2,20 @@
 use Rattle.std.specs.Prelude.{ℕ, ◌-◌, ◌/◌, ◌%◌, ◌||◌, ◌==◌, Bool, nat_lt, not, List, [], ◌∷◌}
 use Rattle.std.specs.Prelude.{◌++◌, Option, Some, None, Result, Ok, Err, codes, flat_map, slice_get}
 use Rattle.std.specs.Prelude.{if◌then◌else◌}
+use Rattle.std.specs.Option.{option_and_then}
 use Rattle.scq_judge.specs.Telling.{hex_digit}
+use Rattle.scq_judge.specs.declared.judging.JudgeFault.{JudgeFault}
+use Rattle.scq_judge.specs.declared.judging.JudgeFault.TheVariants as judge
+use Rattle.scq_outside.specs.declared.cause.Cause.{Cause}
+use Rattle.scq_outside.specs.declared.cause.Cause.TheVariants.{NotFound, PermissionDenied}
+use Rattle.scq_outside.specs.declared.cause.Cause.TheVariants.{NotADirectory, IsADirectory}
+use Rattle.scq_outside.specs.declared.cause.Cause.TheVariants.{FilesystemLoop, InvalidFilename}
+use Rattle.scq_outside.specs.declared.cause.Cause.TheVariants.{InvalidInput, StaleNetworkFileHandle}
+use Rattle.scq_outside.specs.declared.cause.Cause.TheVariants.{WouldBlock, ConnectionReset}
+use Rattle.scq_outside.specs.declared.cause.Cause.TheVariants.{TimedOut, BrokenPipe, StorageFull}
+use Rattle.scq_outside.specs.declared.cause.Cause.TheVariants.{QuotaExceeded, FileTooLarge}
+use Rattle.scq_outside.specs.declared.cause.Cause.TheVariants.{ReadOnlyFilesystem, ResourceBusy}
+use Rattle.scq_outside.specs.declared.cause.Cause.TheVariants.{OutOfMemory}
 use Rattle.scq_words.specs.Exports.{run, generated, judged, whole, staged, option_text}
 use Rattle.scq_words.specs.Exports.{is_command}
 use Rattle.scq_words.specs.Asked.{Asked}
@@ -13,7 +26,7 @@ use Rattle.scq_service.specs.Faults.{file_line}
 use Rattle.scq_service.specs.declared.fault.Fault.{Fault}
 use Rattle.scq_service.specs.declared.fault.Fault.TheVariants.{Words, OpenFault, ReadFault, TooLong}
 use Rattle.scq_service.specs.declared.fault.Fault.TheVariants.{TooLarge, BadLineOf, SharedOf}
-use Rattle.scq_service.specs.declared.fault.Fault.TheVariants.{TwoRunsOf, UnlawfulOf}
+use Rattle.scq_service.specs.declared.fault.Fault.TheVariants.{TwoRunsOf, UnlawfulOf, WriteFault}
 
 -- a byte that is written as it is: none of ASCII's control characters, nor the backslash
 abbrev pub is_plain : ℕ → Bool
@@ -98,6 +111,62 @@ fault_lines run_alone words names (TwoRunsOf file number other_file other_number
 fault_lines run_alone words names (UnlawfulOf file line) = name_line names file
 fault_lines run_alone words names _ = []
 
+-- what the source of a file says that its last read failed by
+abbrev pub source_cause : {S : Type 0} → (S → Option Cause) → List S → ℕ → Option Cause
+source_cause cause sources file = option_and_then cause (slice_get sources (file - 1))
+
+-- what the object that a run ended by says of it: the files, where one was not got; the source of a
+-- file, where a read failed; the sink, where a write did
+abbrev pub cause_told : {S : Type 0} → (S → Option Cause) → List S → Option Cause → Option Cause
+    → Option Fault → Option Cause
+cause_told cause sources files sink (Some (OpenFault file)) = files
+cause_told cause sources files sink (Some (ReadFault file)) = source_cause cause sources file
+cause_told cause sources files sink (Some WriteFault) = sink
+cause_told cause sources files sink end = None
+
+-- what the source of a recording says, where this is a read of it that failed
+abbrev pub cause_of_read : Option Cause → JudgeFault → Option Cause
+cause_of_read cause (judge.ReadFault file) = cause
+cause_of_read cause fault = None
+
+-- what the sink of a report says, where a write to it failed
+abbrev pub cause_of_write : Option Cause → Option Fault → Option Cause
+cause_of_write cause (Some WriteFault) = cause
+cause_of_write cause end = None
+
+-- the words of a cause
+abbrev pub cause_words : Cause → List ℕ
+cause_words NotFound = codes "not found"
+cause_words PermissionDenied = codes "permission denied"
+cause_words NotADirectory = codes "not a directory"
+cause_words IsADirectory = codes "a directory"
+cause_words FilesystemLoop = codes "filesystem loop"
+cause_words InvalidFilename = codes "invalid filename"
+cause_words InvalidInput = codes "invalid input"
+cause_words StaleNetworkFileHandle = codes "stale network file handle"
+cause_words WouldBlock = codes "operation would block"
+cause_words ConnectionReset = codes "connection reset"
+cause_words TimedOut = codes "timed out"
+cause_words BrokenPipe = codes "broken pipe"
+cause_words StorageFull = codes "no storage space"
+cause_words QuotaExceeded = codes "quota exceeded"
+cause_words FileTooLarge = codes "file too large"
+cause_words ReadOnlyFilesystem = codes "read-only filesystem"
+cause_words ResourceBusy = codes "resource busy"
+cause_words OutOfMemory = codes "out of memory"
+
+-- `cause is WORDS`, where it is known
+abbrev pub cause_line : Option Cause → List ℕ
+cause_line None = []
+cause_line (Some cause) = is_line (codes "cause") (cause_words cause)
+
+-- the lines behind that of a fault, with its cause
+abbrev pub caused_lines : Bool → List (List ℕ) → List (List ℕ) → Option Cause → Fault → List ℕ
+caused_lines run_alone words names cause fault =
+    fault_lines run_alone words names fault ++ cause_line cause
+
 -- the same by what is asked; `run_alone` says that no other command is understood
-abbrev pub lines_behind : Bool → List (List ℕ) → Result Asked WordsFault → Fault → List ℕ
-lines_behind run_alone words asked fault = fault_lines run_alone words (files_asked asked) fault
+abbrev pub lines_behind : Bool → List (List ℕ) → Result Asked WordsFault → Option Cause → Fault
+    → List ℕ
+lines_behind run_alone words asked cause fault =
+    caused_lines run_alone words (files_asked asked) cause fault

@@ -75,6 +75,10 @@ pub enum Fault {
         file: u32,
         line: u32,
     },
+    /// A line of the report, which was written, fails.
+    AspectFails,
+    /// A line of the report, which was written, says `not tested`, and none fails.
+    NotTested,
     NoMemory,
 }
 
@@ -97,6 +101,8 @@ impl Fault {
             Fault::NotEnabled { .. } => 9,
             Fault::Unlawful { .. } | Fault::UnlawfulOf { .. } => 10,
             Fault::Unfinished { .. } => 11,
+            Fault::AspectFails => 12,
+            Fault::NotTested => 13,
         }
     }
 }

@@ -1,15 +1,16 @@
-//! The lines behind a fault's line, which name the files that it numbers, and say what was tested
-//! of the words. They take no memory.
+//! The lines behind a fault's line, which name the files that it numbers, say what was tested of
+//! the words, and tell the system's cause. They take no memory.
 ghost use Rattle.std.specs.Prelude.{◌≡◌, ◌<◌, ◌++◌, [], codes, map, string_bytes};
 ghost use Rattle.scq_judge.specs.Telling.{hex_digit};
 ghost use Rattle.scq_service.specs.Exports.{is_plain, file_line, fault_line, shown};
 ghost use Rattle.scq_service.specs.Exports.{name_line, shown_byte, HasWritten};
 ghost use Rattle.scq_service.specs.Exports.{command_line, fault_lines, is_line, option_line};
 ghost use Rattle.scq_service.specs.Exports.{text_is, word_line, words_lines};
+ghost use Rattle.scq_service.specs.Exports.{cause_line, cause_words, caused_lines};
 
 use crate::Fault;
 use crate::reporting::{write_about, write_fault, write_part};
-use scq_outside::{Failed, Sink};
+use scq_outside::{Cause, Failed, Sink};
 use scq_words::{WordsFault, is_command, option_text};
 use std::slice;
 
@@ -42,14 +43,31 @@ pub(crate) fn report_named<K: Sink>(
     run_alone: bool,
     words: &[String],
     names: &[String],
+    cause: Option<Cause>,
     fault: &Fault,
 ) -> Result<(), Failed>
     ensures { HasWritten K.Sink sink.old sink.new (fault_line fault.now
-        ++ fault_lines run_alone (map string_bytes words.now) (map string_bytes names.now)
+        ++ caused_lines run_alone (map string_bytes words.now) (map string_bytes names.now) cause
         fault.now) result }
 {
     write_fault(sink, fault)?;
-    write_behind(sink, run_alone, words, names, fault)
+    write_caused(sink, run_alone, words, names, cause, fault)
+}
+
+fn write_caused<K: Sink>(
+    sink: &mut K,
+    run_alone: bool,
+    words: &[String],
+    names: &[String],
+    cause: Option<Cause>,
+    fault: &Fault,
+) -> Result<(), Failed>
+    ensures { HasWritten K.Sink sink.old sink.new
+        (caused_lines run_alone (map string_bytes words.now) (map string_bytes names.now) cause
+        fault.now) result }
+{
+    write_behind(sink, run_alone, words, names, fault)?;
+    write_cause(sink, cause)
 }
 
 fn write_behind<K: Sink>(
@@ -86,6 +104,8 @@ fn write_behind<K: Sink>(
             ..
         } => write_both(sink, names, *file, *other_file),
         Fault::UnlawfulOf { file, .. } => write_name(sink, names, *file),
+        Fault::AspectFails => Ok(()),
+        Fault::NotTested => Ok(()),
         Fault::NoMemory => Ok(()),
     }
 }
@@ -149,6 +169,41 @@ fn write_option<K: Sink>(
     match option_text(words, option) {
         Some(text) => write_is(sink, name, text),
         None => Ok(()),
+    }
+}
+
+/// Writes what the system says of a fault, where it is known.
+fn write_cause<K: Sink>(sink: &mut K, cause: Option<Cause>) -> Result<(), Failed>
+    ensures { HasWritten K.Sink sink.old sink.new (cause_line cause) result }
+{
+    match cause {
+        Some(cause) => write_is(sink, b"cause", cause_words(cause)),
+        None => Ok(()),
+    }
+}
+
+fn cause_words(cause: Cause) -> &'static [u8]
+    ensures { result.now ≡ cause_words cause }
+{
+    match cause {
+        Cause::NotFound => b"not found",
+        Cause::PermissionDenied => b"permission denied",
+        Cause::NotADirectory => b"not a directory",
+        Cause::IsADirectory => b"a directory",
+        Cause::FilesystemLoop => b"filesystem loop",
+        Cause::InvalidFilename => b"invalid filename",
+        Cause::InvalidInput => b"invalid input",
+        Cause::StaleNetworkFileHandle => b"stale network file handle",
+        Cause::WouldBlock => b"operation would block",
+        Cause::ConnectionReset => b"connection reset",
+        Cause::TimedOut => b"timed out",
+        Cause::BrokenPipe => b"broken pipe",
+        Cause::StorageFull => b"no storage space",
+        Cause::QuotaExceeded => b"quota exceeded",
+        Cause::FileTooLarge => b"file too large",
+        Cause::ReadOnlyFilesystem => b"read-only filesystem",
+        Cause::ResourceBusy => b"resource busy",
+        Cause::OutOfMemory => b"out of memory",
     }
 }
 

@@ -1,12 +1,14 @@
-ghost use Rattle.std.specs.Prelude.{◌≡◌, Some, None};
+ghost use Rattle.std.specs.Prelude.{◌≡◌, Option, Some, None};
 ghost use Rattle.scq_service.specs.Faults.{status_of_fault, fault_of_work, fault_of_text};
 ghost use Rattle.scq_service.specs.Faults.{bytes_of_large, bytes_of_large_text};
+ghost use Rattle.scq_service.specs.Naming.{cause_told, source_cause};
+ghost use Rattle.scq_outside.specs.declared.cause.Cause.{Cause as TheCause};
 
 use crate::commands::MOST_TEXT;
 use crate::{Fault, LetGo, Sources};
 use scq_block::Frame;
 use scq_desk::EndFault;
-use scq_outside::ReadAllFault;
+use scq_outside::{Cause, ReadAllFault, Source};
 use scq_queue::Pass;
 use scq_stages::Staged;
 use scq_work::{Waited, Worked};
@@ -21,6 +23,9 @@ pub struct Outcome<S> {
     pub status: u8,
     /// There exactly where the status isn't 0.
     pub fault: Option<Fault>,
+    /// What the system says of a file that wasn't opened, or of a read or a write that failed, as
+    /// far as that is known.
+    pub cause: Option<Cause>,
     /// For contracts alone, the sources that were got, each as it was last.
     pub sources: LetGo<S>,
     /// How many bytes were read of a file that is too large; 0 where none is, and of `judge`.
@@ -43,12 +48,13 @@ pub struct Outcome<S> {
     pub got: Sources<S>,
 }
 
-impl<S: Drop> Outcome<S> {
+impl<S: Source> Outcome<S> {
     ghost use Rattle.scq_service.specs.Answers.{IsThereAt};
 
     pub(crate) fn whole(sources: Vec<S>) -> Outcome<S>
         ensures status { result.status ≡ 0 }
         ensures fault { result.fault ≡ None }
+        ensures cause { result.cause ≡ None }
         ensures sources { result.sources.items ≡ sources.items }
         ensures read { result.read ≡ 0 }
         ensures worked { result.worked ≡ None }
@@ -61,6 +67,7 @@ impl<S: Drop> Outcome<S> {
         Outcome {
             status: 0,
             fault: None,
+            cause: None,
             sources: LetGo::these(sources),
             read: 0,
             worked: None,
@@ -77,6 +84,7 @@ impl<S: Drop> Outcome<S> {
     pub(crate) fn answered(sources: Vec<S>, worked: Worked) -> Outcome<S>
         ensures status { result.status ≡ 0 }
         ensures fault { result.fault ≡ None }
+        ensures cause { result.cause ≡ None }
         ensures sources { result.sources.items ≡ sources.items }
         ensures read { result.read ≡ 0 }
         ensures worked { result.worked ≡ Some worked }
@@ -92,6 +100,7 @@ impl<S: Drop> Outcome<S> {
     pub(crate) fn finished(sources: Vec<S>, staged: Staged) -> Outcome<S>
         ensures status { result.status ≡ 0 }
         ensures fault { result.fault ≡ None }
+        ensures cause { result.cause ≡ None }
         ensures sources { result.sources.items ≡ sources.items }
         ensures read { result.read ≡ 0 }
         ensures worked { result.worked ≡ None }
@@ -103,10 +112,11 @@ impl<S: Drop> Outcome<S> {
         }
     }
 
-    /// The same end, but that a write failed.
-    pub(crate) fn unwritten(self) -> Outcome<S>
+    /// The same end, but that a write failed, of which the sink says this.
+    pub(crate) fn unwritten(self, cause: Option<Cause>) -> Outcome<S>
         ensures status { result.status ≡ 4 }
         ensures fault { result.fault ≡ Some Fault.WriteFault }
+        ensures cause { result.cause ≡ cause }
         ensures sources { result.sources ≡ self.sources }
         ensures read { result.read ≡ self.read }
         ensures worked { result.worked ≡ self.worked }
@@ -119,6 +129,7 @@ impl<S: Drop> Outcome<S> {
         Outcome {
             status: 4,
             fault: Some(Fault::WriteFault),
+            cause,
             ..self
         }
     }
@@ -127,6 +138,7 @@ impl<S: Drop> Outcome<S> {
     pub(crate) fn starved(self) -> Outcome<S>
         ensures status { result.status ≡ 5 }
         ensures fault { result.fault ≡ Some Fault.NoMemory }
+        ensures cause { result.cause ≡ None }
         ensures sources { result.sources ≡ self.sources }
         ensures read { result.read ≡ 0 }
         ensures worked { result.worked ≡ None }
@@ -139,6 +151,7 @@ impl<S: Drop> Outcome<S> {
         Outcome {
             status: 5,
             fault: Some(Fault::NoMemory),
+            cause: None,
             read: 0,
             worked: None,
             staged: None,
@@ -158,6 +171,7 @@ impl<S: Drop> Outcome<S> {
     ) -> Outcome<S>
         ensures status { result.status ≡ self.status }
         ensures fault { result.fault ≡ self.fault }
+        ensures cause { result.cause ≡ self.cause }
         ensures sources { result.sources ≡ self.sources }
         ensures read { result.read ≡ self.read }
         ensures worked { result.worked ≡ self.worked }
@@ -176,10 +190,12 @@ impl<S: Drop> Outcome<S> {
         }
     }
 
-    /// The same end of a run over these sources, which were these when they were got.
-    pub(crate) fn over(self, got: Sources<S>, sources: LetGo<S>) -> Outcome<S>
+    /// The same end of a run over these sources, which were these when they were got, and with this
+    /// cause.
+    pub(crate) fn over(self, got: Sources<S>, sources: LetGo<S>, cause: Option<Cause>) -> Outcome<S>
         ensures status { result.status ≡ self.status }
         ensures fault { result.fault ≡ self.fault }
+        ensures cause { result.cause ≡ cause }
         ensures sources { result.sources ≡ sources }
         ensures read { result.read ≡ self.read }
         ensures worked { result.worked ≡ self.worked }
@@ -189,15 +205,41 @@ impl<S: Drop> Outcome<S> {
         ensures got { result.got ≡ got }
     {
         Outcome {
+            cause,
             sources,
             got,
             ..self
         }
     }
 
+    /// The end at a fault that is of no object, or of the source whose read failed.
     pub(crate) fn at(sources: Vec<S>, fault: Fault) -> Outcome<S>
         ensures status { result.status ≡ status_of_fault fault }
         ensures fault { result.fault ≡ Some fault }
+        ensures cause { result.cause
+            ≡ cause_told S.cause sources.items None None (Some fault) }
+        ensures sources { result.sources.items ≡ sources.items }
+        ensures read { result.read ≡ 0 }
+        ensures worked { result.worked ≡ None }
+        ensures staged { result.staged ≡ None }
+        ensures left { (result.left ≡ None) × (result.passes ≡ None) × (result.frames ≡ None) }
+        ensures waited { result.waited ≡ None }
+        ensures got { result.got.items ≡ sources.items }
+    {
+        let cause = read_cause(&sources, &fault);
+        Outcome {
+            status: fault.status(),
+            fault: Some(fault),
+            cause,
+            ..Outcome::whole(sources)
+        }
+    }
+
+    /// The end at a file that wasn't got, of which the files say this.
+    pub(crate) fn unopened(sources: Vec<S>, file: u32, cause: Option<Cause>) -> Outcome<S>
+        ensures status { result.status ≡ status_of_fault (Fault.OpenFault file) }
+        ensures fault { result.fault ≡ Some (Fault.OpenFault file) }
+        ensures cause { result.cause ≡ cause }
         ensures sources { result.sources.items ≡ sources.items }
         ensures read { result.read ≡ 0 }
         ensures worked { result.worked ≡ None }
@@ -207,9 +249,8 @@ impl<S: Drop> Outcome<S> {
         ensures got { result.got.items ≡ sources.items }
     {
         Outcome {
-            status: fault.status(),
-            fault: Some(fault),
-            ..Outcome::whole(sources)
+            cause,
+            ..Outcome::at(sources, Fault::OpenFault { file })
         }
     }
 
@@ -217,6 +258,8 @@ impl<S: Drop> Outcome<S> {
     pub(crate) fn of_work(sources: Vec<S>, size: u32, fault: EndFault) -> Outcome<S>
         ensures status { result.status ≡ status_of_fault (fault_of_work size fault) }
         ensures fault { result.fault ≡ Some (fault_of_work size fault) }
+        ensures cause { (files sink : Option TheCause) → result.cause
+            ≡ cause_told S.cause sources.items files sink (Some (fault_of_work size fault)) }
         ensures sources { result.sources.items ≡ sources.items }
         ensures read { result.read ≡ bytes_of_large fault }
         ensures worked { IsThereAt result.fault result.worked }
@@ -256,6 +299,8 @@ impl<S: Drop> Outcome<S> {
     pub(crate) fn of_text(sources: Vec<S>, fault: ReadAllFault) -> Outcome<S>
         ensures status { result.status ≡ status_of_fault (fault_of_text fault) }
         ensures fault { result.fault ≡ Some (fault_of_text fault) }
+        ensures cause { (files sink : Option TheCause) → result.cause
+            ≡ cause_told S.cause sources.items files sink (Some (fault_of_text fault)) }
         ensures sources { result.sources.items ≡ sources.items }
         ensures read { result.read ≡ bytes_of_large_text fault }
         ensures worked { result.worked ≡ None }
@@ -277,5 +322,25 @@ impl<S: Drop> Outcome<S> {
             },
             ReadAllFault::NoMemory => Outcome::at(sources, Fault::NoMemory),
         }
+    }
+}
+
+/// What the source of the file whose read failed says of it, where a fault is one.
+fn read_cause<S: Source>(sources: &[S], fault: &Fault) -> Option<Cause>
+    ensures { result ≡ cause_told S.cause sources.now None None (Some fault.now) }
+{
+    match fault {
+        Fault::ReadFault { file } => source_cause(sources, *file),
+        _ => None,
+    }
+}
+
+/// What the source of this file says that its last read failed by.
+pub(crate) fn source_cause<S: Source>(sources: &[S], file: u32) -> Option<Cause>
+    ensures { result ≡ source_cause S.cause sources.now file }
+{
+    match sources.get((file as usize).saturating_sub(1)) {
+        Some(source) => source.cause(),
+        None => None,
     }
 }

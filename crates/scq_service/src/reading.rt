@@ -1,11 +1,13 @@
 //! The files of a run: their sources, and what the workers' end makes of it.
-ghost use Rattle.std.specs.Prelude.{◌≡◌, ◌+◌, ◌≤◌, [], Some, None, length, map, string_bytes};
+ghost use Rattle.std.specs.Prelude.{◌≡◌, ◌+◌, ◌≤◌, [], Option, Some, None, length, map};
 ghost use Rattle.std.specs.Prelude.{vec_len, vec_capacity, IfSome, IsErrOf, IsNone, IsSome};
-ghost use Rattle.std.specs.Prelude.{IsSomeAnd, OnSome};
+ghost use Rattle.std.specs.Prelude.{IsSomeAnd, OnSome, string_bytes};
 ghost use Rattle.scq_work.specs.Exports.{EndsWork};
 ghost use Rattle.scq_rest.specs.Exports.{HaveWaited};
 ghost use Rattle.scq_worker.specs.Exports.{takes_behind};
 ghost use Rattle.scq_service.specs.Exports.{HaveCome, HaveAllCome, TellsWork, ReadsOver, inputs_of};
+ghost use Rattle.scq_service.specs.Exports.{cause_told};
+ghost use Rattle.scq_outside.specs.declared.cause.Cause.{Cause as TheCause};
 
 use crate::{Fault, Outcome};
 use scq_desk::{End, EndFault};
@@ -57,6 +59,8 @@ pub fn run_work<R: Threads + Sync, F: Files, G: Gate + Sync>(
     ensures ends { ReadsOver job.now.longest F.Src.Source (map string_bytes names.now)
         result.got.items
         (inputs_of F.Files files.old files.new result.sources.items result.read) result.fault }
+    ensures caused { (sink : Option TheCause) → result.cause
+        ≡ cause_told F.Src.cause result.sources.items (F.cause files.new) sink result.fault }
     ensures leaves { IsNone result.waited }
 {
     let Ok(mut sources) = Vec::with_capacity(alloc, names.len()) else {
@@ -85,6 +89,8 @@ pub fn run_work_waiting<R: Threads + Wait + Sync, F: Files, G: Gate + Sync>(
     ensures ends { ReadsOver job.now.longest F.Src.Source (map string_bytes names.now)
         result.got.items
         (inputs_of F.Files files.old files.new result.sources.items result.read) result.fault }
+    ensures caused { (sink : Option TheCause) → result.cause
+        ≡ cause_told F.Src.cause result.sources.items (F.cause files.new) sink result.fault }
     ensures waited { IfSome result.waited (λ waited. IsSomeAnd result.passes (λ passes.
         HaveWaited (length job.now.topics + 1) (takes_behind job.now.most) job.now.workers
         passes.value.items waited.saw.items waited.rested.items)) }
@@ -128,6 +134,8 @@ fn conclude<F: Files>(
     ensures ends { ReadsOver job.now.longest F.Src.Source (map string_bytes names.now)
         result.got.items
         (inputs_of F.Files was.now.value files.now result.sources.items result.read) result.fault }
+    ensures caused { (sink : Option TheCause) → result.cause
+        ≡ cause_told F.Src.cause result.sources.items (F.cause files.now) sink result.fault }
     ensures waited { result.waited ≡ waited }
     ensures closed { (result.left ≡ end.left) × (result.passes ≡ end.passes)
         × (result.frames ≡ end.frames) }
@@ -147,7 +155,7 @@ fn conclude<F: Files>(
                 Outcome::answered(sources, worked).behind(got, left, passes, frames, waited)
             } else {
                 let file = count as u32 + 1;
-                Outcome::at(sources, Fault::OpenFault { file }).behind(
+                Outcome::unopened(sources, file, files.cause()).behind(
                     got, left, passes, frames, waited,
                 )
             }

@@ -65,6 +65,8 @@ pub(crate) fn write_fault<K: Sink>(sink: &mut K, fault: &Fault) -> Result<(), Fa
         Fault::UnlawfulOf { file, line } => {
             write_of_place(sink, *file, *line, b": event out of place\n")
         }
+        Fault::AspectFails => write_part(sink, b"an aspect fails\n"),
+        Fault::NotTested => write_part(sink, b"an aspect was not tested\n"),
         Fault::NoMemory => write_part(sink, b"out of memory\n"),
     }
 }

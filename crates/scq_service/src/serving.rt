@@ -5,7 +5,7 @@ ghost use Rattle.scq_service.specs.Answers.{IsSeenAt, LeavesNothing, StagedAs, W
 ghost use Rattle.scq_service.specs.Ends.{EndsAs, inputs_of, wrote_of};
 ghost use Rattle.scq_service.specs.Faults.{status_of};
 ghost use Rattle.scq_service.specs.Names.{names_in};
-ghost use Rattle.scq_service.specs.Naming.{fault_lines, lines_behind};
+ghost use Rattle.scq_service.specs.Naming.{cause_told, fault_lines, files_asked, lines_behind};
 ghost use Rattle.scq_service.specs.Reports.{asks_report, reported};
 ghost use Rattle.scq_service.specs.Serving.{EndsWellWhereCalm, IsOutcomeOf, HasReported};
 
@@ -24,11 +24,11 @@ use std::thread::Threads;
 /// isn't got, answers their messages, or takes them through stages, or answers those of a generated
 /// file, by as many workers as they ask for; or judges recordings, or checks or replays one text;
 /// and writes the output, or the summary, once it is whole. At a fault it writes its line to `err`,
-/// and behind it lines that name the files, or the word or the text, that it is about. That this
-/// takes no memory, and that a failing `err` changes nothing, no clause says. Workers share a queue
-/// of buffers. Those of `run` and `self` call the gate, on which no clause depends. What each
-/// worker sent, took and answered directly is reported to `err` too, of `run` at status 0, where it
-/// is asked for.
+/// and behind it lines that name the files, or the word or the text, that it is about, and tell the
+/// system's cause. That this takes no memory, and that a failing `err` changes nothing, no clause
+/// says. Workers share a queue of buffers. Those of `run` and `self` call the gate, on which no
+/// clause depends. What each worker sent, took and answered directly is reported to `err` too, of
+/// `run` at status 0, where it is asked for.
 pub fn serve<R: Threads + Sync, F: Files, K: Sink, G: Gate + Sync>(
     rt: &R,
     alloc: Global,
@@ -66,7 +66,12 @@ pub fn serve<R: Threads + Sync, F: Files, K: Sink, G: Gate + Sync>(
     ensures reported { HasReported (wrote_of K.Sink err.old err.new)
         (reported (asks_report (asked (map string_bytes words.now)))
         (lines_behind false (map string_bytes words.now)
-        (asked (map string_bytes words.now))) result.fault result.worked) }
+        (asked (map string_bytes words.now)) result.cause) result.fault result.worked) }
+
+    // The cause that stands there is what the object says that failed: of a file that wasn't got
+    // the files, of a read the source of its file, of a write `out`, each as it is at the end.
+    ensures caused { result.cause ≡ cause_told F.Src.cause result.sources.items (F.cause files.new)
+        (K.cause out.new) result.fault }
 {
     let Ran {
         outcome,
@@ -78,6 +83,7 @@ pub fn serve<R: Threads + Sync, F: Files, K: Sink, G: Gate + Sync>(
         false,
         words,
         names.as_slice(),
+        outcome.cause,
         &outcome.fault,
         &outcome.worked,
         report,
@@ -147,8 +153,10 @@ fn run<R: Threads + Sync, F: Files, K: Sink, G: Gate + Sync>(
         → result.report ≡ asks_report (asked (map string_bytes words.now)) }
     ensures named { IfSome result.outcome.fault (λ fault.
         fault_lines false (map string_bytes words.now) (names_in result.names) fault
-        ≡ lines_behind false (map string_bytes words.now) (asked (map string_bytes words.now))
-        fault) }
+        ≡ fault_lines false (map string_bytes words.now)
+        (files_asked (asked (map string_bytes words.now))) fault) }
+    ensures caused { result.outcome.cause ≡ cause_told F.Src.cause result.outcome.sources.items
+        (F.cause files.new) (K.cause out.new) result.outcome.fault }
 {
     match read_words(alloc, words) {
         Ok(Request::Run(asked)) => {
@@ -180,7 +188,7 @@ fn run<R: Threads + Sync, F: Files, K: Sink, G: Gate + Sync>(
         Ok(Request::Judge(asked)) => {
             let names = asked.files.as_slice();
             Ran::quiet(
-                run_judge(alloc, asked.room, names, files, out),
+                run_judge(alloc, asked.room, asked.strict, names, files, out),
                 Names::These(asked.files),
             )
         }

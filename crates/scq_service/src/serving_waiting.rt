@@ -6,6 +6,7 @@ ghost use Rattle.scq_service.specs.Exports.{IsSeenAt, LeavesNothing, WaitedAs, W
 ghost use Rattle.scq_service.specs.Exports.{inputs_of, wrote_of, status_of, asks_report, reported};
 ghost use Rattle.scq_service.specs.Exports.{EndsWellWhereCalm, WorkersWaited, IsOutcomeOf};
 ghost use Rattle.scq_service.specs.Exports.{HasReported, fault_lines, lines_behind, names_in};
+ghost use Rattle.scq_service.specs.Exports.{cause_told, files_asked};
 
 use crate::commands::run_files_waiting;
 use crate::job::job_of;
@@ -55,7 +56,12 @@ pub fn serve_waiting<R: Threads + Wait + Sync, F: Files, K: Sink, G: Gate + Sync
     ensures reported { HasReported (wrote_of K.Sink err.old err.new)
         (reported (asks_report (asked_for_run (map string_bytes words.now)))
         (lines_behind true (map string_bytes words.now)
-        (asked_for_run (map string_bytes words.now))) result.fault result.worked) }
+        (asked_for_run (map string_bytes words.now)) result.cause) result.fault result.worked) }
+
+    // The cause that stands there is what the object says that failed: of a file that wasn't got
+    // the files, of a read the source of its file, of a write `out`, each as it is at the end.
+    ensures caused { result.cause ≡ cause_told F.Src.cause result.sources.items (F.cause files.new)
+        (K.cause out.new) result.fault }
 {
     let Ran {
         outcome,
@@ -67,6 +73,7 @@ pub fn serve_waiting<R: Threads + Wait + Sync, F: Files, K: Sink, G: Gate + Sync
         true,
         words,
         names.as_slice(),
+        outcome.cause,
         &outcome.fault,
         &outcome.worked,
         report,
@@ -115,8 +122,10 @@ fn run_waiting<R: Threads + Wait + Sync, F: Files, K: Sink, G: Gate + Sync>(
         → result.report ≡ asks_report (asked_for_run (map string_bytes words.now)) }
     ensures named { IfSome result.outcome.fault (λ fault.
         fault_lines true (map string_bytes words.now) (names_in result.names) fault
-        ≡ lines_behind true (map string_bytes words.now)
-        (asked_for_run (map string_bytes words.now)) fault) }
+        ≡ fault_lines true (map string_bytes words.now)
+        (files_asked (asked_for_run (map string_bytes words.now))) fault) }
+    ensures caused { result.outcome.cause ≡ cause_told F.Src.cause result.outcome.sources.items
+        (F.cause files.new) (K.cause out.new) result.outcome.fault }
 {
     match read_run_words(alloc, words) {
         Ok(asked) => {

@@ -2,7 +2,7 @@ ghost use Rattle.std.specs.Prelude.{◌≡◌, ◌⊎◌, ◌≤◌, ◌++◌, d
 ghost use Rattle.std.specs.Prelude.{map, string_bytes};
 ghost use Rattle.scq_outside.specs.Exports.{Rose};
 ghost use Rattle.scq_service.specs.Reports.{counts_line, directs_in, workers_report, reported};
-ghost use Rattle.scq_service.specs.Naming.{fault_lines};
+ghost use Rattle.scq_service.specs.Naming.{caused_lines};
 ghost use Rattle.scq_service.specs.Reports.{worker_line};
 ghost use Rattle.scq_service.specs.Writing.{written_with, WrotePart};
 
@@ -11,7 +11,7 @@ use crate::naming::report_named;
 use crate::writing::write_all;
 use itoa::Buffer;
 use scq_collect::Answers;
-use scq_outside::{Failed, Sink};
+use scq_outside::{Cause, Failed, Sink};
 use scq_queue::Counts;
 use scq_work::Worked;
 
@@ -51,6 +51,7 @@ pub fn report_run<K: Sink>(
     run_alone: bool,
     words: &[String],
     names: &[String],
+    cause: Option<Cause>,
     fault: &Option<Fault>,
     worked: &Option<Worked>,
     asks: bool,
@@ -58,14 +59,14 @@ pub fn report_run<K: Sink>(
     ensures reported { Rose (K.faults sink.old) (K.faults sink.new)
         ⊎ (K.written sink.new
         ≡ written_with (K.written sink.old)
-        (reported asks (fault_lines run_alone (map string_bytes words.now)
-        (map string_bytes names.now)) fault.now worked.now)) }
+        (reported asks (caused_lines run_alone (map string_bytes words.now)
+        (map string_bytes names.now) cause) fault.now worked.now)) }
     ensures front { WrotePart (K.written sink.old) (K.written sink.new)
-        (reported asks (fault_lines run_alone (map string_bytes words.now)
-        (map string_bytes names.now)) fault.now worked.now) }
+        (reported asks (caused_lines run_alone (map string_bytes words.now)
+        (map string_bytes names.now) cause) fault.now worked.now) }
 {
     if let Some(fault) = fault {
-        let _ = report_named(sink, run_alone, words, names, fault);
+        let _ = report_named(sink, run_alone, words, names, cause, fault);
         return;
     }
     if let Some(worked) = worked

@@ -1,6 +1,6 @@
 -- What everything above uses of the reset value.
 use Rattle.std.proofs.Common.{ℕ, ◌+◌, ◌^◌, ◌<◌, ◌≤◌, arith, pow_mono}
-use Rattle.scq_word.specs.Exports.{n_of, slots_of, reset_value}
+use Rattle.scq_word.specs.Exports.{n_of, slots_of, reset_value, most_order}
 
 -- it reaches over the window
 pub reset_covers : (order seats : ℕ) → 1 ≤ order → n_of order + 1 ≤ reset_value order seats
@@ -13,6 +13,6 @@ unfolding reset_value
 reset_reaches order seats = omega arith
 
 -- and is small
-pub reset_small : (order seats : ℕ) → order ≤ 12 → seats ≤ 4096 → reset_value order seats < 2 ^ 16
+pub reset_small : (order seats : ℕ) → order ≤ most_order → seats ≤ 4096 → reset_value order seats < 2 ^ 18
 unfolding reset_value
-reset_small order seats few low = let high : 2 ^ order ≤ 2 ^ 12 = pow_mono few in omega arith
+reset_small order seats few low = let high : 2 ^ order ≤ 2 ^ most_order = pow_mono few in omega arith

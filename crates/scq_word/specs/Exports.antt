@@ -8,5 +8,6 @@ unfoldable pub use Rattle.scq_word.specs.Bounds.{reset_value}
 pub use Rattle.scq_word.specs.Bounds.{ticket_bound, limit_for}
 pub use Rattle.scq_word.specs.Entries.{safe_bit, index_bits, word_of, index_unless_mark, entry_in}
 pub use Rattle.scq_word.specs.Entries.{HasOwnIndex, IsIndexOrMark, rank_within, rank_of}
+pub use Rattle.scq_word.specs.Most.{most_order, most_topics, most_rings, most_run_order}
 pub use Rattle.scq_word.specs.Ranges.{IsOutside}
 pub use Rattle.scq_word.specs.Written.{rewritten}

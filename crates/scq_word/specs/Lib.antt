@@ -3,6 +3,7 @@ pub mod Words
 pub mod Tickets
 pub mod Bounds
 pub mod Entries
+pub mod Most
 pub mod Ranges
 pub mod Written
 pub mod Exports

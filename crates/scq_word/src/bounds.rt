@@ -3,6 +3,7 @@
 
 ghost use Rattle.std.specs.Prelude.{◌≡◌, ℕ, ◌^◌, ◌<◌, ◌↔◌, IfSome, IsNone};
 ghost use Rattle.scq_word.specs.Bounds.{reset_value, limit_for};
+ghost use Rattle.scq_word.specs.Most.{most_limit_order};
 ghost use Rattle.scq_word.specs.Ranges.{IsWithin};
 
 use crate::shape::Shape;
@@ -23,11 +24,11 @@ pub(crate) fn reset_value(shape: Shape, seats: u32) -> u64
 }
 
 /// The limit with which so many puts on a ring never meet `Spent`, those of all seats together; on
-/// ring 0 the n opening puts are in it beside them. The order is in 1..=12 and the seats in
-/// 1..=4096. None exactly where it would be past `2^60`, the greatest limit of a setup.
+/// ring 0 the n opening puts are in it beside them. The order is in `1..=MOST_LIMIT_ORDER` and the
+/// seats in 1..=4096. None exactly where it would be past `2^60`, the greatest limit of a setup.
 #[tactic(auto, unfolding(crate::specs::Bounds::reset_value))]
 pub fn limit_for(order: u32, seats: u32, puts: u64) -> Option<u64>
-    requires order { IsWithin 1 12 order }
+    requires order { IsWithin 1 most_limit_order order }
     requires seats { IsWithin 1 4096 seats }
     ensures some { IfSome result (λ limit. limit ≡ limit_for order seats puts) }
     ensures none { IsNone result ↔ 2 ^ 60 < limit_for order seats puts }

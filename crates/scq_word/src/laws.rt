@@ -3,7 +3,7 @@
 
 ghost use Rattle.std.specs.Prelude.{◌≡◌, ℕ, ◌+◌, ◌-◌, ◌%◌, ◌^◌, ◌<◌, ◌≤◌, ◌↔◌, bit_or};
 ghost use Rattle.scq_word.specs.Exports.{n_of, slots_of, slot_of, reset_value, packed, cycle_in};
-ghost use Rattle.scq_word.specs.Exports.{safe_in, mark_of};
+ghost use Rattle.scq_word.specs.Exports.{safe_in, mark_of, most_order};
 
 /// A fetch_or of the mark consumes an entry: whatever the word was, it has no index afterwards, and
 /// the cycle and the safe bit that it had. Stated for words of every size, and for those of an
@@ -32,6 +32,6 @@ pub fn slots_are_one_to_one()
 pub fn resets_reach()
     ensures covers { (order seats : ℕ) → 1 ≤ order → n_of order + 1 ≤ reset_value order seats }
     ensures reaches { (order seats : ℕ) → slots_of order + seats ≤ reset_value order seats + 1 }
-    ensures small { (order seats : ℕ) → order ≤ 12 → seats ≤ 4096
-        → reset_value order seats < 2 ^ 16 }
+    ensures small { (order seats : ℕ) → order ≤ most_order → seats ≤ 4096
+        → reset_value order seats < 2 ^ 18 }
 {}

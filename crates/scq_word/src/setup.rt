@@ -3,23 +3,25 @@
 ghost use Rattle.std.specs.Prelude.{◌≡◌, ℕ, ◌*◌, ◌^◌, ◌<◌, ◌≤◌, ◌↔◌, ◌⊎◌, IsOk, IfOk, Err};
 ghost use Rattle.scq_word.specs.Sizes.{n_of};
 ghost use Rattle.scq_word.specs.Bounds.{reset_value};
+ghost use Rattle.scq_word.specs.Most.{most_order, most_rings};
 ghost use Rattle.scq_word.specs.Ranges.{IsWithin, IsOutside};
 
 use crate::bounds;
+use crate::most::MOST_RINGS;
 use crate::shape::Shape;
 use thiserror::Error;
 
 /// What rings are made with: `2^order` indices, so many rings, so many seats that make calls, and
-/// the limit of their tickets. Valid by its type: the order is in 1..=12, the rings in 1..=18, the
-/// seats in 1..=4096 whatever the order is, and the limit in `8n..=2^60`.
+/// the limit of their tickets. Valid by its type: the order is in `1..=MOST_ORDER`, the rings
+/// in `1..=MOST_RINGS`, the seats in 1..=4096 whatever the order is, and the limit in `8n..=2^60`.
 #[derive(Clone, Copy, Debug, PartialEq, Eq)]
 pub struct Setup {
     pub order: u32,
     pub rings: u32,
     pub seats: u32,
     pub limit: u64,
-    ghost order_in_range: { (1 ≤ order) × (order ≤ 12) },
-    ghost rings_in_range: { (1 ≤ rings) × (rings ≤ 18) },
+    ghost order_in_range: { (1 ≤ order) × (order ≤ most_order) },
+    ghost rings_in_range: { (1 ≤ rings) × (rings ≤ most_rings) },
     ghost seats_in_range: { (1 ≤ seats) × (seats ≤ 4096) },
     ghost limit_in_range: { (8 * n_of order ≤ limit) × (limit ≤ 2 ^ 60) },
 }
@@ -28,9 +30,9 @@ pub struct Setup {
 /// ones before it are not there.
 #[derive(Clone, Copy, Debug, PartialEq, Eq, Error)]
 pub enum SetupFault {
-    #[error("order is not in 1..12")]
+    #[error("order is not in 1..16")]
     BadOrder,
-    #[error("rings are not in 1..18")]
+    #[error("rings are not in 1..32")]
     BadRings,
     #[error("seats are not in 1..4096")]
     BadSeats,
@@ -43,26 +45,26 @@ impl Setup {
     /// that is out of range.
     pub fn new(order: u32, rings: u32, seats: u32, limit: u64) -> Result<Setup, SetupFault>
         ensures ok { IsOk result
-            ↔ (IsWithin 1 12 order × IsWithin 1 18 rings × IsWithin 1 4096 seats
+            ↔ (IsWithin 1 most_order order × IsWithin 1 most_rings rings × IsWithin 1 4096 seats
             × IsWithin (8 * n_of order) (2 ^ 60) limit) }
         ensures made { IfOk result (λ setup.
             (setup.order ≡ order) × (setup.rings ≡ rings) × (setup.seats ≡ seats)
             × (setup.limit ≡ limit)) }
 
-        ensures bad_order { (result ≡ Err SetupFault.BadOrder) ↔ IsOutside 1 12 order }
+        ensures bad_order { (result ≡ Err SetupFault.BadOrder) ↔ IsOutside 1 most_order order }
         ensures bad_rings { (result ≡ Err SetupFault.BadRings)
-            ↔ (IsWithin 1 12 order × IsOutside 1 18 rings) }
+            ↔ (IsWithin 1 most_order order × IsOutside 1 most_rings rings) }
         ensures bad_seats { (result ≡ Err SetupFault.BadSeats)
-            ↔ (IsWithin 1 12 order × IsWithin 1 18 rings
+            ↔ (IsWithin 1 most_order order × IsWithin 1 most_rings rings
             × IsOutside 1 4096 seats) }
         ensures bad_limit { (result ≡ Err SetupFault.BadLimit)
-            ↔ (IsWithin 1 12 order × IsWithin 1 18 rings
+            ↔ (IsWithin 1 most_order order × IsWithin 1 most_rings rings
             × IsWithin 1 4096 seats × IsOutside (8 * n_of order) (2 ^ 60) limit) }
     {
         let Some(shape) = Shape::new(order) else {
             return Err(SetupFault::BadOrder);
         };
-        if rings < 1 || rings > 18 {
+        if rings < 1 || rings > MOST_RINGS {
             return Err(SetupFault::BadRings);
         }
         if seats < 1 || seats > 4096 {
@@ -86,7 +88,7 @@ impl Setup {
         Shape::of(self.order)
     }
 
-    /// The number of rings, 1 to 18.
+    /// The number of rings, 1 to `MOST_RINGS`.
     pub fn rings(&self) -> u32
         ensures { result ≡ self.now.rings }
     {

@@ -4,11 +4,14 @@ ghost use Rattle.std.specs.Prelude.{◌≡◌, ℕ, ◌≤◌, ◌<◌, ◌+◌,
 ghost use Rattle.std.specs.Prelude.{IsNone};
 ghost use Rattle.scq_word.specs.Sizes.{n_of, slots_of};
 ghost use Rattle.scq_word.specs.Words.{mark_of};
+ghost use Rattle.scq_word.specs.Most.{most_order};
 ghost use Rattle.scq_word.specs.Ranges.{IsWithin, IsOutside};
 
-/// The order of a ring, 1 to 12 by its type: the ring queues the indices below `2^order`. With it
-/// stand numbers of it that calls need, worked out once: the bits of a slot, the mark, and how
-/// tickets are laid out in columns.
+use crate::most::MOST_ORDER;
+
+/// The order of a ring, 1 to `MOST_ORDER` by its type: the ring queues the indices below `2^order`.
+/// With it stand numbers of it that calls need, worked out once: the bits of a slot, the mark, and
+/// how tickets are laid out in columns.
 #[derive(Clone, Copy, Debug, PartialEq, Eq)]
 pub struct Shape {
     pub order: u32,
@@ -16,7 +19,7 @@ pub struct Shape {
     pub(crate) column_bits: u32,
     pub(crate) row_mask: u64,
     pub(crate) mark: u64,
-    ghost order_in_range: { (1 ≤ order) × (order ≤ 12) },
+    ghost order_in_range: { (1 ≤ order) × (order ≤ most_order) },
     ghost bits_are: { bits ≡ order + 1 },
     ghost columns_are: { column_bits ≡ bits - 3 },
     ghost rows_are: { row_mask ≡ 2 ^ (bits - 3) - 1 },
@@ -24,22 +27,22 @@ pub struct Shape {
 }
 
 impl Shape {
-    /// None exactly where the order is not in 1..=12.
+    /// None exactly where the order is not in `1..=MOST_ORDER`.
     pub fn new(order: u32) -> Option<Shape>
-        ensures within { IsSome result ↔ IsWithin 1 12 order }
-        ensures outside { IsNone result ↔ IsOutside 1 12 order }
+        ensures within { IsSome result ↔ IsWithin 1 most_order order }
+        ensures outside { IsNone result ↔ IsOutside 1 most_order order }
         ensures order { IfSome result (λ shape. shape.order ≡ order) }
     {
-        if order >= 1 && order <= 12 {
+        if order >= 1 && order <= MOST_ORDER {
             Some(Shape::of(order))
         } else {
             None
         }
     }
 
-    /// The shape of an order in 1..=12.
+    /// The shape of an order in `1..=MOST_ORDER`.
     pub(crate) fn of(order: u32) -> Shape
-        requires { (1 ≤ order) × (order ≤ 12) }
+        requires { (1 ≤ order) × (order ≤ most_order) }
         ensures { result.order ≡ order }
     {
         let bits = order + 1;

@@ -4,6 +4,7 @@ use Rattle.std.specs.Prelude.{◌==◌, ◌&&◌, nat_lt, nat_le, option_map, if
 use Rattle.std.specs.List.{All, position}
 use Rattle.std.proofs.lemmas.List.Elements.{All-map}
 use Rattle.std.specs.Option.{option_or}
+use Rattle.scq_word.specs.Exports.{most_run_order}
 use Rattle.scq_topics.specs.Exports.{entries_of, first_fault}
 use Rattle.scq_words.specs.Exports.{JudgeTexts, RunTexts, SelfTexts, StagesTexts, first_of_tests, judge_tests, refused_if, refused_names}
 use Rattle.scq_words.specs.Exports.{refused_topics, run_tests, self_tests, stages_tests, fault_outside, number_in, refused_outside}
@@ -53,14 +54,14 @@ judge-other t = or-other _ _ (outside-other 1 4294967295 Room t.room (λ e. cc))
 pub run-other : (t : RunTexts) → first_of_tests (run_tests t) ≢ Some NotUnderstood
 run-other t =
     or-other _ _ (outside-other 1 4096 Workers t.workers (λ e. cc))
-    (or-other _ _ (outside-other 1 12 Order t.order (λ e. cc))
+    (or-other _ _ (outside-other 1 most_run_order Order t.order (λ e. cc))
     (or-other _ _ (outside-other 1 65536 Size t.size (λ e. cc))
     (or-other _ _ (topics-other t.topics) (files-other 64 TooManyFiles t.files (λ e. cc)))))
 
 pub stages-other : (t : StagesTexts) → first_of_tests (stages_tests t) ≢ Some NotUnderstood
 stages-other t =
     or-other _ _ (outside-other 1 4096 Workers t.workers (λ e. cc))
-    (or-other _ _ (outside-other 1 12 Order t.order (λ e. cc))
+    (or-other _ _ (outside-other 1 most_run_order Order t.order (λ e. cc))
     (or-other _ _ (outside-other 1 65536 Size t.size (λ e. cc)) (files-other 64 TooManyFiles t.files (λ e. cc))))
 
 pub self-other : (t : SelfTexts) → first_of_tests (self_tests t) ≢ Some NotUnderstood

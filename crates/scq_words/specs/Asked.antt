@@ -7,6 +7,7 @@ use Rattle.std.specs.Option.{option_or}
 use Rattle.std.specs.Str.{bytes_eq}
 use Rattle.clap.specs.Words.{App, Row, all_of, first_of, matches_of}
 use Rattle.clap.specs.Faults.{fault_of}
+use Rattle.scq_word.specs.Exports.{most_run_order}
 use Rattle.scq_topics.specs.declared.kind.Kind.{Kind}
 use Rattle.scq_topics.specs.Exports.{declared_by, entries_of, first_fault}
 use Rattle.scq_words.specs.Commands.{run_app, stages_app, self_app, judge_app, text_app}
@@ -85,9 +86,11 @@ pub record SelfAsked : Type 0 where
   pub lines : ℕ
   pub workers : ℕ
 
--- what is asked of recordings, of queues that have room for so many values, where that is told
+-- what is asked of recordings, of queues that have room for so many values, where that is told, and
+-- whether how it ends is to tell the verdict
 pub record JudgeAsked : Type 0 where
   pub room : Option ℕ
+  pub strict : Bool
   pub files : List (List ℕ)
 
 -- what is asked of one whole file
@@ -130,6 +133,7 @@ pub record SelfTexts : Type 0 where
 -- those of `judge`
 pub record JudgeTexts : Type 0 where
   pub room : Option (List ℕ)
+  pub strict : Option (List ℕ)
   pub files : List (List ℕ)
 
 abbrev pub texts_of_run : Option (List ℕ) → Option (List ℕ) → Option (List ℕ) → Option (List ℕ)
@@ -178,7 +182,7 @@ abbrev pub numbers_tests : Option (List ℕ) → Option (List ℕ) → Option (L
     → List (Option WordsFault)
 numbers_tests workers order size =
     refused_outside 1 4096 Workers workers
-    ∷ refused_outside 1 12 Order order
+    ∷ refused_outside 1 most_run_order Order order
     ∷ refused_outside 1 65536 Size size
     ∷ []
 
@@ -270,12 +274,13 @@ asked_of_text command words = let rows = matches_of (text_app command) words in 
     ∷ refused_names (file ∷ []) ∷ []))
     (whole (record { command = text_command command rows; file = file }))
 
-abbrev pub texts_of_judge : Option (List ℕ) → List (List ℕ) → JudgeTexts
-texts_of_judge room files = record { room = room; files = files }
+abbrev pub texts_of_judge : Option (List ℕ) → Option (List ℕ) → List (List ℕ) → JudgeTexts
+texts_of_judge room strict files = record { room = room; strict = strict; files = files }
 
 abbrev pub judge_texts : List Row → JudgeTexts
 judge_texts rows =
-    texts_of_judge (first_of (codes "room") rows) (unwrap_or (all_of (codes "files") rows) [])
+    texts_of_judge (first_of (codes "room") rows) (first_of (codes "strict") rows)
+    (unwrap_or (all_of (codes "files") rows) [])
 
 -- those of `judge`
 abbrev pub judge_tests : JudgeTexts → List (Option WordsFault)
@@ -288,7 +293,7 @@ room_of None = None
 room_of (Some text) = Some (number_or 0 (Some text))
 
 abbrev pub judge_asked : JudgeTexts → JudgeAsked
-judge_asked t = record { room = room_of t.room; files = t.files }
+judge_asked t = record { room = room_of t.room; strict = is_given t.strict; files = t.files }
 
 unfoldable pub asked_of_judge : List (List ℕ) → Result Asked WordsFault
 asked_of_judge words = let t = judge_texts (matches_of judge_app words) in
@@ -338,7 +343,7 @@ abbrev pub self_of : SelfRequest → SelfAsked
 self_of r = record { seed = r.seed; lines = r.lines; workers = r.workers }
 
 abbrev pub judge_of : JudgeRequest → JudgeAsked
-judge_of r = record { room = r.room; files = map string_bytes r.files.items }
+judge_of r = record { room = r.room; strict = r.strict; files = map string_bytes r.files.items }
 
 abbrev pub text_of : TextRequest → TextAsked
 text_of r = record { command = r.command; file = string_bytes r.file }

@@ -1,6 +1,6 @@
 -- The commands as `clap` knows them: `run` and `stages` with options and files, `self` with
--- options, `judge` with an option and files, `check` and `replay` with one file, and `replay` with
--- a flag besides.
+-- options, `judge` with an option, a flag and files, `check` and `replay` with one file, and
+-- `replay` with a flag besides.
 use Rattle.std.specs.Prelude.{ℕ, List, [], ◌∷◌, Some, true, codes}
 use Rattle.clap.specs.Words.{App, Rule, new_app, new_rule, with_rule}
 use Rattle.scq_words.specs.declared.text_request.TextCommand.{TextCommand}
@@ -61,10 +61,11 @@ self_app =
     with_rules (plain_app (codes "self")) (required_rule (codes "seed")
     ∷ required_rule (codes "lines") ∷ option_rule (codes "workers") ∷ [])
 
--- recordings have an option, and files
+-- recordings have an option, a flag, and files
 abbrev pub judge_app : App
 judge_app =
-    with_rules (plain_app (codes "judge")) (option_rule (codes "room") ∷ files_rule ∷ [])
+    with_rules (plain_app (codes "judge")) (option_rule (codes "room") ∷ flag_rule (codes "strict")
+    ∷ files_rule ∷ [])
 
 -- the one file
 abbrev pub file_rule : Rule

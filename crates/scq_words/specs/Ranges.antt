@@ -4,6 +4,7 @@ use Rattle.std.specs.Prelude.{if◌then◌else◌}
 use Rattle.std.specs.List.{All}
 use Rattle.std.specs.Str.{bytes_eq}
 use Rattle.clap.specs.Words.{takes}
+use Rattle.scq_word.specs.Exports.{most_run_order}
 use Rattle.scq_words.specs.Commands.{run_app, stages_app, self_app, judge_app, text_app}
 use Rattle.scq_words.specs.Asked.{Asked, RunAsked, StagesAsked, SelfAsked, JudgeAsked, run}
 use Rattle.scq_words.specs.Asked.{generated, judged, whole, staged}
@@ -29,7 +30,7 @@ is_taken_for_run (command ∷ words) =
 
 -- the settings of a run are in their ranges, and each of its files has a name
 pub record IsRunInRange (a : RunAsked) : Type 0 where
-  pub order : (1 ≤ a.order) × (a.order ≤ 12)
+  pub order : (1 ≤ a.order) × (a.order ≤ most_run_order)
   pub workers : (1 ≤ a.workers) × (a.workers ≤ 4096)
   pub size : (1 ≤ a.size) × (a.size ≤ 65536)
   pub topics : length a.topics ≤ 16
@@ -38,7 +39,7 @@ pub record IsRunInRange (a : RunAsked) : Type 0 where
 
 -- those of stages are in the same ranges
 pub record IsStagesInRange (a : StagesAsked) : Type 0 where
-  pub order : (1 ≤ a.order) × (a.order ≤ 12)
+  pub order : (1 ≤ a.order) × (a.order ≤ most_run_order)
   pub workers : (1 ≤ a.workers) × (a.workers ≤ 4096)
   pub size : (1 ≤ a.size) × (a.size ≤ 65536)
   pub files : length a.files ≤ 64

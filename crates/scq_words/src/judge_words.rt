@@ -3,13 +3,15 @@ ghost use Rattle.std.specs.Prelude.{string_bytes, IfOk, IfSome, IsErrOf};
 ghost use Rattle.clap.specs.Words.{takes};
 ghost use Rattle.scq_words.specs.declared.fault.WordsFault.{WordsFault as TheFault};
 ghost use Rattle.scq_words.specs.Exports.{asked_of_judge, first_of_tests, judge_of, judge_tests};
-ghost use Rattle.scq_words.specs.Exports.{judged, room_of, texts_of_judge, judge_app, number_or};
+ghost use Rattle.scq_words.specs.Exports.{judge_asked, judged, room_of, texts_of_judge, judge_app};
+ghost use Rattle.scq_words.specs.Exports.{number_or};
 ghost use Rattle.scq_words.specs.Exports.{text_in, Answered, IsJudgeInRange};
 
 use crate::files::{MOST_RECORDINGS, files_of};
 use crate::number::optional_number;
 use crate::parsing::{judge_command, parse};
 use crate::request::JudgeRequest;
+use crate::run::is_given;
 use crate::{WordsError, WordsFault};
 use std::alloc::Global;
 
@@ -21,31 +23,35 @@ pub(crate) fn read_judge(alloc: Global, words: &[String]) -> Result<JudgeRequest
 {
     let matches = parse(judge_command(alloc), words)?;
     let room = matches.get_str("room");
+    let strict = matches.get_str("strict");
     let files = matches.get_strs("files").unwrap_or(&[]);
-    check_judge(alloc, room, files)
+    check_judge(alloc, room, strict, files)
 }
 
 /// Makes the tests in their order.
 fn check_judge(
     alloc: Global,
     room: Option<&str>,
+    strict: Option<&str>,
     files: &[&str],
 ) -> Result<JudgeRequest, WordsError>
-    ensures request { IfOk result (λ request.
-        (first_of_tests (judge_tests
-        (texts_of_judge (text_in room.entry) (map (λ name. name.now) files.now))) ≡ None)
-        × (room_of (text_in room.entry) ≡ (judge_of request).room)
-        × (map (λ name. name.now) files.now ≡ (judge_of request).files)) }
-    ensures refused { (fault : TheFault) → IsErrOf result (WordsError.Refused fault)
-        → first_of_tests
-        (judge_tests (texts_of_judge (text_in room.entry) (map (λ name. name.now) files.now)))
-        ≡ Some fault }
+    ensures request { let texts =
+        texts_of_judge (text_in room.entry) (text_in strict.entry)
+        (map (λ name. name.now) files.now) in
+        IfOk result (λ request.
+        (first_of_tests (judge_tests texts) ≡ None) × (judge_asked texts ≡ judge_of request)) }
+    ensures refused { let texts =
+        texts_of_judge (text_in room.entry) (text_in strict.entry)
+        (map (λ name. name.now) files.now) in
+        (fault : TheFault) → IsErrOf result (WordsError.Refused fault)
+        → first_of_tests (judge_tests texts) ≡ Some fault }
     ensures ranges { IfOk result (λ request. IsJudgeInRange (judge_of request)) }
 {
     let number = optional_number(room, 1, 1, u32::MAX, WordsFault::Room)?;
     let files = files_of(alloc, files, MOST_RECORDINGS, WordsFault::TooManyRecordings)?;
     Ok(JudgeRequest {
         room: room_given(room, number),
+        strict: is_given(strict),
         files,
     })
 }

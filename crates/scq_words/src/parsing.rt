@@ -65,7 +65,8 @@ pub fn judge_command<'a>(alloc: Global) -> Result<Command<'a>, AllocError>
     ensures { IfOk result (λ command. app_of command ≡ judge_app) }
 {
     let room = with(Ok(plain_command(alloc, "judge")), option(alloc, "room"));
-    with(room, files(alloc))
+    let strict = with(room, flag(alloc, "strict"));
+    with(strict, files(alloc))
 }
 
 /// A command that takes one file.

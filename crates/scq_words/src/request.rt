@@ -3,7 +3,7 @@ ghost use Rattle.std.specs.Prelude.{◌^◌, ◌<◌, ◌≤◌, vec_len};
 use crate::TextRequest;
 use scq_topics::Topics;
 
-/// What is asked of files. Workers are in `1..=4096`, the order in `1..=12`, the
+/// What is asked of files. Workers are in `1..=4096`, the order in `1..=MOST_RUN_ORDER`, the
 /// most bytes of a part in `1..=65536`, and there are 1 to 64 files, each with a name. `batch` asks
 /// that short parts share a buffer, and `report` for what each worker did.
 #[derive(Drop)]
@@ -39,10 +39,12 @@ pub struct SelfRequest {
 }
 
 /// Recordings to judge: 1 to 4,096 files, each with a name. Where `room` is given, each queue had
-/// room for so many values, from 1, and refused puts are judged too.
+/// room for so many values, from 1, and refused puts are judged too. `strict` asks that the run
+/// ends with a fault where a line of the report doesn't hold.
 #[derive(Drop)]
 pub struct JudgeRequest {
     pub room: Option<u32>,
+    pub strict: bool,
     pub files: Vec<String>,
     ghost few: { vec_len files ≤ 4096 },
 }

@@ -1,4 +1,5 @@
 ghost use Rattle.std.specs.Prelude.{◌≡◌, ◌≤◌, ◌^◌, IsSome};
+ghost use Rattle.scq_word.specs.Exports.{most_run_order};
 ghost use Rattle.scq_words.specs.Asked.{workers_or};
 ghost use Rattle.scq_words.specs.Numbers.{number_or, text_in};
 
@@ -7,7 +8,7 @@ const WORKERS: u32 = 4;
 
 /// How many workers there are: as many as are given; else 4, but no more than buffers.
 pub fn workers_of(text: Option<&str>, given: u32, order: u32) -> u32
-    requires small { order ≤ 12 }
+    requires small { order ≤ most_run_order }
     requires read { given ≡ number_or 0 (text_in text) }
     requires within { IsSome text → (1 ≤ given) × (given ≤ 4096) }
     ensures value { result ≡ workers_or order (text_in text.entry) }
@@ -21,7 +22,7 @@ pub fn workers_of(text: Option<&str>, given: u32, order: u32) -> u32
 
 /// How many buffers there are: `2^order`.
 fn buffers_of(order: u32) -> u32
-    requires { order ≤ 12 }
+    requires { order ≤ most_run_order }
     ensures value { result ≡ 2 ^ order }
     ensures some { 1 ≤ result }
 {

@@ -14,6 +14,7 @@ use Rattle.scq_frames.specs.declared.message.Message.{Message}
 use Rattle.scq_frames.specs.Exports.{Part, all_parts, part_of, parts_of}
 use Rattle.scq_frames.proofs.PayloadParts.{few-parts}
 use Rattle.scq_word.specs.declared.setup.Setup.{Setup}
+use Rattle.scq_word.specs.Exports.{most_run_order}
 use Rattle.scq_band.specs.Exports.{Identity}
 use Rattle.scq_files.specs.Exports.{AllWhole, AreDealt, AreGiven, own_of, most_parts, SourceOf}
 use Rattle.scq_files.specs.declared.desk.Desk.{Desk}
@@ -49,7 +50,7 @@ module _ {B Place S : Type 0} where
         d.worker.worker.starved d.worker.kept) desks
     pub setup : shared.setup ≡ c
     pub numbers : (w : ℕ) (d : Desk (Seated B Place) S) → w < length desks → (slice_index_or desks w d).worker.worker.pass.number ≡ w
-    pub order : c.order ≤ 12
+    pub order : c.order ≤ most_run_order
     pub rings : c.rings ≡ length topics + 2
     pub seats : c.seats ≡ length desks
     pub limit : c.limit ≡ 2 ^ 60

@@ -3,6 +3,7 @@ ghost use Rattle.scq_passes.specs.Exports.{IsJob};
 ghost use Rattle.scq_worker.specs.Opening.{most_together};
 
 use scq_topics::Topics;
+use scq_word::MOST_RUN_ORDER;
 
 /// How many bytes a payload may have.
 const LONGEST: u32 = 1 << 20;
@@ -30,8 +31,8 @@ pub struct Job {
 impl Job {
     ghost use Rattle.std.specs.Prelude.{◌≡◌, ◌^◌, ◌↔◌, IsNone, IfSome};
 
-    /// None exactly where the order isn't in 1 to 12, the size isn't in 1 to 65,536, or the workers
-    /// aren't in 1 to 4,096. Parts go together where `batch` says so.
+    /// None exactly where the order isn't in `1..=MOST_RUN_ORDER`, the size isn't in 1 to 65,536, or
+    /// the workers aren't in 1 to 4,096. Parts go together where `batch` says so.
     pub fn new(order: u32, size: u32, workers: u32, topics: Topics, batch: bool) -> Option<Job>
         ensures refused { IsNone result ↔ ¬ IsJob order size workers }
         ensures numbers { IfSome result (λ job. (job.order ≡ order) × (job.size ≡ size)
@@ -40,7 +41,7 @@ impl Job {
         ensures most { IfSome result (λ job. job.most ≡ most_together size batch) }
         ensures topics { IfSome result (λ job. job.topics ≡ topics) }
     {
-        if !(1..=12).contains(&order) || !(1..=65_536).contains(&size) {
+        if !(1..=MOST_RUN_ORDER).contains(&order) || !(1..=65_536).contains(&size) {
             return None;
         }
         if !(1..=4096).contains(&workers) {

@@ -6,7 +6,7 @@ ghost use Rattle.scq_collect.specs.Exports.{messages_to, part_answers, without_w
 ghost use Rattle.scq_collect.specs.Exports.{one_thread_output};
 ghost use Rattle.scq_rest.specs.Exports.{HaveWaited};
 ghost use Rattle.scq_worker.specs.Exports.{takes_behind};
-ghost use Rattle.scq_service.specs.Exports.{TellsWork, EndsOver, inputs_of, wrote_of};
+ghost use Rattle.scq_service.specs.Exports.{TellsWork, EndsOver, cause_told, inputs_of, wrote_of};
 
 use crate::reading::{run_work, run_work_waiting};
 use crate::writing::write_text;
@@ -36,6 +36,8 @@ pub fn run_files<R: Threads + Sync, F: Files, K: Sink, G: Gate + Sync>(
         (map string_bytes names.now) result.got.items
         (inputs_of F.Files files.old files.new result.sources.items result.read)
         (wrote_of K.Sink out.old out.new) result.fault }
+    ensures caused { result.cause ≡ cause_told F.Src.cause result.sources.items (F.cause files.new)
+        (K.cause out.new) result.fault }
     ensures leaves { IsNone result.waited }
 {
     let outcome = run_work(rt, alloc, job, names, files, gate);
@@ -46,7 +48,7 @@ pub fn run_files<R: Threads + Sync, F: Files, K: Sink, G: Gate + Sync>(
     match text {
         Ok(text) => match write_text(out, &text) {
             Ok(()) => outcome,
-            Err(Failed) => outcome.unwritten(),
+            Err(Failed) => outcome.unwritten(out.cause()),
         },
         Err(NoMemory) => outcome.starved(),
     }
@@ -69,6 +71,8 @@ pub fn run_files_waiting<R: Threads + Wait + Sync, F: Files, K: Sink, G: Gate + 
         (map string_bytes names.now) result.got.items
         (inputs_of F.Files files.old files.new result.sources.items result.read)
         (wrote_of K.Sink out.old out.new) result.fault }
+    ensures caused { result.cause ≡ cause_told F.Src.cause result.sources.items (F.cause files.new)
+        (K.cause out.new) result.fault }
     ensures waited { IfSome result.waited (λ waited. IsSomeAnd result.passes (λ passes.
         HaveWaited (length job.now.topics + 1) (takes_behind job.now.most) job.now.workers
         passes.value.items waited.saw.items waited.rested.items)) }
@@ -83,7 +87,7 @@ pub fn run_files_waiting<R: Threads + Wait + Sync, F: Files, K: Sink, G: Gate + 
     match text {
         Ok(text) => match write_text(out, &text) {
             Ok(()) => outcome,
-            Err(Failed) => outcome.unwritten(),
+            Err(Failed) => outcome.unwritten(out.cause()),
         },
         Err(NoMemory) => outcome.starved(),
     }

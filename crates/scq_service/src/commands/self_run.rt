@@ -1,5 +1,5 @@
 ghost use Rattle.std.specs.Prelude.{◌≡◌, ℕ, ◌+◌, ◌<◌, ◌≤◌, ◌^◌, [], ◌∷◌, IfOk, IfSome, IsSome};
-ghost use Rattle.std.specs.Prelude.{IsSomeAnd, length, map};
+ghost use Rattle.std.specs.Prelude.{IsSomeAnd, Option, length, map};
 ghost use Rattle.std.specs.List.{All};
 ghost use Rattle.std.specs.List.Sorted.{IsPermutation};
 ghost use Rattle.scq_collect.specs.Exports.{messages_to, part_answers, without_way, members_of};
@@ -9,6 +9,8 @@ ghost use Rattle.scq_work.specs.Exports.{HasWorked, NothingIsStranded};
 ghost use Rattle.scq_files.specs.Exports.{messages_in};
 ghost use Rattle.scq_service.specs.Answers.{TellsSelf};
 ghost use Rattle.scq_service.specs.Ends.{EndsWithoutFiles, wrote_of};
+ghost use Rattle.scq_service.specs.Naming.{cause_told};
+ghost use Rattle.scq_outside.specs.declared.cause.Cause.{Cause as TheCause};
 
 use crate::job::job_of;
 use crate::writing::write_all;
@@ -16,7 +18,7 @@ use crate::{Fault, Outcome};
 use scq_block::Frame;
 use scq_collect::merge;
 use scq_desk::End;
-use scq_outside::{Failed, PlainSource, Sink};
+use scq_outside::{Failed, PlainSource, Sink, Source};
 use scq_queue::Pass;
 use scq_self::{generate, self_topics, summary_text};
 use scq_topics::Topics;
@@ -34,7 +36,7 @@ const SIZE: u32 = 1 << 16;
 
 /// Makes the file of the seed, answers it, and writes its summary once that is whole. No source is
 /// got.
-pub fn run_self<R: Threads + Sync, S: Drop, K: Sink, G: Gate + Sync>(
+pub fn run_self<R: Threads + Sync, S: Source, K: Sink, G: Gate + Sync>(
     rt: &R,
     alloc: Global,
     seed: u32,
@@ -47,6 +49,8 @@ pub fn run_self<R: Threads + Sync, S: Drop, K: Sink, G: Gate + Sync>(
     requires workers { (0 < workers) × (workers ≤ 4096) }
     ensures ends { EndsWithoutFiles (self_summary seed lines)
         (wrote_of K.Sink out.old out.new) result.fault }
+    ensures caused { (files : Option TheCause) → result.cause
+        ≡ cause_told S.cause result.sources.items files (K.cause out.new) result.fault }
     ensures tells { TellsSelf seed lines workers result }
 {
     let Ok(answers) = answer_file(rt, alloc, seed, lines, workers, gate) else {
@@ -66,7 +70,7 @@ pub fn run_self<R: Threads + Sync, S: Drop, K: Sink, G: Gate + Sync>(
     match text {
         Ok(text) => match write_all(out, text.bytes()) {
             Ok(()) => outcome,
-            Err(Failed) => outcome.unwritten(),
+            Err(Failed) => outcome.unwritten(out.cause()),
         },
         Err(NoMemory) => outcome.starved(),
     }

@@ -1,10 +1,11 @@
 //! The run over files whose messages go through two stages.
-ghost use Rattle.std.specs.Prelude.{◌≡◌, ℕ, ◌≤◌, List, length, map, string_bytes, IfOk};
+ghost use Rattle.std.specs.Prelude.{◌≡◌, ℕ, ◌≤◌, List, Option, length, map, string_bytes, IfOk};
 ghost use Rattle.std.specs.List.Sorted.{IsPermutation};
 ghost use Rattle.scq_stages.specs.Exports.{EndsStages, finished_in, one_thread_stage_output};
 ghost use Rattle.scq_stages.specs.Exports.{all_handled, without_way};
 ghost use Rattle.scq_service.specs.Exports.{HaveAllCome, HaveCome, TellsStages, EndsOver};
-ghost use Rattle.scq_service.specs.Exports.{ReadsOver, inputs_of, wrote_of};
+ghost use Rattle.scq_service.specs.Exports.{ReadsOver, cause_told, inputs_of, wrote_of};
+ghost use Rattle.scq_outside.specs.declared.cause.Cause.{Cause as TheCause};
 
 use crate::reading::get_sources;
 use crate::writing::write_all;
@@ -34,6 +35,8 @@ pub fn run_stages<R: Threads + Sync, F: Files, K: Sink>(
         (map string_bytes names.now) result.got.items
         (inputs_of F.Files files.old files.new result.sources.items result.read)
         (wrote_of K.Sink out.old out.new) result.fault }
+    ensures caused { result.cause ≡ cause_told F.Src.cause result.sources.items (F.cause files.new)
+        (K.cause out.new) result.fault }
 {
     let outcome = stage_files(rt, alloc, job, names, files);
     let text = match &outcome.staged {
@@ -43,7 +46,7 @@ pub fn run_stages<R: Threads + Sync, F: Files, K: Sink>(
     match text {
         Ok(text) => match write_all(out, text.bytes()) {
             Ok(()) => outcome,
-            Err(Failed) => outcome.unwritten(),
+            Err(Failed) => outcome.unwritten(out.cause()),
         },
         Err(NoMemory) => outcome.starved(),
     }
@@ -75,6 +78,8 @@ fn stage_files<R: Threads + Sync, F: Files>(
     ensures ends { ReadsOver job.now.size F.Src.Source (map string_bytes names.now)
         result.got.items
         (inputs_of F.Files files.old files.new result.sources.items result.read) result.fault }
+    ensures caused { (sink : Option TheCause) → result.cause
+        ≡ cause_told F.Src.cause result.sources.items (F.cause files.new) sink result.fault }
 {
     let Ok(mut sources) = Vec::with_capacity(alloc, names.len()) else {
         return Outcome::at(Vec::new(alloc), Fault::NoMemory);
@@ -111,6 +116,8 @@ fn conclude<F: Files>(
     ensures ends { ReadsOver job.now.size F.Src.Source (map string_bytes names.now)
         result.got.items
         (inputs_of F.Files was.now.value files.now result.sources.items result.read) result.fault }
+    ensures caused { (sink : Option TheCause) → result.cause
+        ≡ cause_told F.Src.cause result.sources.items (F.cause files.now) sink result.fault }
 {
     let End {
         sources,
@@ -125,7 +132,7 @@ fn conclude<F: Files>(
                 Outcome::finished(sources, staged).behind(got, None, None, None, None)
             } else {
                 let file = count as u32 + 1;
-                Outcome::at(sources, Fault::OpenFault { file }).behind(got, None, None, None, None)
+                Outcome::unopened(sources, file, files.cause()).behind(got, None, None, None, None)
             }
         }
         Err(fault) => {

@@ -1,5 +1,5 @@
 //! The commands that read one whole file, `check` and `replay`.
-ghost use Rattle.std.specs.Prelude.{◌≡◌, ◌⊎◌, None, Ok, Err, IfOk, IfErr};
+ghost use Rattle.std.specs.Prelude.{◌≡◌, ◌⊎◌, Option, None, Ok, Err, IfOk, IfErr};
 ghost use Rattle.scq_lines.specs.Exports.{lines_of};
 ghost use Rattle.scq_words.specs.declared.text_request.TextCommand.{TextCommand as TheCommand};
 ghost use Rattle.scq_service.specs.Answers.{HasNoWorkers};
@@ -7,6 +7,8 @@ ghost use Rattle.scq_service.specs.Ends.{Wrote, IsUnwritten, EndsWhole, IfConten
 ghost use Rattle.scq_service.specs.Ends.{inputs_of, wrote_of};
 ghost use Rattle.scq_service.specs.Faults.{status_of};
 ghost use Rattle.scq_service.specs.Telling.{Tells, IsOfText};
+ghost use Rattle.scq_service.specs.Naming.{cause_told};
+ghost use Rattle.scq_outside.specs.declared.cause.Cause.{Cause as TheCause};
 
 use crate::writing::write_all;
 use crate::{Fault, Outcome};
@@ -33,15 +35,17 @@ pub fn run_text<F: Files, K: Sink>(
     ensures ends { EndsWhole command F.Src.Source name.now result.got.items
         (inputs_of F.Files files.old files.new result.sources.items result.read)
         (wrote_of K.Sink out.old out.new) result.fault }
+    ensures caused { result.cause ≡ cause_told F.Src.cause result.sources.items (F.cause files.new)
+        (K.cause out.new) result.fault }
     ensures workless { HasNoWorkers result }
 {
     match read_one(alloc, name, files) {
         Ok(whole) => match tell(alloc, command, whole.text.bytes()) {
             Ok(told) => match write_all(out, told.bytes()) {
                 Ok(()) => Outcome::whole(whole.sources).behind(whole.got, None, None, None, None),
-                Err(Failed) => Outcome::at(whole.sources, Fault::WriteFault).behind(
-                    whole.got, None, None, None, None,
-                ),
+                Err(Failed) => Outcome::whole(whole.sources)
+                    .behind(whole.got, None, None, None, None)
+                    .unwritten(out.cause()),
             },
             Err(fault) => Outcome::at(whole.sources, fault).behind(
                 whole.got, None, None, None, None,
@@ -75,6 +79,8 @@ fn read_one<F: Files>(
     ensures unstaged { IfErr result (λ outcome. outcome.staged ≡ None) }
     ensures left { IfErr result (λ outcome. outcome.left ≡ None) }
     ensures leaves { IfErr result (λ outcome. outcome.waited ≡ None) }
+    ensures caused { IfErr result (λ outcome. (sink : Option TheCause) → outcome.cause
+        ≡ cause_told F.Src.cause outcome.sources.items (F.cause files.new) sink outcome.fault) }
     ensures ends { IfErr result (λ outcome. (command : TheCommand) (w : Wrote) → IsUnwritten w
         → EndsWhole command F.Src.Source name.now outcome.got.items
         (inputs_of F.Files files.old files.new outcome.sources.items outcome.read) w
@@ -84,7 +90,7 @@ fn read_one<F: Files>(
         return Err(Outcome::at(Vec::new(alloc), Fault::NoMemory));
     };
     let Ok(source) = files.source(name) else {
-        return Err(Outcome::at(sources, Fault::OpenFault { file: 1 }));
+        return Err(Outcome::unopened(sources, 1, files.cause()));
     };
     sources.push_reserved(source);
     let got = Snapshot::of(&sources);

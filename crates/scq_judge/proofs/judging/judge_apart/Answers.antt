@@ -11,7 +11,7 @@ judge_merged-requires c = as_many _ _ _ c.in-Ok.ensures.merged
 pub returns-in-Ok-clause-reported : goal.returns-in-Ok-clause-reported
 returns-in-Ok-clause-reported c =
     IfOk-weaker c.judge_merged.result _ (IsReported (map string_bytes c.args.names.now) c.args.room c.args.recorded)
-    (λ text h. record {
+    (λ judged h. record {
       runs = c.requires.runs;
       seats = c.requires.seats;
       opening = c.in-Ok.merged.opening.items;

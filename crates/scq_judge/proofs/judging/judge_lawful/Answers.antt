@@ -6,4 +6,5 @@ returns-clause-reported c = record {
   report = c.in_ok-report.report;
   is_report = c.in_ok-report.ensures.report;
   said = c.in_ok-text.ensures;
+  found = c.worst.ensures;
 }

@@ -8,5 +8,6 @@ invariant-tries g l = record {
   long : length l.into ≡ length l.initial.into;
   kept : Keeps (g.R.Read.remaining l.initial.reader.device) (g.R.Read.remaining l.reader.device);
   settled : l.reader.settled ≡ l.initial.reader.settled;
+  cause : l.reader.cause ≡ l.initial.reader.cause;
   interrupted : l._try ≤ l.reader.interrupted;
 }

@@ -7,5 +7,6 @@ abbrev pub invariant-tries : goal.invariant-tries
 invariant-tries g l = record {
   kept : Keeps (g.W.Write.contents l.initial.writer.device) (g.W.Write.contents l.writer.device);
   settled : l.writer.settled ≡ l.initial.writer.settled;
+  cause : l.writer.cause ≡ l.initial.writer.cause;
   interrupted : l._try ≤ l.writer.interrupted;
 }

@@ -45,5 +45,11 @@ returns-in-TwoRunsOf g c = same-line (fault_lines c.args.run_alone (map string_b
 pub returns-in-UnlawfulOf : goal.returns-in-UnlawfulOf
 returns-in-UnlawfulOf g c = same-line (fault_lines c.args.run_alone (map string_bytes c.args.words.now) (map string_bytes c.args.names.now)) c.in-UnlawfulOf.is c.write_name-in-UnlawfulOf.ensures
 
+pub returns-in-AspectFails : goal.returns-in-AspectFails
+returns-in-AspectFails g c = same-line (fault_lines c.args.run_alone (map string_bytes c.args.words.now) (map string_bytes c.args.names.now)) c.in-AspectFails.is written-none
+
+pub returns-in-NotTested : goal.returns-in-NotTested
+returns-in-NotTested g c = same-line (fault_lines c.args.run_alone (map string_bytes c.args.words.now) (map string_bytes c.args.names.now)) c.in-NotTested.is written-none
+
 pub returns-in-NoMemory : goal.returns-in-NoMemory
 returns-in-NoMemory g c = same-line (fault_lines c.args.run_alone (map string_bytes c.args.words.now) (map string_bytes c.args.names.now)) c.in-NoMemory.is written-none

@@ -7,6 +7,7 @@ use Rattle.scq_service.specs.Exports.{SourceOf, fault_of_work, status_of, TellsW
 use Rattle.scq_service.specs.declared.fault.Fault.TheVariants as fault
 use Rattle.scq_service.specs.declared.outcome.Outcome.{Outcome}
 use Rattle.scq_service.proofs.Seen.{none-seen, some-seen}
+use Rattle.scq_service.proofs.Told.{told-over}
 use Rattle.scq_service.proofs.Working.{at-ok, on-ok, told-met, told-stopped, told-whole}
 use Rattle.scq_service.proofs.reading.conclude.Goals as goal
 
@@ -60,6 +61,7 @@ returns-then-all g c =
         same = rw (after.worked ∙ end.worked, after.left.1) (at-ok its _ c.in-Ok.is did.end.same);
       };
       ends = told.1;
+      caused = λ sink. rw (after.fault ∙ end.fault) (after.cause ∙ end.cause);
       waited = after.waited;
       closed = after.left;
       wanting = λ err. absurd (cc (c.in-Ok.is, err));
@@ -67,7 +69,7 @@ returns-then-all g c =
 
 pub returns-else-all : goal.returns-else-all
 returns-else-all g c =
-    let end = c.at.ensures in
+    let end = c.unopened.ensures in
     let after = c.behind-else-all.ensures in
     let did = c.requires in
     let left : c.behind-else-all.result.sources.items ≡ c.args.end.sources.items = ap (λ v. v.items) after.sources ∙ end.sources in
@@ -80,6 +82,7 @@ returns-else-all g c =
           (λ none. let err : c.args.end.result ≡ Err NoMemory = did.end.reading.none (sym after.left.0 ∙ none-seen _ none) in
           absurd (cc (c.in-Ok.is, err)));
       ends = told.1;
+      caused = λ sink. rw (after.fault ∙ end.fault) (after.cause ∙ end.cause ∙ c.cause.ensures);
       waited = after.waited;
       closed = after.left;
       wanting = λ err. absurd (cc (c.in-Ok.is, err));
@@ -101,6 +104,9 @@ returns-in-Err g c =
           (rw (after.fault, after.worked) end.worked) (after.staged ∙ end.unstaged) (rw (after.left.0, after.left.1, after.left.2) did.end.none_stranded)
           (λ none. wants (did.end.reading.none (sym after.left.0 ∙ none-seen _ none)));
       ends = told.1;
+      caused = λ sink. rw (after.fault ∙ end.fault)
+          (after.cause ∙ end.cause (g.F.Files.cause c.args.files.now) sink
+          ∙ told-over g.F.Src.Source.cause (g.F.Files.cause c.args.files.now) sink _ _ (Some (fault_of_work c.args.job.now.longest c.in-Err.fault)) left);
       waited = after.waited;
       closed = after.left;
       wanting = λ err. (wants err, after.worked ∙ end.none);

@@ -44,5 +44,11 @@ returns-in-TwoRunsOf g c = same-line fault_line c.in-TwoRunsOf.is c.write_of_run
 pub returns-in-UnlawfulOf : goal.returns-in-UnlawfulOf
 returns-in-UnlawfulOf g c = same-line fault_line c.in-UnlawfulOf.is c.write_of_place-in-UnlawfulOf.ensures
 
+pub returns-in-AspectFails : goal.returns-in-AspectFails
+returns-in-AspectFails g c = same-line fault_line c.in-AspectFails.is c.write_part-in-AspectFails.ensures
+
+pub returns-in-NotTested : goal.returns-in-NotTested
+returns-in-NotTested g c = same-line fault_line c.in-NotTested.is c.write_part-in-NotTested.ensures
+
 pub returns-in-NoMemory : goal.returns-in-NoMemory
 returns-in-NoMemory g c = same-line fault_line c.in-NoMemory.is c.write_part-in-NoMemory.ensures

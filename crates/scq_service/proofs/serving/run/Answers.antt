@@ -100,3 +100,14 @@ returns-in-Err-NoMemory-clause-named g c =
     let words = map string_bytes c.args.words.now in
     unnamed false words (asked words) (names_in c.quiet-in-Err-NoMemory.result.names) c.quiet-in-Err-NoMemory.result.outcome.fault
     (rw c.quiet-in-Err-NoMemory.ensures.outcome c.at-in-Err-NoMemory.ensures.fault)
+
+-- what is told of an end without files, or at no object
+pub returns-in-Ok-SelfRun-clause-caused : goal.returns-in-Ok-SelfRun-clause-caused
+returns-in-Ok-SelfRun-clause-caused g c = rw c.quiet.ensures.outcome (c.run_self.ensures.caused (g.F.Files.cause c.args.files.now))
+
+pub returns-in-Err-Refused-clause-caused : goal.returns-in-Err-Refused-clause-caused
+returns-in-Err-Refused-clause-caused g c = rw (c.quiet-in-Err-Refused.ensures.outcome, c.at.ensures.fault) c.at.ensures.cause
+
+pub returns-in-Err-NoMemory-clause-caused : goal.returns-in-Err-NoMemory-clause-caused
+returns-in-Err-NoMemory-clause-caused g c =
+    rw (c.quiet-in-Err-NoMemory.ensures.outcome, c.at-in-Err-NoMemory.ensures.fault) c.at-in-Err-NoMemory.ensures.cause

@@ -1,9 +1,9 @@
 use Rattle.std.proofs.Common.{◌≡◌, sym, subst, false, map, string_bytes, ℕ, List}
 use Rattle.std.specs.Prelude.{IfSome}
 use Rattle.scq_words.specs.Exports.{asked}
-use Rattle.scq_service.specs.Exports.{asks_report, fault_lines, inputs_of, lines_behind, wrote_of, HasReported}
+use Rattle.scq_service.specs.Exports.{asks_report, caused_lines, fault_lines, files_asked, inputs_of, lines_behind, wrote_of, HasReported}
 use Rattle.scq_service.proofs.Completeness.{calmly}
-use Rattle.scq_service.proofs.Named.{reported-as}
+use Rattle.scq_service.proofs.Named.{caused-as, reported-as}
 use Rattle.scq_service.proofs.serving.serve.Goals as goal
 
 pub returns-clause-outcome : goal.returns-clause-outcome
@@ -24,10 +24,10 @@ returns-clause-reported g c =
     let words = map string_bytes c.args.words.now in
     let asks = asked words in
     let names = map string_bytes c.as_slice.result.now in
-    let named : IfSome ran.outcome.fault (λ fault. fault_lines false words names fault ≡ lines_behind false words asks fault) =
-    subst (λ (its : List (List ℕ)). IfSome ran.outcome.fault (λ fault. fault_lines false words its fault ≡ lines_behind false words asks fault))
+    let named : IfSome ran.outcome.fault (λ fault. fault_lines false words names fault ≡ fault_lines false words (files_asked asks) fault) =
+    subst (λ (its : List (List ℕ)). IfSome ran.outcome.fault (λ fault. fault_lines false words its fault ≡ fault_lines false words (files_asked asks) fault))
     (sym c.as_slice.ensures) c.run-outcome.ensures.named in
     subst (HasReported (wrote_of g.K.Sink c.args.err.now c.report_run.new.sink))
-    (reported-as ran.report (asks_report asks) (fault_lines false words names) (lines_behind false words asks) ran.outcome.fault ran.outcome.worked
-    c.run-outcome.ensures.report named)
+    (reported-as ran.report (asks_report asks) (caused_lines false words names ran.outcome.cause) (lines_behind false words asks ran.outcome.cause) ran.outcome.fault ran.outcome.worked
+    c.run-outcome.ensures.report (caused-as false words asks names ran.outcome.cause ran.outcome.fault named))
     (record { whole = c.report_run.ensures.reported; front = c.report_run.ensures.front })

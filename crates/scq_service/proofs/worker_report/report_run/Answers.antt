@@ -3,7 +3,7 @@ use Rattle.std.specs.Prelude.{string_bytes, OnOk, OnErr}
 use Rattle.scq_work.specs.declared.worked.Worked.{Worked}
 use Rattle.scq_service.specs.declared.fault.Fault.{Fault}
 use Rattle.scq_outside.specs.Exports.{Rose}
-use Rattle.scq_service.specs.Exports.{fault_lines, workers_report, reported, written_with, WrotePart}
+use Rattle.scq_service.specs.Exports.{caused_lines, workers_report, reported, written_with, WrotePart}
 use Rattle.scq_service.proofs.worker_report.report_run.Goals as goal
 use Rattle.scq_service.proofs.worker_report.report_run.Goals.{After-report_workers}
 
@@ -19,7 +19,7 @@ lines asks behind fault worked w none some yes_ =
 
 -- the lines behind a fault's line
 abbrev behind-at : (g : _) (c : After-report_workers g) → Fault → List ℕ
-behind-at g c = fault_lines c.args.run_alone (map string_bytes c.args.words.now) (map string_bytes c.args.names.now)
+behind-at g c = caused_lines c.args.run_alone (map string_bytes c.args.words.now) (map string_bytes c.args.names.now) c.args.cause
 
 -- what was asked to be reported is what the workers' lines say
 text-at : (g : _) (c : After-report_workers g)

@@ -1,6 +1,23 @@
-use Rattle.std.proofs.Common.{arith}
+use Rattle.std.proofs.Common.{◌∷◌, [], ap, arith, map, sym}
+use Rattle.std.specs.Option.{option_or}
+use Rattle.std.specs.Prelude.{None}
+use Rattle.scq_words.specs.Exports.{files_tests, refused_outside, text_in}
+use Rattle.scq_words.specs.declared.fault.WordsFault.TheVariants.{Room, TooManyRecordings}
+use Rattle.scq_words.proofs.Answering.{tests-pass}
 use Rattle.scq_words.proofs.InRange.{in-range}
 use Rattle.scq_words.proofs.judge_words.check_judge.Goals as goal
+
+pub returns-clause-request : goal.returns-clause-request
+returns-clause-request c =
+    let files = files_tests 4096 TooManyRecordings (map (λ name. name.now) c.args.files.now) in (
+      tests-pass (refused_outside 1 4294967295 Room (text_in c.args.room) ∷ []) files _
+          (ap (λ test. option_or test None) c.in_ok-number.ensures.refused) c.in_ok-files.ensures.passes,
+      λ i. record {
+        room = sym c.room_given.ensures.room i;
+        strict = sym c.is_given.ensures i;
+        files = sym c.in_ok-files.ensures.names i;
+      },
+    )
 
 pub returns-clause-ranges : goal.returns-clause-ranges
 returns-clause-ranges c = record {

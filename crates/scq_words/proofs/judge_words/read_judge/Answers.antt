@@ -1,5 +1,4 @@
 use Rattle.std.proofs.Common.{refl, map}
-use Rattle.std.proofs.lemmas.Result.{IfOk-weaker}
 use Rattle.clap.specs.Words.{found_of}
 use Rattle.scq_words.specs.Exports.{judge_app, asked_of_judge, judge_of, judge_asked, judged, judge_tests}
 use Rattle.scq_words.proofs.Answered.{tested, unparsed}
@@ -13,10 +12,9 @@ returns c =
     let parsed = c.in_ok-matches.ensures judge_app refl c.judge_command.ensures in
     let its = c.check_judge.ensures in
     tested judge_app _ judge_tests judged judge_asked judge_of _ _ c.check_judge.result parsed.passes
-    (judge-texts (found_of c.in_ok-matches.matches) parsed.rows c.get_str-room.ensures
+    (judge-texts (found_of c.in_ok-matches.matches) parsed.rows c.get_str-room.ensures c.get_str-strict.ensures
     c.get_strs.ensures (given_or_empty c.get_strs.result _ (λ s. map (λ v. v.now) s.now) c.unwrap_or-files.ensures refl))
-    (IfOk-weaker c.check_judge.result _ _ (λ request h. (h.0, λ i. record { room = h.1 i; files = h.2 i })) its.request)
-    its.refused judge-other its.ranges
+    its.request its.refused judge-other its.ranges
 
 pub returns-in_err-matches : goal.returns-in_err-matches
 unfolding asked_of_judge

@@ -105,8 +105,15 @@ invariant_of-seat g c =
     let numbers = c.seat.inside.numbers.items in
     let place = c.in-Ok.place in
     kept_got g.B.Buffer.contents g.B.Buffer.IsSameBuffer c.seat.inside.key.value (known_me c.seat.inside.token.me) (known_me c.dequeue-found.new.token.me)
-    c.seat.inside.hand.items c.push_reserved.new.self.items _ _ numbers _ _ c.args.ring place c.in-Ok.index c.seat.invariant (got g at.In-Ok)
-    c.push_reserved.ensures.items c.push_reserved.ensures.capacity c.note_get.ensures
+    c.seat.inside.held.items _ numbers _ _ c.args.ring place c.in-Ok.index c.seat.invariant (got g at.In-Ok) refl c.note_get.ensures
+
+-- its index is one of those that are noted
+pub index_mut-requires : goal.index_mut-requires
+index_mut-requires g c =
+    let low = (got g (goal.at.index_mut-requires g c).In-Ok).got.low in
+    let each = c.seat.invariant.each in
+    let whole = c.seat.inside.held.ok in
+    omega (arith, low, each, whole)
 
 pub note_get-requires-clause-known : goal.note_get-requires-clause-known
 note_get-requires-clause-known g c = knows g (goal.at.note_get-requires-clause-known g c).After-index-known
@@ -164,7 +171,7 @@ pub invariant_of-seat-in-Spent : goal.invariant_of-seat-in-Spent
 invariant_of-seat-in-Spent g c =
     let at = goal.at.invariant_of-seat-in-Spent g c in
     kept_spent_get g.B.Buffer.IsSameBuffer c.seat.inside.key.value _ (known_me c.seat.inside.token.me) (known_me c.dequeue-found.new.token.me)
-    c.seat.inside.hand.items _ c.seat.inside.numbers.items _ _ c.args.ring c.in-Spent.ticket c.seat.invariant (spends g at.In-Spent)
+    c.seat.inside.held.items c.seat.inside.numbers.items _ _ c.args.ring c.in-Spent.ticket c.seat.invariant (spends g at.In-Spent)
     (ap (λ (x : Numbers). slice_set c.seat.inside.numbers.items c.args.ring x)
     (c.draws.ensures ∙ ap (passes (c.in-Spent.ticket + 1)) (knows g at.After-index-known)))
 
@@ -183,8 +190,8 @@ pub invariant_of-seat-in-Nothing : goal.invariant_of-seat-in-Nothing
 invariant_of-seat-in-Nothing g c =
     let at = goal.at.invariant_of-seat-in-Nothing g c in
     let none = found g at.In-Nothing in
-    kept_none g.B.Buffer.IsSameBuffer c.seat.inside.key.value (known_me c.seat.inside.token.me) (known_me c.dequeue-found.new.token.me) c.seat.inside.hand.items
-    _ c.seat.inside.numbers.items _ _ c.args.ring c.in-Nothing.drawn c.seat.invariant none.view none.slots
+    kept_none g.B.Buffer.IsSameBuffer c.seat.inside.key.value (known_me c.seat.inside.token.me) (known_me c.dequeue-found.new.token.me) c.seat.inside.held.items
+    c.seat.inside.numbers.items _ _ c.args.ring c.in-Nothing.drawn c.seat.invariant none.view none.slots
     (c.note_head.ensures ∙ ap (λ (x : Numbers). slice_set c.seat.inside.numbers.items c.args.ring x) (later-is g at.After-finds_none-later (knows g at.After-index-known)))
 
 -- a call that ended is one of the run

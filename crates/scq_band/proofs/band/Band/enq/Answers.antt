@@ -1,34 +1,33 @@
 use Rattle.std.proofs.Common.{◌≡◌, ◌≤◌, true, sym, ◌∙◌, ap, subst, refl, Some}
-use Rattle.std.specs.Prelude.{vec_capacity}
 use Rattle.scq_word.specs.declared.setup.Setup.{Setup}
 use Rattle.scq_band.specs.Exports.{known_me, spent_at, Identity, having_seen, seat_after_spent_put, IsRing, standing_of, IsKept}
-use Rattle.scq_band.proofs.LaidFirst.{LaidFirst, keeps_none, laid_idle, laid_place, ring_there, held_there, turned_first, refused_first, laid_held, laid_fronts, laid_some, laid_above, laid_kept, laid_put, laid_call}
+use Rattle.scq_band.proofs.LaidFirst.{LaidFirst, keeps_none, laid_idle, laid_place, ring_there, held_there, turned_first, refused_first, laid_held, laid_fronts, laid_noted, laid_above, laid_kept, laid_put, laid_call}
 use Rattle.scq_band.proofs.band.Band.enq.Goals as goal
 use Rattle.scq_band.proofs.band.Band.enq.Goals.{After-bring_to_front, In-Err}
 
 -- the slot of the index stands first, with its buffer
 laid : (g : _) (c : After-bring_to_front g) → LaidFirst g.B.Buffer.IsSameBuffer c.seat.inside.key.value c.bring_to_front.new.token.table_id
-    c.bring_to_front.new.token.me c.bring_to_front.new.hand.items (vec_capacity c.bring_to_front.new.hand) c.seat.inside.numbers.items c.seat.inside.spent
+    c.bring_to_front.new.token.me c.seat.inside.held.items c.seat.inside.numbers.items c.seat.inside.spent
     c.args.index c.requires.held.0 c.args.seat.now
 laid g c =
     let to = c.bring_to_front.ensures in
-    turned_first g.B.Buffer.IsSameBuffer c.seat.inside.token.me c.bring_to_front.new.token.me c.seat.invariant c.seat.view_is to.own.0 to.own.2 to.turned
-    to.first to.order to.room c.requires.held.1
+    turned_first g.B.Buffer.IsSameBuffer c.seat.inside.token.me c.bring_to_front.new.token.me c.seat.invariant c.seat.view_is to.0 to.2.view to.2.slots
+    to.2.first c.requires.held.1
 
 -- what is kept, and seen, of the seat after a ticket at or past the limit
-refused : (g : _) (c : In-Err g) → IsKept g.B.Buffer.IsSameBuffer c.seat.inside.key.value (known_me c.enqueue.new.token.me) c.bring_to_front.new.hand.items
-    (vec_capacity c.bring_to_front.new.hand) c.seat.inside.numbers.items (Some c.in-Err.ticket)
+refused : (g : _) (c : In-Err g) → IsKept g.B.Buffer.IsSameBuffer c.seat.inside.key.value (known_me c.enqueue.new.token.me) c.seat.inside.held.items
+    c.seat.inside.numbers.items (Some c.in-Err.ticket)
     × (standing_of c.enqueue.new.token.table_id c.seat.inside.key.value c.enqueue.new.token.me
     ≡ having_seen c.enqueue.new.token.me.0.seen (seat_after_spent_put c.args.ring c.in-Err.ticket c.args.seat.now))
 refused g c =
     let to = c.bring_to_front.ensures in
     let its = c.in-Err.ensures.spent in
     refused_first g.B.Buffer.IsSameBuffer c.seat.inside.token.me c.bring_to_front.new.token.me c.enqueue.new.token.me c.args.ring c.in-Err.ticket
-    c.seat.invariant c.seat.view_is (c.in-Err.ensures.own.0 ∙ to.own.0) to.own.2 to.turned to.first to.order to.room c.requires.held.1
+    c.seat.invariant c.seat.view_is (c.in-Err.ensures.own.0 ∙ to.0) to.2.view to.2.slots to.2.first c.requires.held.1
     (its.view ∙ ap (λ n. spent_at n c.in-Err.ticket true c.bring_to_front.new.token.me.0.known) c.ring.ensures.number) its.slots
 
-pub bring_to_front-requires-clause-held : goal.bring_to_front-requires-clause-held
-bring_to_front-requires-clause-held g c κs within = held_there g.B.Buffer.IsSameBuffer c.args.index c.seat.inside.token.me c.seat.invariant c.seat.view_is c.requires.held.1
+pub bring_to_front-requires : goal.bring_to_front-requires
+bring_to_front-requires g c = held_there g.B.Buffer.IsSameBuffer c.args.index c.seat.inside.token.me c.seat.invariant c.seat.view_is c.requires.held.1
 
 pub enqueue-requires-clause-ring : goal.enqueue-requires-clause-ring
 enqueue-requires-clause-ring g c κs within =
@@ -57,8 +56,8 @@ pub let_go-requires-clause-low : goal.let_go-requires-clause-low
 let_go-requires-clause-low g c =
     ring_there c.seat.inside.key.value c.seat.inside.token.me _ c.seat.view_is c.requires.seat c.seat.invariant.rings c.requires.ring
 
-pub let_go-requires-clause-some : goal.let_go-requires-clause-some
-let_go-requires-clause-some g c = laid_some (laid g (goal.at.let_go-requires-clause-some g c).After-bring_to_front)
+pub let_go-requires-clause-there : goal.let_go-requires-clause-there
+let_go-requires-clause-there g c = laid_noted (laid g (goal.at.let_go-requires-clause-there g c).After-bring_to_front)
 
 pub let_go-requires-clause-order : goal.let_go-requires-clause-order
 let_go-requires-clause-order g c = (c.seat.invariant.small c.args.ring).1
@@ -71,7 +70,7 @@ let_go-requires-clause-above g c =
 pub invariant_of-seat : goal.invariant_of-seat
 invariant_of-seat g c =
     laid_kept g.B.Buffer.contents (laid g (goal.at.invariant_of-seat g c).After-bring_to_front) c.enqueue.new.token.me c.in-Ok.ensures.put c.ring.ensures.number
-    c.let_go.ensures.hand c.let_go.ensures.room c.let_go.ensures.numbers
+    c.let_go.ensures.held c.let_go.ensures.numbers
 
 pub invariant_of-seat-in-Err : goal.invariant_of-seat-in-Err
 invariant_of-seat-in-Err g c = (refused g (goal.at.invariant_of-seat-in-Err g c).In-Err).0

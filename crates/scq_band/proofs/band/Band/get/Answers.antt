@@ -1,5 +1,5 @@
-use Rattle.std.proofs.Common.{◌≡◌, ◌<◌, ◌≤◌, ◌+◌, ◌^◌, ℕ, length, refl, sym, ◌∙◌, ap, subst, arith, List, [], ◌∷◌, ◌++◌, inl, inr, eq-eqb, ne_eqb}
-use Rattle.std.specs.Prelude.{Option, Some, None, Result, Err, slice_set, vec_capacity}
+use Rattle.std.proofs.Common.{◌≡◌, ◌<◌, ◌≤◌, ◌+◌, ◌^◌, ℕ, true, length, refl, sym, ◌∙◌, ap, subst, arith, List, [], ◌∷◌, ◌++◌, inl, inr, eq-eqb, ne_eqb}
+use Rattle.std.specs.Prelude.{Option, Some, None, Result, Err, slice_set}
 use Rattle.std.proofs.lemmas.Bool.{cases_eq}
 use Rattle.std.proofs.lemmas.List.{append-nil}
 use Rattle.atomic_table.specs.Table.{rest}
@@ -148,21 +148,19 @@ there g c its =
 -- and what is kept
 kept : (g : _) (c : After-lift_first-buffer g) → HasGotAfter (LiesIn g.B.Buffer.contents g.B.Buffer.IsSameBuffer c.seat.inside.key.value.given.value.items)
     c.seat.inside.key.value.setup c.args.ring c.in-Ok.place c.in-Ok.index (known_me c.seat.inside.token.me) (known_me c.dequeue-found.new.token.me)
-    → IsKept g.B.Buffer.IsSameBuffer c.seat.inside.key.value (known_me c.dequeue-found.new.token.me) c.push_reserved.new.self.items
-    (vec_capacity c.push_reserved.new.self) c.note_get.new.numbers.items c.seat.inside.spent
+    → IsKept g.B.Buffer.IsSameBuffer c.seat.inside.key.value (known_me c.dequeue-found.new.token.me)
+    (slice_set c.seat.inside.held.items c.in-Ok.index true) c.note_get.new.numbers.items c.seat.inside.spent
 kept g c gets =
     let numbers = c.seat.inside.numbers.items in
     let place = c.in-Ok.place in
     kept_got g.B.Buffer.contents g.B.Buffer.IsSameBuffer c.seat.inside.key.value (known_me c.seat.inside.token.me) (known_me c.dequeue-found.new.token.me)
-    c.seat.inside.hand.items c.push_reserved.new.self.items _ _ numbers _ _ c.args.ring place c.in-Ok.index c.seat.invariant gets
-    c.push_reserved.ensures.items c.push_reserved.ensures.capacity
-    c.note_get.ensures
+    c.seat.inside.held.items _ numbers _ _ c.args.ring place c.in-Ok.index c.seat.invariant gets refl c.note_get.ensures
 
 -- what is kept, and seen, of the seat once the buffer is lifted
 lent : (g : _) (c : After-lift_first-buffer g) → HasGotAfter (LiesIn g.B.Buffer.contents g.B.Buffer.IsSameBuffer c.seat.inside.key.value.given.value.items)
     c.seat.inside.key.value.setup c.args.ring c.in-Ok.place c.in-Ok.index (known_me c.seat.inside.token.me) (known_me c.dequeue-found.new.token.me)
-    → IsKept g.B.Buffer.IsSameBuffer c.seat.inside.key.value (known_me c.lift_first-buffer.new.token.me) c.push_reserved.new.self.items
-    (vec_capacity c.push_reserved.new.self) c.note_get.new.numbers.items c.seat.inside.spent
+    → IsKept g.B.Buffer.IsSameBuffer c.seat.inside.key.value (known_me c.lift_first-buffer.new.token.me)
+    (slice_set c.seat.inside.held.items c.in-Ok.index true) c.note_get.new.numbers.items c.seat.inside.spent
     × (standing_of c.lift_first-buffer.new.token.table_id c.seat.inside.key.value c.lift_first-buffer.new.token.me
     ≡ record (standing_of c.dequeue-found.new.token.table_id c.seat.inside.key.value c.dequeue-found.new.token.me) {
       hand =
@@ -172,7 +170,7 @@ lent g c gets =
     let keeps = kept g c gets in
     let one = c.dequeue-found.new.token.me in
     lent_first g.B.Buffer.IsSameBuffer one one c.lift_first-buffer.new.token.me (record { buffer = None }) keeps refl refl c.lift_first-buffer.ensures.own.0 refl
-    (unturned one.1) (ap front_index gets.got.slots.come) keeps.order refl (there g c (taken g c gets)) (λ x is. absurd (cc)) c.lift_first-buffer.ensures.lifted
+    (unturned one.1) (ap front_index gets.got.slots.come) (there g c (taken g c gets)) (λ x is. absurd (cc)) c.lift_first-buffer.ensures.lifted
 
 -- the buffer that is lifted is the one that came
 same_buffer : (g : _) (c : After-lift_first-buffer g)
@@ -204,6 +202,14 @@ pub invariant_of-seat : goal.invariant_of-seat
 invariant_of-seat g c =
     let at = goal.at.invariant_of-seat g c in
     (lent g at.After-lift_first-buffer (got g at.In-Ok)).0
+
+-- its index is one of those that are noted
+pub index_mut-requires : goal.index_mut-requires
+index_mut-requires g c =
+    let low = (got g (goal.at.index_mut-requires g c).In-Ok).got.low in
+    let each = c.seat.invariant.each in
+    let whole = c.seat.inside.held.ok in
+    omega (arith, low, each, whole)
 
 pub note_get-requires-clause-known : goal.note_get-requires-clause-known
 note_get-requires-clause-known g c = knows g (goal.at.note_get-requires-clause-known g c).After-index-known
@@ -272,7 +278,7 @@ pub invariant_of-seat-in-Spent : goal.invariant_of-seat-in-Spent
 invariant_of-seat-in-Spent g c =
     let at = goal.at.invariant_of-seat-in-Spent g c in
     kept_spent_get g.B.Buffer.IsSameBuffer c.seat.inside.key.value _ (known_me c.seat.inside.token.me) (known_me c.dequeue-found.new.token.me)
-    c.seat.inside.hand.items _ c.seat.inside.numbers.items _ _ c.args.ring c.in-Spent.ticket c.seat.invariant (spends g at.In-Spent)
+    c.seat.inside.held.items c.seat.inside.numbers.items _ _ c.args.ring c.in-Spent.ticket c.seat.invariant (spends g at.In-Spent)
     (ap (λ (x : Numbers). slice_set c.seat.inside.numbers.items c.args.ring x)
     (c.draws.ensures ∙ ap (passes (c.in-Spent.ticket + 1)) (knows g at.After-index-known)))
 
@@ -291,8 +297,8 @@ pub invariant_of-seat-in-Nothing : goal.invariant_of-seat-in-Nothing
 invariant_of-seat-in-Nothing g c =
     let at = goal.at.invariant_of-seat-in-Nothing g c in
     let none = found g at.In-Nothing in
-    kept_none g.B.Buffer.IsSameBuffer c.seat.inside.key.value (known_me c.seat.inside.token.me) (known_me c.dequeue-found.new.token.me) c.seat.inside.hand.items
-    _ c.seat.inside.numbers.items _ _ c.args.ring c.in-Nothing.drawn c.seat.invariant none.view none.slots
+    kept_none g.B.Buffer.IsSameBuffer c.seat.inside.key.value (known_me c.seat.inside.token.me) (known_me c.dequeue-found.new.token.me) c.seat.inside.held.items
+    c.seat.inside.numbers.items _ _ c.args.ring c.in-Nothing.drawn c.seat.invariant none.view none.slots
     (c.note_head.ensures ∙ ap (λ (x : Numbers). slice_set c.seat.inside.numbers.items c.args.ring x) (later-is g at.After-finds_none-later (knows g at.After-index-known)))
 
 -- a call that ended is one of the run

@@ -4,7 +4,6 @@ use Rattle.scq_band.specs.Slots.{SlotStanding}
 use Rattle.scq_band.specs.Known.{Known}
 use Rattle.scq_band.specs.Exports.{both_seen, MarkStanding, having_seen, IsKept, standing_of, standing_from, seen_in, known_me, both_sight, mark_with}
 use Rattle.scq_band.specs.Standing.{Standing}
-use Rattle.std.specs.Prelude.{vec_capacity}
 use Rattle.scq_band.proofs.Joining.{both_nobody}
 use Rattle.scq_band.proofs.band.Band.heed.Goals as goal
 
@@ -14,7 +13,7 @@ invariant_of-seat g c =
     let me = c.seat.inside.token.me in
     let v = mark_with (seen_in c.mark.inside.badge.views) in
     let now = ap known_me (c.learn.ensures.learned v c.mark.invariant.is) ∙ ap (λ (u : Known). (u, me.1)) (both_nobody me.0.known) in
-    subst (λ (m : Me (SlotStanding g.row.B.Denot) Known). IsKept g.B.Buffer.IsSameBuffer key m c.seat.inside.hand.items (vec_capacity c.seat.inside.hand)
+    subst (λ (m : Me (SlotStanding g.row.B.Denot) Known). IsKept g.B.Buffer.IsSameBuffer key m c.seat.inside.held.items
     c.seat.inside.numbers.items c.seat.inside.spent) (sym now) c.seat.invariant
 
 pub returns : goal.returns

@@ -22,8 +22,8 @@ invariant_of-seat g c =
     let note = note_sight_with (seen_in c.note.inside.badge.views) theirs in
     let mine = c.seat.inside.numbers.items in
     let new = c.join_all.ensures.joined in
-    kept_still g.B.Buffer.IsSameBuffer key (known_me c.learn.new.token.me) me.0 (both_of me.0 (note_with theirs)) me.1 c.seat.inside.hand.items _ _ mine
-    c.join_all.new.numbers.items _ _ c.seat.invariant refl (record { seats = c.seat.invariant.alone.seats; out = c.seat.invariant.alone.out })
+    kept_still g.B.Buffer.IsSameBuffer key (known_me c.learn.new.token.me) me.0 (both_of me.0 (note_with theirs)) me.1 c.seat.inside.held.items mine
+    c.join_all.new.numbers.items _ _ c.seat.invariant (record { seats = c.seat.invariant.alone.seats; out = c.seat.invariant.alone.out })
     c.seat.invariant.idle refl (new ∙ ap (λ (ns : List Numbers). raised_by ns theirs) c.seat.invariant.numbers)
     (ap length new ∙ joined_length mine theirs)
     (subst AreSmall (sym new) (small_joined mine theirs c.seat.invariant.small c.note.invariant.small)) c.seat.invariant.spent

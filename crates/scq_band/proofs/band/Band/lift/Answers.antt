@@ -1,5 +1,5 @@
 use Rattle.std.proofs.Common.{◌≡◌, List, ◌∷◌, sym, ◌∙◌, ap, subst}
-use Rattle.std.specs.Prelude.{Some, None, Option, vec_capacity}
+use Rattle.std.specs.Prelude.{Some, None, Option}
 use Rattle.atomic_table.specs.Table.{rest}
 use Rattle.scq_band.specs.Slots.{SlotStanding}
 use Rattle.scq_band.specs.Exports.{known_me, Identity, with_buffer, IsAsGiven, standing_of, IsKept}
@@ -14,7 +14,7 @@ front : (g : _) (c : After-bring_to_front g) → Brought g.B.Buffer.IsSameBuffer
     c.bring_to_front.new.token.me.1 c.args.index (Some c.requires.laid.0)
 front g c =
     let to = c.bring_to_front.ensures in
-    came_first g.B.Buffer.IsSameBuffer c.seat.inside.token.me c.bring_to_front.new.token.me.1 c.seat.invariant c.seat.view_is to.turned to.first
+    came_first g.B.Buffer.IsSameBuffer c.seat.inside.token.me c.bring_to_front.new.token.me.1 c.seat.invariant c.seat.view_is to.2.slots to.2.first
     c.requires.laid.1
 
 -- and its buffer is the one that is lifted
@@ -27,17 +27,17 @@ lifted g c b =
 
 -- what is kept, and seen, of the seat without it
 without : (g : _) (c : After-lift_first g) → IsKept g.B.Buffer.IsSameBuffer c.seat.inside.key.value (known_me c.lift_first.new.token.me)
-    c.bring_to_front.new.hand.items (vec_capacity c.bring_to_front.new.hand) c.seat.inside.numbers.items c.seat.inside.spent
+    c.seat.inside.held.items c.seat.inside.numbers.items c.seat.inside.spent
     × (standing_of c.lift_first.new.token.table_id c.seat.inside.key.value c.lift_first.new.token.me
     ≡ record (c.args.seat.now) { hand = with_buffer c.args.index None c.args.seat.now.hand })
 without g c =
     let to = c.bring_to_front.ensures in
     lent_first g.B.Buffer.IsSameBuffer c.seat.inside.token.me c.bring_to_front.new.token.me c.lift_first.new.token.me (record { buffer = None })
-    c.seat.invariant c.seat.view_is to.own.0 c.lift_first.ensures.own.0 to.own.2 to.turned to.first to.order to.room c.requires.laid.1
+    c.seat.invariant c.seat.view_is to.0 c.lift_first.ensures.own.0 to.2.view to.2.slots to.2.first c.requires.laid.1
     (λ x is. absurd (cc)) c.lift_first.ensures.lifted
 
-pub bring_to_front-requires-clause-held : goal.bring_to_front-requires-clause-held
-bring_to_front-requires-clause-held g c κs within = held_there g.B.Buffer.IsSameBuffer c.args.index c.seat.inside.token.me c.seat.invariant c.seat.view_is c.requires.laid.1
+pub bring_to_front-requires : goal.bring_to_front-requires
+bring_to_front-requires g c = held_there g.B.Buffer.IsSameBuffer c.args.index c.seat.inside.token.me c.seat.invariant c.seat.view_is c.requires.laid.1
 
 pub lift_first-requires-clause-first : goal.lift_first-requires-clause-first
 lift_first-requires-clause-first g c κs within =
@@ -66,5 +66,5 @@ returns-clause-lifted g c = (without g (goal.at.returns-clause-lifted g c).After
 
 pub lift_first-requires-clause-own : goal.lift_first-requires-clause-own
 lift_first-requires-clause-own g c κs within =
-    c.bring_to_front.ensures.own.0 ∙ ap (λ (i : Identity g.row.B.Denot). i.table)
+    c.bring_to_front.ensures.0 ∙ ap (λ (i : Identity g.row.B.Denot). i.table)
     (one_band c.seat.inside.key.value c.self.inside.table.shared.key c.seat.inside.token.me c.seat.view_is c.requires.seat c.self.view_is)

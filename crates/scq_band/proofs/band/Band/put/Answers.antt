@@ -1,5 +1,5 @@
 use Rattle.std.proofs.Common.{◌≡◌, ◌≤◌, ℕ, List, refl, ◌∷◌, sym, ◌∙◌, ap, subst}
-use Rattle.std.specs.Prelude.{Some, vec_capacity}
+use Rattle.std.specs.Prelude.{Some}
 use Rattle.atomic_table.specs.Table.{Me, rest}
 use Rattle.scq_word.specs.declared.setup.Setup.{Setup}
 use Rattle.scq_band.specs.Slots.{SlotStanding}
@@ -7,20 +7,20 @@ use Rattle.scq_band.specs.Exports.{opening_of, Sight, Went, known_me, front_inde
 use Rattle.scq_band.specs.Exports.{having_seen, seat_after_spent_put, IsRing, standing_of, IsKept}
 use Rattle.scq_band.proofs.Exchanging.{same_slot}
 use Rattle.scq_band.proofs.Putting.{put_laid}
-use Rattle.scq_band.proofs.LaidFirst.{LaidFirst, keeps_none, laid_idle, laid_place, ring_there, held_there, one_band, came_first, front_slot, laid_first, refused_laid, laid_held, laid_fronts, laid_some, laid_above, laid_kept, laid_put, laid_call}
+use Rattle.scq_band.proofs.LaidFirst.{LaidFirst, keeps_none, laid_idle, laid_place, ring_there, held_there, one_band, came_first, front_slot, laid_first, refused_laid, laid_held, laid_fronts, laid_noted, laid_above, laid_kept, laid_put, laid_call}
 use Rattle.scq_band.proofs.band.Band.put.Goals as goal
 use Rattle.scq_band.proofs.band.Band.put.Goals.{After-lay_first, In-Err, After-lift_first-buffer}
 
 -- the slot of the index stands first, and the buffer is laid in it
 laid : (g : _) (c : After-lay_first g) → LaidFirst g.B.Buffer.IsSameBuffer c.seat.inside.key.value c.lay_first.new.token.table_id c.lay_first.new.token.me
-    c.bring_to_front.new.hand.items (vec_capacity c.bring_to_front.new.hand) c.seat.inside.numbers.items c.seat.inside.spent c.args.index c.args.buffer
+    c.seat.inside.held.items c.seat.inside.numbers.items c.seat.inside.spent c.args.index c.args.buffer
     (record (c.args.seat.now) { hand = with_buffer c.args.index (Some c.args.buffer) c.args.seat.now.hand })
 laid g c =
     let to = c.bring_to_front.ensures in
     let given = subst (λ (b : Identity g.row.B.Denot). IsAsGiven g.B.Buffer.IsSameBuffer b.given c.args.index c.args.buffer) (sym c.requires.seat)
     c.requires.given in
-    laid_first g.B.Buffer.IsSameBuffer c.seat.inside.token.me c.bring_to_front.new.token.me c.lay_first.new.token.me c.seat.invariant c.seat.view_is to.own.0
-    c.lay_first.ensures.own.0 to.own.2 to.turned to.first to.order to.room c.requires.lifted given c.lay_first.ensures.laid
+    laid_first g.B.Buffer.IsSameBuffer c.seat.inside.token.me c.bring_to_front.new.token.me c.lay_first.new.token.me c.seat.invariant c.seat.view_is to.0
+    c.lay_first.ensures.own.0 to.2.view to.2.slots to.2.first c.requires.lifted given c.lay_first.ensures.laid
 
 -- where the put is refused, the slots are as they were when the buffer was laid
 still : (g : _) (c : In-Err g) → c.enqueue.new.token.me.1
@@ -29,31 +29,31 @@ still g c = c.in-Err.ensures.spent.slots ∙ ap (λ (m : Me (SlotStanding g.row.
 
 -- what is kept, and seen, of the seat then
 refused : (g : _) (c : After-lift_first-buffer g) → IsKept g.B.Buffer.IsSameBuffer c.seat.inside.key.value (known_me c.lift_first-buffer.new.token.me)
-    c.bring_to_front.new.hand.items (vec_capacity c.bring_to_front.new.hand) c.seat.inside.numbers.items (Some c.in-Err.ticket)
+    c.seat.inside.held.items c.seat.inside.numbers.items (Some c.in-Err.ticket)
     × (standing_of c.lift_first-buffer.new.token.table_id c.seat.inside.key.value c.lift_first-buffer.new.token.me
     ≡ having_seen c.lift_first-buffer.new.token.me.0.seen (seat_after_spent_put c.args.ring c.in-Err.ticket c.args.seat.now))
 refused g c =
     let to = c.bring_to_front.ensures in
-    let own = c.lift_first-buffer.ensures.own.0 ∙ c.in-Err.ensures.own.0 ∙ c.lay_first.ensures.own.0 ∙ to.own.0 in
+    let own = c.lift_first-buffer.ensures.own.0 ∙ c.in-Err.ensures.own.0 ∙ c.lay_first.ensures.own.0 ∙ to.0 in
     refused_laid g.B.Buffer.IsSameBuffer c.seat.inside.token.me c.bring_to_front.new.token.me c.lay_first.new.token.me c.enqueue.new.token.me
-    c.lift_first-buffer.new.token.me c.self.inside.table.shared.key.setup c.args.ring c.in-Err.ticket c.seat.invariant c.seat.view_is own to.own.2
-    to.turned to.first to.order to.room c.requires.lifted c.lay_first.ensures.laid
+    c.lift_first-buffer.new.token.me c.self.inside.table.shared.key.setup c.args.ring c.in-Err.ticket c.seat.invariant c.seat.view_is own to.2.view
+    to.2.slots to.2.first c.requires.lifted c.lay_first.ensures.laid
     (subst (λ n. HasSpentPut c.self.inside.table.shared.key.setup n c.in-Err.ticket (known_me c.lay_first.new.token.me) (known_me c.enqueue.new.token.me)) c.ring.ensures.number
     c.in-Err.ensures.spent)
     c.lift_first-buffer.ensures.lifted
 
-pub bring_to_front-requires-clause-held : goal.bring_to_front-requires-clause-held
-bring_to_front-requires-clause-held g c κs within = held_there g.B.Buffer.IsSameBuffer c.args.index c.seat.inside.token.me c.seat.invariant c.seat.view_is c.requires.lifted
+pub bring_to_front-requires : goal.bring_to_front-requires
+bring_to_front-requires g c = held_there g.B.Buffer.IsSameBuffer c.args.index c.seat.inside.token.me c.seat.invariant c.seat.view_is c.requires.lifted
 
 pub lay_first-requires-clause-own : goal.lay_first-requires-clause-own
 lay_first-requires-clause-own g c κs within =
-    c.bring_to_front.ensures.own.0 ∙ ap (λ (i : Identity g.row.B.Denot). i.table)
+    c.bring_to_front.ensures.0 ∙ ap (λ (i : Identity g.row.B.Denot). i.table)
     (one_band c.seat.inside.key.value c.self.inside.table.shared.key c.seat.inside.token.me c.seat.view_is c.requires.seat c.self.view_is)
 
 pub lay_first-requires-clause-first : goal.lay_first-requires-clause-first
 lay_first-requires-clause-first g c κs within =
     let to = c.bring_to_front.ensures in
-    front_slot _ (came_first _ c.seat.inside.token.me _ c.seat.invariant c.seat.view_is to.turned to.first c.requires.lifted)
+    front_slot _ (came_first _ c.seat.inside.token.me _ c.seat.invariant c.seat.view_is to.2.slots to.2.first c.requires.lifted)
 
 pub enqueue-requires-clause-ring : goal.enqueue-requires-clause-ring
 enqueue-requires-clause-ring g c κs within =
@@ -90,8 +90,8 @@ pub let_go-requires-clause-low : goal.let_go-requires-clause-low
 let_go-requires-clause-low g c =
     ring_there c.seat.inside.key.value c.seat.inside.token.me _ c.seat.view_is c.requires.seat c.seat.invariant.rings c.requires.ring
 
-pub let_go-requires-clause-some : goal.let_go-requires-clause-some
-let_go-requires-clause-some g c = laid_some (laid g (goal.at.let_go-requires-clause-some g c).After-lay_first)
+pub let_go-requires-clause-there : goal.let_go-requires-clause-there
+let_go-requires-clause-there g c = laid_noted (laid g (goal.at.let_go-requires-clause-there g c).After-lay_first)
 
 pub let_go-requires-clause-order : goal.let_go-requires-clause-order
 let_go-requires-clause-order g c = (c.seat.invariant.small c.args.ring).1
@@ -104,7 +104,7 @@ let_go-requires-clause-above g c =
 pub invariant_of-seat : goal.invariant_of-seat
 invariant_of-seat g c =
     laid_kept g.B.Buffer.contents (laid g (goal.at.invariant_of-seat g c).After-lay_first) c.enqueue.new.token.me c.in-Ok.ensures.put c.ring.ensures.number
-    c.let_go.ensures.hand c.let_go.ensures.room c.let_go.ensures.numbers
+    c.let_go.ensures.held c.let_go.ensures.numbers
 
 pub invariant_of-seat-in-Err : goal.invariant_of-seat-in-Err
 invariant_of-seat-in-Err g c = (refused g (goal.at.invariant_of-seat-in-Err g c).After-lift_first-buffer).0

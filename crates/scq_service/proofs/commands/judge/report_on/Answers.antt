@@ -1,9 +1,11 @@
-use Rattle.std.proofs.Common.{◌≡◌, refl, arith, subst, Ok}
+use Rattle.std.proofs.Common.{◌≡◌, ◌∙◌, refl, arith, subst, Ok, Some}
 use Rattle.std.specs.Prelude.{string_bytes}
 use Rattle.std.proofs.lemmas.List.{length-map}
 use Rattle.scq_judge.specs.Exports.{recording_of}
+use Rattle.scq_service.specs.Exports.{fault_of_judge}
 use Rattle.scq_service.proofs.Coming.{SourceIsGot, IsMissed, next-name}
 use Rattle.scq_service.proofs.Judging.{all-ends, all-got, all-read, all-there, missed-ends, missed-got, one-more, stopped-ends, stopped-got}
+use Rattle.scq_service.proofs.Told.{refused-cause, stopped-cause, told-over}
 use Rattle.scq_service.proofs.commands.judge.report_on.Goals as goal
 
 pub files-preserved : goal.files-preserved
@@ -24,12 +26,12 @@ returns-in-Err-clause-got g c =
     missed-got so next miss
 
 pub returns-in-Err-clause-refused : goal.returns-in-Err-clause-refused
-returns-in-Err-clause-refused g c = λ w unwritten.
+returns-in-Err-clause-refused g c =
     let so = c.files.invariant in
     let next = next-name string_bytes c.args.names.now c.files.got.items c.files.name-index c.name-item.result c.as_str.result.now so.count c.files-test.true c.as_str.ensures.value c.name-item.is in
     let said = c.in-Err.ensures in
     let miss : IsMissed g.F.Files c.as_str.result.now c.files.files c.source.new.self = record { unchanged = said.unchanged; missing = said.missing; rose = said.counted.0.rose refl } in
-    missed-ends so c.args.room w next miss unwritten
+    missed-ends so next miss
 
 pub returns-in-Err-read-clause-got : goal.returns-in-Err-read-clause-got
 returns-in-Err-read-clause-got g c =
@@ -41,13 +43,13 @@ returns-in-Err-read-clause-got g c =
     stopped-got so c.read-read.new.source next got (c.in-Err-read.ensures.stopped c.files.got.items c.files.sources.items so.read) _ _ c.with-got.ensures c.and-sources.ensures
 
 pub returns-in-Err-read-clause-refused : goal.returns-in-Err-read-clause-refused
-returns-in-Err-read-clause-refused g c = λ w unwritten.
+returns-in-Err-read-clause-refused g c =
     let so = c.files.invariant in
     let next = next-name string_bytes c.args.names.now c.files.got.items c.files.name-index c.name-item.result c.as_str.result.now so.count c.files-test.true c.as_str.ensures.value c.name-item.is in
     let said = c.in-Ok.ensures in
     let got : SourceIsGot g.F.Files g.F.Src.Source c.as_str.result.now c.files.files c.source.new.self c.in-Ok.source =
     record { given = said.given; fresh = said.fresh; content = said.content; kept = said.counted.0.kept (λ e. cc) } in
-    stopped-ends so c.read-read.new.source c.args.room w next got (c.in-Err-read.ensures.stopped c.files.got.items c.files.sources.items so.read) unwritten _ _ _ c.with-got.ensures
+    stopped-ends so c.read-read.new.source next got (c.in-Err-read.ensures.stopped c.files.got.items c.files.sources.items so.read) _ _ _ c.with-got.ensures
     c.and-sources.ensures c.from.ensures
 
 pub returns-in-Ok-judge-clause-got : goal.returns-in-Ok-judge-clause-got
@@ -78,6 +80,21 @@ returns-in-Ok-judge-clause-judged g c = λ contents have.
     }
 
 pub returns-in-Err-judge-clause-refused : goal.returns-in-Err-judge-clause-refused
-returns-in-Err-judge-clause-refused g c = λ w unwritten.
+returns-in-Err-judge-clause-refused g c =
     let so = c.files.invariant in
-    rw c.from-in-Err-judge.ensures (all-ends so c.in-Err-judge.fault c.args.room w (omega (arith, c.files-test.false, so.count, so.come.within, length-map c.args.names.now string_bytes)) c.in-Err-judge.ensures.refused unwritten)
+    rw c.from-in-Err-judge.ensures (all-ends so c.in-Err-judge.fault (omega (arith, c.files-test.false, so.count, so.come.within, length-map c.args.names.now string_bytes)) c.in-Err-judge.ensures.refused)
+
+-- what the source says that was read last
+pub returns-in-Err-read-clause-caused : goal.returns-in-Err-read-clause-caused
+returns-in-Err-read-clause-caused g c = λ sink.
+    let src = g.F.Src.Source in
+    let stop = c.in-Err-read.ensures.stopped c.files.got.items c.files.sources.items c.files.invariant.read in
+    rw (c.of_read.ensures, c.cause-cause.ensures, c.from.ensures)
+    (stopped-cause src.cause _ sink src.faults src.ends src.left _ _ _ c.read-read.new.source _ stop
+    ∙ told-over src.cause (g.F.Files.cause c.source.new.self) sink _ _ (Some (fault_of_judge c.in-Err-read.fault)) c.and-sources.ensures)
+
+pub returns-in-Err-judge-clause-caused : goal.returns-in-Err-judge-clause-caused
+returns-in-Err-judge-clause-caused g c = λ sink.
+    let src = g.F.Src.Source in
+    rw c.from-in-Err-judge.ensures
+    (refused-cause src.cause _ sink c.files.reader.recorded c.files.sources.items c.in-Err-judge.fault c.in-Err-judge.ensures.refused)

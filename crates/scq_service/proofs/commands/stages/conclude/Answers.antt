@@ -5,9 +5,10 @@ use Rattle.scq_queue.specs.Exports.{PassStanding}
 use Rattle.scq_desk.specs.declared.fault.EndFault.TheVariants.{NoMemory}
 use Rattle.scq_stages.specs.Exports.{NothingIsStranded}
 use Rattle.scq_stages.specs.declared.job.StageJob.{StageJob}
-use Rattle.scq_service.specs.Exports.{SourceOf, status_of, TellsStages, IsThereAt, HasGotSources, Inputs}
+use Rattle.scq_service.specs.Exports.{SourceOf, fault_of_work, status_of, TellsStages, IsThereAt, HasGotSources, Inputs}
 use Rattle.scq_service.specs.declared.fault.Fault.TheVariants as fault
 use Rattle.scq_service.specs.declared.outcome.Outcome.{Outcome}
+use Rattle.scq_service.proofs.Told.{told-over}
 use Rattle.scq_service.proofs.Working.{at-ok, on-ok, told-met, told-stopped, told-whole}
 use Rattle.scq_service.proofs.commands.stages.conclude.Goals as goal
 
@@ -71,11 +72,12 @@ returns-then-all g c =
         leaves = after.waited;
       };
       ends = told.1;
+      caused = λ sink. rw (after.fault ∙ end.fault) (after.cause ∙ end.cause);
     }
 
 pub returns-in-Ok : goal.returns-in-Ok
 returns-in-Ok g c =
-    let end = c.at.ensures in
+    let end = c.unopened.ensures in
     let after = c.behind-else-all.ensures in
     let did = c.requires in
     let left : c.behind-else-all.result.sources.items ≡ c.args.end.sources.items = ap (λ v. v.items) after.sources ∙ end.sources in
@@ -85,6 +87,7 @@ returns-in-Ok g c =
       tells = unfinished _ _ _ _ _ (after.staged ∙ end.staged) told.0 (rw (after.fault ∙ end.fault) (after.status ∙ end.status))
           (after.worked ∙ end.worked) (rw (after.fault ∙ end.fault, after.staged ∙ end.staged) refl) after.left.0 after.waited;
       ends = told.1;
+      caused = λ sink. rw (after.fault ∙ end.fault) (after.cause ∙ end.cause ∙ c.cause.ensures);
     }
 
 pub returns : goal.returns
@@ -99,4 +102,7 @@ returns g c =
       tells = unfinished _ _ _ _ _ (after.staged ∙ end.unstaged) told.0 (rw (after.fault ∙ end.fault) (after.status ∙ end.status))
           (after.worked ∙ end.none) (rw (after.fault, after.staged) end.staged) after.left.0 after.waited;
       ends = told.1;
+      caused = λ sink. rw (after.fault ∙ end.fault)
+          (after.cause ∙ end.cause (g.F.Files.cause c.args.files.now) sink
+          ∙ told-over g.F.Src.Source.cause (g.F.Files.cause c.args.files.now) sink _ _ (Some (fault_of_work c.args.job.now.size c.in-Err.fault)) left);
     }
