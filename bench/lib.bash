@@ -15,8 +15,8 @@ script=$(basename "$0")
 scratch=$(mktemp -d)
 folder=$scratch
 missed=0 round=1
-# What functions below find: programs, and the name of a crate.
-scq='' scq_wait='' archive='' ours='' crate=''
+# What functions below find: programs, the name of a crate, and what a script does.
+scq='' scq_wait='' archive='' ours='' crate='' kind=''
 results=${RESULTS-$([ -n "${SHORT-}${ROUNDS-}" ] || echo "$bench/results")}
 cd "$folder"
 . "$top/dist/sources.bash"
@@ -33,6 +33,20 @@ trap end EXIT
 stop() {
     echo "$script: $1" >&2
     exit 2
+}
+
+# A script that does several things, by these names: its first word is the name of one, or it is run for each. Sets
+# `kind`. Where builds are kept for all of them, each has a folder of its name.
+kind_of() {
+    local kinds=$1 it status=0
+    shift
+    kind=${1-}
+    case " $kinds " in
+        *" ${kind:-none} "*) script="$script $kind" && return ;;
+    esac
+    [[ $kind = @(|build|run) ]] || stop "not understood; bench/$script [${kinds// / | }]"
+    for it in $kinds; do "$bench/$script" "$it" "${@:1:1}" ${2:+"$2/$it"} || status=$?; done
+    exit "$status"
 }
 
 # A script whose builds are kept: without words it builds and measures, else one of them. Sets `builds` and `runs`.
@@ -236,5 +250,5 @@ write_result() {
     echo "load at the end: $(cut -d ' ' -f 1-3 /proc/loadavg); ticks of processors stolen meanwhile: $((stolen - before))"
     exec >&"$screen"
     wait "$tee"
-    mkdir -p "$results" && cp "$scratch/said" "$results/$script.txt"
+    mkdir -p "$results" && cp "$scratch/said" "$results/${script// /-}.txt"
 }

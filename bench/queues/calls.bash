@@ -1,10 +1,10 @@
 # shellcheck shell=bash disable=SC2034,SC2154
-# What bench/rings, bench/queue, bench/c and bench/peers have in common: programs that make calls on a queue (calls.cpp,
-# or a driver that takes the same words), run in turn, at orders 6 and 12, each thread on a processor of its own. Which
-# words share a line of the cache depends on where malloc lays them, so each round has another of the eight places that
-# there are in two lines: preload/threads.c takes as much off the heap before the program has taken any. Medians over
-# places and rounds count. A pair is lend, send, take and give_back, in the first three with no byte written. The loops
-# that are timed are functions that aren't inlined, and take the queue by reference. What one thread saw is compared.
+# What the kinds of bench/calls have in common: programs that make calls on a queue (calls.cpp, or a driver that takes
+# the same words), run in turn, at orders 6 and 12, each thread on a processor of its own. Which words share a line of
+# the cache depends on where malloc lays them, so each round has another of the eight places that there are in two
+# lines: preload/threads.c takes as much off the heap before the program has taken any. Medians over places and rounds
+# count. A pair is lend, send, take and give_back, but for `peers` with no byte written. The loops that are timed are
+# functions that aren't inlined, and take the queue by reference. What one thread saw is compared.
 #
 # From the environment: PAIRS, how many pairs of calls one thread makes in a run (4000000; other runs in
 # proportion); LIMIT, in how many seconds a run has to end (50); UNDER, a command that runs are started by, as

@@ -12,21 +12,27 @@ calls_over() {
         "$@" -o "$program"
 }
 
-# The same over a queue in Rust, with the features behind it too: ArrayQueue, as two of buffers or one of values, or the crate of bindings/rust, as
-# its queue or its ring.
+# The same over a queue in Rust, with the features behind it too: ArrayQueue, as two of buffers or one of values,
+# crossbeam-channel, or the crate of bindings/rust, as its queue or its ring.
 rust_over() {
     local kind=$1 program=$2 crate=rust_$1 needs="scq = { path = \"$top/bindings/rust\" }"
     shift 2
     command -v cargo >/dev/null || return 1
-    if [ "$kind" = array ] || [ "$kind" = one ]; then
-        packages librust-{crossbeam-queue,crossbeam-utils,cfg-if}-dev || return 1
-        needs='crossbeam-queue = "0.3"'
-    fi
+    case $kind in
+        array | one)
+            packages librust-{crossbeam-queue,crossbeam-utils,cfg-if}-dev || return 1
+            needs='crossbeam-queue = "0.3"'
+            ;;
+        channel)
+            packages librust-{crossbeam-channel,crossbeam-utils,cfg-if}-dev || return 1
+            needs='crossbeam-channel = "0.5"'
+            ;;
+    esac
     mkdir -p "$crate/src" library
     cp "$bench"/queues/rust/*.rs "$crate/src"
     [ -z "$archive" ] || cp "$archive" library/libscq.a
     cargo_of_debian "$crate" "$needs" '[lib]' 'crate-type = ["staticlib"]' \
-        '[features]' 'array = []' 'one = []' 'scq = []' 'ring = []' 'bare = []'
+        '[features]' 'array = []' 'one = []' 'channel = []' 'scq = []' 'ring = []' 'bare = []'
     (cd "$crate" && SCQ_LIB_DIR=$folder/library RUSTFLAGS='-C target-cpu=x86-64-v2' \
         cargo build -q --release --offline --features "$kind $*")
     [ "$*" != bare ] || set -- -DBARE
@@ -50,8 +56,9 @@ over_peer() {
         scq_rust) rust_over scq scq_rust && return ;;
         array) rust_over array array && return ;;
         array_one) rust_over one array_one && return ;;
+        channel) rust_over channel channel && return ;;
         ring_rust) rust_over ring ring_rust && return ;;
-        scq | scq_packed | ring_values | ring_pointers) more=("$archive") ;;
+        scq | scq_bulk | scq_packed | ring_values | ring_pointers) more=("$archive") ;;
         boost) packages libboost1.74-dev && more=(-mcx16) ;;
         tbb) packages libtbb-dev libtbb12 && more=("$libraries/libtbb.so.12" "${loose[@]}") ;;
         moodycamel) packages libconcurrentqueue-dev ;;

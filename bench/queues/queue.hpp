@@ -9,7 +9,8 @@
 //     port.put_several(values, count), port.get_several(values, count)
 //                             of some: calls of several, which say how many went
 //
-// With -DBARE no byte is written, and the value that is got is the number of the buffer.
+// With -DTOPICS=31 a queue has so many topics, and a put and a get name theirs last, where the file of it has them. With
+// -DBARE no byte is written, and the value that is got is the number of the buffer.
 #pragma once
 #include <atomic>
 #include <cstdint>
@@ -21,6 +22,9 @@
 
 #define INLINE __attribute__((always_inline)) inline
 
+#ifndef TOPICS
+#define TOPICS 1
+#endif
 #ifndef BARE
 #define BARE 0
 #endif

@@ -3,7 +3,9 @@
 //     recorded FOLDER CALLS [counter]
 //
 // Each makes so many steps, of two puts for one get and the other way round in turn, so that the queue of 64 buffers
-// is full and empty now and then. By the processor's clock, or the counter. With -DSEVERAL=4 a call has so many values.
+// is full and empty now and then. By the processor's clock, or the counter. With -DSEVERAL=4 a call has so many values;
+// -DORDER=16 -DTOPICS=31 -DPHASE=45056 -DPERIOD=135168 are 65,536 buffers with as many topics as a queue may have, full
+// and empty too.
 #include "recorder.h"
 #include "queue.hpp"
 #include QUEUE
@@ -16,7 +18,19 @@
 #ifndef SEVERAL
 #define SEVERAL 1
 #endif
-constexpr uint32_t ORDER = 6, THREADS = RECORDED_THREADS;
+#ifndef ORDER
+#define ORDER 6
+#endif
+#ifndef PERIOD
+#define PERIOD 1024
+#define PHASE 512
+#endif
+#if TOPICS > 1
+#define ON(topic) , topic
+#else
+#define ON(topic)
+#endif
+constexpr uint32_t THREADS = RECORDED_THREADS;
 
 #if SEVERAL > 1
 static void run(Port &port, scq_seat &seat, uint64_t calls) {
@@ -38,14 +52,15 @@ static void run(Port &port, scq_seat &seat, uint64_t calls) {
 static void run(Port &port, scq_seat &seat, uint64_t calls) {
     uint64_t value;
     for (uint64_t k = 0; k < calls; k++) {
-        const bool fills = k / 512 % 2 == 0;
+        const bool fills = k % PERIOD < PHASE;
+        const uint32_t topic = k % TOPICS;
         if (fills || k % 2) {
-            value = scq_put_start(&seat, 0);
-            port.put(value) ? scq_put_done(&seat) : scq_put_refused(&seat);
+            value = scq_put_start(&seat, topic);
+            port.put(value ON(topic)) ? scq_put_done(&seat) : scq_put_refused(&seat);
         }
         if (!fills || k % 2) {
-            scq_get_start(&seat, 0);
-            port.get(value) ? scq_get_got(&seat, value) : scq_get_nothing(&seat);
+            scq_get_start(&seat, topic);
+            port.get(value ON(topic)) ? scq_get_got(&seat, value) : scq_get_nothing(&seat);
         }
     }
 }

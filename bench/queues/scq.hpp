@@ -8,15 +8,15 @@ struct Queue : Ports {
 struct Port : Fetched {
     using Fetched::Fetched;
 
-    INLINE bool put(uint64_t value) {
+    INLINE bool put(uint64_t value, uint32_t topic = 0) {
         scq_held held;
         if (!lend(held)) return false;
         write_in(held.at, value);
-        return send(held);
+        return send(held, topic);
     }
-    INLINE bool get(uint64_t &value) {
+    INLINE bool get(uint64_t &value, uint32_t topic = 0) {
         scq_held held;
-        if (!take(held)) return false;
+        if (!take(held, topic)) return false;
         value = bare ? held.index : read_in(held.at);
         return give_back(held);
     }

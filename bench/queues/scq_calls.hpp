@@ -6,7 +6,7 @@ struct Ports {
     std::vector<scq_port> ports;
 
     Ports(uint32_t order, size_t threads, uint32_t size, uint32_t hold) : ports(threads, scq_port SCQ_NONE) {
-        if (scq_open(order, 1, size, hold, SCQ_MAX_LIMIT, ports.data(), threads) != SCQ_OK) fail("scq_open");
+        if (scq_open(order, TOPICS, size, hold, SCQ_MAX_LIMIT, ports.data(), threads) != SCQ_OK) fail("scq_open");
     }
 };
 
@@ -23,10 +23,12 @@ struct alignas(128) Fetched {
         return answer == SCQ_OK;
     }
     INLINE bool lend(scq_held &held) { return is_ok(scq_lend(&port, &held), SCQ_FULL); }
-    INLINE bool take(scq_held &held) { return is_ok(scq_take(&port, 0, &held), SCQ_EMPTY); }
-    INLINE bool send(const scq_held &held) {
+    INLINE bool take(scq_held &held, uint32_t topic = 0) {
+        return is_ok(scq_take(&port, topic, &held), SCQ_EMPTY);
+    }
+    INLINE bool send(const scq_held &held, uint32_t topic = 0) {
         uint64_t place;
-        return is_ok(scq_send(&port, held.index, 0, &place), SCQ_OK);
+        return is_ok(scq_send(&port, held.index, topic, &place), SCQ_OK);
     }
     INLINE bool give_back(const scq_held &held) { return is_ok(scq_give_back(&port, held.index), SCQ_OK); }
 };

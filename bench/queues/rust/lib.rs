@@ -3,6 +3,7 @@
 
 #[cfg_attr(feature = "array", path = "array.rs")]
 #[cfg_attr(feature = "one", path = "one.rs")]
+#[cfg_attr(feature = "channel", path = "channel.rs")]
 #[cfg_attr(feature = "ring", path = "ring.rs")]
 #[cfg_attr(feature = "scq", path = "scq.rs")]
 mod queue;
