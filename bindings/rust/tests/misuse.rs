@@ -219,7 +219,7 @@ const ROWS: &[Row] = &[
     ),
     (
         "a channel for nothing, and for too much",
-        || said((bounded::<u8>(0).map(drop), bounded::<u8>(4097).map(drop))),
+        || said((bounded::<u8>(0).map(drop), bounded::<u8>(65_537).map(drop))),
         "(Err(Capacity), Err(Capacity))",
     ),
     ("a channel with one end", || said(bounded_for::<u8>(8, 1).map(drop)), "Err(Ports)"),
