@@ -97,7 +97,7 @@ fn put_stages(row: &mut Row, stages: &StagesRequest) {
     put_files(row, &stages.files);
 }
 
-/// The room, if any, whether the run is strict, and the files.
+/// The room, if any, whether the run is strict, whether it asks for an order, and the files.
 fn put_judge(row: &mut Row, judge: &JudgeRequest) {
     row.put("judge");
     if let Some(room) = judge.room {
@@ -106,6 +106,9 @@ fn put_judge(row: &mut Row, judge: &JudgeRequest) {
     }
     if judge.strict {
         row.put(" strict");
+    }
+    if judge.order {
+        row.put(" order");
     }
     put_files(row, &judge.files);
 }

@@ -1,19 +1,23 @@
 -- What is at fault, as it is handed on
-use Rattle.std.proofs.Common.{◌≡◌, ◌∙◌, ◌⊎◌, inl, inr, ℕ, zero, suc, ◌+◌, ◌-◌, Bool, List, [], ◌∷◌, ◌++◌, length, map, take, refl, sym, ap, subst, arith, Option, Some, Ok, slice_get, get_or, All}
+use Rattle.std.proofs.Common.{◌≡◌, ◌∙◌, ◌⊎◌, inl, inr, ℕ, zero, suc, ◌+◌, ◌-◌, Bool, List, [], ◌∷◌, ◌++◌, length, map, take, refl, sym, ap, subst, arith, Option, Some, Ok, Err, slice_get, get_or, All}
+use Rattle.std.specs.Prelude.{Result, IfOk}
 use Rattle.std.proofs.Math.Seq.{take-append_seam, take-length}
 use Rattle.std.proofs.lemmas.List.{length-map}
 use Rattle.std.proofs.lemmas.Option.{slice_get_within, slice_get-get_or}
 use Rattle.std.proofs.lemmas.List.Sorted.{All-permutation}
+use Rattle.scq_hist.specs.Exports.{IsLawful}
 use Rattle.scq_hist.specs.declared.events.Event.{Event}
 use Rattle.scq_judge.specs.Exports.{NoneIsLarge, IsFile, IsHistoryOf, IsFirstUnlawful, IsCause, IsCauseIn, IsSharing, AreSoundBefore, IsUnlawfulAt}
 use Rattle.scq_judge.specs.Exports.{fault_of_merging, IsMergeOf, HasEqual, HasStampOfAnother, EventIsAt, AreQuiet, AreReadUntil, AreReadWhole}
-use Rattle.scq_judge.specs.Exports.{EventsAreOfFiles, AllAreOfFiles, recording_of}
+use Rattle.scq_judge.specs.Exports.{EventsAreOfFiles, AllAreOfFiles, recording_of, AreOfOneRun, EachSeatInOneFile}
+use Rattle.scq_judge.specs.Judged.{IsLawfulHistory}
 use Rattle.scq_judge.specs.Recording.{Recording}
 use Rattle.scq_judge.specs.declared.judging.JudgeFault.{JudgeFault}
 use Rattle.scq_judge.specs.declared.judging.JudgeFault.TheVariants.{BadLine, Shared as SharedBy, TwoRuns, Unlawful, ReadFault, TooLarge, NoMemory}
 use Rattle.scq_judge.specs.declared.judging.Shared.{Shared}
 use Rattle.scq_judge.specs.declared.judging.Shared.TheVariants.{Stamp, Seat}
 use Rattle.scq_judge.specs.declared.merging.MergeFault.{MergeFault}
+use Rattle.scq_judge.specs.declared.merging.Merged.{Merged}
 use Rattle.scq_judge.specs.declared.merging.MergeFault.TheVariants as merging
 use Rattle.scq_judge.specs.declared.recorded.Place.{Place}
 use Rattle.scq_judge.specs.declared.recorded.RunOf.{RunOf}
@@ -158,3 +162,22 @@ until_recorded {S} faults end_count left olds news recorded all whole fault h = 
   by (ReadFault file) h = absurd h
   by (TooLarge file) h = absurd h
   by NoMemory h = quiet
+
+-- want of memory is a cause of its own
+pub cause_of_memory : (recorded : Recording) (fault : JudgeFault) → fault ≡ NoMemory → IsCauseIn recorded fault
+cause_of_memory recorded fault is = subst (IsCauseIn recorded) (sym is) tt
+
+-- the merged history, where it is lawful
+pub lawful_made : (recorded : Recording) (merged : Merged) (result : Result Merged JudgeFault) → AreOfOneRun recorded.runs → EachSeatInOneFile recorded.events
+    → merged.opening.items ≡ recorded.opening → IsMergeOf recorded.events merged.events.items merged.places.items
+    → IfOk result (λ history. history ≡ merged) → IfOk result (λ history. IsLawful merged.events.items)
+    → IfOk result (λ history. IsLawfulHistory recorded history.opening.items history.events.items history.places.items)
+lawful_made recorded merged (Err fault) runs seats opens made same lawful = tt
+lawful_made recorded merged (Ok history) runs seats opens made same lawful =
+    subst (λ (m : Merged). IsLawfulHistory recorded m.opening.items m.events.items m.places.items) (sym same) (record {
+      runs = runs;
+      seats = seats;
+      history = record { opens = opens; merged = made };
+      many = as_many recorded.events merged.events.items merged.places.items made;
+      lawful = lawful;
+    })

@@ -7,3 +7,8 @@ pub mod JudgeLemmas
 pub mod ReaderLemmas
 pub mod TextLemmas
 mod RightLemmas
+mod OwnCallLemmas
+mod ListLemmas
+mod TokenLemmas
+mod WalkLemmas
+mod OrderTextLemmas

@@ -1,14 +1,14 @@
 -- Sources that a reader reads, one after the other
-use Rattle.std.proofs.Common.{◌≡◌, ◌∙◌, ℕ, ◌+◌, ◌-◌, ◌<◌, ◌≤◌, Bool, List, [], ◌∷◌, ◌++◌, length, get_or, slice_get, Option, Some, Ok, Err, refl, sym, ap, subst, arith}
+use Rattle.std.proofs.Common.{◌≡◌, ◌∙◌, ℕ, ◌+◌, ◌-◌, ◌<◌, ◌≤◌, Bool, List, [], ◌∷◌, ◌++◌, length, get_or, slice_get, Option, Some, Ok, Err, sym, ap, subst, arith}
 use Rattle.std.specs.Prelude.{IfSome, IsSomeAnd}
 use Rattle.std.proofs.Math.Seq.{get_or-append_seam}
 use Rattle.std.proofs.lemmas.List.{length-append}
 use Rattle.std.proofs.lemmas.List.Elements.{All-push}
 use Rattle.std.proofs.lemmas.Option.{slice_get-get_or}
 use Rattle.scq_outside.specs.Exports.{Rose}
-use Rattle.scq_judge.specs.Exports.{NoneIsLarge, HaveContents, IsFile, IsLarge, most_bytes, IsCause, AreSoundBefore, AreQuiet, AreReadBefore}
+use Rattle.scq_judge.specs.Exports.{NoneIsLarge, IsFile, IsLarge, most_bytes, IsCause, AreSoundBefore, AreQuiet, AreReadBefore}
 use Rattle.scq_judge.specs.Exports.{AreReadUntil, CountsFault, HasFailed, HasGiven, ReadingStopped, HaveBeenRead, FileIsAdded, IsFileFault}
-use Rattle.scq_judge.specs.Exports.{IsOfOneFile, IsReadWhole, AllAreOfFiles, after_file, nothing, recording_of}
+use Rattle.scq_judge.specs.Exports.{IsOfOneFile, IsReadWhole, AllAreOfFiles, after_file, recording_of}
 use Rattle.scq_judge.specs.Recording.{Recording}
 use Rattle.scq_judge.specs.declared.judging.JudgeFault.{JudgeFault}
 use Rattle.scq_judge.specs.declared.judging.JudgeFault.TheVariants.{BadLine, Shared, TwoRuns, Unlawful, ReadFault, TooLarge, NoMemory}

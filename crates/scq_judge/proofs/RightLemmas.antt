@@ -1,16 +1,15 @@
 -- What the aspects of a history mean together. Plan: with no event that breaks one a history is right, and a complete one that is
 -- right has orders; where an event breaks one it isn't right, and so has none
-use Rattle.std.proofs.Common.{◌≡◌, ℕ, suc, ◌<◌, ◌≤◌, ◌&&◌, Bool, true, false, List, [], ◌∷◌, Option, Some, None, length, refl, ap, sym, ◌∙◌, subst, arith}
-use Rattle.scq_hist.specs.Exports.{IsCount, IsFirstFailing, IsLawful, IsFreshAt, IsOnceAt, IsInOrderAt, IsEmptyRightAt, StandsIn, under_way}
+use Rattle.std.proofs.Common.{◌≡◌, ℕ, ◌<◌, ◌≤◌, ◌&&◌, Bool, true, false, List, Option, Some, None, length, refl, sym, arith}
+use Rattle.scq_hist.specs.Exports.{IsCount, IsFirstFailing, IsLawful, IsFreshAt, IsOnceAt, IsInOrderAt, IsEmptyRightAt, under_way}
 use Rattle.scq_hist.specs.declared.events.Event.{Event}
-use Rattle.scq_hist.specs.declared.events.PutName.{PutName}
 use Rattle.scq_hist.specs.declared.events.PutName.TheVariants.{Opening, Of}
-use Rattle.scq_check.specs.Exports.{AreBreaches, IsAcceptedAt, IsTokenInOrderAt, IsRefused}
+use Rattle.scq_check.specs.Exports.{AreBreaches, IsAcceptedAt, IsTokenInOrderAt}
 use Rattle.scq_check.specs.declared.verdicts.Breaches.{Breaches}
-use Rattle.scq_judge.specs.Exports.{IsBusy, NeverEnds, IsOrderTold}
+use Rattle.scq_judge.specs.Exports.{NeverEnds, IsOrderTold}
 use Rattle.scq_judge.specs.Right.{all_hold, none_breaks}
 use Rattle.scq_judge.proofs.CountLemmas.{some_busy}
-use Rattle.scq_order.specs.Exports.{HasOrders, IsComplete, IsRight}
+use Rattle.scq_order.specs.Exports.{IsComplete, IsRight}
 use Rattle.scq_order.proofs.RightOrders.{right_from_orders}
 use Rattle.scq_order.proofs.RightHasOrders.{orders_from_right}
 

@@ -1,11 +1,11 @@
 -- Sources as they are read, one after the other
-use Rattle.std.proofs.Common.{◌≡◌, ◌≢◌, ◌∙◌, inl, inr, ℕ, zero, suc, ◌+◌, ◌<◌, ◌≤◌, Bool, List, [], ◌∷◌, ◌++◌, length, take, get_or, slice_get, append_assoc, Option, Some, None, Result, Ok, Err, refl, sym, ap, subst, arith, below_more}
-use Rattle.std.specs.Prelude.{IfErr, IfSome}
+use Rattle.std.proofs.Common.{◌≡◌, ◌≢◌, ◌∙◌, inl, ℕ, zero, suc, ◌<◌, ◌≤◌, Bool, List, [], ◌∷◌, ◌++◌, length, get_or, slice_get, append_assoc, Option, Some, None, Result, Ok, Err, refl, sym, ap, subst, arith, below_more}
+use Rattle.std.specs.Prelude.{IfSome}
 use Rattle.std.specs.Option.{option_map}
 use Rattle.std.proofs.Math.Seq.{get_or-append_seam}
 use Rattle.std.proofs.lemmas.List.{get_or_append_left, length-append}
-use Rattle.scq_outside.specs.Exports.{Rose, Took}
-use Rattle.scq_judge.specs.Exports.{HaveContents, most_bytes, HasGiven, OfEach, CountsFault, IsFileFault, IsLineFault, after_file}
+use Rattle.scq_outside.specs.Exports.{Took}
+use Rattle.scq_judge.specs.Exports.{HaveContents, HasGiven, OfEach, IsFileFault, IsLineFault, after_file}
 use Rattle.scq_judge.specs.Recording.{Recording}
 use Rattle.scq_judge.specs.declared.judging.JudgeFault.{JudgeFault}
 use Rattle.scq_judge.specs.declared.judging.JudgeFault.TheVariants.{BadLine, Shared, TwoRuns, Unlawful, ReadFault, TooLarge, NoMemory}

@@ -26,6 +26,10 @@ pub use Rattle.scq_judge.specs.Report.{tests_refused, tests_opening, over_text, 
 pub use Rattle.scq_judge.specs.Report.{linearizable_line, count_lines, ending_lines, IsOrderTold}
 pub use Rattle.scq_judge.specs.Report.{unbroken_text, over_by}
 pub use Rattle.scq_judge.specs.Findings.{worst_finding}
+pub use Rattle.scq_judge.specs.Ordering.{AreOrders, members_of}
+pub use Rattle.scq_judge.specs.OrderText.{order_lines}
+pub use Rattle.scq_judge.specs.Ordered.{IsOrderedOf}
+pub use Rattle.scq_judge.specs.Judged.{IsLawfulHistory, IsOrdered, IsOrderedIn}
 pub use Rattle.scq_judge.specs.Judged.{IsHistoryOf, IsReported, IsFirstUnlawful, IsSharing}
 pub use Rattle.scq_judge.specs.Judged.{IsCauseIn}
 pub use Rattle.scq_judge.specs.Judged.{IsJudged, AreSoundBefore, IsCause, IsUnlawfulAt}

@@ -5,6 +5,7 @@ use Rattle.std.specs.Prelude.{take, slice_get}
 use Rattle.scq_hist.specs.Exports.{IsLawful, IsLawfulAt, IsFirstFailing}
 use Rattle.scq_hist.specs.declared.events.Event.{Event}
 use Rattle.scq_judge.specs.Files.{NoneIsLarge, IsLarge}
+use Rattle.scq_judge.specs.Ordered.{IsOrderedOf}
 use Rattle.scq_judge.specs.Merged.{IsMergeOf, HasStampOfAnother}
 use Rattle.scq_judge.specs.Recording.{Recording, recording_of}
 use Rattle.scq_judge.specs.Runs.{AreOfOneRun, IsOfAnotherRun}
@@ -21,6 +22,7 @@ use Rattle.scq_judge.specs.declared.judging.Shared.{Shared}
 use Rattle.scq_judge.specs.declared.judging.Shared.TheVariants.{Stamp, Seat}
 use Rattle.scq_judge.specs.declared.merging.MergeFault.{MergeFault}
 use Rattle.scq_judge.specs.declared.merging.MergeFault.TheVariants as merging
+use Rattle.scq_judge.specs.declared.ordering.Ordered.{Ordered}
 use Rattle.scq_judge.specs.declared.recorded.Place.{Place}
 use Rattle.scq_judge.specs.declared.recorded.Stamped.{Stamped}
 
@@ -29,6 +31,16 @@ pub record IsHistoryOf (recorded : Recording) (opening : List (List ℕ)) (event
     (places : List Place) : Type 0 where
   pub opens : opening ≡ recorded.opening
   pub merged : IsMergeOf recorded.events events places
+
+-- this is the history that what was read is merged to, and it is lawful: the files that tell their
+-- run tell the same one, and each seat's events stand in one file
+pub record IsLawfulHistory (recorded : Recording) (opening : List (List ℕ)) (events : List Event)
+    (places : List Place) : Type 0 where
+  pub runs : AreOfOneRun recorded.runs
+  pub seats : EachSeatInOneFile recorded.events
+  pub history : IsHistoryOf recorded opening events places
+  pub many : length places ≡ length events
+  pub lawful : IsLawful events
 
 -- the history is lawful, and the text is that of its report, which tells of files by these names,
 -- and of refusals where it is known for how many values each queue has room; the finding is the
@@ -53,6 +65,14 @@ pub record IsReported (names : List (List ℕ)) (room : Option ℕ) (recorded : 
   pub places : List Place
   pub history : IsHistoryOf recorded opening events places
   pub reported : IsReportOf names room opening events places judged
+
+-- so an order of it is told, or why there is none
+pub record IsOrdered (recorded : Recording) (ordered : Ordered) : Type 0 where
+  pub opening : List (List ℕ)
+  pub events : List Event
+  pub places : List Place
+  pub history : IsLawfulHistory recorded opening events places
+  pub told : IsOrderedOf opening events ordered
 
 -- the event of this place is the first of the merged history that is unlawful
 pub record IsFirstUnlawful (recorded : Recording) (place : Place) : Type 0 where
@@ -94,7 +114,14 @@ pub record IsJudged (names : List (List ℕ)) (room : Option ℕ) (contents : Li
   pub read : recording_of (length names == 1) contents ≡ Ok recorded
   pub reported : IsReported names room recorded judged
 
--- or are at fault so
+-- of such recordings this is told where an order is asked for
+pub record IsOrderedIn (lone : Bool) (contents : List (List ℕ)) (ordered : Ordered) : Type 0 where
+  pub small : NoneIsLarge contents
+  pub recorded : Recording
+  pub read : recording_of lone contents ≡ Ok recorded
+  pub told : IsOrdered recorded ordered
+
+-- or they are at fault so
 pub record IsCaused (lone : Bool) (contents : List (List ℕ)) (fault : JudgeFault) : Type 0 where
   pub small : NoneIsLarge contents
   pub recorded : Recording

@@ -10,5 +10,11 @@ pub mod Telling
 pub mod Report
 pub mod Findings
 pub mod Right
+pub mod OwnCalls
+pub mod Ordering
+pub mod Sequential
+pub mod Walking
+pub mod OrderText
+pub mod Ordered
 pub mod Judged
 pub mod Exports

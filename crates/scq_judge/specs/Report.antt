@@ -10,7 +10,6 @@ use Rattle.scq_check.specs.Exports.{AreFailures, KeepsRoomAt, AreBreaches}
 use Rattle.scq_check.specs.declared.counterparts.Origin.{Origin}
 use Rattle.scq_check.specs.declared.counterparts.Origin.TheVariants.{Nobody, Token, Start}
 use Rattle.scq_check.specs.declared.failures.Failures.{Failures}
-use Rattle.scq_check.specs.declared.verdicts.Breaches.{Breaches}
 use Rattle.scq_check.specs.declared.waiting.Waiting.{Waiting}
 use Rattle.scq_judge.specs.Counted.{IsStartAt, IsNamed, NeverEnds, Overlaps}
 use Rattle.scq_judge.specs.declared.counting.Counts.{Counts}

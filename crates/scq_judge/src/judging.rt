@@ -1,24 +1,21 @@
 //! Recordings merged and judged.
 
-ghost use Rattle.std.specs.Prelude.{◌≡◌, ◌<◌, ◌⊎◌, length, map, string_bytes, IfOk, IfErr, IfSome};
+ghost use Rattle.std.specs.Prelude.{◌≡◌, ◌<◌, length, map, string_bytes, IfOk, IfErr, IfSome};
 ghost use Rattle.scq_hist.specs.Exports.{IsLawful};
 ghost use Rattle.scq_check.specs.Exports.{AreWithin};
-ghost use Rattle.scq_judge.specs.Runs.{AreOfOneRun};
-ghost use Rattle.scq_judge.specs.Seats.{EachSeatInOneFile};
-ghost use Rattle.scq_judge.specs.Judged.{shared_by, IsReported, IsReportOf};
-ghost use Rattle.scq_judge.specs.Judged.{IsCauseIn, IsUnlawfulAt};
+ghost use Rattle.scq_judge.specs.Judged.{shared_by, IsReported, IsReportOf, IsOrdered, IsCauseIn};
 ghost use Rattle.scq_judge.specs.Report.{AreRoomBreaches, IsReport};
 
 use crate::counting::{Counts, count};
 use crate::finding::Finding;
+use crate::history::lawful_history;
 use crate::linearizable::is_linearizable;
-use crate::merging::{MergeFault, Merged, merge};
+use crate::merging::MergeFault;
+use crate::ordering::{Ordered, order_lawful};
 use crate::recorded::{Place, Recorded};
-use crate::runs::first_other_run;
-use crate::seats::first_apart;
 use crate::teller::Teller;
 use crate::text::report_text;
-use scq_check::{Breaches, Failures, find_breaches, find_room_breaches, first_unlawful};
+use scq_check::{Breaches, Failures, find_breaches, find_room_breaches};
 use scq_hist::Event;
 use scq_word::{Bytes, NoMemory};
 use std::alloc::{AllocError, Global};
@@ -170,8 +167,8 @@ impl From<MergeFault> for JudgeFault {
     }
 }
 
-// The fault of an event that shares this with another.
-fn sharing(what: Shared, place: Place, other: Place) -> JudgeFault
+/// The fault of an event that shares this with another.
+pub(crate) fn sharing(what: Shared, place: Place, other: Place) -> JudgeFault
     ensures { result ≡ shared_by what place other }
 {
     JudgeFault::Shared {
@@ -193,68 +190,7 @@ pub(crate) fn judge_recorded(
     ensures reported { IfOk result (IsReported (map string_bytes names.now) room recorded) }
     ensures refused { IfErr result (IsCauseIn recorded) }
 {
-    match first_other_run(recorded.runs()) {
-        Some((run, first)) => Err(JudgeFault::TwoRuns {
-            file: run.file,
-            run: run.number,
-            other_file: first.file,
-            other_run: first.number,
-        }),
-        None => judge_one_run(alloc, room, names, recorded),
-    }
-}
-
-// The report of what was read, where the files are of one run.
-fn judge_one_run(
-    alloc: Global,
-    room: Option<u32>,
-    names: &[String],
-    recorded: Recorded,
-) -> Result<Judged, JudgeFault>
-    requires { AreOfOneRun recorded.runs }
-    ensures reported { IfOk result (IsReported (map string_bytes names.now) room recorded) }
-    ensures refused { IfErr result (IsCauseIn recorded) }
-{
-    match first_apart(alloc, recorded.events()) {
-        Ok(None) => judge_apart(alloc, room, names, recorded),
-        Ok(Some(apart)) => Err(sharing(Shared::Seat, apart.place, apart.other)),
-        Err(NoMemory) => Err(JudgeFault::NoMemory),
-    }
-}
-
-// The report of what was read, where each seat's events stand in one file.
-fn judge_apart(
-    alloc: Global,
-    room: Option<u32>,
-    names: &[String],
-    recorded: Recorded,
-) -> Result<Judged, JudgeFault>
-    requires runs { AreOfOneRun recorded.runs }
-    requires seats { EachSeatInOneFile recorded.events }
-    ensures reported { IfOk result (IsReported (map string_bytes names.now) room recorded) }
-    ensures refused { IfErr result (IsCauseIn recorded) }
-{
-    match merge(alloc, recorded) {
-        Ok(merged) => judge_merged(alloc, room, names, &merged),
-        Err(fault) => Err(JudgeFault::from(fault)),
-    }
-}
-
-// The report of a merged history.
-fn judge_merged(
-    alloc: Global,
-    room: Option<u32>,
-    names: &[String],
-    merged: &Merged,
-) -> Result<Judged, JudgeFault>
-    requires { length merged.now.places.items ≡ length merged.now.events.items }
-    ensures reported { IfOk result
-        (IsReportOf (map string_bytes names.now) room merged.now.opening.items
-        merged.now.events.items merged.now.places.items) }
-    ensures refused { IfErr result (λ fault.
-        (fault ≡ JudgeFault.NoMemory)
-        ⊎ IsUnlawfulAt merged.now.events.items merged.now.places.items fault) }
-{
+    let merged = lawful_history(alloc, recorded)?;
     let opening = merged.opening.as_slice();
     let events = merged.events.as_slice();
     let places = merged.places.as_slice();
@@ -263,31 +199,19 @@ fn judge_merged(
         places,
         events,
     };
-    judge_history(alloc, room, opening, teller)
+    judge_lawful(alloc, room, opening, teller)
 }
 
-// The report of a history.
-fn judge_history(
-    alloc: Global,
-    room: Option<u32>,
-    opening: &[Bytes],
-    teller: Teller<'_>,
-) -> Result<Judged, JudgeFault>
-    ensures reported { IfOk result
-        (IsReportOf (map string_bytes teller.entry.names.now) room opening.now
-        teller.entry.events.now teller.entry.places.now) }
-    ensures refused { IfErr result (λ fault.
-        (fault ≡ JudgeFault.NoMemory)
-        ⊎ IsUnlawfulAt teller.entry.events.now teller.entry.places.now fault) }
+// What is said where an order of what was read is asked for.
+pub(crate) fn order_recorded(alloc: Global, recorded: Recorded) -> Result<Ordered, JudgeFault>
+    ensures ordered { IfOk result (IsOrdered recorded) }
+    ensures refused { IfErr result (IsCauseIn recorded) }
 {
-    let first = first_unlawful(alloc, teller.events)?;
-    match first {
-        Some(e) => {
-            let Place { file, line } = teller.places[e];
-            Err(JudgeFault::Unlawful { file, line })
-        }
-        None => judge_lawful(alloc, room, opening, teller),
-    }
+    let merged = lawful_history(alloc, recorded)?;
+    let opening = merged.opening.as_slice();
+    let events = merged.events.as_slice();
+    let ordered = order_lawful(alloc, opening, events)?;
+    Ok(ordered)
 }
 
 // The report of a lawful history.

@@ -11,20 +11,28 @@
 mod counting;
 mod entry;
 mod finding;
+mod history;
 mod judging;
 mod linearizable;
 mod merging;
+mod order_finding;
+mod order_text;
+mod ordering;
+mod own_calls;
 mod reader;
 mod reading;
 mod recorded;
 mod runs;
 mod seats;
+mod sequential;
 mod teller;
 mod telling;
 mod text;
+mod walking;
 
 pub use counting::Counts;
 pub use finding::Finding;
 pub use judging::{JudgeFault, Judged, Report, Shared};
+pub use ordering::Ordered;
 pub use reader::Reader;
 pub use recorded::{Place, RunOf};

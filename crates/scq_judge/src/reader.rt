@@ -2,11 +2,12 @@
 
 ghost use Rattle.std.specs.Prelude.{◌≡◌, ℕ, ◌+◌, ◌<◌, ◌^◌, List, [], ◌∷◌, ◌++◌, map, string_bytes};
 ghost use Rattle.std.specs.Prelude.{IfOk, IfErr, OnOk};
-ghost use Rattle.scq_judge.specs.Judged.{IsCauseIn, IsReported};
+ghost use Rattle.scq_judge.specs.Judged.{IsCauseIn, IsOrdered, IsReported};
 ghost use Rattle.scq_judge.specs.Reads.{HaveBeenRead, ReadingStopped};
 ghost use Rattle.scq_judge.specs.Recording.{nothing};
 
-use crate::judging::{JudgeFault, Judged, judge_recorded};
+use crate::judging::{JudgeFault, Judged, judge_recorded, order_recorded};
+use crate::ordering::Ordered;
 use crate::reading::Reading;
 use crate::recorded::Recorded;
 use scq_outside::Source;
@@ -83,5 +84,16 @@ impl Reader {
         ensures refused { IfErr result (IsCauseIn self.recorded) }
     {
         judge_recorded(alloc, room, names, self.recorded)
+    }
+
+    /// An order of the history that the recordings are merged to, as text, or why there is none. Of
+    /// each queue with calls that weren't refused, the lowest first, it has a line `queue Q`, and
+    /// behind it a line for each of these calls, in order: its seat, its number among the seat's
+    /// calls over all queues, from 1, and what it did. The faults are those of `judge`.
+    pub fn order(self, alloc: Global) -> Result<Ordered, JudgeFault>
+        ensures ordered { IfOk result (IsOrdered self.recorded) }
+        ensures refused { IfErr result (IsCauseIn self.recorded) }
+    {
+        order_recorded(alloc, self.recorded)
     }
 }

@@ -185,7 +185,7 @@ fn add_got_name(text: &mut Vec<u8>, event: &Event) -> Result<(), NoMemory>
     }
 }
 
-fn add_put_name(text: &mut Vec<u8>, name: PutName) -> Result<(), NoMemory>
+pub(crate) fn add_put_name(text: &mut Vec<u8>, name: PutName) -> Result<(), NoMemory>
     ensures { OnOk result (text.new.items ≡ text.old.items ++ put_name_text name) }
 {
     match name {

@@ -18,7 +18,7 @@ use Rattle.scq_words.specs.Asked.{Asked}
 use Rattle.scq_words.specs.declared.fault.WordsFault.{WordsFault}
 use Rattle.scq_service.specs.declared.outcome.Outcome.{Outcome}
 use Rattle.scq_service.specs.declared.fault.Fault.{Fault}
-use Rattle.scq_service.specs.declared.fault.Fault.TheVariants.{Words, OpenFault, ReadFault, TooLong, TooLarge, WriteFault, BadLine, NotEnabled, Unlawful, Unfinished, BadLineOf, SharedOf, TwoRunsOf, UnlawfulOf, AspectFails, NotTested, NoMemory}
+use Rattle.scq_service.specs.declared.fault.Fault.TheVariants.{Words, OpenFault, ReadFault, TooLong, TooLarge, WriteFault, BadLine, NotEnabled, Unlawful, Unfinished, BadLineOf, SharedOf, TwoRunsOf, UnlawfulOf, AspectFails, NotTested, NotLinearizable, NeverEnded, NotFound, NoMemory}
 
 -- an element at a place meets what all elements of the list meet
 all-at : {X : Type 0} (P Q : X → Type 0) (xs : List X) (k : ℕ) → All P xs → IsSomeAnd (slice_get xs k) Q → (x : X) × P x × Q x
@@ -69,6 +69,9 @@ complete size text src names got r w (Some (TwoRunsOf file n g s)) e calm = absu
 complete size text src names got r w (Some (UnlawfulOf file line)) e calm = absurd (e.0)
 complete size text src names got r w (Some AspectFails) e calm = absurd (e.0)
 complete size text src names got r w (Some NotTested) e calm = absurd (e.0)
+complete size text src names got r w (Some NotLinearizable) e calm = absurd (e.0)
+complete size text src names got r w (Some NeverEnded) e calm = absurd (e.0)
+complete size text src names got r w (Some NotFound) e calm = absurd (e.0)
 
 -- a run over no file of the outside, none of whose writes failed, ends likewise
 pub complete-alone : (text : List ℕ) (w : Wrote) (end : Option Fault) → EndsWithoutFiles text w end → ¬ Rose w.faults.old w.faults.new
@@ -91,6 +94,9 @@ complete-alone text w (Some (TwoRunsOf file n g s)) e calm = absurd e
 complete-alone text w (Some (UnlawfulOf file line)) e calm = absurd e
 complete-alone text w (Some AspectFails) e calm = absurd e
 complete-alone text w (Some NotTested) e calm = absurd e
+complete-alone text w (Some NotLinearizable) e calm = absurd e
+complete-alone text w (Some NeverEnded) e calm = absurd e
+complete-alone text w (Some NotFound) e calm = absurd e
 
 -- the count of one source isn't both 0 and 1
 one-apart : {S : Type 0} (faults : S → ℕ) (sources : List S) → length sources ≡ 1 → All (λ source. faults source ≡ 0) sources
@@ -138,6 +144,9 @@ complete-text command src name got r w (Some (TwoRunsOf file n g s)) e calm = in
 complete-text command src name got r w (Some (UnlawfulOf file line)) e calm = inr (inr e.0)
 complete-text command src name got r w (Some AspectFails) e calm = inr (inr e.0)
 complete-text command src name got r w (Some NotTested) e calm = inr (inr e.0)
+complete-text command src name got r w (Some NotLinearizable) e calm = inr (inr e.0)
+complete-text command src name got r w (Some NeverEnded) e calm = inr (inr e.0)
+complete-text command src name got r w (Some NotFound) e calm = inr (inr e.0)
 complete-text command src name got r w (Some (TooLong file line len limit)) e calm = inr (inr e.0)
 complete-text command src name got r w (Some (Words fault)) e calm = inr (inr e.0)
 

@@ -1,5 +1,5 @@
 -- What is told of the object that a run ended by.
-use Rattle.std.proofs.Common.{◌≡◌, ◌∙◌, ◌⊎◌, inl, inr, refl, sym, ap, arith, ℕ, ◌+◌, ◌-◌, Bool, true, false, List, [], ◌∷◌, ◌++◌, length, length-append, slice_get, Option, Some, None}
+use Rattle.std.proofs.Common.{◌≡◌, ◌∙◌, inl, inr, refl, sym, ap, subst, arith, ℕ, ◌+◌, ◌-◌, Bool, true, false, List, [], ◌∷◌, ◌++◌, length, length-append, slice_get, Option, Some, None}
 use Rattle.std.specs.Option.{option_and_then}
 use Rattle.scq_outside.specs.declared.cause.Cause.{Cause}
 use Rattle.scq_judge.specs.Exports.{AreReadUntil, IsCauseIn, ReadingStopped}
@@ -9,12 +9,9 @@ use Rattle.scq_judge.specs.declared.judging.JudgeFault.TheVariants as judge
 use Rattle.scq_judge.specs.declared.judging.Judged.{Judged}
 use Rattle.scq_judge.specs.declared.finding.Finding.{Finding}
 use Rattle.scq_judge.specs.declared.finding.Finding.TheVariants as says
-use Rattle.scq_words.specs.declared.text_request.TextCommand.{TextCommand}
-use Rattle.scq_words.specs.declared.text_request.TextCommand.TheVariants.{Check, Replay, Order}
-use Rattle.scq_service.specs.Exports.{cause_of_read, cause_of_write, cause_told, end_of_report, fault_of_judge, Wrote, IsWritten}
-use Rattle.scq_service.specs.Telling.{IsOfText}
+use Rattle.scq_service.specs.Exports.{cause_of_read, cause_of_write, cause_told, end_of_report, fault_of_judge, Wrote, IsWritten, IsUntoldOf}
 use Rattle.scq_service.specs.declared.fault.Fault.{Fault}
-use Rattle.scq_service.specs.declared.fault.Fault.TheVariants as service
+use Rattle.scq_service.specs.declared.fault.Fault.TheVariants.{NotLinearizable, NeverEnded, NotFound}
 
 -- the last of a list
 last-got : {S : Type 0} (xs : List S) (x : S) → slice_get (xs ++ x ∷ []) (length xs) ≡ Some x
@@ -54,6 +51,14 @@ module _ {S : Type 0} (cause : S → Option Cause) (files sink : Option Cause) w
   refused-cause recorded sources (judge.Unlawful file line) in_it = refl
   refused-cause recorded sources judge.NoMemory in_it = refl
 
+  pub untold-cause : (recorded : Recording) (sources : List S) (ordering : Bool) (fault : Fault) → IsUntoldOf ordering recorded fault
+      → None ≡ cause_told cause sources files sink (Some fault)
+  untold-cause recorded sources true NotLinearizable is = refl
+  untold-cause recorded sources true NeverEnded is = refl
+  untold-cause recorded sources true NotFound is = refl
+  untold-cause recorded sources ordering fault is =
+      subst (λ f. None ≡ cause_told cause sources files sink (Some f)) (sym is.1) (refused-cause recorded sources is.0 is.2)
+
   -- what a report's end tells is of the sink where a write failed, and else of no object
   written-end : (sources : List S) (strict : Bool) (worst : Finding)
       → cause_of_write sink (end_of_report strict worst) ≡ cause_told cause sources files sink (end_of_report strict worst)
@@ -68,37 +73,3 @@ module _ {S : Type 0} (cause : S → Option Cause) (files sink : Option Cause) w
       → cause_of_write sink end ≡ cause_told cause sources files sink end
   written-cause sources strict judged w end (inl whole) = rw whole.2 (written-end sources strict judged.worst)
   written-cause sources strict judged w end (inr failed) = rw failed.0 refl
-
-  -- a text's fault is of no object, and want of memory neither
-  unopened : (command : TextCommand) (file : ℕ) → IsOfText command (service.OpenFault file) → ⊥
-  unopened Check file of_text = of_text
-  unopened Replay file of_text = of_text
-  unopened Order file of_text = of_text
-
-  written : (command : TextCommand) → IsOfText command service.WriteFault → ⊥
-  written Check of_text = of_text
-  written Replay of_text = of_text
-  written Order of_text = of_text
-
-  pub text-cause : (command : TextCommand) (sources : List S) (end : Fault) (T : Type 0) → (end ≡ service.NoMemory) ⊎ (T × IsOfText command end)
-      → cause_told cause sources None None (Some end) ≡ cause_told cause sources files sink (Some end)
-  text-cause command sources end T (inl none) = rw none refl
-  text-cause command sources end T (inr is) = by end is.1 where
-    by : (end : Fault) → IsOfText command end → cause_told cause sources None None (Some end) ≡ cause_told cause sources files sink (Some end)
-    by (service.OpenFault file) of_text = absurd (unopened command file of_text)
-    by service.WriteFault of_text = absurd (written command of_text)
-    by (service.Words f) of_text = refl
-    by (service.ReadFault file) of_text = refl
-    by (service.TooLong file line len limit) of_text = refl
-    by (service.TooLarge file limit) of_text = refl
-    by (service.BadLine line) of_text = refl
-    by (service.NotEnabled line) of_text = refl
-    by (service.Unlawful line) of_text = refl
-    by (service.Unfinished seat) of_text = refl
-    by (service.BadLineOf file line) of_text = refl
-    by (service.SharedOf what file line g m) of_text = refl
-    by (service.TwoRunsOf file n g s) of_text = refl
-    by (service.UnlawfulOf file line) of_text = refl
-    by service.AspectFails of_text = refl
-    by service.NotTested of_text = refl
-    by service.NoMemory of_text = refl

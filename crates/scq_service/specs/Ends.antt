@@ -13,12 +13,15 @@ use Rattle.scq_collect.specs.Exports.{one_thread_output}
 use Rattle.scq_lines.specs.Exports.{lines_of}
 use Rattle.scq_self.specs.Exports.{self_summary}
 use Rattle.scq_judge.specs.Exports.{AreSoundBefore, IsJudged, IsCause, AreQuiet, AreReadUntil}
-use Rattle.scq_judge.specs.Exports.{AreReadWhole}
+use Rattle.scq_judge.specs.Exports.{AreReadWhole, IsOrderedIn, IsOrdered, IsReported, IsCauseIn}
+use Rattle.scq_judge.specs.Recording.{Recording}
 use Rattle.scq_judge.specs.declared.finding.Finding.{Finding}
 use Rattle.scq_judge.specs.declared.finding.Finding.TheVariants as says
 use Rattle.scq_judge.specs.declared.judging.Judged.{Judged}
 use Rattle.scq_judge.specs.declared.judging.JudgeFault.{JudgeFault}
 use Rattle.scq_judge.specs.declared.judging.JudgeFault.TheVariants as judge
+use Rattle.scq_judge.specs.declared.ordering.Ordered.{Ordered}
+use Rattle.scq_judge.specs.declared.ordering.Ordered.TheVariants as order
 use Rattle.scq_stages.specs.Exports.{one_thread_stage_output}
 use Rattle.scq_words.specs.Exports.{run, generated, judged, whole, staged}
 use Rattle.scq_words.specs.Asked.{Asked}
@@ -37,7 +40,8 @@ use Rattle.scq_service.specs.declared.fault.Fault.TheVariants.{TooLarge, WriteFa
 use Rattle.scq_service.specs.declared.fault.Fault.TheVariants.{NotEnabled, Unlawful, Unfinished}
 use Rattle.scq_service.specs.declared.fault.Fault.TheVariants.{BadLineOf, SharedOf, TwoRunsOf}
 use Rattle.scq_service.specs.declared.fault.Fault.TheVariants.{UnlawfulOf, AspectFails, NotTested}
-use Rattle.scq_service.specs.declared.fault.Fault.TheVariants.{NoMemory}
+use Rattle.scq_service.specs.declared.fault.Fault.TheVariants.{NotLinearizable, NeverEnded}
+use Rattle.scq_service.specs.declared.fault.Fault.TheVariants.{NotFound, NoMemory}
 
 -- a count or what is visible of an object, before a call and after it
 pub record Change (A : Type 0) : Type 0 where
@@ -202,6 +206,9 @@ ReadsOver size src names got r (Some (TwoRunsOf file n g s)) = ⊥
 ReadsOver size src names got r (Some (UnlawfulOf file line)) = ⊥
 ReadsOver size src names got r (Some AspectFails) = ⊥
 ReadsOver size src names got r (Some NotTested) = ⊥
+ReadsOver size src names got r (Some NotLinearizable) = ⊥
+ReadsOver size src names got r (Some NeverEnded) = ⊥
+ReadsOver size src names got r (Some NotFound) = ⊥
 ReadsOver size src names got r (Some (Words fault)) = ⊥
 
 -- how a run over files of these names ends: each was read and the text written, or, where out
@@ -418,6 +425,74 @@ EndsJudged src room strict names got r w (Some WriteFault) =
 EndsJudged src room strict names got r w (Some fault) =
     EndsUnjudged src names got r fault × IsUnwritten w
 
+-- every source was read to its end, no read failed, and what is told where an order is asked for
+-- meets P, where each source told its own content when it was got
+pub record OrderMeets {S : Type 0} (src : SourceOf S) (names : List (List ℕ)) (got : List S)
+    (r : Inputs S) (P : Ordered → Type 0) : Type 0 where
+  pub all : HaveAll names r
+  pub whole : AreReadWhole src.faults src.ends src.left (length names) got r.sources
+  pub told : IfTold src.left got (λ contents.
+      (ordered : Ordered) × IsOrderedIn (length names == 1) contents ordered × P ordered)
+
+-- at which fault a run over recordings of these names ends that found no order of them
+abbrev pub EndsUnordered : {S : Type 0} → SourceOf S → List (List ℕ) → List S → Inputs S → Fault
+    → Type 0
+EndsUnordered src names got r NotLinearizable =
+    OrderMeets src names got r (λ ordered. ordered ≡ order.NotLinearizable)
+EndsUnordered src names got r NeverEnded =
+    OrderMeets src names got r (λ ordered. ordered ≡ order.NeverEnded)
+EndsUnordered src names got r NotFound =
+    OrderMeets src names got r (λ ordered. ordered ≡ order.NotFound)
+EndsUnordered src names got r fault = EndsUnjudged src names got r fault
+
+-- the orders were found, and their text meets P
+abbrev pub OrderTextMeets : (List ℕ → Type 0) → Ordered → Type 0
+OrderTextMeets P ordered = (text : List ℕ) × (ordered ≡ order.Order text) × P text
+
+-- how a run ends that is asked for an order of recordings of these names
+abbrev pub EndsOrdered : {S : Type 0} → SourceOf S → List (List ℕ) → List S → Inputs S → Wrote
+    → Option Fault → Type 0
+EndsOrdered src names got r w None =
+    IsUnchanged w.faults × OrderMeets src names got r (OrderTextMeets (λ text.
+    w.written.new ≡ written_with w.written.old text))
+EndsOrdered src names got r w (Some WriteFault) =
+    Rose w.faults.old w.faults.new × OrderMeets src names got r (OrderTextMeets (λ text.
+    WrotePart w.written.old w.written.new text))
+EndsOrdered src names got r w (Some fault) =
+    EndsUnordered src names got r fault × IsUnwritten w
+
+-- how a run over recordings of these names ends, by whether it is asked for an order
+abbrev pub EndsRecorded : {S : Type 0} → SourceOf S → Option ℕ → Bool → Bool → List (List ℕ)
+    → List S → Inputs S → Wrote → Option Fault → Type 0
+EndsRecorded src room strict true names got r w end = EndsOrdered src names got r w end
+EndsRecorded src room strict false names got r w end =
+    EndsJudged src room strict names got r w end
+
+-- For private calls: what is to be written of what was read, which is a report, or orders
+abbrev pub IsToldOf : Option ℕ → Bool → List (List ℕ) → Recording → Judged → Type 0
+IsToldOf room true names recorded told = IsOrdered recorded (order.Order told.text)
+IsToldOf room false names recorded told = IsReported names room recorded told
+
+-- or there is nothing to write, for this fault
+abbrev pub IsUntoldOf : Bool → Recording → Fault → Type 0
+IsUntoldOf true recorded NotLinearizable = IsOrdered recorded order.NotLinearizable
+IsUntoldOf true recorded NeverEnded = IsOrdered recorded order.NeverEnded
+IsUntoldOf true recorded NotFound = IsOrdered recorded order.NotFound
+IsUntoldOf ordering recorded fault =
+    (refused : JudgeFault) × (fault ≡ fault_of_judge refused) × IsCauseIn recorded refused
+
+-- For private calls: at which fault such a run ends that has nothing to write
+abbrev pub EndsUntold : {S : Type 0} → SourceOf S → Bool → List (List ℕ) → List S → Inputs S
+    → Fault → Type 0
+EndsUntold src true names got r fault = EndsUnordered src names got r fault
+EndsUntold src false names got r fault = EndsUnjudged src names got r fault
+
+-- what it is to write, by the contents of the files
+abbrev pub IsToWrite : Option ℕ → Bool → List (List ℕ) → List (List ℕ) → Judged → Type 0
+IsToWrite room true names contents told =
+    IsOrderedIn (length names == 1) contents (order.Order told.text)
+IsToWrite room false names contents told = IsJudged names room contents told
+
 -- nothing was got, and nothing that was asked for was missing, but where the count of misses stands
 -- still
 abbrev pub NoSourceCame : {S : Type 0} → Inputs S → Type 0
@@ -438,7 +513,7 @@ EndsAs src (Ok (generated a)) got r w end =
     NoSourceCame r × EndsWithoutFiles (self_summary a.seed a.lines) w end
 EndsAs src (Ok (judged a)) got r w end =
     HasGotSources src a.files got r
-    × EndsJudged src a.room a.strict a.files got r w end
+    × EndsRecorded src a.room a.strict a.order a.files got r w end
 EndsAs src (Ok (whole a)) got r w end =
     EndsWhole a.command src a.file got r w end
 EndsAs src (Ok (staged a)) got r w end =

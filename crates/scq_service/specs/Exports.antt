@@ -9,6 +9,8 @@ pub use Rattle.scq_service.specs.Ends.{FileIsRefused, ReadsOver, EndsOver, EndsW
 pub use Rattle.scq_service.specs.Ends.{most_text, IfContent, EndsWhole, HaveAll, ReportMeets}
 pub use Rattle.scq_service.specs.Ends.{JudgeMissesFile, EndsUnjudged, end_of_report, WroteReport}
 pub use Rattle.scq_service.specs.Ends.{WroteReportPart, IsWritten, EndsJudged, EndsAs, IsCalm}
+pub use Rattle.scq_service.specs.Ends.{OrderMeets, EndsUnordered, OrderTextMeets, EndsOrdered}
+pub use Rattle.scq_service.specs.Ends.{EndsRecorded, EndsUntold, IsToldOf, IsUntoldOf, IsToWrite}
 pub use Rattle.scq_service.specs.Ends.{IsCalmText}
 pub use Rattle.scq_service.specs.Ends.{IsOfTextAlone}
 pub use Rattle.scq_service.specs.Faults.{status_of, file_line, entry_line, topics_line, words_line}

@@ -16,7 +16,8 @@ use Rattle.scq_service.specs.declared.fault.Fault.TheVariants.{TooLarge, WriteFa
 use Rattle.scq_service.specs.declared.fault.Fault.TheVariants.{NotEnabled, Unlawful, Unfinished}
 use Rattle.scq_service.specs.declared.fault.Fault.TheVariants.{BadLineOf, SharedOf, TwoRunsOf}
 use Rattle.scq_service.specs.declared.fault.Fault.TheVariants.{UnlawfulOf, AspectFails, NotTested}
-use Rattle.scq_service.specs.declared.fault.Fault.TheVariants.{NoMemory}
+use Rattle.scq_service.specs.declared.fault.Fault.TheVariants.{NotLinearizable, NeverEnded}
+use Rattle.scq_service.specs.declared.fault.Fault.TheVariants.{NotFound, NoMemory}
 use Rattle.scq_outside.specs.declared.read_all_fault.ReadAllFault.{ReadAllFault}
 use Rattle.scq_outside.specs.declared.read_all_fault.ReadAllFault.TheVariants as whole
 use Rattle.scq_check.specs.declared.history.HistoryFault.{HistoryFault}
@@ -46,6 +47,9 @@ status_of_fault (TwoRunsOf file run other_file other_run) = 8
 status_of_fault (UnlawfulOf file line) = 10
 status_of_fault AspectFails = 12
 status_of_fault NotTested = 13
+status_of_fault NotLinearizable = 12
+status_of_fault NeverEnded = 11
+status_of_fault NotFound = 14
 status_of_fault NoMemory = 5
 
 -- the status that the program ends with
@@ -131,6 +135,9 @@ fault_line (TwoRunsOf file run other_file other_run) =
 fault_line (UnlawfulOf file line) = place_line file line (codes ": event out of place\n")
 fault_line AspectFails = codes "an aspect fails\n"
 fault_line NotTested = codes "an aspect was not tested\n"
+fault_line NotLinearizable = codes "not linearizable\n"
+fault_line NeverEnded = codes "calls never ended\n"
+fault_line NotFound = codes "no order found\n"
 fault_line NoMemory = codes "out of memory\n"
 
 -- a fault of the workers, where a payload may have `size` bytes

@@ -79,6 +79,12 @@ pub enum Fault {
     AspectFails,
     /// A line of the report, which was written, says `not tested`, and none fails.
     NotTested,
+    /// Recordings whose orders are asked for are not linearizable.
+    NotLinearizable,
+    /// A call of theirs never ended, which leaves open whether they are.
+    NeverEnded,
+    /// They are, but no order was found.
+    NotFound,
     NoMemory,
 }
 
@@ -100,9 +106,10 @@ impl Fault {
             Fault::SharedOf { .. } | Fault::TwoRunsOf { .. } => 8,
             Fault::NotEnabled { .. } => 9,
             Fault::Unlawful { .. } | Fault::UnlawfulOf { .. } => 10,
-            Fault::Unfinished { .. } => 11,
-            Fault::AspectFails => 12,
+            Fault::Unfinished { .. } | Fault::NeverEnded => 11,
+            Fault::AspectFails | Fault::NotLinearizable => 12,
             Fault::NotTested => 13,
+            Fault::NotFound => 14,
         }
     }
 }

@@ -106,6 +106,9 @@ fn write_behind<K: Sink>(
         Fault::UnlawfulOf { file, .. } => write_name(sink, names, *file),
         Fault::AspectFails => Ok(()),
         Fault::NotTested => Ok(()),
+        Fault::NotLinearizable => Ok(()),
+        Fault::NeverEnded => Ok(()),
+        Fault::NotFound => Ok(()),
         Fault::NoMemory => Ok(()),
     }
 }

@@ -67,6 +67,9 @@ pub(crate) fn write_fault<K: Sink>(sink: &mut K, fault: &Fault) -> Result<(), Fa
         }
         Fault::AspectFails => write_part(sink, b"an aspect fails\n"),
         Fault::NotTested => write_part(sink, b"an aspect was not tested\n"),
+        Fault::NotLinearizable => write_part(sink, b"not linearizable\n"),
+        Fault::NeverEnded => write_part(sink, b"calls never ended\n"),
+        Fault::NotFound => write_part(sink, b"no order found\n"),
         Fault::NoMemory => write_part(sink, b"out of memory\n"),
     }
 }

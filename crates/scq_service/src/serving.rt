@@ -188,7 +188,15 @@ fn run<R: Threads + Sync, F: Files, K: Sink, G: Gate + Sync>(
         Ok(Request::Judge(asked)) => {
             let names = asked.files.as_slice();
             Ran::quiet(
-                run_judge(alloc, asked.room, asked.strict, names, files, out),
+                run_judge(
+                    alloc,
+                    asked.room,
+                    asked.strict,
+                    asked.order,
+                    names,
+                    files,
+                    out,
+                ),
                 Names::These(asked.files),
             )
         }

@@ -1,5 +1,5 @@
 -- What a command answers, as the answer of the program that knows it.
-use Rattle.std.proofs.Common.{◌≡◌, ℕ, ◌-◌, ◌≤◌, Bool, List, [], ◌∷◌, length, map, take, drop, get_or, Option, Some, None, Result, Ok, Err, ◌∙◌, sym, ap, subst, arith}
+use Rattle.std.proofs.Common.{◌≡◌, ℕ, ◌-◌, ◌≤◌, Bool, false, List, [], ◌∷◌, length, map, take, drop, get_or, Option, Some, None, Result, Ok, Err, ◌∙◌, sym, ap, subst, arith}
 use Rattle.std.proofs.lemmas.List.{take_all}
 use Rattle.std.proofs.lemmas.Result.{IfOk-weaker}
 use Rattle.std.specs.Prelude.{◌≢◌, IfOk, IsErrOf, MatchResult}
@@ -27,7 +27,29 @@ unparsed app words rest what asks error (Err e) its passed = record {
   ranges = tt;
 }
 
--- where it takes them, and the tests of their texts decide
+-- the same where less is taken
+pub less-taken : {T : Type 0} (asks : T → Asked) (said : Result Asked WordsFault) (takes less : Bool) (result : Result T WordsError) → (takes ≡ false → less ≡ false)
+    → Answered asks said takes result → Answered asks said less result
+less-taken asks said takes less result fewer its =
+    record { request = its.request; refused = its.refused; taken = λ e. fewer (its.taken e); ranges = its.ranges }
+
+-- where it takes them, and the tests of their texts decide, which may refuse them too
+pub tested-too : {R T A : Type 0} (app : App) (words : List (List ℕ)) (taken : Bool) (tests : T → List (Option WordsFault)) (make : A → Asked) (of : T → A)
+    (asks : R → A) (t read : T) (result : Result R WordsError) → refused_by_clap app words ≡ None → t ≡ read
+    → IfOk result (λ request. (first_of_tests (tests t) ≡ None) × (of t ≡ asks request))
+    → ((fault : WordsFault) → IsErrOf result (Refused fault) → first_of_tests (tests t) ≡ Some fault)
+    → (first_of_tests (tests read) ≡ Some NotUnderstood → taken ≡ false)
+    → IfOk result (λ request. IsInRange (make (asks request)))
+    → Answered (λ request. make (asks request)) (answered_by (first_of_tests (refused_by_clap app words ∷ tests read)) (make (of read))) taken result
+tested-too app words taken tests make of asks t read result passes is request refused known ranges = record {
+  request = IfOk-weaker result _ _
+      (λ request h. tests-answer app words tests (λ t. make (of t)) t read (Ok (make (asks request))) passes is (answer-ok _ _ _ h.0 (ap make h.1))) request;
+  refused = λ fault e. tests-answer app words tests (λ t. make (of t)) t read (Err fault) passes is (answer-err _ _ fault (refused fault e));
+  taken = λ e. known (subst (λ z. first_of_tests (tests z) ≡ Some NotUnderstood) is (refused NotUnderstood e));
+  ranges = ranges;
+}
+
+-- where they never say that the words aren't understood
 pub tested : {R T A : Type 0} (app : App) (words : List (List ℕ)) (tests : T → List (Option WordsFault)) (make : A → Asked) (of : T → A) (asks : R → A)
     (t read : T) (result : Result R WordsError) → refused_by_clap app words ≡ None → t ≡ read
     → IfOk result (λ request. (first_of_tests (tests t) ≡ None) × (of t ≡ asks request))
@@ -35,13 +57,8 @@ pub tested : {R T A : Type 0} (app : App) (words : List (List ℕ)) (tests : T �
     → ((t : T) → first_of_tests (tests t) ≢ Some NotUnderstood)
     → IfOk result (λ request. IsInRange (make (asks request)))
     → Answered (λ request. make (asks request)) (answered_by (first_of_tests (refused_by_clap app words ∷ tests read)) (make (of read))) (takes app words) result
-tested app words tests make of asks t read result passes is request refused known ranges = record {
-  request = IfOk-weaker result _ _
-      (λ request h. tests-answer app words tests (λ t. make (of t)) t read (Ok (make (asks request))) passes is (answer-ok _ _ _ h.0 (ap make h.1))) request;
-  refused = λ fault e. tests-answer app words tests (λ t. make (of t)) t read (Err fault) passes is (answer-err _ _ fault (refused fault e));
-  taken = λ e. absurd (known t (refused NotUnderstood e));
-  ranges = ranges;
-}
+tested app words tests make of asks t read result passes is request refused known ranges =
+    tested-too app words (takes app words) tests make of asks t read result passes is request refused (λ e. absurd (known read e)) ranges
 
 -- the request of a command as one of the program
 pub answered : {T : Type 0} (make : T → Request) (said : Result Asked WordsFault) (takes : Bool) (own : Result T WordsError) (result : Result Request WordsError)

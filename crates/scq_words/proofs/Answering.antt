@@ -47,11 +47,11 @@ pub self-texts : (f : Found) {rows : List Row} {seed lines workers : Option (Lis
 self-texts f same s l w = λ i.
     texts_of_self (text-same f (codes "seed") same s i) (text-same f (codes "lines") same l i) (text-same f (codes "workers") same w i)
 
-pub judge-texts : (f : Found) {rows : List Row} {room strict : Option (List ℕ)} {files : Option (List (List ℕ))} {names : List (List ℕ)} → rows_of f ≡ rows
-    → room ≡ first_value f (codes "room") → strict ≡ first_value f (codes "strict") → files ≡ option_map raw_values (matched_of f (codes "files"))
-    → names ≡ unwrap_or files [] → texts_of_judge room strict names ≡ judge_texts rows
-judge-texts f same r s got is = λ i.
-    texts_of_judge (text-same f (codes "room") same r i) (text-same f (codes "strict") same s i) (files-same f same got is i)
+pub judge-texts : (f : Found) {rows : List Row} {room strict order : Option (List ℕ)} {files : Option (List (List ℕ))} {names : List (List ℕ)} → rows_of f ≡ rows
+    → room ≡ first_value f (codes "room") → strict ≡ first_value f (codes "strict") → order ≡ first_value f (codes "order")
+    → files ≡ option_map raw_values (matched_of f (codes "files")) → names ≡ unwrap_or files [] → texts_of_judge room strict order names ≡ judge_texts rows
+judge-texts f same r s o got is = λ i.
+    texts_of_judge (text-same f (codes "room") same r i) (text-same f (codes "strict") same s i) (text-same f (codes "order") same o i) (files-same f same got is i)
 
 -- `clap` takes the words, and then the tests of their texts decide
 pub tests-answer : {T : Type 0} (app : App) (words : List (List ℕ)) (tests : T → List (Option WordsFault)) (what : T → Asked) (t read : T)

@@ -1,12 +1,13 @@
--- The tests of the arguments of `run`, `stages`, `judge` and `self` never answer that the words aren't understood.
-use Rattle.std.proofs.Common.{◌≡◌, ◌≢◌, ◌<◌, ◌⊎◌, sym, subst, map, inl, inr, arith, true, false, ℕ, ◌+◌, ◌≤◌, Bool, List, [], ◌∷◌, length, Option, Some, None}
+-- The tests of the arguments of `run`, `stages` and `self` never answer that the words aren't understood, and those of `judge` where
+-- an order is asked for together with what is asked of a report.
+use Rattle.std.proofs.Common.{◌≡◌, ◌≢◌, ◌<◌, ◌⊎◌, refl, sym, subst, map, inl, inr, arith, true, false, ℕ, ◌+◌, ◌≤◌, Bool, List, [], ◌∷◌, length, Option, Some, None}
 use Rattle.std.specs.Prelude.{◌==◌, ◌&&◌, nat_lt, nat_le, option_map, if◌then◌else◌}
 use Rattle.std.specs.List.{All, position}
 use Rattle.std.proofs.lemmas.List.Elements.{All-map}
 use Rattle.std.specs.Option.{option_or}
 use Rattle.scq_word.specs.Exports.{most_run_order}
 use Rattle.scq_topics.specs.Exports.{entries_of, first_fault}
-use Rattle.scq_words.specs.Exports.{JudgeTexts, RunTexts, SelfTexts, StagesTexts, first_of_tests, judge_tests, refused_if, refused_names}
+use Rattle.scq_words.specs.Exports.{JudgeTexts, RunTexts, SelfTexts, StagesTexts, first_of_tests, judge_tests, is_beside, files_tests, refused_if, refused_names}
 use Rattle.scq_words.specs.Exports.{refused_topics, run_tests, self_tests, stages_tests, fault_outside, number_in, refused_outside}
 use Rattle.scq_words.specs.declared.fault.WordsFault.{WordsFault}
 use Rattle.scq_words.specs.declared.fault.WordsFault.TheVariants.{NotUnderstood, Workers, Order, Size, Topics, TooManyFiles, TooManyRecordings, NoName, Room, Seed, Lines}
@@ -48,8 +49,12 @@ files-other most many files other =
     or-other _ _ (if-other (nat_lt most (length files)) many other)
     (or-other _ None (map-other (λ at. NoName (at + 1)) (position (λ name. length name == 0) files) (λ a e. cc)) (λ e. cc))
 
-pub judge-other : (t : JudgeTexts) → first_of_tests (judge_tests t) ≢ Some NotUnderstood
-judge-other t = or-other _ _ (outside-other 1 4294967295 Room t.room (λ e. cc)) (files-other 4096 TooManyRecordings t.files (λ e. cc))
+pub judge-beside : (t : JudgeTexts) → first_of_tests (judge_tests t) ≡ Some NotUnderstood → is_beside t.room t.strict t.order ≡ true
+judge-beside t = by (is_beside t.room t.strict t.order) where
+  by : (b : Bool) → option_or (refused_if b NotUnderstood) (first_of_tests (refused_outside 1 4294967295 Room t.room ∷ files_tests 4096 TooManyRecordings t.files))
+      ≡ Some NotUnderstood → b ≡ true
+  by true e = refl
+  by false e = absurd (or-other _ _ (outside-other 1 4294967295 Room t.room (λ e. cc)) (files-other 4096 TooManyRecordings t.files (λ e. cc)) e)
 
 pub run-other : (t : RunTexts) → first_of_tests (run_tests t) ≢ Some NotUnderstood
 run-other t =

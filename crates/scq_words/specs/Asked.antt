@@ -1,11 +1,11 @@
 -- What the words of a command line ask for, or the first test that refuses them.
 use Rattle.std.specs.Prelude.{ℕ, ◌+◌, ◌^◌, ◌==◌, Bool, true, false, nat_lt, min, string_bytes, List}
 use Rattle.std.specs.Prelude.{[], ◌∷◌, ◌++◌, length, map, codes, Option, Some, None, option_map}
-use Rattle.std.specs.Prelude.{unwrap_or, Result, Ok, Err, if◌then◌else◌}
+use Rattle.std.specs.Prelude.{unwrap_or, Result, Ok, Err, if◌then◌else◌, is_some, not, ◌&&◌, ◌||◌}
 use Rattle.std.specs.List.{position}
 use Rattle.std.specs.Option.{option_or}
 use Rattle.std.specs.Str.{bytes_eq}
-use Rattle.clap.specs.Words.{App, Row, all_of, first_of, matches_of}
+use Rattle.clap.specs.Words.{App, Row, all_of, first_of, matches_of, takes}
 use Rattle.clap.specs.Faults.{fault_of}
 use Rattle.scq_word.specs.Exports.{most_run_order}
 use Rattle.scq_topics.specs.declared.kind.Kind.{Kind}
@@ -91,6 +91,7 @@ pub record SelfAsked : Type 0 where
 pub record JudgeAsked : Type 0 where
   pub room : Option ℕ
   pub strict : Bool
+  pub order : Bool
   pub files : List (List ℕ)
 
 -- what is asked of one whole file
@@ -134,6 +135,7 @@ pub record SelfTexts : Type 0 where
 pub record JudgeTexts : Type 0 where
   pub room : Option (List ℕ)
   pub strict : Option (List ℕ)
+  pub order : Option (List ℕ)
   pub files : List (List ℕ)
 
 abbrev pub texts_of_run : Option (List ℕ) → Option (List ℕ) → Option (List ℕ) → Option (List ℕ)
@@ -274,18 +276,26 @@ asked_of_text command words = let rows = matches_of (text_app command) words in 
     ∷ refused_names (file ∷ []) ∷ []))
     (whole (record { command = text_command command rows; file = file }))
 
-abbrev pub texts_of_judge : Option (List ℕ) → Option (List ℕ) → List (List ℕ) → JudgeTexts
-texts_of_judge room strict files = record { room = room; strict = strict; files = files }
+abbrev pub texts_of_judge : Option (List ℕ) → Option (List ℕ) → Option (List ℕ) → List (List ℕ)
+    → JudgeTexts
+texts_of_judge room strict order files =
+    record { room = room; strict = strict; order = order; files = files }
 
 abbrev pub judge_texts : List Row → JudgeTexts
 judge_texts rows =
     texts_of_judge (first_of (codes "room") rows) (first_of (codes "strict") rows)
+    (first_of (codes "order") rows)
     (unwrap_or (all_of (codes "files") rows) [])
+
+-- whether an order is asked for together with what is asked of a report
+abbrev pub is_beside : Option (List ℕ) → Option (List ℕ) → Option (List ℕ) → Bool
+is_beside room strict order = is_given order && (is_some room || is_given strict)
 
 -- those of `judge`
 abbrev pub judge_tests : JudgeTexts → List (Option WordsFault)
 judge_tests t =
-    refused_outside 1 4294967295 Room t.room ∷ files_tests 4096 TooManyRecordings t.files
+    refused_if (is_beside t.room t.strict t.order) NotUnderstood
+    ∷ refused_outside 1 4294967295 Room t.room ∷ files_tests 4096 TooManyRecordings t.files
 
 -- the room, where it is given
 abbrev pub room_of : Option (List ℕ) → Option ℕ
@@ -293,7 +303,17 @@ room_of None = None
 room_of (Some text) = Some (number_or 0 (Some text))
 
 abbrev pub judge_asked : JudgeTexts → JudgeAsked
-judge_asked t = record { room = room_of t.room; strict = is_given t.strict; files = t.files }
+judge_asked t = record {
+  room = room_of t.room;
+  strict = is_given t.strict;
+  order = is_given t.order;
+  files = t.files;
+}
+
+-- `clap` takes the words, and they stand together
+abbrev pub judge_takes : List (List ℕ) → Bool
+judge_takes words = let t = judge_texts (matches_of judge_app words) in
+    takes judge_app words && not (is_beside t.room t.strict t.order)
 
 unfoldable pub asked_of_judge : List (List ℕ) → Result Asked WordsFault
 asked_of_judge words = let t = judge_texts (matches_of judge_app words) in
@@ -343,7 +363,12 @@ abbrev pub self_of : SelfRequest → SelfAsked
 self_of r = record { seed = r.seed; lines = r.lines; workers = r.workers }
 
 abbrev pub judge_of : JudgeRequest → JudgeAsked
-judge_of r = record { room = r.room; strict = r.strict; files = map string_bytes r.files.items }
+judge_of r = record {
+  room = r.room;
+  strict = r.strict;
+  order = r.order;
+  files = map string_bytes r.files.items;
+}
 
 abbrev pub text_of : TextRequest → TextAsked
 text_of r = record { command = r.command; file = string_bytes r.file }

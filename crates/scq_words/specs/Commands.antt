@@ -1,5 +1,5 @@
 -- The commands as `clap` knows them: `run` and `stages` with options and files, `self` with
--- options, `judge` with an option, a flag and files, `check` and `replay` with one file, and
+-- options, `judge` with an option, two flags and files, `check` and `replay` with one file, and
 -- `replay` with a flag besides.
 use Rattle.std.specs.Prelude.{ℕ, List, [], ◌∷◌, Some, true, codes}
 use Rattle.clap.specs.Words.{App, Rule, new_app, new_rule, with_rule}
@@ -61,11 +61,11 @@ self_app =
     with_rules (plain_app (codes "self")) (required_rule (codes "seed")
     ∷ required_rule (codes "lines") ∷ option_rule (codes "workers") ∷ [])
 
--- recordings have an option, a flag, and files
+-- recordings have an option, two flags, and files
 abbrev pub judge_app : App
 judge_app =
     with_rules (plain_app (codes "judge")) (option_rule (codes "room") ∷ flag_rule (codes "strict")
-    ∷ files_rule ∷ [])
+    ∷ flag_rule (codes "order") ∷ files_rule ∷ [])
 
 -- the one file
 abbrev pub file_rule : Rule

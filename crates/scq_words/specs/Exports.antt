@@ -13,7 +13,8 @@ pub use Rattle.scq_words.specs.Asked.{texts_of_run, texts_of_stages, texts_of_se
 pub use Rattle.scq_words.specs.Asked.{stages_texts, self_texts, run_tests, stages_tests, self_tests}
 pub use Rattle.scq_words.specs.Asked.{run_asked, stages_asked, self_asked, answered_by, text_file}
 pub use Rattle.scq_words.specs.Asked.{with_flag, text_command, texts_of_judge, judge_texts}
-pub use Rattle.scq_words.specs.Asked.{judge_tests, room_of, judge_asked, asked_for_run, asked_run}
+pub use Rattle.scq_words.specs.Asked.{judge_tests, is_beside, judge_takes}
+pub use Rattle.scq_words.specs.Asked.{room_of, judge_asked, asked_for_run, asked_run}
 pub use Rattle.scq_words.specs.Asked.{stages_of, self_of, judge_of, text_of, asked_by}
 unfoldable pub use Rattle.scq_words.specs.Asked.{asked_of_run, asked_of_stages, asked_of_self}
 unfoldable pub use Rattle.scq_words.specs.Asked.{asked_of_text, asked_of_judge}

@@ -5,18 +5,19 @@ use Rattle.std.specs.List.{All}
 use Rattle.std.specs.Str.{bytes_eq}
 use Rattle.clap.specs.Words.{takes}
 use Rattle.scq_word.specs.Exports.{most_run_order}
-use Rattle.scq_words.specs.Commands.{run_app, stages_app, self_app, judge_app, text_app}
+use Rattle.scq_words.specs.Commands.{run_app, stages_app, self_app, text_app}
 use Rattle.scq_words.specs.Asked.{Asked, RunAsked, StagesAsked, SelfAsked, JudgeAsked, run}
-use Rattle.scq_words.specs.Asked.{generated, judged, whole, staged}
+use Rattle.scq_words.specs.Asked.{generated, judged, whole, staged, judge_takes}
 use Rattle.scq_words.specs.declared.text_request.TextCommand.TheVariants.{Check, Replay}
 
--- the first word is a command, and `clap` takes those after it as its arguments
+-- the first word is a command, `clap` takes those after it as its arguments, and those of `judge`
+-- stand together
 abbrev pub is_accepted : List (List ℕ) → Bool
 is_accepted [] = false
 is_accepted (command ∷ words) =
     if bytes_eq command (codes "run") then takes run_app words
     else if bytes_eq command (codes "self") then takes self_app words
-    else if bytes_eq command (codes "judge") then takes judge_app words
+    else if bytes_eq command (codes "judge") then judge_takes words
     else if bytes_eq command (codes "check") then takes (text_app Check) words
     else if bytes_eq command (codes "replay") then takes (text_app Replay) words
     else if bytes_eq command (codes "stages") then takes stages_app words

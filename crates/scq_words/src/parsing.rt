@@ -66,7 +66,8 @@ pub fn judge_command<'a>(alloc: Global) -> Result<Command<'a>, AllocError>
 {
     let room = with(Ok(plain_command(alloc, "judge")), option(alloc, "room"));
     let strict = with(room, flag(alloc, "strict"));
-    with(strict, files(alloc))
+    let order = with(strict, flag(alloc, "order"));
+    with(order, files(alloc))
 }
 
 /// A command that takes one file.

@@ -40,11 +40,13 @@ pub struct SelfRequest {
 
 /// Recordings to judge: 1 to 4,096 files, each with a name. Where `room` is given, each queue had
 /// room for so many values, from 1, and refused puts are judged too. `strict` asks that the run
-/// ends with a fault where a line of the report doesn't hold.
+/// ends with a fault where a line of the report doesn't hold, and `order`, which stands with neither
+/// of them, for an order in place of the report.
 #[derive(Drop)]
 pub struct JudgeRequest {
     pub room: Option<u32>,
     pub strict: bool,
+    pub order: bool,
     pub files: Vec<String>,
     ghost few: { vec_len files ≤ 4096 },
 }

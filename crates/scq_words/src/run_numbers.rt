@@ -30,8 +30,10 @@ pub fn numbers_of(
     ensures size { IfOk result (λ numbers. numbers.size ≡ number_or 65536 (text_in size.entry)) }
     ensures few_workers { IfOk result (λ numbers.
         (1 ≤ numbers.workers) × (numbers.workers ≤ 4096)) }
-    ensures small_order { IfOk result (λ numbers. (1 ≤ numbers.order) × (numbers.order ≤ most_run_order)) }
-    ensures small_size { IfOk result (λ numbers. (1 ≤ numbers.size) × (numbers.size ≤ 65536)) }
+    ensures small_order { IfOk result (λ numbers.
+        (1 ≤ numbers.order) × (numbers.order ≤ most_run_order)) }
+    ensures small_size { IfOk result (λ numbers.
+        (1 ≤ numbers.size) × (numbers.size ≤ 65536)) }
 {
     let given = optional_number(workers, 0, 1, 4096, WordsFault::Workers)?;
     let order = optional_number(order, 6, 1, MOST_RUN_ORDER, WordsFault::Order)?;

@@ -1,18 +1,19 @@
 //! The command `judge`, which reads recordings.
 
 ghost use Rattle.std.specs.Prelude.{◌≡◌, ◌≤◌, ◌==◌, ℕ, List, Option, Some, None, length, map};
-ghost use Rattle.std.specs.Prelude.{string_bytes, IfOk, IfErr};
-ghost use Rattle.scq_judge.specs.Exports.{HaveContents, IsJudged, AreReadWhole};
+ghost use Rattle.std.specs.Prelude.{string_bytes, true, IfOk, IfErr};
+ghost use Rattle.scq_judge.specs.Exports.{HaveContents, AreReadWhole};
 ghost use Rattle.scq_service.specs.Answers.{HasNoWorkers};
-ghost use Rattle.scq_service.specs.Ends.{EndsJudged, EndsUnjudged, HasGotSources, HaveAll};
+ghost use Rattle.scq_service.specs.Ends.{EndsRecorded, EndsUntold, HasGotSources, HaveAll};
 ghost use Rattle.scq_service.specs.Ends.{end_of_report, inputs_of, wrote_of, IsWritten};
+ghost use Rattle.scq_service.specs.Ends.{IsToldOf, IsToWrite, IsUntoldOf};
 ghost use Rattle.scq_service.specs.Faults.{status_of};
 ghost use Rattle.scq_service.specs.Naming.{cause_of_read, cause_of_write, cause_told};
 ghost use Rattle.scq_outside.specs.declared.cause.Cause.{Cause as TheCause};
 
 use crate::writing::write_all;
 use crate::{Fault, LetGo, Outcome, Sources};
-use scq_judge::{Finding, JudgeFault, Judged, Reader};
+use scq_judge::{Finding, JudgeFault, Judged, Ordered, Reader};
 use scq_outside::{Cause, Failed, Files, Sink, Source};
 use std::alloc::Global;
 
@@ -20,11 +21,13 @@ use std::alloc::Global;
 /// next, so that at most one is open at a time, and writes the report of their merged history. At
 /// the first file with a fault of its own, or that isn't got, it ends, and gets none behind it.
 /// Where it is told for how many values each queue had room, refused puts are judged too. A strict
-/// run ends with a fault where a line of the report, which is written, doesn't hold.
+/// run ends with a fault where a line of the report, which is written, doesn't hold. Where an order
+/// is asked for it is written in the report's place, and where none was found nothing is.
 pub fn run_judge<F: Files, K: Sink>(
     alloc: Global,
     room: Option<u32>,
     strict: bool,
+    order: bool,
     names: &[String],
     files: &mut F,
     out: &mut K,
@@ -33,7 +36,7 @@ pub fn run_judge<F: Files, K: Sink>(
     ensures status { result.status ≡ status_of result.fault }
     ensures got { HasGotSources F.Src.Source (map string_bytes names.now) result.got.items
         (inputs_of F.Files files.old files.new result.sources.items result.read) }
-    ensures ends { EndsJudged F.Src.Source room strict (map string_bytes names.now)
+    ensures ends { EndsRecorded F.Src.Source room strict order (map string_bytes names.now)
         result.got.items
         (inputs_of F.Files files.old files.new result.sources.items result.read)
         (wrote_of K.Sink out.old out.new) result.fault }
@@ -46,7 +49,7 @@ pub fn run_judge<F: Files, K: Sink>(
         cause,
         got,
         sources,
-    } = report_on(alloc, room, names, files);
+    } = report_on(alloc, room, order, names, files);
     match report {
         Ok(judged) => {
             let end = write_report(out, strict, &judged);
@@ -110,7 +113,7 @@ fn of_write(cause: Option<Cause>, end: &Option<Fault>) -> Option<Cause>
     }
 }
 
-/// The report of recordings, or why they were not judged, with what the system says of it, and, for
+/// What is to be written of recordings, or why nothing is, with what the system says of it, and, for
 /// contracts alone, the sources that were got, as they were then and as they were let go.
 #[derive(Drop)]
 struct Reported<S> {
@@ -120,10 +123,11 @@ struct Reported<S> {
     sources: LetGo<S>,
 }
 
-/// Gets each file, reads it and lets it go, and judges what all of them say.
+/// Gets each file, reads it and lets it go, and tells what all of them say.
 fn report_on<F: Files>(
     alloc: Global,
     room: Option<u32>,
+    order: bool,
     names: &[String],
     files: &mut F,
 ) -> Reported<F::Src>
@@ -136,9 +140,11 @@ fn report_on<F: Files>(
         (length (map string_bytes names.now)) result.got.items result.sources.items) }
     ensures judged { IfOk result.report (λ judged. (contents : List (List ℕ))
         → HaveContents F.Src.left result.got.items contents
-        → IsJudged (map string_bytes names.now) room contents judged) }
+        → IsToWrite room order (map string_bytes names.now) contents judged) }
+    ensures holds { IfOk result.report (λ judged. order ≡ true
+        → judged.worst ≡ Finding.Holds) }
     ensures refused { IfErr result.report
-        (EndsUnjudged F.Src.Source (map string_bytes names.now) result.got.items
+        (EndsUntold F.Src.Source order (map string_bytes names.now) result.got.items
         (inputs_of F.Files files.old files.new result.sources.items 0)) }
     ensures caused { IfErr result.report (λ fault. (sink : Option TheCause) → result.cause
         ≡ cause_told F.Src.cause result.sources.items (F.cause files.new) sink (Some fault)) }
@@ -177,19 +183,40 @@ fn report_on<F: Files>(
             }
         }
     }
-    match reader.judge(alloc, room, names) {
-        Ok(judged) => Reported {
-            report: Ok(judged),
-            cause: None,
-            got,
-            sources,
-        },
-        Err(fault) => Reported {
-            report: Err(Fault::from(fault)),
-            cause: None,
-            got,
-            sources,
-        },
+    Reported {
+        report: tell(alloc, reader, room, order, names),
+        cause: None,
+        got,
+        sources,
+    }
+}
+
+/// What is to be written of recordings that were read: their report, or, where it is asked for, an
+/// order, which shows that nothing fails.
+fn tell(
+    alloc: Global,
+    reader: Reader,
+    room: Option<u32>,
+    order: bool,
+    names: &[String],
+) -> Result<Judged, Fault>
+    ensures told { IfOk result
+        (IsToldOf room order (map string_bytes names.now) reader.recorded) }
+    ensures holds { IfOk result (λ told. order ≡ true → told.worst ≡ Finding.Holds) }
+    ensures untold { IfErr result (IsUntoldOf order reader.recorded) }
+{
+    if order {
+        match reader.order(alloc)? {
+            Ordered::Order(text) => Ok(Judged {
+                text,
+                worst: Finding::Holds,
+            }),
+            Ordered::NotLinearizable => Err(Fault::NotLinearizable),
+            Ordered::NeverEnded => Err(Fault::NeverEnded),
+            Ordered::NotFound => Err(Fault::NotFound),
+        }
+    } else {
+        Ok(reader.judge(alloc, room, names)?)
     }
 }
 

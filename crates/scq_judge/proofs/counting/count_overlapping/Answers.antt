@@ -1,4 +1,4 @@
-use Rattle.std.proofs.Common.{ℕ, ◌≡◌, length, refl, subst, arith}
+use Rattle.std.proofs.Common.{◌≡◌, length, refl, subst, arith}
 use Rattle.scq_hist.specs.Exports.{IsCount}
 use Rattle.scq_judge.specs.Exports.{IsBusy}
 use Rattle.scq_judge.proofs.CountLemmas.{before_none, before_all, busy_none, overlap_within}

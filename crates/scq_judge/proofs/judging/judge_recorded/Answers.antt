@@ -1,16 +1,24 @@
-use Rattle.std.proofs.Common.{List, Option, subst}
-use Rattle.std.specs.Prelude.{MatchOption}
-use Rattle.scq_judge.specs.Exports.{AreOfOneRun, IsOfAnotherRun}
-use Rattle.scq_judge.specs.declared.recorded.RunOf.{RunOf}
+use Rattle.std.proofs.Common.{map}
+use Rattle.std.specs.Prelude.{string_bytes}
+use Rattle.std.proofs.lemmas.Result.{IfOk-weaker, IfErr-weaker}
+use Rattle.scq_judge.specs.Exports.{IsReported, IsCauseIn}
+use Rattle.scq_judge.proofs.JudgeLemmas.{cause_of_memory}
 use Rattle.scq_judge.proofs.judging.judge_recorded.Goals as goal
 
-abbrev Found : List RunOf → Option (RunOf × RunOf) → Type 0
-Found runs found = MatchOption found (AreOfOneRun runs) (λ pair. IsOfAnotherRun runs pair.0 pair.1)
+pub returns-clause-reported : goal.returns-clause-reported
+returns-clause-reported c =
+    let it = c.in_ok-merged.ensures.history in
+    IfOk-weaker c.judge_lawful.result _ (IsReported (map string_bytes c.args.names.now) c.args.room c.args.recorded)
+    (λ judged h. record {
+      runs = it.runs;
+      seats = it.seats;
+      opening = c.in_ok-merged.merged.opening.items;
+      events = c.in_ok-merged.merged.events.items;
+      places = c.in_ok-merged.merged.places.items;
+      history = it.history;
+      reported = h;
+    }) (rw (c.as_slice-opening.ensures.value, c.as_slice-events.ensures.value, c.as_slice-places.ensures.value) at c.judge_lawful.ensures.reported)
 
-pub judge_one_run-requires : goal.judge_one_run-requires
-judge_one_run-requires c =
-    subst (λ o. Found c.args.recorded.runs o) c.in-None.is (subst (λ rs. Found rs c.first_other_run.result) c.runs.ensures c.first_other_run.ensures)
-
-pub returns-in-Some-clause-refused : goal.returns-in-Some-clause-refused
-returns-in-Some-clause-refused c =
-    subst (λ o. Found c.args.recorded.runs o) c.in-Some.is (subst (λ rs. Found rs c.first_other_run.result) c.runs.ensures c.first_other_run.ensures)
+pub returns-clause-refused : goal.returns-clause-refused
+returns-clause-refused c =
+    IfErr-weaker c.judge_lawful.result _ (IsCauseIn c.args.recorded) (λ fault is. cause_of_memory c.args.recorded fault is) c.judge_lawful.ensures.refused

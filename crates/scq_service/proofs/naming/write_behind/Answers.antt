@@ -51,5 +51,14 @@ returns-in-AspectFails g c = same-line (fault_lines c.args.run_alone (map string
 pub returns-in-NotTested : goal.returns-in-NotTested
 returns-in-NotTested g c = same-line (fault_lines c.args.run_alone (map string_bytes c.args.words.now) (map string_bytes c.args.names.now)) c.in-NotTested.is written-none
 
+pub returns-in-NotLinearizable : goal.returns-in-NotLinearizable
+returns-in-NotLinearizable g c = same-line (fault_lines c.args.run_alone (map string_bytes c.args.words.now) (map string_bytes c.args.names.now)) c.in-NotLinearizable.is written-none
+
+pub returns-in-NeverEnded : goal.returns-in-NeverEnded
+returns-in-NeverEnded g c = same-line (fault_lines c.args.run_alone (map string_bytes c.args.words.now) (map string_bytes c.args.names.now)) c.in-NeverEnded.is written-none
+
+pub returns-in-NotFound : goal.returns-in-NotFound
+returns-in-NotFound g c = same-line (fault_lines c.args.run_alone (map string_bytes c.args.words.now) (map string_bytes c.args.names.now)) c.in-NotFound.is written-none
+
 pub returns-in-NoMemory : goal.returns-in-NoMemory
 returns-in-NoMemory g c = same-line (fault_lines c.args.run_alone (map string_bytes c.args.words.now) (map string_bytes c.args.names.now)) c.in-NoMemory.is written-none

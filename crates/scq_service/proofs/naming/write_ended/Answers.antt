@@ -1,5 +1,4 @@
 use Rattle.std.proofs.Common.{codes, rules}
-use Rattle.scq_service.specs.Exports.{shown}
 use Rattle.scq_service.proofs.Writings.{part-first, written-both}
 use Rattle.scq_service.proofs.naming.write_ended.Goals as goal
 

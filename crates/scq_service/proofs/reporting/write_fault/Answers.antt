@@ -50,5 +50,14 @@ returns-in-AspectFails g c = same-line fault_line c.in-AspectFails.is c.write_pa
 pub returns-in-NotTested : goal.returns-in-NotTested
 returns-in-NotTested g c = same-line fault_line c.in-NotTested.is c.write_part-in-NotTested.ensures
 
+pub returns-in-NotLinearizable : goal.returns-in-NotLinearizable
+returns-in-NotLinearizable g c = same-line fault_line c.in-NotLinearizable.is c.write_part-in-NotLinearizable.ensures
+
+pub returns-in-NeverEnded : goal.returns-in-NeverEnded
+returns-in-NeverEnded g c = same-line fault_line c.in-NeverEnded.is c.write_part-in-NeverEnded.ensures
+
+pub returns-in-NotFound : goal.returns-in-NotFound
+returns-in-NotFound g c = same-line fault_line c.in-NotFound.is c.write_part-in-NotFound.ensures
+
 pub returns-in-NoMemory : goal.returns-in-NoMemory
 returns-in-NoMemory g c = same-line fault_line c.in-NoMemory.is c.write_part-in-NoMemory.ensures

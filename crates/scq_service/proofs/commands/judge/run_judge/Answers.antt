@@ -1,9 +1,9 @@
 use Rattle.std.proofs.Common.{◌≡◌, ap, subst, refl, Option, Result, Some, map, string_bytes, IfErr}
 use Rattle.scq_judge.specs.declared.judging.Judged.{Judged}
 use Rattle.scq_outside.specs.declared.cause.Cause.{Cause}
-use Rattle.scq_service.specs.Exports.{EndsUnjudged, cause_told, inputs_of, wrote_of}
+use Rattle.scq_service.specs.Exports.{EndsUntold, cause_told, inputs_of, wrote_of}
 use Rattle.scq_service.specs.declared.fault.Fault.{Fault}
-use Rattle.scq_service.proofs.Judging.{report-ends, unjudged-ends}
+use Rattle.scq_service.proofs.Judging.{report-ends, untold-ends}
 use Rattle.scq_service.proofs.Told.{written-cause}
 use Rattle.scq_service.proofs.commands.judge.run_judge.Goals as goal
 
@@ -14,7 +14,7 @@ returns-in-Ok-clause-ends g c =
     let after = c.ended.ensures in
     rw (after.read, ap (λ v. v.items) after.got, ap (λ v. v.items) after.sources, after.fault)
     (report-ends g.F.Files g.F.Src.Source (map string_bytes c.args.names.now) c.args.room c.args.files.now c.report_on-report.new.files had.got.items
-    had.sources.items had.report c.in-Ok.judged c.in-Ok.is its.all its.whole its.judged c.args.strict
+    had.sources.items had.report c.in-Ok.judged c.in-Ok.is its.all its.whole c.args.order its.judged its.holds c.args.strict
     (wrote_of g.K.Sink c.args.out.now c.write_report-end.new.out) c.write_report-end.result c.write_report-end.ensures)
 
 pub returns-in-Err-clause-ends : goal.returns-in-Err-clause-ends
@@ -22,10 +22,10 @@ returns-in-Err-clause-ends g c =
     let names = map string_bytes c.args.names.now in
     let had = c.report_on-report.result in
     let r = inputs_of g.F.Files c.args.files.now c.report_on-report.new.files had.sources.items 0 in
-    let J : Result Judged Fault → Type 0 = λ x. IfErr x (EndsUnjudged g.F.Src.Source names had.got.items r) in
+    let J : Result Judged Fault → Type 0 = λ x. IfErr x (EndsUntold g.F.Src.Source c.args.order names had.got.items r) in
     let after = c.ended-in-Err.ensures in
     rw (after.read, ap (λ v. v.items) after.got, ap (λ v. v.items) after.sources, after.fault)
-    (unjudged-ends g.F.Src.Source c.args.room c.args.strict names had.got.items r (wrote_of g.K.Sink c.args.out.now c.args.out.now) c.in-Err.fault
+    (untold-ends g.F.Src.Source c.args.room c.args.strict names had.got.items r (wrote_of g.K.Sink c.args.out.now c.args.out.now) c.args.order c.in-Err.fault
     (subst J c.in-Err.is c.report_on-report.ensures.refused) (refl, refl))
 
 -- what the sink says where a write failed, and else nothing

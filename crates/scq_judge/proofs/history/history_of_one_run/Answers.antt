@@ -3,13 +3,13 @@ use Rattle.std.specs.Prelude.{MatchOption}
 use Rattle.scq_judge.specs.Exports.{EachSeatInOneFile, HasSeatOfAnother}
 use Rattle.scq_judge.specs.declared.recorded.Stamped.{Stamped}
 use Rattle.scq_judge.specs.declared.seats.Apart.{Apart}
-use Rattle.scq_judge.proofs.judging.judge_one_run.Goals as goal
+use Rattle.scq_judge.proofs.history.history_of_one_run.Goals as goal
 
 abbrev Found : List Stamped → Option Apart → Type 0
 Found events found = MatchOption found (EachSeatInOneFile events) (λ apart. HasSeatOfAnother events apart.place apart.other)
 
-pub judge_apart-requires-clause-seats : goal.judge_apart-requires-clause-seats
-judge_apart-requires-clause-seats c =
+pub history_apart-requires-clause-seats : goal.history_apart-requires-clause-seats
+history_apart-requires-clause-seats c =
     subst (λ o. Found c.args.recorded.events o) c.in-Ok-None.field-0-is
     (subst (λ es. Found es c.in-Ok-None.field-0) c.events.ensures c.in-Ok-None.ensures)
 
