@@ -1,6 +1,8 @@
-"""Whether recorders/check_order.py tells orders from others: `orders.py CHECK_ORDER CASES..`, of the cases that orders.cpp writes."""
+"""Whether recorders/check_order.py tells orders from others, and takes those that `scq judge --order` writes of the same histories, without
+room: `orders.py CHECK_ORDER SCQ CASES..`, of the cases that orders.cpp writes."""
 
 import importlib.util
+import subprocess
 import sys
 
 
@@ -22,7 +24,27 @@ def cases_of(lines):
         yield case
 
 
-def main(program, *names):
+def written(scq, history):
+    """The order of a history that the judge writes, in lines; or why it writes none."""
+    with open("history", "w", encoding="ascii") as file:
+        file.writelines(history)
+    ran = subprocess.run([scq, "judge", "--order", "history"], capture_output=True, encoding="ascii", check=False)
+    return ran.stdout.splitlines() if ran.returncode == 0 else ran.stderr.splitlines()[0]
+
+
+TAKEN, REFUSED, OPEN = "of the judge, taken", "of the judge, refused", "of the judge, none as calls never ended"
+
+
+def judged(check, scq, opening, events, history):
+    """What becomes of the judge's order of a history that has one, and the fault."""
+    order, calls = written(scq, history), check.calls_of(events)
+    if order == "calls never ended" and any(call.end is None for of in calls.values() for call in of):
+        return OPEN, None
+    fault = order if isinstance(order, str) else check.fault_of(opening, calls, order)
+    return (REFUSED if fault else TAKEN), fault
+
+
+def main(program, scq, *names):
     sys.dont_write_bytecode = True
     spec = importlib.util.spec_from_file_location("check_order", program)
     check = importlib.util.module_from_spec(spec)
@@ -37,9 +59,15 @@ def main(program, *names):
                 counts[kind] = counts.get(kind, 0) + 1
                 if (fault is None) != is_right and counts[kind] == 1:
                     print(f"{kind}: {fault}", *history, *order, sep="\n  ")
+                if is_right and room is None:
+                    kind, fault = judged(check, scq, opening, events, history)
+                    counts[kind] = counts.get(kind, 0) + 1
+                    if kind == REFUSED and counts[kind] == 1:
+                        print(f"{kind}: {fault}", *history, sep="\n  ")
     for kind, count in sorted(counts.items()):
         print(f"{kind}: {count}")
-    return int(bool(counts.get("right, refused") or counts.get("wrong, taken") or not counts.get("wrong, refused")))
+    missed = [counts.get(kind) for kind in ("right, refused", "wrong, taken", REFUSED)]
+    return int(any(missed) or not counts.get("wrong, refused") or not counts.get(TAKEN))
 
 
 if __name__ == "__main__":
